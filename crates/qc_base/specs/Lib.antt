@@ -1,1 +1,2 @@
+pub mod ConnectionId
 pub mod Varint

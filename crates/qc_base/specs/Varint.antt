@@ -1,6 +1,6 @@
 -- Variable-length integers (RFC 9000, section 16)
 use Rattle.std.specs.Prelude.{ℕ, ◌+◌, ◌%◌, List, nat_lt, if◌then◌else◌}
-use Rattle.std.specs.Int.{Width, w8, w16, w32, w64, byte_len, to_be_bytes}
+use Rattle.std.specs.Int.{Width, w8, w16, w32, w64, to_be_bytes}
 
 -- the four lengths, by the first two bits of the first byte
 pub data Form : Type 0 where
