@@ -1,2 +1,5 @@
 pub mod ConnectionId
+pub mod Ecn
+pub mod Time
+pub mod TransportErrorCode
 pub mod Varint

@@ -1,10 +1,18 @@
 //! The numbers, names and small types that every part of a QUIC connection speaks of.
 #![tactic(auto)]
 
+mod ecn;
+mod fault;
 mod ids;
 mod side;
+mod time;
+mod transport_error;
 mod varint;
 
+pub use ecn::EcnCodepoint;
+pub use fault::Fault;
 pub use ids::ConnectionId;
 pub use side::{Dir, LongType, Side, SpaceId};
+pub use time::{Duration, Instant, SystemTime};
+pub use transport_error::{TransportError, TransportErrorCode};
 pub use varint::{VarInt, VarIntBoundsExceeded, put_varint, varint_size};
