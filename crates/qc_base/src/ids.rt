@@ -1,8 +1,16 @@
 //! Connection ids (RFC 9000, section 5.1) and stateless reset tokens (section 10.3).
 
-ghost use Rattle.std.specs.Prelude.{◌≡◌, ◌≤◌, ◌==◌, length};
+ghost use Rattle.std.specs.Prelude.{◌≡◌, ◌≤◌, ◌==◌, length, nat_eq};
+ghost use Rattle.std.specs.Cmp.Lexicographic.{pointwise, nat_list_eq_equiv};
+ghost use Rattle.std.specs.Cmp.{partial_equiv_from_equiv};
+ghost use Rattle.std.specs.Cmp.Rules.{hashing};
+ghost use Rattle.std.specs.Hash as fed;
+ghost use Rattle.std.proofs.Common.{rules};
 
+use crate::constant_time;
+use std::hash::{Hash, Hasher};
 use std::marker::Model;
+use std::ops::Deref;
 
 /// A connection id: at most 20 bytes.
 #[derive(Clone, Copy, Debug, PartialEq, Eq, Hash)]
@@ -64,4 +72,73 @@ impl ConnectionId {
     {
         self.len == 0
     }
+}
+
+/// A stateless reset token (RFC 9000, section 10.3): 16 secret bytes that go with a connection id.
+#[derive(Clone, Copy, Debug)]
+pub struct ResetToken([u8; 16]);
+
+impl Model for ResetToken {
+    ghost use Rattle.std.specs.Prelude.{◌≡◌, ℕ, List, length};
+
+    ghost Value = { List ℕ };
+
+    ghost view = { λ token. token.0 };
+
+    ghost invariant = { λ token. length token.0 ≡ 16 };
+
+    ghost inverse = { λ bytes. record { 0 = bytes } };
+}
+
+impl From<[u8; 16]> for ResetToken {
+    ghost from_gives = { λ bytes token. token ≡ bytes };
+
+    fn from(value: [u8; 16]) -> ResetToken {
+        ResetToken(value)
+    }
+}
+
+impl Deref for ResetToken {
+    type Target = [u8; 16];
+
+    ghost deref_gives = { λ token bytes. bytes ≡ token };
+
+    fn deref(&self) -> &[u8; 16] {
+        &self.0
+    }
+}
+
+impl PartialEq for ResetToken {
+    ghost eq = { pointwise nat_eq };
+
+    ghost laws = { partial_equiv_from_equiv nat_list_eq_equiv };
+
+    fn eq(&self, other: &ResetToken) -> bool {
+        constant_time::eq(&self.0, &other.0)
+    }
+}
+
+impl Eq for ResetToken {
+    ghost laws = { nat_list_eq_equiv };
+}
+
+impl Hash for ResetToken {
+    ghost hash_input = { fed.slice fed.u8 };
+
+    ghost respects_eq = { Prim.search (hashing, rules) };
+
+    fn hash<H: Hasher>(&self, state: &mut H) {
+        self.0.as_slice().hash(state);
+    }
+}
+
+/// A connection id that this end issued to its peer (RFC 9000, section 19.15).
+#[derive(Clone, Copy, Debug, PartialEq, Eq)]
+pub struct IssuedCid {
+    /// The number that the id was issued under.
+    pub sequence: u64,
+    /// The id.
+    pub id: ConnectionId,
+    /// The token that resets a connection which uses the id.
+    pub reset_token: ResetToken,
 }

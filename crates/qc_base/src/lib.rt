@@ -1,6 +1,7 @@
 //! The numbers, names and small types that every part of a QUIC connection speaks of.
 #![tactic(auto)]
 
+pub mod constant_time;
 mod ecn;
 mod fault;
 mod ids;
@@ -11,7 +12,7 @@ mod varint;
 
 pub use ecn::EcnCodepoint;
 pub use fault::Fault;
-pub use ids::ConnectionId;
+pub use ids::{ConnectionId, IssuedCid, ResetToken};
 pub use side::{Dir, LongType, Side, SpaceId};
 pub use time::{Duration, Instant, SystemTime};
 pub use transport_error::{TransportError, TransportErrorCode};
