@@ -1,2 +1,10 @@
-//! To be written.
+//! The frames of QUIC packets (RFC 9000, sections 12.4 and 19; RFC 9221).
 #![tactic(auto)]
+
+mod frames;
+mod list;
+mod write;
+
+pub use frames::{Ack, AckOf, EcnCounts, Frame, FrameOf, OwnedFrame};
+pub use list::FrameList;
+pub use write::put_frame;

@@ -1,0 +1,35 @@
+-- A frame as a value (RFC 9000, section 19): each byte string is the list of its bytes
+use Rattle.std.specs.Prelude.{ℕ, List, Vec}
+use Rattle.std.specs.Global.{Global}
+use Rattle.std.specs.Borrow.{Bor}
+use Rattle.qc_frame.specs.declared.frames.AckOf.{AckOf}
+use Rattle.qc_frame.specs.declared.frames.FrameOf.{FrameOf}
+use Rattle.qc_frame.specs.declared.frames.FrameOf.TheVariants as frames
+
+abbrev pub FrameValue : Type 0
+FrameValue = FrameOf (List ℕ)
+
+abbrev pub AckValue : Type 0
+AckValue = AckOf (List ℕ)
+
+-- the same ACK, each of its byte strings changed by f
+abbrev pub ack_map : {A B : Type 0} → (A → B) → AckOf A → AckOf B
+ack_map f a = record { largest = a.largest; delay = a.delay; additional = f a.additional; ecn = a.ecn }
+
+-- the same frame, each of its byte strings changed by f
+abbrev pub frame_map : {A B : Type 0} → (A → B) → FrameOf A → FrameOf B
+frame_map f frames.Padding = frames.Padding
+frame_map f frames.Ping = frames.Ping
+frame_map f (frames.Crypto o b) = frames.Crypto o (f b)
+frame_map f (frames.NewToken b) = frames.NewToken (f b)
+frame_map f (frames.MaxData n) = frames.MaxData n
+frame_map f frames.HandshakeDone = frames.HandshakeDone
+frame_map f (frames.Datagram b) = frames.Datagram (f b)
+
+-- the value of a frame that borrows its byte strings
+abbrev pub borrowed : FrameOf (Bor (List ℕ)) → FrameValue
+borrowed = frame_map (λ b. b.now)
+
+-- the value of a frame that has byte strings of its own
+abbrev pub owned : FrameOf (Vec ℕ Global) → FrameValue
+owned = frame_map (λ v. v.items)
