@@ -1,6 +1,8 @@
--- PADDING frames are zero bytes
-use Rattle.std.proofs.Common.{◌≡◌, ℕ, ◌++◌, ◌∷◌, [], replicate, refl, ap, zero, suc}
+-- PADDING frames: their bytes, and lists that end in them
+use Rattle.std.proofs.Common.{◌≡◌, ℕ, ◌+◌, ◌-◌, ◌<◌, List, [], ◌∷◌, ◌++◌, map, length, take, replicate, refl, ap, sym, ◌∙◌, append_assoc, arith, zero, suc}
+use Rattle.std.proofs.lemmas.List.{replicate-append-replicate}
 use Rattle.qc_base.specs.Varint.{varint}
+use Rattle.qc_frame.specs.Frame.{FrameValue}
 use Rattle.qc_frame.specs.FrameSpelling.{spelling, frames_spelling}
 use Rattle.qc_frame.specs.declared.frames.FrameOf.TheVariants.{Padding}
 
@@ -8,6 +10,15 @@ pub zero_byte : spelling Padding ≡ 0 ∷ []
 unfolding spelling varint
 zero_byte = refl
 
+-- a PADDING frame is a zero byte
 pub zeros : (n : ℕ) → frames_spelling (replicate n Padding) ≡ replicate n 0
 zeros zero = refl
-zeros (suc n) = ?
+zeros (suc n) = rw zero_byte (ap (λ (bytes : List ℕ). 0 ∷ bytes) (zeros n))
+
+-- more PADDING frames behind those that are there
+pub padded_more : (fs : List FrameValue) (n more : ℕ) → fs ++ replicate (n + more) Padding ≡ (fs ++ replicate n Padding) ++ replicate more Padding
+padded_more fs n more = rw (append_assoc, replicate-append-replicate) refl
+
+-- the first of the PADDING frames that are left, written out
+pub padded_one : (fs : List FrameValue) (n i : ℕ) → i < n → (fs ++ Padding ∷ []) ++ replicate (n - (i + 1)) Padding ≡ fs ++ replicate (n - i) Padding
+padded_one fs n i h = let e : n - i ≡ suc (n - (i + 1)) = omega arith in rw (append_assoc, e) refl

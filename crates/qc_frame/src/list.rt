@@ -52,13 +52,22 @@ impl FrameList {
         ensures ok { OnOk result (self.new ≡ self.old ++ owned frame ∷ []) }
         ensures err { OnErr result (self.new ≡ self.old) }
     {
-        self.write_out_padding()?;
-        self.frames.push(frame)?;
-        Ok(())
+        let len = self.frames.len();
+        match push_behind(&mut self.frames, self.padding, frame) {
+            Ok(()) => {
+                self.padding = 0;
+                Ok(())
+            }
+            Err(e) => {
+                self.frames.truncate(len);
+                Err(e)
+            }
+        }
     }
 
     /// Appends `count` PADDING frames, for which no memory is taken. Refused, as more than memory
     /// can hold, only where the list would come to 2^64 frames or more; then it is as before.
+    #[tactic(auto, using(crate::proofs::Padded::padded_more))]
     pub fn push_padding(&mut self, count: u64) -> Result<(), AllocError>
         ensures ok { OnOk result (self.new ≡ self.old ++ replicate count Padding) }
         ensures err { OnErr result (self.new ≡ self.old) }
@@ -93,19 +102,32 @@ impl FrameList {
             }
         }
     }
-
-    fn write_out_padding(&mut self) -> Result<(), AllocError>
-        ensures same { self.new ≡ self.old }
-    {
-        for _ in 0..self.padding {
-            self.frames.push(FrameOf::Padding)?;
-            self.padding -= 1;
-        }
-        Ok(())
-    }
 }
 
-/// Appends the frames' spelling and then that of `padding` PADDING frames, which are zero bytes.
+// Each function below leaves what stood in its vector where it was, also where memory runs out.
+
+// Appends `padding` PADDING frames and then `frame`.
+fn push_behind(frames: &mut Vec<OwnedFrame>, padding: u64, frame: OwnedFrame) -> Result<(), AllocError>
+    ensures ok { OnOk result (map owned frames.new.items ≡ (map owned frames.old.items ++ replicate padding Padding) ++ owned frame ∷ []) }
+    ensures kept { take (length frames.old.items) frames.new.items ≡ frames.old.items }
+{
+    push_each(frames, padding)?;
+    frames.push(frame)?;
+    Ok(())
+}
+
+#[tactic(auto, using(crate::proofs::Padded::padded_one))]
+fn push_each(frames: &mut Vec<OwnedFrame>, padding: u64) -> Result<(), AllocError>
+    ensures ok { OnOk result (map owned frames.new.items ≡ map owned frames.old.items ++ replicate padding Padding) }
+    ensures kept { take (length frames.old.items) frames.new.items ≡ frames.old.items }
+{
+    for i in 0..padding {
+        frames.push(FrameOf::Padding)?;
+    }
+    Ok(())
+}
+
+// Appends the frames' spelling and then that of `padding` PADDING frames, which are zero bytes.
 fn put_all(out: &mut Vec<u8>, frames: &[OwnedFrame], padding: u64) -> Result<(), AllocError>
     ensures ok { OnOk result (out.new.items ≡ out.old.items ++ frames_spelling (map owned frames.now ++ replicate padding Padding)) }
     ensures kept { take (length out.old.items) out.new.items ≡ out.old.items }
