@@ -1,5 +1,6 @@
 pub mod ConnectionId
 pub mod Ecn
+pub mod StreamId
 pub mod Time
 pub mod TransportErrorCode
 pub mod Varint

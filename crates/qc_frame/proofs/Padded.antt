@@ -1,6 +1,6 @@
 -- PADDING frames: their bytes, and lists that end in them
-use Rattle.std.proofs.Common.{◌≡◌, ℕ, ◌+◌, ◌-◌, ◌<◌, List, [], ◌∷◌, ◌++◌, map, length, take, replicate, refl, ap, sym, ◌∙◌, append_assoc, arith, zero, suc}
-use Rattle.std.proofs.lemmas.List.{replicate-append-replicate}
+use Rattle.std.proofs.Common.{◌≡◌, ℕ, ◌+◌, ◌-◌, ◌<◌, ◌≤◌, List, [], ◌∷◌, ◌++◌, map, length, take, replicate, refl, ap, sym, ◌∙◌, append_assoc, arith, zero, suc}
+use Rattle.std.proofs.lemmas.List.{replicate-append-replicate, take_all}
 use Rattle.qc_base.specs.Varint.{varint}
 use Rattle.qc_frame.specs.Frame.{FrameValue}
 use Rattle.qc_frame.specs.FrameSpelling.{spelling, frames_spelling}
@@ -22,3 +22,10 @@ padded_more fs n more = rw (append_assoc, replicate-append-replicate) refl
 -- the first of the PADDING frames that are left, written out
 pub padded_one : (fs : List FrameValue) (n i : ℕ) → i < n → (fs ++ Padding ∷ []) ++ replicate (n - (i + 1)) Padding ≡ fs ++ replicate (n - i) Padding
 padded_one fs n i h = let e : n - i ≡ suc (n - (i + 1)) = omega arith in rw (append_assoc, e) refl
+
+-- a buffer of so many bytes filled up with zeros
+pub filled_up : (bytes : List ℕ) (len n : ℕ) → len ≡ length bytes → take (len + n) bytes ++ replicate (len + n - len) 0 ≡ bytes ++ frames_spelling (replicate n Padding)
+filled_up bytes len n e =
+    let fits : length bytes ≤ len + n = omega arith in
+    let more : len + n - len ≡ n = omega arith in
+    rw (take_all (len + n) bytes fits, more, zeros n) refl

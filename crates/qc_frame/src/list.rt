@@ -107,7 +107,11 @@ impl FrameList {
 // Each function below leaves what stood in its vector where it was, also where memory runs out.
 
 // Appends `padding` PADDING frames and then `frame`.
-fn push_behind(frames: &mut Vec<OwnedFrame>, padding: u64, frame: OwnedFrame) -> Result<(), AllocError>
+fn push_behind(
+    frames: &mut Vec<OwnedFrame>,
+    padding: u64,
+    frame: OwnedFrame,
+) -> Result<(), AllocError>
     ensures ok { OnOk result (map owned frames.new.items ≡ (map owned frames.old.items ++ replicate padding Padding) ++ owned frame ∷ []) }
     ensures kept { take (length frames.old.items) frames.new.items ≡ frames.old.items }
 {

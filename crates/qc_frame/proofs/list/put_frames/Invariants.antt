@@ -6,5 +6,5 @@ use Rattle.qc_frame.proofs.list.put_frames.Given as goal
 abbrev pub invariant-loop-frame : goal.invariant-loop-frame
 invariant-loop-frame l = record {
   written : l.out.items ++ frames_spelling (map owned (drop l.frame-index l.frames)) ≡ l.fn.out.items ++ frames_spelling (map owned l.frames);
-  kept : take (length l.fn.out.items) l.out.items ≡ l.fn.out.items
+  kept : take (length l.fn.out.items) l.out.items ≡ l.fn.out.items;
 }
