@@ -1,2 +1,9 @@
-//! To be written.
+//! The core of a connection: its state, the moves that it makes, and the calls that sending needs.
 #![tactic(auto)]
+
+pub mod state;
+
+mod calls;
+mod moves;
+
+pub use state::Core;

@@ -1,0 +1,14 @@
+pub mod Keys
+pub mod Life
+pub mod Moves
+pub mod Numbers
+pub mod Paths
+pub mod Run
+pub mod Sending
+pub mod Setup
+pub mod Spaces
+pub mod Timers
+pub mod Types
+pub mod Unsent
+pub mod View
+pub mod Waiting

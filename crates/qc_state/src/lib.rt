@@ -1,2 +1,40 @@
-//! To be written.
+//! The state of a connection: eight groups of plain data with their calls, the types of its inputs, deeds and trace, and
+//! in specs/ all definitions that the crates above cite: the view, moves with one table a group, sending, steps, runs
+//! and laws.
 #![tactic(auto)]
+
+pub mod body;
+pub mod crypto_queue;
+pub mod deeds;
+pub mod events;
+pub mod input;
+pub mod keys;
+pub mod life;
+pub mod lower;
+pub mod numbers;
+pub mod paths;
+pub mod setup;
+pub mod spaces;
+pub mod suite;
+pub mod timers;
+pub mod trace;
+pub mod transmit;
+pub mod waiting;
+
+pub use body::Body;
+pub use crypto_queue::CryptoQueue;
+pub use deeds::{Did, Dids, Quiet};
+pub use events::{EndpointEvent, EndpointEvents, Event, Events};
+pub use input::{Input, Word};
+pub use keys::{KeyGroup, SpaceKeys};
+pub use life::{ConnectionError, Life, State};
+pub use lower::Lower;
+pub use numbers::{Numbers, SpaceNumbers};
+pub use paths::Paths;
+pub use setup::{Fixed, Setup};
+pub use spaces::Spaces;
+pub use suite::Suite;
+pub use timers::Timers;
+pub use trace::{Answer, Step, Trace};
+pub use transmit::{DATAGRAM_SIZE, Transmit};
+pub use waiting::{SpaceWaiting, Waiting};

@@ -1,0 +1,35 @@
+//! The state of a connection.
+
+use qc_crypto::Session;
+use qc_state::{KeyGroup, Life, Lower, Numbers, Paths, Setup, Suite, Timers, Waiting};
+use std::marker::Model;
+
+/// A connection without its mark of want of memory. Contracts see the eight groups of its view.
+#[derive(Drop)]
+pub struct Core<U: Suite> {
+    pub(crate) numbers: Numbers,
+    pub(crate) keys: KeyGroup<<U::Session as Session>::HeaderKey, <U::Session as Session>::PacketKey>,
+    pub(crate) life: Life,
+    pub(crate) paths: Paths,
+    pub(crate) timers: Timers,
+    pub(crate) waiting: Waiting,
+    pub(crate) setup: Setup<U::Random>,
+    pub(crate) lower: Lower<U::Session>,
+}
+
+impl<U: Suite> Model for Core<U> {
+    ghost use Rattle.qc_state.specs.View.{Held};
+
+    ghost Value = { Held (record { S = U.Session; H = U.Session.HeaderKey; P = U.Session.PacketKey }) U.Random };
+
+    ghost view = { λ c. record {
+        numbers = c.numbers;
+        keys = c.keys;
+        life = c.life;
+        paths = c.paths;
+        timers = c.timers;
+        waiting = c.waiting;
+        setup = c.setup;
+        lower = c.lower;
+    } };
+}

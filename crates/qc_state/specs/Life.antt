@@ -1,0 +1,46 @@
+-- The life of a connection, the reason of its end, and what waits to be reported (RFC 9000, section 10).
+use Rattle.std.specs.Prelude.{ℕ, Bool, true, false, ◌||◌, ◌==◌, if◌then◌else◌, Option, Some, None, is_none, option_map}
+use Rattle.qc_state.specs.declared.life.State.{State}
+use Rattle.qc_state.specs.declared.life.State.TheVariants.{Handshake, Established, Closed, Draining, Drained}
+use Rattle.qc_state.specs.declared.life.ConnectionError.{ConnectionError}
+use Rattle.qc_state.specs.declared.life.Life.{Life}
+use Rattle.qc_state.specs.declared.events.Event.{Event}
+use Rattle.qc_state.specs.declared.events.Event.TheVariants.{ConnectionLost}
+use Rattle.qc_state.specs.declared.events.EndpointEvent.{EndpointEvent}
+use Rattle.qc_state.specs.declared.events.EndpointEvent.TheVariants as endpoint
+
+-- the order in which a life can pass
+abbrev pub rank_of : State → ℕ
+rank_of Handshake = 0
+rank_of Established = 1
+rank_of Closed = 2
+rank_of Draining = 3
+rank_of Drained = 4
+
+abbrev pub is_drained : State → Bool
+is_drained Drained = true
+is_drained _ = false
+
+-- a reason for the end is given, and waits to be reported, unless one was given before: the first one stays
+unfoldable pub reason_given : Life → ConnectionError → Life
+reason_given v why = if is_none v.reason then record v { reason = Some why; lost = Some why } else v
+
+-- the life rises; at its end, that waits to be reported
+unfoldable pub life_raised : Life → State → Life
+life_raised v to = record v { state = to; drained = v.drained || (rank_of to == 4) }
+
+-- the reason, while its report waits
+unfoldable pub lost_event : Life → Option Event
+lost_event v = option_map ConnectionLost v.lost
+
+-- the reason was reported
+unfoldable pub lost_reported : Life → Life
+lost_reported v = record v { lost = None }
+
+-- the end, while its report waits
+unfoldable pub drained_event : Life → Option EndpointEvent
+drained_event v = if v.drained then Some endpoint.Drained else None
+
+-- the end was reported
+unfoldable pub drained_reported : Life → Life
+drained_reported v = record v { drained = false }

@@ -1,0 +1,106 @@
+-- The steps of a driven connection, and its runs: lists of steps, each beginning where the one before ended.
+use Rattle.std.specs.Prelude.{◌≡◌, ℕ, ◌+◌, ◌≤◌, List, [], ◌∷◌, ◌++◌, Option, Some, None, option_to_list}
+use Rattle.qc_base.specs.declared.side.SpaceId.{SpaceId}
+use Rattle.qc_base.specs.declared.side.SpaceId.TheVariants.{Initial}
+use Rattle.qc_frame.specs.Frame.{FrameValue}
+use Rattle.qc_state.specs.declared.deeds.Did.{Did}
+use Rattle.qc_state.specs.declared.deeds.Did.TheVariants as did
+use Rattle.qc_state.specs.declared.input.Input.{Input}
+use Rattle.qc_state.specs.declared.input.Input.TheVariants.{Transmit, Ping}
+use Rattle.qc_state.specs.declared.input.Word.{Word}
+use Rattle.qc_state.specs.declared.input.Word.TheVariants as word
+use Rattle.qc_state.specs.declared.trace.Answer.{Answer}
+use Rattle.qc_state.specs.declared.trace.Answer.TheVariants.{Done, Nothing, Out}
+use Rattle.qc_state.specs.declared.trace.Step.{Step}
+use Rattle.qc_state.specs.declared.transmit.Transmit as transmit
+use Rattle.qc_state.specs.Life.{lost_event, drained_event}
+use Rattle.qc_state.specs.Moves.{Clock, Ask, ReportLost, ReportDrained, move_to, state_move}
+use Rattle.qc_state.specs.Sending.{MayTransmit, transmit_after, transmit_bytes, transmit_of}
+use Rattle.qc_state.specs.Timers.{next_timeout}
+use Rattle.qc_state.specs.Types.{Types, Meaning}
+use Rattle.qc_state.specs.View.{View, At, at}
+
+-- the time of an input
+abbrev pub time_of : Input → ℕ
+time_of (Transmit time max) = time
+time_of (Ping time) = time
+
+-- its kind
+abbrev pub word_of : Input → Word
+word_of (Transmit time max) = word.Transmit
+word_of (Ping time) = word.Ping
+
+-- the frames of the packets that the deeds name
+abbrev pub packets_of : List Did → List (List FrameValue)
+packets_of [] = []
+packets_of (did.Sealed id n epoch early fs ∷ ds) = fs ∷ packets_of ds
+packets_of (_ ∷ ds) = packets_of ds
+
+module _ {t : Types} where
+  -- the call begins: the connection is told the time
+  unfoldable pub began : View t → ℕ → At t
+  began s time = at (state_move (Clock time) s) []
+
+  -- what an input leaves before anything is reported: a function of the view and, for a transmit, of the packets that
+  -- the deeds name
+  unfoldable pub input_after : Input → List Did → At t → At t
+  input_after (Transmit time max) ds a = transmit_after time (packets_of ds) a
+  input_after (Ping time) ds a = move_to (Ask Initial) a
+
+  unfoldable pub called : View t → Input → List Did → At t
+  called s i ds = input_after i ds (began s (time_of i))
+
+  -- whatever waited to be reported was reported
+  unfoldable pub reported : View t → View t
+  reported s = state_move ReportDrained (state_move ReportLost s)
+
+  -- the view after a step
+  unfoldable pub step_after : View t → Input → List Did → View t
+  step_after s i ds = reported (called s i ds).state
+
+  -- what an input may do
+  unfoldable pub IsAllowed : Input → List Did → View t → Type 0
+  IsAllowed (Transmit time max) ds s = MayTransmit s (packets_of ds)
+  IsAllowed (Ping time) ds s = Unit {0}
+
+  abbrev pub out_of : Option transmit.Transmit → List ℕ → Answer
+  out_of None bytes = Nothing
+  out_of (Some sent) bytes = Out sent.destination None sent.ecn bytes
+
+  -- what an input answers
+  unfoldable pub answer_of : Meaning t → Input → List Did → View t → Answer
+  answer_of m (Transmit time max) ds s = out_of (transmit_of (packets_of ds) s) (transmit_bytes m (packets_of ds) s)
+  answer_of m (Ping time) ds s = Done
+
+  -- one step: how each group of the view changes, and what is told
+  pub record IsStep (m : Meaning t) (k : ℕ) (s : View t) (i : Input) (x : Step) (s' : View t) : Type 0 where
+    pub numbers : s'.numbers ≡ (step_after s i x.did).numbers
+    pub keys : s'.keys ≡ (step_after s i x.did).keys
+    pub life : s'.life ≡ (step_after s i x.did).life
+    pub paths : s'.paths ≡ (step_after s i x.did).paths
+    pub timers : s'.timers ≡ (step_after s i x.did).timers
+    pub waiting : s'.waiting ≡ (step_after s i x.did).waiting
+    pub setup : s'.setup ≡ (step_after s i x.did).setup
+    pub lower : s'.lower ≡ (step_after s i x.did).lower
+    pub forward : s.timers.greatest ≤ time_of i
+    pub deeds : x.did ≡ (called s i x.did).did
+    pub allowed : IsAllowed i x.did (began s (time_of i)).state
+    pub answer : x.answer ≡ answer_of m i x.did (began s (time_of i)).state
+    pub events : x.events ≡ option_to_list (lost_event (called s i x.did).state.life)
+    pub endpoint : x.endpoint ≡ option_to_list (drained_event (called s i x.did).state.life)
+    pub timeout : x.timeout ≡ next_timeout s'.timers
+    pub place : x.at ≡ k
+    pub word : x.word ≡ word_of i
+    pub time : x.now ≡ time_of i
+
+  -- a run: one step an input, each from where the one before ended; the first step has the number k
+  unfoldable pub Run : Meaning t → ℕ → View t → List Input → List Step → View t → Type 0
+  Run m k s [] [] s' = s' ≡ s
+  Run m k s (i ∷ is) (x ∷ xs) s' = (mid : View t) × IsStep m k s i x mid × Run m (k + 1) mid is xs s'
+  Run m k s _ _ s' = ⊥
+
+-- inputs in their order: times never fall, and a transmit may send at least one datagram
+abbrev pub AreValid : ℕ → List Input → Type 0
+AreValid greatest [] = Unit {0}
+AreValid greatest (Transmit time max ∷ is) = (greatest ≤ time) × (1 ≤ max) × AreValid time is
+AreValid greatest (Ping time ∷ is) = (greatest ≤ time) × AreValid time is

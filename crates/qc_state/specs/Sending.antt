@@ -1,0 +1,143 @@
+-- What a transmit may send, and what it leaves. Which of the waiting frames a packet carries is free; all else is a
+-- function of that choice. So far a transmit seals at most one packet, an Initial in a datagram of its own.
+use Rattle.std.specs.Prelude.{◌≡◌, ℕ, ◌^◌, Bool, true, false, ◌||◌, ◌&&◌, not, nat_le, if◌then◌else◌, List, [], ◌∷◌, length, Option, Some, None, is_some, is_none}
+use Rattle.std.specs.List.{list_any}
+use Rattle.qc_base.specs.declared.ecn.EcnCodepoint.TheVariants.{Ect0}
+use Rattle.qc_base.specs.declared.side.SpaceId.TheVariants.{Initial}
+use Rattle.qc_base.specs.declared.transport_error.TransportError.{TransportError}
+use Rattle.qc_base.specs.PacketNumber.{number_of}
+use Rattle.qc_frame.specs.Frame.{FrameValue}
+use Rattle.qc_frame.specs.FrameSpelling.{frames_spelling, elicits}
+use Rattle.qc_header.specs.declared.header.Header.{Header}
+use Rattle.qc_header.specs.declared.header.Header.TheVariants as header
+use Rattle.qc_packet.specs.PacketSpelling.{packet_spelling}
+use Rattle.qc_state.specs.declared.deeds.Did.{Did}
+use Rattle.qc_state.specs.declared.deeds.Did.TheVariants as did
+use Rattle.qc_state.specs.declared.deeds.Quiet.TheVariants.{NothingOwed, Silent, Killed}
+use Rattle.qc_state.specs.declared.life.ConnectionError.{ConnectionError}
+use Rattle.qc_state.specs.declared.life.ConnectionError.TheVariants as lost
+use Rattle.qc_state.specs.declared.life.State.TheVariants.{Drained}
+use Rattle.qc_state.specs.declared.transmit.Transmit.{Transmit}
+use Rattle.qc_state.specs.declared.transmit.TheConstants.{DATAGRAM_SIZE}
+use Rattle.qc_state.specs.Keys.{header_key_of, packet_key_of}
+use Rattle.qc_state.specs.Life.{is_drained}
+use Rattle.qc_state.specs.Moves.{Move, Seal, Take, Raise, Give, Say, move_to}
+use Rattle.qc_state.specs.Numbers.{next_number}
+use Rattle.qc_state.specs.Spaces.{space_of}
+use Rattle.qc_state.specs.Types.{Types, Meaning}
+use Rattle.qc_state.specs.View.{View, At, at}
+use Rattle.qc_state.specs.Waiting.{waits_in, WaitAll}
+
+-- INTERNAL_ERROR (RFC 9000, section 20.1), without the type of a frame
+abbrev pub internal_error : ConnectionError
+internal_error = lost.TransportError (record { code = 1; frame = None })
+
+-- a packet number lies so far above every acknowledged one, 0 before the first, that no packet can spell it
+-- (RFC 9000, section 17.1): the connection ends
+abbrev pub is_past_limit : ℕ → Bool
+is_past_limit number = nat_le (2 ^ 31) number
+
+module _ {t : Types} where
+  -- nothing is sent any more
+  unfoldable pub is_silent : View t → Bool
+  is_silent s = is_drained s.life.state
+
+  -- a space with keys owes what waits there
+  unfoldable pub owes : View t → Bool
+  owes s = is_some (packet_key_of s.keys Initial) && waits_in s.waiting Initial
+
+  -- the next packet's number is past the limit
+  unfoldable pub is_used_up : View t → Bool
+  is_used_up s = is_past_limit (next_number s.numbers Initial)
+
+  -- the header of the next packet (RFC 9000, section 17.2.2)
+  unfoldable pub header_of : View t → Header
+  header_of s = header.Initial (record {
+    dst_cid = s.paths.remote_cid;
+    src_cid = s.setup.fixed.local_cid;
+    token = [];
+    number = number_of (next_number s.numbers Initial) 0;
+    version = s.setup.fixed.version;
+  })
+
+  abbrev pub sealed_with : Meaning t → Option t.H → Option t.P → Header → ℕ → List ℕ → List ℕ
+  sealed_with m (Some h) (Some k) header number plain = packet_spelling (m.mask h) (m.seal k) header number plain
+  sealed_with m _ _ header number plain = []
+
+  -- the bytes of the next packet, with these frames
+  unfoldable pub packet_bytes : Meaning t → View t → List FrameValue → List ℕ
+  packet_bytes m s fs = sealed_with m (header_key_of s.keys Initial) (packet_key_of s.keys Initial) (header_of s) (next_number s.numbers Initial) (frames_spelling fs)
+
+  -- a packet with these frames may be sealed: something is owed, each frame waits as its turn comes or is PADDING, and
+  -- not all are PADDING
+  pub record MaySeal (s : View t) (fs : List FrameValue) : Type 0 where
+    pub alive : is_silent s ≡ false
+    pub owed : owes s ≡ true
+    pub spelled : is_used_up s ≡ false
+    pub wait : WaitAll (space_of s.waiting.spaces Initial) fs
+    pub holds : list_any elicits fs ≡ true
+
+  -- a packet is sealed: its frames wait no longer, and its number is used
+  unfoldable pub packet_after : ℕ → List FrameValue → At t → At t
+  packet_after time fs a = move_to (Seal time Initial (next_number a.state.numbers Initial) DATAGRAM_SIZE fs) (move_to (Take Initial fs) a)
+
+  -- a reason for the end is given, unless one was given before
+  unfoldable pub given_after : ConnectionError → At t → At t
+  given_after why a = if is_none a.state.life.reason then move_to (Give why) a else a
+
+  -- the connection ends at once, for this reason
+  unfoldable pub killed_after : ConnectionError → At t → At t
+  killed_after why a = given_after why (move_to (Raise Drained) a)
+
+  -- nothing is sealed: because the end came before, or because of the limit, which is now the end, or because nothing
+  -- was owed
+  unfoldable pub quiet_after : At t → At t
+  quiet_after a =
+      if is_silent a.state then move_to (Say Silent) a
+      else if owes a.state then move_to (Say Killed) (killed_after internal_error a)
+      else move_to (Say NothingOwed) a
+
+  -- what a transmit leaves that seals these packets
+  unfoldable pub transmit_after : ℕ → List (List FrameValue) → At t → At t
+  transmit_after time [] a = quiet_after a
+  transmit_after time (fs ∷ _) a = packet_after time fs a
+
+  -- which packets a transmit may seal: one with something owed, and none only where the end came before, nothing is
+  -- owed, or the limit stands
+  unfoldable pub MayTransmit : View t → List (List FrameValue) → Type 0
+  MayTransmit s [] = (is_silent s || not (owes s) || is_used_up s) ≡ true
+  MayTransmit s (fs ∷ []) = MaySeal s fs
+  MayTransmit s _ = ⊥
+
+  -- the bytes of the datagrams
+  unfoldable pub transmit_bytes : Meaning t → List (List FrameValue) → View t → List ℕ
+  transmit_bytes m [] s = []
+  transmit_bytes m (fs ∷ _) s = packet_bytes m s fs
+
+  -- where the datagrams go, and how; none where nothing was sealed
+  unfoldable pub transmit_of : List (List FrameValue) → View t → Option Transmit
+  transmit_of [] s = None
+  transmit_of (fs ∷ _) s = Some (record {
+    destination = s.paths.remote;
+    ecn = Some Ect0;
+    size = DATAGRAM_SIZE;
+    segment_size = None;
+    src_ip = s.setup.fixed.local_ip;
+  })
+
+  -- a packet was sealed into an empty buffer, with frames of its choice, and fills a datagram
+  pub record SealsOne (m : Meaning t) (time : ℕ) (a b : At t) (buffer : List ℕ) : Type 0 where
+    pub frames : List FrameValue
+    pub may : MaySeal a.state frames
+    pub leads : b ≡ packet_after time frames a
+    pub bytes : buffer ≡ packet_bytes m a.state frames
+    pub full : length buffer ≡ DATAGRAM_SIZE
+
+  -- a transmit into an empty buffer
+  pub record Transmits (m : Meaning t) (time : ℕ) (a b : At t) (sent : Option Transmit) (buffer : List ℕ) : Type 0 where
+    pub packets : List (List FrameValue)
+    pub may : MayTransmit a.state packets
+    pub leads : b ≡ transmit_after time packets a
+    pub answer : sent ≡ transmit_of packets a.state
+    pub bytes : buffer ≡ transmit_bytes m packets a.state
+    pub full : length buffer ≡ (if is_some sent then DATAGRAM_SIZE else 0)

@@ -1,0 +1,37 @@
+-- The timers of a connection (RFC 9000, section 10.1; RFC 9002, section 6.2). Times are nanoseconds.
+use Rattle.std.specs.Prelude.{ℕ, ◌*◌, max, Bool, true, false, nat_le, if◌then◌else◌, Option, Some, None}
+use Rattle.qc_base.specs.Time.{plus}
+use Rattle.qc_state.specs.declared.timers.TheConstants.{PROBE_TIMEOUT}
+use Rattle.qc_state.specs.declared.timers.Timers.{Timers}
+
+-- the earlier of two times, where there is one
+abbrev pub least : Option ℕ → Option ℕ → Option ℕ
+least None b = b
+least (Some a) None = Some a
+least (Some a) (Some b) = if nat_le a b then Some a else Some b
+
+-- when a connection ends that is idle from now on: its own limit or three probe timeouts, the longer one; without a
+-- limit nothing changes
+abbrev pub idle_from : Option ℕ → Option ℕ → ℕ → Option ℕ
+idle_from None before time = before
+idle_from (Some limit) before time = Some (plus time (max limit (3 * PROBE_TIMEOUT)))
+
+-- a packet that elicits an acknowledgement was sealed at this time
+unfoldable pub timers_sealed : Timers → Option ℕ → ℕ → Timers
+timers_sealed v limit time = record v {
+  loss_detection = Some (plus time PROBE_TIMEOUT);
+  idle = if v.sets_idle then idle_from limit v.idle time else v.idle;
+  sets_idle = false;
+}
+
+-- every timer is stopped
+unfoldable pub timers_stopped : Timers → Timers
+timers_stopped v = record v { loss_detection = None; idle = None }
+
+-- the connection is told a time
+unfoldable pub clock_set : Timers → ℕ → Timers
+clock_set v time = record v { greatest = time }
+
+-- the least time that is set
+unfoldable pub next_timeout : Timers → Option ℕ
+next_timeout v = least v.loss_detection v.idle

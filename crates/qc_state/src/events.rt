@@ -1,0 +1,110 @@
+//! What a connection reports to the application and to its endpoint.
+
+ghost use Rattle.std.specs.Prelude.{◌≡◌, [], ◌∷◌, ◌++◌, OnOk, OnErr};
+
+use std::alloc::{AllocError, Global};
+use std::marker::Model;
+
+use crate::life::ConnectionError;
+
+/// What a connection reports to the application.
+#[derive(Drop)]
+pub enum Event {
+    /// The connection was lost. It is given once.
+    ConnectionLost {
+        /// Why.
+        reason: ConnectionError,
+    },
+}
+
+/// What a connection reports to its endpoint.
+#[derive(Clone, Copy)]
+pub enum EndpointEvent {
+    /// The connection is drained: its state can be dropped. It is given once.
+    Drained,
+}
+
+/// A list of events, in the order in which they were given.
+#[derive(Drop)]
+pub struct Events {
+    events: Vec<Event>,
+}
+
+impl Model for Events {
+    ghost use Rattle.std.specs.Prelude.{List};
+    ghost use Rattle.qc_state.specs.declared.events.Event.{Event};
+
+    ghost Value = { List Event };
+
+    ghost view = { λ l. l.events.items };
+}
+
+impl Events {
+    /// No events.
+    pub fn new(alloc: Global) -> Events
+        ensures { result ≡ [] }
+    {
+        Events {
+            events: Vec::new(alloc),
+        }
+    }
+
+    /// The report of the end's reason, after the others. Want of memory is the only refusal, and then the list is as
+    /// before.
+    pub fn push_lost(&mut self, reason: ConnectionError) -> Result<(), AllocError>
+        ensures ok { OnOk result (self.new ≡ self.old ++ Event.ConnectionLost reason ∷ []) }
+        ensures err { OnErr result (self.new ≡ self.old) }
+    {
+        self.events.push(Event::ConnectionLost { reason })?;
+        Ok(())
+    }
+
+    /// The events.
+    pub fn as_slice(&self) -> &[Event]
+        ensures { result.now ≡ self.now }
+    {
+        self.events.as_slice()
+    }
+}
+
+/// A list of events for the endpoint, in the order in which they were given.
+#[derive(Drop)]
+pub struct EndpointEvents {
+    events: Vec<EndpointEvent>,
+}
+
+impl Model for EndpointEvents {
+    ghost use Rattle.std.specs.Prelude.{List};
+    ghost use Rattle.qc_state.specs.declared.events.EndpointEvent.{EndpointEvent};
+
+    ghost Value = { List EndpointEvent };
+
+    ghost view = { λ l. l.events.items };
+}
+
+impl EndpointEvents {
+    /// No events.
+    pub fn new(alloc: Global) -> EndpointEvents
+        ensures { result ≡ [] }
+    {
+        EndpointEvents {
+            events: Vec::new(alloc),
+        }
+    }
+
+    /// One event more. Want of memory is the only refusal, and then the list is as before.
+    pub fn push(&mut self, event: EndpointEvent) -> Result<(), AllocError>
+        ensures ok { OnOk result (self.new ≡ self.old ++ event ∷ []) }
+        ensures err { OnErr result (self.new ≡ self.old) }
+    {
+        self.events.push(event)?;
+        Ok(())
+    }
+
+    /// The events.
+    pub fn as_slice(&self) -> &[EndpointEvent]
+        ensures { result.now ≡ self.now }
+    {
+        self.events.as_slice()
+    }
+}

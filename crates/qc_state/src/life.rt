@@ -1,0 +1,121 @@
+//! The life of a connection, the reason of its end, and what of both waits to be reported.
+
+ghost use Rattle.std.specs.Prelude.{◌≡◌};
+ghost use Rattle.qc_state.specs.Life.{rank_of, is_drained, reason_given, life_raised, lost_event, lost_reported, drained_event, drained_reported};
+
+use qc_base::TransportError;
+
+use crate::events::{EndpointEvent, Event};
+
+/// Where a connection is in its life (RFC 9000, 10). A life never falls: the variants stand in the order in which a
+/// connection can pass through them.
+#[derive(Clone, Copy)]
+pub enum State {
+    /// The handshake goes on.
+    Handshake,
+    /// The handshake is over.
+    Established,
+    /// This end closed, and waits for the peer's answer (RFC 9000, 10.2.1).
+    Closed,
+    /// The peer closed; nothing is sent any more (RFC 9000, 10.2.2).
+    Draining,
+    /// The end: every timer is stopped and nothing happens any more.
+    Drained,
+}
+
+/// Why a connection ended.
+#[derive(Drop)]
+pub enum ConnectionError {
+    /// This end found the error: INTERNAL_ERROR where its packet numbers were used up (RFC 9000, 12.3).
+    TransportError(TransportError),
+}
+
+/// The life, the first reason for its end, and what waits to be reported.
+#[derive(Drop)]
+pub struct Life {
+    /// Where the connection is in its life.
+    pub state: State,
+    /// The first reason for the end, once one was given.
+    pub reason: Option<ConnectionError>,
+    /// The reason, while its report `ConnectionLost` waits to be given.
+    pub lost: Option<ConnectionError>,
+    /// Whether `Drained` waits to be given.
+    pub drained: bool,
+}
+
+impl ConnectionError {
+    /// The same reason again.
+    pub fn copy(&self) -> ConnectionError
+        ensures { result ≡ self.now }
+    {
+        match self {
+            ConnectionError::TransportError(error) => ConnectionError::TransportError(*error),
+        }
+    }
+}
+
+/// The rank of a state: 0 for `Handshake` to 4 for `Drained`.
+pub fn rank(state: State) -> u8
+    ensures { result ≡ rank_of state }
+{
+    match state {
+        State::Handshake => 0,
+        State::Established => 1,
+        State::Closed => 2,
+        State::Draining => 3,
+        State::Drained => 4,
+    }
+}
+
+#[tactic(auto, unfolding(crate::specs::Life::life_raised, crate::specs::Life::reason_given, crate::specs::Life::lost_event, crate::specs::Life::lost_reported, crate::specs::Life::drained_event, crate::specs::Life::drained_reported))]
+impl Life {
+    /// Whether the life has ended.
+    pub fn is_drained(&self) -> bool
+        ensures { result ≡ is_drained self.now.state }
+    {
+        match self.state {
+            State::Drained => true,
+            _ => false,
+        }
+    }
+
+    /// A reason for the end is given, unless one was given before.
+    pub fn give(&mut self, why: ConnectionError)
+        ensures { self.new ≡ reason_given self.old why }
+    {
+        if self.reason.is_none() {
+            self.lost = Some(why.copy());
+            self.reason = Some(why);
+        }
+    }
+
+    /// The life rises to `to`.
+    pub fn raise(&mut self, to: State)
+        ensures { self.new ≡ life_raised self.old to }
+    {
+        let ends = rank(to) == 4;
+        self.drained = self.drained || ends;
+        self.state = to;
+    }
+
+    /// The report of the end's reason, once.
+    pub fn take_lost(&mut self) -> Option<Event>
+        ensures event { result ≡ lost_event self.old }
+        ensures rest { self.new ≡ lost_reported self.old }
+    {
+        match self.lost.take() {
+            Some(reason) => Some(Event::ConnectionLost { reason }),
+            None => None,
+        }
+    }
+
+    /// The report that the connection is drained, once.
+    pub fn take_drained(&mut self) -> Option<EndpointEvent>
+        ensures event { result ≡ drained_event self.old }
+        ensures rest { self.new ≡ drained_reported self.old }
+    {
+        let waits = self.drained;
+        self.drained = false;
+        if waits { Some(EndpointEvent::Drained) } else { None }
+    }
+}

@@ -1,0 +1,13 @@
+//! The types that a connection stands on.
+
+use qc_crypto::Session;
+use rand_core::Rng;
+
+/// The types that a connection is generic in. Every session that keeps the laws of its trait can stand here.
+pub trait Suite {
+    /// The cryptographic handshake.
+    type Session: Session;
+
+    /// The source of random words.
+    type Random: Rng + Drop;
+}

@@ -1,0 +1,89 @@
+//! The timers, and the greatest time so far.
+
+ghost use Rattle.std.specs.Prelude.{◌≡◌};
+ghost use Rattle.qc_state.specs.Timers.{timers_sealed, timers_stopped, clock_set, next_timeout, least, idle_from};
+
+use qc_base::{Duration, Instant};
+
+/// The time without an acknowledgement after which a packet is taken up again, in nanoseconds: the initial round trip
+/// time of 333 ms and four times its half as variance (RFC 9002, 6.2.2).
+pub const PROBE_TIMEOUT: u64 = 999_000_000;
+
+/// The timers, each a time or none, and the greatest time that the connection was told.
+#[derive(Drop)]
+pub struct Timers {
+    /// When packets in flight are taken up again (RFC 9002, 6.2).
+    pub loss_detection: Option<Instant>,
+    /// When the connection ends for want of a sign from the peer (RFC 9000, 10.1).
+    pub idle: Option<Instant>,
+    /// Whether the next packet that is sealed and elicits an acknowledgement sets `idle`.
+    pub sets_idle: bool,
+    /// The greatest time so far, creation included.
+    pub greatest: Instant,
+}
+
+/// The earlier of two times, where there is one.
+fn earlier(a: Option<Instant>, b: Option<Instant>) -> Option<Instant>
+    ensures { result ≡ least a b }
+{
+    match (a, b) {
+        (None, b) => b,
+        (a, None) => a,
+        (Some(a), Some(b)) => {
+            if a.nanos() <= b.nanos() {
+                Some(a)
+            } else {
+                Some(b)
+            }
+        }
+    }
+}
+
+/// When a connection that is idle from `now` on ends: after its own limit, and not before three probe timeouts.
+fn idle_at(limit: Option<Duration>, before: Option<Instant>, now: Instant) -> Option<Instant>
+    ensures { result ≡ idle_from limit before now }
+{
+    match limit {
+        None => before,
+        Some(limit) => {
+            let length = limit.nanos().max(3 * PROBE_TIMEOUT);
+            Some(now.plus(Duration::from_nanos(length)))
+        }
+    }
+}
+
+#[tactic(auto, unfolding(crate::specs::Timers::timers_sealed, crate::specs::Timers::timers_stopped, crate::specs::Timers::clock_set, crate::specs::Timers::next_timeout))]
+impl Timers {
+    /// A packet that elicits an acknowledgement was sealed at `now`.
+    pub fn sealed(&mut self, limit: Option<Duration>, now: Instant)
+        ensures { self.new ≡ timers_sealed self.old limit now }
+    {
+        self.loss_detection = Some(now.plus(Duration::from_nanos(PROBE_TIMEOUT)));
+        if self.sets_idle {
+            self.idle = idle_at(limit, self.idle, now);
+        }
+        self.sets_idle = false;
+    }
+
+    /// Every timer is stopped.
+    pub fn stop(&mut self)
+        ensures { self.new ≡ timers_stopped self.old }
+    {
+        self.loss_detection = None;
+        self.idle = None;
+    }
+
+    /// The connection is told a time.
+    pub fn told(&mut self, now: Instant)
+        ensures { self.new ≡ clock_set self.old now }
+    {
+        self.greatest = now;
+    }
+
+    /// The least time that is set. None exactly where none is.
+    pub fn next(&self) -> Option<Instant>
+        ensures { result ≡ next_timeout self.now }
+    {
+        earlier(self.loss_detection, self.idle)
+    }
+}
