@@ -1,6 +1,9 @@
 pub mod ConnectionId
 pub mod Ecn
+pub mod Reading
 pub mod StreamId
+pub mod Mask
+pub mod PacketNumber
 pub mod Time
 pub mod TransportErrorCode
 pub mod Varint

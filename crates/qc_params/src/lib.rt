@@ -1,2 +1,12 @@
-//! To be written.
+//! The transport parameters of QUIC (RFC 9000, section 18): what each end tells the other about
+//! itself in its handshake, their bytes, and what follows from them.
+
 #![tactic(auto)]
+
+mod params;
+mod write;
+
+pub use params::{PreferredAddress, TransportParameters};
+
+#[cfg(test)]
+mod tests;

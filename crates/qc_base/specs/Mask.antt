@@ -1,0 +1,54 @@
+-- Header protection (RFC 9001, section 5.4.1): a mask of 5 bytes hides the first byte's low bits
+-- and the packet number
+use Rattle.std.specs.Prelude.{ℕ, ◌+◌, ◌%◌, List, [], ◌∷◌, ◌++◌, take, drop, nat_lt, if◌then◌else◌, bit_xor}
+
+-- the first byte of a list, or 0
+abbrev pub first_byte : List ℕ → ℕ
+first_byte [] = 0
+first_byte (b ∷ bytes) = b
+
+-- how many bytes the packet number has, by the first byte of an unmasked packet
+abbrev pub number_len_in : List ℕ → ℕ
+number_len_in packet = first_byte packet % 4 + 1
+
+-- the bits of a first byte that a mask byte changes: the low 4 of a long header's, the low 5 of a
+-- short one's
+abbrev pub first_changes : ℕ → ℕ → ℕ
+first_changes first m = if nat_lt first 128 then m % 32 else m % 16
+
+-- the first byte changed
+abbrev pub first_over : List ℕ → ℕ → List ℕ
+first_over [] m = []
+first_over (b ∷ bytes) m = bit_xor b (first_changes b m) ∷ bytes
+
+-- each mask byte changes the byte at its place; the bytes behind stay
+abbrev pub mask_over : List ℕ → List ℕ → List ℕ
+mask_over bytes [] = bytes
+mask_over [] (m ∷ mask) = []
+mask_over (b ∷ bytes) (m ∷ mask) = bit_xor b m ∷ mask_over bytes mask
+
+-- the packet number changed, which has len bytes from place on, by all mask bytes but the first
+abbrev pub number_over : ℕ → ℕ → List ℕ → List ℕ → List ℕ
+number_over place len mask packet = take place packet ++ mask_over (drop place packet) (take len (drop 1 mask))
+
+-- the packet under this mask
+unfoldable pub masked_by : ℕ → List ℕ → List ℕ → List ℕ
+masked_by place mask packet =
+    number_over place (number_len_in packet) mask (first_over packet (first_byte mask))
+
+-- the packet without it: the number's length is known once the first byte is
+unfoldable pub unmasked_by : ℕ → List ℕ → List ℕ → List ℕ
+unmasked_by place mask packet =
+    let opened = first_over packet (first_byte mask) in number_over place (number_len_in opened) mask opened
+
+-- the 16 bytes that the mask is made of, as if the packet number had 4 bytes
+unfoldable pub sample_at : ℕ → List ℕ → List ℕ
+sample_at place packet = take 16 (drop (place + 4) packet)
+
+-- the packet, whose number begins at place, under the mask that mask_of makes of its sample
+unfoldable pub masked : (List ℕ → List ℕ) → ℕ → List ℕ → List ℕ
+masked mask_of place packet = masked_by place (mask_of (sample_at place packet)) packet
+
+-- and the packet without that mask
+unfoldable pub unmasked : (List ℕ → List ℕ) → ℕ → List ℕ → List ℕ
+unmasked mask_of place packet = unmasked_by place (mask_of (sample_at place packet)) packet

@@ -1,0 +1,75 @@
+//! Packet numbers as the wire carries them (RFC 9000, section 17.1).
+
+ghost use Rattle.std.specs.Prelude.{◌≡◌, ◌+◌, ◌-◌, ◌^◌, ◌<◌, ◌≤◌, ◌++◌, length, OnOk, OnErr};
+ghost use Rattle.qc_base.specs.PacketNumber.{number_of, number_len, number_bytes};
+
+use std::alloc::AllocError;
+
+/// The lowest 1 to 4 bytes of a packet number. Of the number in `U24` the lowest 3 bytes count.
+#[derive(Clone, Copy, Debug, PartialEq, Eq)]
+pub enum PacketNumber {
+    /// One byte.
+    U8(u8),
+    /// Two bytes.
+    U16(u16),
+    /// Three bytes.
+    U24(u32),
+    /// Four bytes.
+    U32(u32),
+}
+
+impl PacketNumber {
+    /// The packet number `n` in as few bytes as the peer can read, which acknowledged
+    /// `largest_acked`: the least length L with 2 * (n - largest_acked) < 2^(8 * L)
+    /// (RFC 9000, section 17.1 and appendix A.2).
+    #[tactic(auto, unfolding(crate::specs::PacketNumber::number_of))]
+    pub fn new(n: u64, largest_acked: u64) -> PacketNumber
+        requires order { largest_acked ≤ n }
+        requires near { n - largest_acked < 2 ^ 31 }
+        ensures { result ≡ number_of n largest_acked }
+    {
+        let span = 2 * (n - largest_acked);
+        if span < 0x100 {
+            PacketNumber::U8((n % 0x100) as u8)
+        } else if span < 0x1_0000 {
+            PacketNumber::U16((n % 0x1_0000) as u16)
+        } else if span < 0x100_0000 {
+            PacketNumber::U24((n % 0x100_0000) as u32)
+        } else {
+            PacketNumber::U32((n % 0x1_0000_0000) as u32)
+        }
+    }
+
+    /// How many bytes it has: 1 to 4.
+    #[tactic(auto, unfolding(crate::specs::PacketNumber::number_bytes))]
+    pub fn len(self) -> usize
+        ensures value { result ≡ number_len self }
+        ensures bytes { result ≡ length (number_bytes self) }
+        ensures least { 1 ≤ result }
+        ensures most { result ≤ 4 }
+    {
+        match self {
+            PacketNumber::U8(_) => 1,
+            PacketNumber::U16(_) => 2,
+            PacketNumber::U24(_) => 3,
+            PacketNumber::U32(_) => 4,
+        }
+    }
+
+    /// Appends its bytes, the highest first. After want of memory `out` is as before.
+    #[tactic(auto, unfolding(crate::specs::PacketNumber::number_bytes))]
+    pub fn encode(self, out: &mut Vec<u8>) -> Result<(), AllocError>
+        ensures ok { OnOk result (out.new.items ≡ out.old.items ++ number_bytes self) }
+        ensures err { OnErr result (out.new.items ≡ out.old.items) }
+    {
+        match self {
+            PacketNumber::U8(n) => out.extend_from_slice(&n.to_be_bytes()),
+            PacketNumber::U16(n) => out.extend_from_slice(&n.to_be_bytes()),
+            PacketNumber::U24(n) => {
+                let [_, high, middle, low] = n.to_be_bytes();
+                out.extend_from_slice(&[high, middle, low])
+            }
+            PacketNumber::U32(n) => out.extend_from_slice(&n.to_be_bytes()),
+        }
+    }
+}

@@ -1,0 +1,270 @@
+ghost use Rattle.std.specs.Prelude.{◌≡◌, ◌++◌, ◌<◌, ◌≤◌, ◌^◌, [], OnOk, OnErr, length, take};
+ghost use Rattle.std.specs.Int.{w16, to_be_bytes};
+ghost use Rattle.std.specs.Net.Addr.{ipv4_octets, ipv6_octets};
+ghost use Rattle.qc_base.specs.Varint.{varint};
+ghost use Rattle.qc_params.specs.ParametersSpelling.{parameter, number_row, maybe_row, flag_row, id_row, token_row, address_bytes, address_row, parameters_spelling};
+
+use crate::params;
+use crate::params::{PreferredAddress, TransportParameters};
+use qc_base::{ConnectionId, ResetToken, VarInt, put_varint, varint_size};
+use std::alloc::AllocError;
+
+// Appends the id and the length of a value, which the caller appends next.
+fn put_head(buf: &mut Vec<u8>, id: u64, value_len: usize) -> Result<(), AllocError>
+    ensures ok { OnOk result (buf.new.items ≡ buf.old.items ++ varint id ++ varint value_len) }
+    ensures kept { take (length buf.old.items) buf.new.items ≡ buf.old.items }
+{
+    put_varint(buf, id)?;
+    put_varint(buf, value_len as u64)
+}
+
+#[tactic(auto, unfolding(crate::specs::ParametersSpelling::parameter))]
+fn put_bytes(buf: &mut Vec<u8>, id: u64, value: &[u8]) -> Result<(), AllocError>
+    ensures ok { OnOk result (buf.new.items ≡ buf.old.items ++ parameter id value.now) }
+    ensures kept { take (length buf.old.items) buf.new.items ≡ buf.old.items }
+{
+    put_head(buf, id, value.len())?;
+    buf.extend_from_slice(value)
+}
+
+#[tactic(auto, unfolding(crate::specs::ParametersSpelling::parameter))]
+fn put_varint_value(buf: &mut Vec<u8>, id: u64, n: u64) -> Result<(), AllocError>
+    ensures ok { OnOk result (buf.new.items ≡ buf.old.items ++ parameter id (varint n)) }
+    ensures kept { take (length buf.old.items) buf.new.items ≡ buf.old.items }
+{
+    put_head(buf, id, varint_size(n))?;
+    put_varint(buf, n)
+}
+
+#[tactic(auto, unfolding(crate::specs::ParametersSpelling::number_row))]
+fn put_number(buf: &mut Vec<u8>, id: u64, default: u64, value: VarInt) -> Result<(), AllocError>
+    ensures ok { OnOk result (buf.new.items ≡ buf.old.items ++ number_row id default value) }
+    ensures kept { take (length buf.old.items) buf.new.items ≡ buf.old.items }
+{
+    let n = value.into_inner();
+    if n == default {
+        return Ok(());
+    }
+    put_varint_value(buf, id, n)
+}
+
+#[tactic(auto, unfolding(crate::specs::ParametersSpelling::maybe_row))]
+fn put_maybe(buf: &mut Vec<u8>, id: u64, value: Option<VarInt>) -> Result<(), AllocError>
+    ensures ok { OnOk result (buf.new.items ≡ buf.old.items ++ maybe_row id value) }
+    ensures kept { take (length buf.old.items) buf.new.items ≡ buf.old.items }
+{
+    match value {
+        Some(n) => put_varint_value(buf, id, n.into_inner()),
+        None => Ok(()),
+    }
+}
+
+#[tactic(auto, unfolding(crate::specs::ParametersSpelling::flag_row))]
+fn put_flag(buf: &mut Vec<u8>, id: u64, value: bool) -> Result<(), AllocError>
+    ensures ok { OnOk result (buf.new.items ≡ buf.old.items ++ flag_row id value) }
+    ensures kept { take (length buf.old.items) buf.new.items ≡ buf.old.items }
+{
+    if value {
+        return put_bytes(buf, id, &[]);
+    }
+    Ok(())
+}
+
+#[tactic(auto, unfolding(crate::specs::ParametersSpelling::id_row))]
+fn put_id(buf: &mut Vec<u8>, id: u64, value: &Option<ConnectionId>) -> Result<(), AllocError>
+    ensures ok { OnOk result (buf.new.items ≡ buf.old.items ++ id_row id value.now) }
+    ensures kept { take (length buf.old.items) buf.new.items ≡ buf.old.items }
+{
+    match value {
+        Some(cid) => put_bytes(buf, id, cid.as_slice()),
+        None => Ok(()),
+    }
+}
+
+#[tactic(auto, unfolding(crate::specs::ParametersSpelling::token_row))]
+fn put_token(buf: &mut Vec<u8>, id: u64, value: &Option<ResetToken>) -> Result<(), AllocError>
+    ensures ok { OnOk result (buf.new.items ≡ buf.old.items ++ token_row id value.now) }
+    ensures kept { take (length buf.old.items) buf.new.items ≡ buf.old.items }
+{
+    match value {
+        Some(token) => put_bytes(buf, id, &**token),
+        None => Ok(()),
+    }
+}
+
+#[tactic(auto, unfolding(crate::specs::ParametersSpelling::address_bytes))]
+fn put_address_bytes(buf: &mut Vec<u8>, address: &PreferredAddress) -> Result<(), AllocError>
+    ensures ok { OnOk result (buf.new.items ≡ buf.old.items ++ address_bytes address.now) }
+    ensures kept { take (length buf.old.items) buf.new.items ≡ buf.old.items }
+{
+    buf.extend_from_slice(&address.ipv4.octets())?;
+    buf.extend_from_slice(&address.port_v4.to_be_bytes())?;
+    buf.extend_from_slice(&address.ipv6.octets())?;
+    buf.extend_from_slice(&address.port_v6.to_be_bytes())?;
+    let id = address.id.as_slice();
+    buf.extend_from_slice(&[id.len() as u8])?;
+    buf.extend_from_slice(id)?;
+    buf.extend_from_slice(&*address.reset_token)
+}
+
+#[tactic(auto, using(crate::proofs::AddressLength::address_length))]
+fn address_len(address: &PreferredAddress) -> usize
+    ensures { result ≡ length (address_bytes address.now) }
+{
+    let ipv4: &[u8] = &address.ipv4.octets();
+    let ipv6: &[u8] = &address.ipv6.octets();
+    let token: &[u8] = &*address.reset_token;
+    ipv4.len() + ipv6.len() + address.id.len() + token.len() + 5
+}
+
+#[tactic(auto, unfolding(crate::specs::ParametersSpelling::address_row, crate::specs::ParametersSpelling::parameter))]
+fn put_address(
+    buf: &mut Vec<u8>,
+    id: u64,
+    value: &Option<PreferredAddress>,
+) -> Result<(), AllocError>
+    ensures ok { OnOk result (buf.new.items ≡ buf.old.items ++ address_row id value.now) }
+    ensures kept { take (length buf.old.items) buf.new.items ≡ buf.old.items }
+{
+    match value {
+        Some(address) => {
+            put_head(buf, id, address_len(address))?;
+            put_address_bytes(buf, address)
+        },
+        None => Ok(()),
+    }
+}
+
+impl TransportParameters {
+    ghost use Rattle.qc_params.specs.ParametersSpelling.{first_rows, limit_rows, middle_rows, last_rows};
+
+    /// Appends the parameters: those that differ from their defaults, by ascending ids, each as its
+    /// id, the length of its value and the value (RFC 9000, section 18).
+    ///
+    /// # Errors
+    ///
+    /// `AllocError` for want of memory; `buf` is then as it was.
+    #[tactic(auto, unfolding(crate::specs::ParametersSpelling::parameters_spelling))]
+    pub fn write(&self, buf: &mut Vec<u8>) -> Result<(), AllocError>
+        ensures ok { OnOk result (buf.new.items ≡ buf.old.items ++ parameters_spelling self.now) }
+        ensures err { OnErr result (buf.new.items ≡ buf.old.items) }
+    {
+        let start = buf.len();
+        match self.put_rows(buf) {
+            Ok(()) => Ok(()),
+            Err(e) => {
+                buf.truncate(start);
+                Err(e)
+            },
+        }
+    }
+
+    #[tactic(auto, unfolding(crate::specs::ParametersSpelling::parameters_spelling))]
+    fn put_rows(&self, buf: &mut Vec<u8>) -> Result<(), AllocError>
+        ensures ok { OnOk result (buf.new.items ≡ buf.old.items ++ parameters_spelling self.now) }
+        ensures kept { take (length buf.old.items) buf.new.items ≡ buf.old.items }
+    {
+        self.put_first_rows(buf)?;
+        self.put_limit_rows(buf)?;
+        self.put_middle_rows(buf)?;
+        self.put_last_rows(buf)
+    }
+
+    // 0x00 to 0x03
+    #[tactic(auto, unfolding(crate::specs::ParametersSpelling::first_rows))]
+    fn put_first_rows(&self, buf: &mut Vec<u8>) -> Result<(), AllocError>
+        ensures ok { OnOk result (buf.new.items ≡ buf.old.items ++ first_rows self.now) }
+        ensures kept { take (length buf.old.items) buf.new.items ≡ buf.old.items }
+    {
+        put_id(buf, params::ORIGINAL_DST_CID, &self.original_dst_cid)?;
+        put_number(buf, params::MAX_IDLE_TIMEOUT, 0, self.max_idle_timeout)?;
+        put_token(
+            buf,
+            params::STATELESS_RESET_TOKEN,
+            &self.stateless_reset_token,
+        )?;
+        put_number(
+            buf,
+            params::MAX_UDP_PAYLOAD_SIZE,
+            65527,
+            self.max_udp_payload_size,
+        )
+    }
+
+    // 0x04 to 0x09
+    #[tactic(auto, unfolding(crate::specs::ParametersSpelling::limit_rows))]
+    fn put_limit_rows(&self, buf: &mut Vec<u8>) -> Result<(), AllocError>
+        ensures ok { OnOk result (buf.new.items ≡ buf.old.items ++ limit_rows self.now) }
+        ensures kept { take (length buf.old.items) buf.new.items ≡ buf.old.items }
+    {
+        put_number(buf, params::INITIAL_MAX_DATA, 0, self.initial_max_data)?;
+        put_number(
+            buf,
+            params::INITIAL_MAX_STREAM_DATA_BIDI_LOCAL,
+            0,
+            self.initial_max_stream_data_bidi_local,
+        )?;
+        put_number(
+            buf,
+            params::INITIAL_MAX_STREAM_DATA_BIDI_REMOTE,
+            0,
+            self.initial_max_stream_data_bidi_remote,
+        )?;
+        put_number(
+            buf,
+            params::INITIAL_MAX_STREAM_DATA_UNI,
+            0,
+            self.initial_max_stream_data_uni,
+        )?;
+        put_number(
+            buf,
+            params::INITIAL_MAX_STREAMS_BIDI,
+            0,
+            self.initial_max_streams_bidi,
+        )?;
+        put_number(
+            buf,
+            params::INITIAL_MAX_STREAMS_UNI,
+            0,
+            self.initial_max_streams_uni,
+        )
+    }
+
+    // 0x0a to 0x0e
+    #[tactic(auto, unfolding(crate::specs::ParametersSpelling::middle_rows))]
+    fn put_middle_rows(&self, buf: &mut Vec<u8>) -> Result<(), AllocError>
+        ensures ok { OnOk result (buf.new.items ≡ buf.old.items ++ middle_rows self.now) }
+        ensures kept { take (length buf.old.items) buf.new.items ≡ buf.old.items }
+    {
+        put_number(buf, params::ACK_DELAY_EXPONENT, 3, self.ack_delay_exponent)?;
+        put_number(buf, params::MAX_ACK_DELAY, 25, self.max_ack_delay)?;
+        put_flag(
+            buf,
+            params::DISABLE_ACTIVE_MIGRATION,
+            self.disable_active_migration,
+        )?;
+        put_address(buf, params::PREFERRED_ADDRESS, &self.preferred_address)?;
+        put_number(
+            buf,
+            params::ACTIVE_CONNECTION_ID_LIMIT,
+            2,
+            self.active_connection_id_limit,
+        )
+    }
+
+    // 0x0f to 0x2ab2
+    #[tactic(auto, unfolding(crate::specs::ParametersSpelling::last_rows))]
+    fn put_last_rows(&self, buf: &mut Vec<u8>) -> Result<(), AllocError>
+        ensures ok { OnOk result (buf.new.items ≡ buf.old.items ++ last_rows self.now) }
+        ensures kept { take (length buf.old.items) buf.new.items ≡ buf.old.items }
+    {
+        put_id(buf, params::INITIAL_SRC_CID, &self.initial_src_cid)?;
+        put_id(buf, params::RETRY_SRC_CID, &self.retry_src_cid)?;
+        put_maybe(
+            buf,
+            params::MAX_DATAGRAM_FRAME_SIZE,
+            self.max_datagram_frame_size,
+        )?;
+        put_flag(buf, params::GREASE_QUIC_BIT, self.grease_quic_bit)
+    }
+}
