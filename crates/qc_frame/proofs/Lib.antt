@@ -1,1 +1,2 @@
+pub mod BeforePadding
 pub mod Padded

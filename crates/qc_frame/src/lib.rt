@@ -2,6 +2,7 @@
 #![tactic(auto)]
 
 mod frames;
+mod eliciting;
 mod list;
 mod write;
 
