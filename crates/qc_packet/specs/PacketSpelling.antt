@@ -1,13 +1,19 @@
 -- The bytes of a protected packet (RFC 9001, sections 5.3 and 5.4).
-use Rattle.std.specs.Prelude.{ℕ, ◌+◌, ◌-◌, List, length, ◌++◌}
+use Rattle.std.specs.Prelude.{ℕ, ◌+◌, ◌-◌, List, length, ◌++◌, Option, Some, None}
 use Rattle.qc_base.specs.Mask.{masked}
 use Rattle.qc_base.specs.PacketNumber.{number_len}
+use Rattle.qc_base.specs.declared.packet_number.PacketNumber.{PacketNumber}
 use Rattle.qc_header.specs.declared.header.Header.{Header}
-use Rattle.qc_header.specs.HeaderSpelling.{header_spelling, number_in}
+use Rattle.qc_header.specs.HeaderSpelling.{header_spelling, header_number}
+
+-- the length of a packet number, where there is one
+abbrev pub len_of : Option PacketNumber → ℕ
+len_of None = 0
+len_of (Some number) = number_len number
 
 -- how many bytes follow the Length field: the packet number, the payload and the tag of 16 bytes
 abbrev pub protected_len : Header → List ℕ → ℕ
-protected_len h plain = number_len (number_in h) + length plain + 16
+protected_len h plain = len_of (header_number h) + length plain + 16
 
 -- the header, with its Length field
 abbrev pub header_bytes : Header → List ℕ → List ℕ
@@ -16,4 +22,4 @@ header_bytes h plain = header_spelling h (protected_len h plain)
 -- the header and the sealed payload, with the mask laid over the first byte and the packet number
 unfoldable pub packet_spelling : (List ℕ → List ℕ) → (ℕ → List ℕ → List ℕ → List ℕ) → Header → ℕ → List ℕ → List ℕ
 packet_spelling mask seal h number plain =
-    masked mask (length (header_bytes h plain) - number_len (number_in h)) (header_bytes h plain ++ seal number (header_bytes h plain) plain)
+    masked mask (length (header_bytes h plain) - len_of (header_number h)) (header_bytes h plain ++ seal number (header_bytes h plain) plain)
