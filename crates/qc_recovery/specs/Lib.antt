@@ -1,0 +1,2 @@
+pub mod TransportConfig
+pub mod TransportValues
