@@ -38,6 +38,11 @@ pub data Move : Type 0 where
   ReportLost : Move                                                      -- the reason of the end is reported
   ReportDrained : Move                                                   -- the end is reported
 
+-- the deeds, told one after another
+abbrev pub told : List Did → List Did → List Did
+told ds [] = ds
+told ds (e ∷ es) = told (ds ++ e ∷ []) es
+
 module _ {t : Types} where
   unfoldable pub numbers_move : Move → View t → Numbers
   numbers_move (Seal time id n size fs) s = number_used s.numbers id n
@@ -94,11 +99,6 @@ module _ {t : Types} where
   MayMove (Raise to) s = rank_of s.life.state < rank_of to
   MayMove (Give why) s = s.life.reason ≡ None
   MayMove _ s = Unit {0}
-
-  -- the deeds, told one after another
-  abbrev pub told : List Did → List Did → List Did
-  told ds [] = ds
-  told ds (e ∷ es) = told (ds ++ e ∷ []) es
 
   unfoldable pub move_to : Move → At t → At t
   move_to x a = at (state_move x a.state) (told a.did (deeds_move x a.state))
