@@ -1,0 +1,4 @@
+pub mod Mates
+pub mod Refusal
+pub mod Sealing
+pub mod SessionCall

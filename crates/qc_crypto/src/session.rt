@@ -1,0 +1,236 @@
+//! A cryptographic session: the handshake of one connection, and the keys that come of it.
+
+ghost use Rattle.std.specs.Prelude.{◌≡◌, ◌≢◌, ℕ, ◌<◌, ◌≤◌, ◌+◌, ◌%◌, ◌^◌, ◌==◌, if◌then◌else◌, List, [], ◌++◌, Bool, true, false, Option, Some, None, Result, Ok, Err, ◌⊎◌, length, nat_lt, is_err, IsSome, IfOk, IfErr, OnOk, OnErr};
+ghost use Rattle.std.specs.Option.{option_copied};
+ghost use Rattle.qc_base.specs.declared.side.Side.{Side};
+ghost use Rattle.qc_base.specs.declared.side.SpaceId.{SpaceId};
+ghost use Rattle.qc_base.specs.declared.transport_error.TransportError.{TransportError};
+ghost use Rattle.qc_crypto.specs.declared.keys.Keys.{Keys};
+ghost use Rattle.qc_crypto.specs.declared.keys.KeyPair.{KeyPair};
+ghost use Rattle.qc_crypto.specs.Mates.{AreMates, ArePacketMates, ArePacketsApart};
+ghost use Rattle.qc_crypto.specs.Refusal.{AnswersError, IsSendable};
+ghost use Rattle.qc_crypto.specs.SessionCall.{SessionCall, after_call, keys_given, space_of_change, HasSameKeys};
+
+use crate::{ExportKeyingMaterialError, HeaderKey, KeyPair, Keys, PacketKey, SessionError};
+use qc_base::{ConnectionId, Side};
+use std::alloc::AllocError;
+
+/// A cryptographic session (RFC 9001, section 4): it reads and writes the handshake's bytes, which
+/// travel in CRYPTO frames, and gives the keys of each packet number space.
+///
+/// A session's meaning is its own value. Each answer, and the session after a call, is a function
+/// of the session before it and of the arguments, want of memory aside.
+pub trait Session: Drop {
+    /// What masks headers.
+    type HeaderKey: HeaderKey;
+    /// What seals packets.
+    type PacketKey: PacketKey;
+    /// What the handshake settles beside keys and transport parameters.
+    type HandshakeData;
+    /// Who the peer has shown itself to be.
+    type PeerIdentity;
+
+    // The keys of the Initial space, of the destination id of a client's first packet and of the
+    // side that uses them.
+    ghost initial: { Self → List ℕ → Side → Keys Self.HeaderKey Self.PacketKey };
+
+    ghost negotiated: { Self → Option Self.HandshakeData };
+
+    ghost identity: { Self → Option Self.PeerIdentity };
+
+    // The 0-RTT keys, and whether the peer took what they sealed.
+    ghost early: { Self → Option (Self.HeaderKey × Self.PacketKey) };
+
+    ghost early_taken: { Self → Option Bool };
+
+    ghost handshaking: { Self → Bool };
+
+    // What reading some bytes answers, and the session after it.
+    ghost reads: { Self → List ℕ → Result Bool TransportError };
+
+    ghost after_read: { Self → List ℕ → Self };
+
+    // What a write appends, the keys that it gives, and the session after it.
+    ghost writes: { Self → List ℕ };
+
+    ghost write_keys: { Self → Option (Keys Self.HeaderKey Self.PacketKey) };
+
+    ghost after_write: { Self → Self };
+
+    // A number that falls with each write that writes or gives something.
+    ghost left: { Self → ℕ };
+
+    // How often the keys have changed, and how many bytes the session can still write.
+    ghost changes: { Self → ℕ };
+
+    ghost unwritten: { Self → ℕ };
+
+    // The 1-RTT keys of the next epoch, and the session after they were given.
+    ghost next_keys: { Self → Option (KeyPair Self.PacketKey) };
+
+    ghost after_next: { Self → Self };
+
+    ghost fits_retry: { Self → List ℕ → List ℕ → List ℕ → Bool };
+
+    // The most bytes of keying material in one call, and these bytes, of their number, a label and
+    // a context.
+    ghost export_limit: { Self → ℕ };
+
+    ghost exported: { Self → ℕ → List ℕ → List ℕ → List ℕ };
+
+    // Which end this is, the keys of the Handshake and the Data space, the 1-RTT keys of each
+    // epoch, and the epoch of the newest keys that were given.
+    ghost side_of: { Self → Side };
+
+    ghost space_keys: { Self → SpaceId → Keys Self.HeaderKey Self.PacketKey };
+
+    ghost epoch_keys: { Self → ℕ → KeyPair Self.PacketKey };
+
+    ghost epoch: { Self → ℕ };
+
+    // A client and a server whose handshake agrees on the same secrets.
+    ghost are_paired: { Self → Self → Type 0 };
+
+    /// The keys of the Initial space for `side`, from the destination id of the client's first
+    /// packet (RFC 9001, section 5.2).
+    fn initial_keys(
+        &self,
+        dst_cid: &ConnectionId,
+        side: Side,
+    ) -> Keys<Self::HeaderKey, Self::PacketKey>
+        ensures { result ≡ initial self.now dst_cid.now side };
+
+    /// What the handshake has settled, once it has.
+    fn handshake_data(&self) -> Option<&Self::HandshakeData>
+        ensures { option_copied result ≡ negotiated self.now };
+
+    /// Who the peer is, once it has shown it.
+    fn peer_identity(&self) -> Option<&Self::PeerIdentity>
+        ensures { option_copied result ≡ identity self.now };
+
+    /// The keys of 0-RTT packets, where the session has them (RFC 9001, section 4.6).
+    fn early_crypto(&self) -> Option<(Self::HeaderKey, Self::PacketKey)>
+        ensures { result ≡ early self.now };
+
+    /// Whether the server took 0-RTT, once that is known.
+    fn early_data_accepted(&self) -> Option<bool>
+        ensures { result ≡ early_taken self.now };
+
+    /// Whether the handshake goes on still.
+    fn is_handshaking(&self) -> bool
+        ensures { result ≡ handshaking self.now };
+
+    /// Reads handshake bytes of the peer, in order. Answers true where they made the handshake's
+    /// data ready.
+    ///
+    /// # Errors
+    ///
+    /// `SessionError::Transport` where the session refuses the bytes; the connection is to close
+    /// with that error. `SessionError::OutOfMemory` where there was no memory. The session is then
+    /// as before.
+    fn read_handshake(&mut self, buf: &[u8]) -> Result<bool, SessionError>
+        ensures ok { IfOk result (λ ready. reads self.old buf.now ≡ Ok ready) }
+        ensures after { OnOk result (self.new ≡ after_read self.old buf.now) }
+        ensures refused { IfErr result (AnswersError (reads self.old buf.now)) }
+        ensures err { OnErr result (self.new ≡ self.old) };
+
+    /// Appends the handshake bytes that are due in the present space, and gives the keys of the
+    /// next space, if they are ready: the bytes of later writes then belong to that space.
+    ///
+    /// # Errors
+    ///
+    /// Where there was no memory: the session and `buf` are then as before.
+    fn write_handshake(
+        &mut self,
+        buf: &mut Vec<u8>,
+    ) -> Result<Option<Keys<Self::HeaderKey, Self::PacketKey>>, AllocError>
+        ensures keys { IfOk result (λ keys. keys ≡ write_keys self.old) }
+        ensures after { OnOk result (self.new ≡ after_write self.old) }
+        ensures bytes { OnOk result (buf.new.items ≡ buf.old.items ++ writes self.old) }
+        ensures err { OnErr result (self.new ≡ self.old) }
+        ensures err_bytes { OnErr result (buf.new.items ≡ buf.old.items) };
+
+    /// The 1-RTT keys of the next epoch (RFC 9001, section 6.1). None before 1-RTT keys were given.
+    fn next_1rtt_keys(&mut self) -> Option<KeyPair<Self::PacketKey>>
+        ensures keys { result ≡ next_keys self.old }
+        ensures after { self.new ≡ after_next self.old };
+
+    /// Whether the integrity tag of a Retry packet fits (RFC 9001, section 5.8). `header` is the
+    /// packet up to its token, and `payload` the token and the tag.
+    fn is_valid_retry(&self, orig_dst_cid: &ConnectionId, header: &[u8], payload: &[u8]) -> bool
+        ensures { result ≡ fits_retry self.now orig_dst_cid.now header.now payload.now };
+
+    /// Fills `output` with keying material that both ends of the connection derive alike.
+    ///
+    /// # Errors
+    ///
+    /// Exactly where `output` is longer than the session's limit. It is then unchanged.
+    fn export_keying_material(
+        &self,
+        output: &mut [u8],
+        label: &[u8],
+        context: &[u8],
+    ) -> Result<(), ExportKeyingMaterialError>
+        ensures ok { OnOk result (output.new ≡ exported self.now (length output.old) label.now context.now) }
+        ensures refused { is_err result ≡ nat_lt (export_limit self.now) (length output.old) }
+        ensures unchanged { OnErr result (output.new ≡ output.old) };
+
+    // Writes end, and they are few: the keys change at most twice.
+    ghost falls: { (s : Self) → (0 < length (writes s)) ⊎ IsSome (write_keys s) → left (after_write s) < left s };
+
+    ghost stays: { (s : Self) → writes s ≡ [] → write_keys s ≡ None → left (after_write s) ≡ left s };
+
+    ghost short: { (s : Self) → length (writes s) < 2 ^ 62 };
+
+    ghost changes_most: { (s : Self) → changes s ≤ 2 };
+
+    ghost changes_write: { (s : Self) → changes (after_write s) ≡ changes s + keys_given (write_keys s) };
+
+    ghost changes_read: { (s : Self) (bytes : List ℕ) → changes (after_read s bytes) ≡ changes s };
+
+    ghost changes_next: { (s : Self) → changes (after_next s) ≡ changes s };
+
+    // All writes of a session together have fewer than 2^62 bytes.
+    ghost unwritten_most: { (s : Self) → unwritten s < 2 ^ 62 };
+
+    ghost unwritten_write: { (s : Self) → length (writes s) + unwritten (after_write s) ≤ unwritten s };
+
+    ghost unwritten_call: { (s : Self) (call : SessionCall) → unwritten (after_call after_read after_write after_next s call) ≤ unwritten s };
+
+    // A handshake ends only after the second change of keys, and never begins again. Where there
+    // were early keys, the session knows then whether the peer took them.
+    ghost over_late: { (s : Self) → handshaking s ≡ false → changes s ≡ 2 };
+
+    ghost over_stays: { (s : Self) (call : SessionCall) → handshaking s ≡ false → handshaking (after_call after_read after_write after_next s call) ≡ false };
+
+    ghost over_early: { (s : Self) → handshaking s ≡ false → IsSome (early s) → IsSome (early_taken s) };
+
+    // Reading answers true at most once: the data wasn't ready before, is ready then, and stays so.
+    ghost ready_once: { (s : Self) (bytes : List ℕ) → reads s bytes ≡ Ok true → negotiated s ≡ None };
+
+    ghost ready_then: { (s : Self) (bytes : List ℕ) → reads s bytes ≡ Ok true → IsSome (negotiated (after_read s bytes)) };
+
+    ghost ready_stays: { (s : Self) (call : SessionCall) → IsSome (negotiated s) → IsSome (negotiated (after_call after_read after_write after_next s call)) };
+
+    // A refusal can be sent to the peer.
+    ghost refusal: { (s : Self) (bytes : List ℕ) (error : TransportError) → reads s bytes ≡ Err error → IsSendable error };
+
+    // The keys that are given, and those of the two ends.
+    ghost same_keys: { (s : Self) (call : SessionCall) → HasSameKeys side_of initial space_keys epoch_keys s (after_call after_read after_write after_next s call) };
+
+    ghost given_keys: { (s : Self) (keys : Keys Self.HeaderKey Self.PacketKey) → write_keys s ≡ Some keys → keys ≡ space_keys s (space_of_change (changes s)) };
+
+    ghost first_epoch: { (s : Self) → (space_keys s SpaceId.Data).packet ≡ epoch_keys s 0 };
+
+    ghost given_next: { (s : Self) → next_keys s ≡ (if changes s == 2 then Some (epoch_keys s ((epoch s + 1) % 2 ^ 64)) else None) };
+
+    ghost next_epoch: { (s : Self) → epoch (after_next s) ≡ (if changes s == 2 then (epoch s + 1) % 2 ^ 64 else epoch s) };
+
+    ghost initial_mates: { (s : Self) (id : List ℕ) → AreMates Self.HeaderKey.mask_of Self.PacketKey.seal Self.PacketKey.opening (initial s id Side.Client) (initial s id Side.Server) };
+
+    ghost space_mates: { (client server : Self) (space : SpaceId) → are_paired client server → AreMates Self.HeaderKey.mask_of Self.PacketKey.seal Self.PacketKey.opening (space_keys client space) (space_keys server space) };
+
+    ghost epoch_mates: { (client server : Self) (epoch : ℕ) → are_paired client server → ArePacketMates Self.PacketKey.seal Self.PacketKey.opening (epoch_keys client epoch) (epoch_keys server epoch) };
+
+    ghost epochs_apart: { (client server : Self) (one other : ℕ) → are_paired client server → one < 2 ^ 64 → other < 2 ^ 64 → one ≢ other → ArePacketsApart Self.PacketKey.seal Self.PacketKey.opening (epoch_keys client one) (epoch_keys server other) };
+}
