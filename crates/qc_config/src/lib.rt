@@ -1,2 +1,9 @@
-//! To be written.
+//! How the two ends of a connection are set up, and what they keep from one connection to the next.
+
 #![tactic(auto)]
+
+mod announcement;
+mod token_store;
+
+pub use announcement::announced;
+pub use token_store::{NoneTokenStore, TokenStore};

@@ -2,6 +2,7 @@
 //! that each implementation is proved to keep.
 #![tactic(auto)]
 
+mod config;
 mod errors;
 mod header_key;
 mod key_source;
@@ -10,6 +11,7 @@ mod packet_key;
 mod session;
 mod token_keys;
 
+pub use config::{ClientConfig, ServerConfig};
 pub use errors::{
     ConnectError, CryptoError, ExportKeyingMaterialError, SessionError, UnsupportedVersion,
 };

@@ -5,6 +5,7 @@ ghost use Rattle.std.specs.Option.{option_copied};
 ghost use Rattle.qc_base.specs.declared.side.Side.{Side};
 ghost use Rattle.qc_base.specs.declared.side.SpaceId.{SpaceId};
 ghost use Rattle.qc_base.specs.declared.transport_error.TransportError.{TransportError};
+ghost use Rattle.qc_params.specs.declared.params.TransportParameters.{TransportParameters};
 ghost use Rattle.qc_crypto.specs.declared.keys.Keys.{Keys};
 ghost use Rattle.qc_crypto.specs.declared.keys.KeyPair.{KeyPair};
 ghost use Rattle.qc_crypto.specs.Mates.{AreMates, ArePacketMates, ArePacketsApart};
@@ -12,7 +13,8 @@ ghost use Rattle.qc_crypto.specs.Refusal.{AnswersError, IsSendable};
 ghost use Rattle.qc_crypto.specs.SessionCall.{SessionCall, after_call, keys_given, space_of_change, HasSameKeys};
 
 use crate::{ExportKeyingMaterialError, HeaderKey, KeyPair, Keys, PacketKey, SessionError};
-use qc_base::{ConnectionId, Side};
+use qc_base::{ConnectionId, Side, TransportError};
+use qc_params::TransportParameters;
 use std::alloc::AllocError;
 
 /// A cryptographic session (RFC 9001, section 4): it reads and writes the handshake's bytes, which
@@ -49,6 +51,9 @@ pub trait Session: Drop {
     ghost reads: { Self → List ℕ → Result Bool TransportError };
 
     ghost after_read: { Self → List ℕ → Self };
+
+    // The peer's parameters, once they are known.
+    ghost parameters: { Self → Result (Option TransportParameters) TransportError };
 
     // What a write appends, the keys that it gives, and the session after it.
     ghost writes: { Self → List ℕ };
@@ -134,6 +139,16 @@ pub trait Session: Drop {
         ensures refused { IfErr result (AnswersError (reads self.old buf.now)) }
         ensures err { OnErr result (self.new ≡ self.old) };
 
+    /// The peer's transport parameters (RFC 9001, section 8.2), once they are known. A client with
+    /// early keys knows those of an earlier connection until it reads new ones.
+    ///
+    /// # Errors
+    ///
+    /// Where the peer's parameters can't be read or aren't allowed; the connection is to close
+    /// with that error.
+    fn transport_parameters(&self) -> Result<Option<TransportParameters>, TransportError>
+        ensures { result ≡ parameters self.now };
+
     /// Appends the handshake bytes that are due in the present space, and gives the keys of the
     /// next space, if they are ready: the bytes of later writes then belong to that space.
     ///
@@ -214,6 +229,16 @@ pub trait Session: Drop {
 
     // A refusal can be sent to the peer.
     ghost refusal: { (s : Self) (bytes : List ℕ) (error : TransportError) → reads s bytes ≡ Err error → IsSendable error };
+
+    ghost unreadable: { (s : Self) (error : TransportError) → parameters s ≡ Err error → IsSendable error };
+
+    // A server that changed keys has read the client's parameters, or can't read them. Writing
+    // tells nothing new of the peer.
+    ghost server_knows: { (s : Self) → side_of s ≡ Side.Server → 0 < changes s → parameters s ≢ Ok None };
+
+    ghost write_parameters: { (s : Self) → parameters (after_write s) ≡ parameters s };
+
+    ghost write_early: { (s : Self) → early (after_write s) ≡ early s };
 
     // The keys that are given, and those of the two ends.
     ghost same_keys: { (s : Self) (call : SessionCall) → HasSameKeys side_of initial space_keys epoch_keys s (after_call after_read after_write after_next s call) };

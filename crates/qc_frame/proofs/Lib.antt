@@ -1,2 +1,3 @@
 pub mod BeforePadding
 pub mod Padded
+pub mod Numbers

@@ -20,9 +20,24 @@ ack_map f a = record { largest = a.largest; delay = a.delay; additional = f a.ad
 abbrev pub frame_map : {A B : Type 0} → (A → B) → FrameOf A → FrameOf B
 frame_map f frames.Padding = frames.Padding
 frame_map f frames.Ping = frames.Ping
+frame_map f (frames.Ack a) = frames.Ack (ack_map f a)
+frame_map f (frames.ResetStream i e n) = frames.ResetStream i e n
+frame_map f (frames.StopSending i e) = frames.StopSending i e
 frame_map f (frames.Crypto o b) = frames.Crypto o (f b)
 frame_map f (frames.NewToken b) = frames.NewToken (f b)
+frame_map f (frames.Stream i o fin b) = frames.Stream i o fin (f b)
 frame_map f (frames.MaxData n) = frames.MaxData n
+frame_map f (frames.MaxStreamData i n) = frames.MaxStreamData i n
+frame_map f (frames.MaxStreams d n) = frames.MaxStreams d n
+frame_map f (frames.DataBlocked n) = frames.DataBlocked n
+frame_map f (frames.StreamDataBlocked i n) = frames.StreamDataBlocked i n
+frame_map f (frames.StreamsBlocked d n) = frames.StreamsBlocked d n
+frame_map f (frames.NewConnectionId c) = frames.NewConnectionId c
+frame_map f (frames.RetireConnectionId n) = frames.RetireConnectionId n
+frame_map f (frames.PathChallenge w) = frames.PathChallenge w
+frame_map f (frames.PathResponse w) = frames.PathResponse w
+frame_map f (frames.ConnectionClose e t b) = frames.ConnectionClose e t (f b)
+frame_map f (frames.ApplicationClose e b) = frames.ApplicationClose e (f b)
 frame_map f frames.HandshakeDone = frames.HandshakeDone
 frame_map f (frames.Datagram b) = frames.Datagram (f b)
 

@@ -1,7 +1,9 @@
 //! The kinds of frames (RFC 9000, section 19; DATAGRAM: RFC 9221).
 
-ghost use Rattle.std.specs.Prelude.{◌≡◌, IfOk};
+ghost use Rattle.std.specs.Prelude.{◌≡◌};
 ghost use Rattle.qc_frame.specs.Frame.{borrowed, owned};
+
+use qc_base::{ConnectionId, Dir, ResetToken, StreamId, TransportErrorCode, VarInt};
 
 /// A frame, whose byte strings are held as `B`: borrowed from a payload in a [`Frame`], its own in
 /// an [`OwnedFrame`].
@@ -9,18 +11,93 @@ ghost use Rattle.qc_frame.specs.Frame.{borrowed, owned};
 pub enum FrameOf<B> {
     /// Fills a packet up (RFC 9000, section 19.1).
     Padding,
-    /// Asks for an acknowledgement (section 19.2).
+    /// Asks for an acknowledgement (RFC 9000, section 19.2).
     Ping,
-    /// Bytes of the handshake from `offset` on (section 19.6).
-    Crypto { offset: u64, body: B },
-    /// A token for a later connection (section 19.7).
-    NewToken { token: B },
-    /// How many bytes of stream data the sender of this frame takes in all (section 19.9).
+    /// Acknowledges packets (RFC 9000, section 19.3).
+    Ack(AckOf<B>),
+    /// The sender ends its side of a stream early, after `final_size` bytes (RFC 9000, section
+    /// 19.4).
+    ResetStream {
+        id: StreamId,
+        error_code: VarInt,
+        final_size: u64,
+    },
+    /// The receiver asks the other end to stop sending on a stream (RFC 9000, section 19.5).
+    StopSending {
+        id: StreamId,
+        error_code: VarInt,
+    },
+    /// Bytes of the handshake from `offset` on (RFC 9000, section 19.6).
+    Crypto {
+        offset: u64,
+        body: B,
+    },
+    /// A token for a later connection (RFC 9000, section 19.7).
+    NewToken {
+        token: B,
+    },
+    /// Bytes of a stream from `offset` on; with `fin` they are its last (RFC 9000, section 19.8).
+    Stream {
+        id: StreamId,
+        offset: u64,
+        fin: bool,
+        body: B,
+    },
+    /// How many bytes of all streams together the sender of this frame takes (RFC 9000, section
+    /// 19.9).
     MaxData(u64),
-    /// The handshake is confirmed (section 19.20).
+    /// How many bytes of a stream the sender of this frame takes (RFC 9000, section 19.10).
+    MaxStreamData {
+        id: StreamId,
+        offset: u64,
+    },
+    /// How many streams the other end may open (RFC 9000, section 19.11).
+    MaxStreams {
+        dir: Dir,
+        count: u64,
+    },
+    /// The connection's limit on data holds the sender back (RFC 9000, section 19.12).
+    DataBlocked {
+        offset: u64,
+    },
+    /// A stream's limit holds the sender back (RFC 9000, section 19.13).
+    StreamDataBlocked {
+        id: StreamId,
+        offset: u64,
+    },
+    /// The limit on streams holds the sender back (RFC 9000, section 19.14).
+    StreamsBlocked {
+        dir: Dir,
+        limit: u64,
+    },
+    /// One more connection id (RFC 9000, section 19.15).
+    NewConnectionId(NewConnectionId),
+    /// A connection id is used no more (RFC 9000, section 19.16).
+    RetireConnectionId {
+        sequence: u64,
+    },
+    /// Asks whether a path works, by eight bytes to be sent back (RFC 9000, section 19.17).
+    PathChallenge(u64),
+    /// Sends back the bytes of a PATH_CHALLENGE (RFC 9000, section 19.18).
+    PathResponse(u64),
+    /// The connection is closed by an error of the transport; `frame_type` is that of the frame
+    /// which caused it (RFC 9000, section 19.19).
+    ConnectionClose {
+        error_code: TransportErrorCode,
+        frame_type: Option<u64>,
+        reason: B,
+    },
+    /// The application closes the connection (RFC 9000, section 19.19).
+    ApplicationClose {
+        error_code: VarInt,
+        reason: B,
+    },
+    /// The server confirms the handshake (RFC 9000, section 19.20).
     HandshakeDone,
     /// A datagram of the application (RFC 9221, section 4).
-    Datagram { body: B },
+    Datagram {
+        body: B,
+    },
 }
 
 /// What an ACK frame says (RFC 9000, section 19.3).
@@ -40,9 +117,25 @@ pub struct AckOf<B> {
 /// How many packets came with each ECN codepoint (RFC 9000, section 19.3.2).
 #[derive(Clone, Copy, Debug, PartialEq, Eq)]
 pub struct EcnCounts {
+    /// Packets with the codepoint ECT(0).
     pub ect0: u64,
+    /// Packets with the codepoint ECT(1).
     pub ect1: u64,
+    /// Packets with the codepoint ECN-CE.
     pub ce: u64,
+}
+
+/// What a NEW_CONNECTION_ID frame says (RFC 9000, section 19.15).
+#[derive(Clone, Copy, Debug, PartialEq, Eq)]
+pub struct NewConnectionId {
+    /// The id's sequence number.
+    pub sequence: u64,
+    /// Ids with lower sequence numbers are to be retired.
+    pub retire_prior_to: u64,
+    /// The id.
+    pub id: ConnectionId,
+    /// The token by which a packet to the id resets the connection.
+    pub reset_token: ResetToken,
 }
 
 /// A frame whose byte strings are slices of the payload that it was read from.
@@ -62,6 +155,25 @@ impl OwnedFrame {
         match self {
             FrameOf::Padding => FrameOf::Padding,
             FrameOf::Ping => FrameOf::Ping,
+            FrameOf::Ack(ack) => FrameOf::Ack(AckOf {
+                largest: ack.largest,
+                delay: ack.delay,
+                additional: ack.additional.as_slice(),
+                ecn: ack.ecn,
+            }),
+            FrameOf::ResetStream {
+                id,
+                error_code,
+                final_size,
+            } => FrameOf::ResetStream {
+                id: *id,
+                error_code: *error_code,
+                final_size: *final_size,
+            },
+            FrameOf::StopSending { id, error_code } => FrameOf::StopSending {
+                id: *id,
+                error_code: *error_code,
+            },
             FrameOf::Crypto { offset, body } => FrameOf::Crypto {
                 offset: *offset,
                 body: body.as_slice(),
@@ -69,7 +181,54 @@ impl OwnedFrame {
             FrameOf::NewToken { token } => FrameOf::NewToken {
                 token: token.as_slice(),
             },
+            FrameOf::Stream {
+                id,
+                offset,
+                fin,
+                body,
+            } => FrameOf::Stream {
+                id: *id,
+                offset: *offset,
+                fin: *fin,
+                body: body.as_slice(),
+            },
             FrameOf::MaxData(limit) => FrameOf::MaxData(*limit),
+            FrameOf::MaxStreamData { id, offset } => FrameOf::MaxStreamData {
+                id: *id,
+                offset: *offset,
+            },
+            FrameOf::MaxStreams { dir, count } => FrameOf::MaxStreams {
+                dir: *dir,
+                count: *count,
+            },
+            FrameOf::DataBlocked { offset } => FrameOf::DataBlocked { offset: *offset },
+            FrameOf::StreamDataBlocked { id, offset } => FrameOf::StreamDataBlocked {
+                id: *id,
+                offset: *offset,
+            },
+            FrameOf::StreamsBlocked { dir, limit } => FrameOf::StreamsBlocked {
+                dir: *dir,
+                limit: *limit,
+            },
+            FrameOf::NewConnectionId(new) => FrameOf::NewConnectionId(*new),
+            FrameOf::RetireConnectionId { sequence } => FrameOf::RetireConnectionId {
+                sequence: *sequence,
+            },
+            FrameOf::PathChallenge(data) => FrameOf::PathChallenge(*data),
+            FrameOf::PathResponse(data) => FrameOf::PathResponse(*data),
+            FrameOf::ConnectionClose {
+                error_code,
+                frame_type,
+                reason,
+            } => FrameOf::ConnectionClose {
+                error_code: *error_code,
+                frame_type: *frame_type,
+                reason: reason.as_slice(),
+            },
+            FrameOf::ApplicationClose { error_code, reason } => FrameOf::ApplicationClose {
+                error_code: *error_code,
+                reason: reason.as_slice(),
+            },
             FrameOf::HandshakeDone => FrameOf::HandshakeDone,
             FrameOf::Datagram { body } => FrameOf::Datagram {
                 body: body.as_slice(),

@@ -6,6 +6,6 @@ mod eliciting;
 mod list;
 mod write;
 
-pub use frames::{Ack, AckOf, EcnCounts, Frame, FrameOf, OwnedFrame};
+pub use frames::{Ack, AckOf, EcnCounts, Frame, FrameOf, NewConnectionId, OwnedFrame};
 pub use list::FrameList;
 pub use write::put_frame;
