@@ -13,7 +13,10 @@ fn frame_elicits(frame: &OwnedFrame) -> bool
     ensures { result ≡ elicits (owned frame.now) }
 {
     match frame {
-        FrameOf::Padding => false,
+        FrameOf::Padding
+        | FrameOf::Ack(_)
+        | FrameOf::ConnectionClose { .. }
+        | FrameOf::ApplicationClose { .. } => false,
         _ => true,
     }
 }

@@ -1,6 +1,6 @@
 //! Writing headers (RFC 9000, section 17).
 
-ghost use Rattle.std.specs.Prelude.{◌≡◌, ◌+◌, ◌^◌, ◌<◌, ◌≤◌, ℕ, ◌++◌, ◌∷◌, [], take, length, vec_len, OnOk, OnErr, IfOk};
+ghost use Rattle.std.specs.Prelude.{◌≡◌, ◌+◌, ◌^◌, ◌<◌, ◌≤◌, ℕ, ◌++◌, ◌∷◌, [], take, length, vec_len, OnOk, OnErr, IfOk, IfSome};
 ghost use Rattle.std.specs.Option.{option_map};
 ghost use Rattle.qc_base.specs.PacketNumber.{number_len};
 ghost use Rattle.qc_header.specs.HeaderSpelling.{header_spelling, header_number, initial_spelling, short_spelling, length_and_number, long_start, number_tag, bit};
@@ -69,6 +69,7 @@ fn put_length_and_number(
 fn length_and_number_len(number: PacketNumber) -> usize
     ensures value { (n : ℕ) → result ≡ length (length_and_number n number) }
     ensures most { result ≤ 6 }
+    ensures behind { number_len number < result }
 {
     2 + number.len()
 }
@@ -102,7 +103,8 @@ fn put_initial(
 /// How many bytes the header of an Initial packet has.
 #[tactic(auto, unfolding(crate::specs::HeaderSpelling::initial_spelling))]
 fn initial_len(header: &InitialHeader) -> usize
-    ensures { (n : ℕ) → result ≡ length (initial_spelling header.now n) }
+    ensures len { (n : ℕ) → result ≡ length (initial_spelling header.now n) }
+    ensures behind { number_len header.now.number < result }
 {
     let token_len = header.token.len();
     let start_len = long_start_len(&header.dst_cid, &header.src_cid);
@@ -196,7 +198,7 @@ fn put_header(out: &mut Vec<u8>, header: &Header, length_field: u16) -> Result<(
 
 impl Header {
     /// Its packet number, where its form has one.
-    fn number(&self) -> Option<PacketNumber>
+    pub fn number(&self) -> Option<PacketNumber>
         ensures { result ≡ header_number self.now }
     {
         match self {
@@ -253,7 +255,8 @@ impl Header {
     /// How many bytes the header has, whatever its Length field says.
     #[tactic(auto, unfolding(crate::specs::HeaderSpelling::header_spelling, crate::specs::HeaderSpelling::short_spelling))]
     pub fn encoded_len(&self) -> usize
-        ensures { (n : ℕ) → result ≡ length (header_spelling self.now n) }
+        ensures len { (n : ℕ) → result ≡ length (header_spelling self.now n) }
+        ensures behind { IfSome (header_number self.now) (λ number. number_len number < result) }
     {
         match self {
             Header::Initial(initial) => initial_len(initial),
