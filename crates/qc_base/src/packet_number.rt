@@ -1,7 +1,10 @@
 //! Packet numbers as the wire carries them (RFC 9000, section 17.1).
 
-ghost use Rattle.std.specs.Prelude.{◌≡◌, ◌+◌, ◌-◌, ◌^◌, ◌<◌, ◌≤◌, ◌++◌, length, OnOk, OnErr};
-ghost use Rattle.qc_base.specs.PacketNumber.{number_of, number_len, number_bytes};
+ghost use Rattle.std.specs.Prelude.{◌≡◌, ◌+◌, ◌-◌, ◌%◌, ◌^◌, ◌<◌, ◌≤◌, ◌++◌, length, OnOk, OnErr};
+ghost use Rattle.qc_base.specs.PacketNumber.{number_of, number_len, number_bytes, number_window, number_low, IsNearest};
+
+/// The greatest packet number, 2^62 - 1 (RFC 9000, section 12.3).
+const GREATEST: u64 = 0x3fff_ffff_ffff_ffff;
 
 use std::alloc::AllocError;
 
@@ -71,5 +74,45 @@ impl PacketNumber {
             }
             PacketNumber::U32(n) => out.extend_from_slice(&n.to_be_bytes()),
         }
+    }
+
+    /// The full packet number below 2^62 that has these low bytes and is nearest to `expected`, the
+    /// number after the greatest received so far; the greater one where two are as near
+    /// (RFC 9000, appendix A.3).
+    pub fn expand(self, expected: u64) -> u64
+        ensures { IsNearest (number_window self) (number_low self) expected result }
+    {
+        match self {
+            PacketNumber::U8(n) => nearest(0x100, n as u64, expected),
+            PacketNumber::U16(n) => nearest(0x1_0000, n as u64, expected),
+            PacketNumber::U24(n) => nearest(0x100_0000, n as u64 % 0x100_0000, expected),
+            PacketNumber::U32(n) => nearest(0x1_0000_0000, n as u64, expected),
+        }
+    }
+}
+
+/// The number below 2^62 nearest to `expected` whose remainder by `window` is `low`.
+fn nearest(window: u64, low: u64, expected: u64) -> u64
+    requires some { low < window }
+    requires few { window ≤ 2 ^ 32 }
+    requires whole { 2 ^ 62 % window ≡ 0 }
+    ensures { IsNearest window low expected result }
+{
+    let expected = expected.min(GREATEST);
+    let near = expected - expected % window + low;
+    if near < expected {
+        if 2 * (expected - near) >= window {
+            if near + window <= GREATEST {
+                return near + window;
+            }
+        }
+        near
+    } else {
+        if 2 * (near - expected) > window {
+            if near >= window {
+                return near - window;
+            }
+        }
+        near
     }
 }

@@ -1,0 +1,13 @@
+pub use Rattle.qc_base.specs.ConnectionId
+pub use Rattle.qc_base.specs.Ecn
+pub use Rattle.qc_base.specs.Mask
+pub use Rattle.qc_base.specs.PacketNumber
+pub use Rattle.qc_base.specs.Reading
+pub use Rattle.qc_base.specs.StreamId
+pub use Rattle.qc_base.specs.Time
+pub use Rattle.qc_base.specs.TransportErrorCode
+pub use Rattle.qc_base.specs.Varint
+pub use Rattle.qc_frame.specs.Frame
+pub use Rattle.qc_frame.specs.FrameSpelling
+pub use Rattle.qc_header.specs.HeaderSpelling
+pub use Rattle.qc_params.specs.ParametersSpelling
