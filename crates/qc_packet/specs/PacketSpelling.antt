@@ -3,6 +3,8 @@ use Rattle.std.specs.Prelude.{ℕ, ◌+◌, ◌-◌, List, length, ◌++◌, Opt
 use Rattle.qc_base.specs.Mask.{masked}
 use Rattle.qc_base.specs.PacketNumber.{number_len}
 use Rattle.qc_base.specs.declared.packet_number.PacketNumber.{PacketNumber}
+use Rattle.qc_frame.specs.Frame.{FrameValue}
+use Rattle.qc_frame.specs.FrameSpelling.{frames_spelling}
 use Rattle.qc_header.specs.declared.header.Header.{Header}
 use Rattle.qc_header.specs.HeaderSpelling.{header_spelling, header_number}
 
@@ -18,6 +20,10 @@ protected_len h plain = len_of (header_number h) + length plain + 16
 -- the header, with its Length field
 abbrev pub header_bytes : Header → List ℕ → List ℕ
 header_bytes h plain = header_spelling h (protected_len h plain)
+
+-- how many PADDING frames fill a packet up to a size
+abbrev pub padding_len : Header → List FrameValue → ℕ → ℕ
+padding_len h fs size = size - 16 - (length (header_spelling h 0) + length (frames_spelling fs))
 
 -- the header and the sealed payload, with the mask laid over the first byte and the packet number
 unfoldable pub packet_spelling : (List ℕ → List ℕ) → (ℕ → List ℕ → List ℕ → List ℕ) → Header → ℕ → List ℕ → List ℕ
