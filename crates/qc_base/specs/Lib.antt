@@ -1,9 +1,10 @@
 pub mod ConnectionId
 pub mod Ecn
-pub mod Reading
-pub mod StreamId
+pub mod Grammar
 pub mod Mask
 pub mod PacketNumber
+pub mod Reading
+pub mod StreamId
 pub mod Time
 pub mod TransportErrorCode
 pub mod Varint
