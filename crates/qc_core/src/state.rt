@@ -20,7 +20,7 @@ pub struct Core<U: Suite> {
 impl<U: Suite> Model for Core<U> {
     ghost use Rattle.qc_state.specs.View.{Held};
 
-    ghost Value = { Held (record { S = U.Session; H = U.Session.HeaderKey; P = U.Session.PacketKey }) U.Random };
+    ghost Value = { Held (record { S = U.Session; H = U.Session.HeaderKey; P = U.Session.PacketKey; D = U.Session.HandshakeData; I = U.Session.PeerIdentity }) U.Random };
 
     ghost view = { λ c. record {
         numbers = c.numbers;

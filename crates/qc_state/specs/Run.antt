@@ -36,6 +36,11 @@ packets_of [] = []
 packets_of (did.Sealed id n epoch early fs ∷ ds) = fs ∷ packets_of ds
 packets_of (_ ∷ ds) = packets_of ds
 
+-- what a transmit answers
+abbrev pub out_of : Option transmit.Transmit → List ℕ → Answer
+out_of None bytes = Nothing
+out_of (Some sent) bytes = Out sent.destination None sent.ecn bytes
+
 module _ {t : Types} where
   -- the call begins: the connection is told the time
   unfoldable pub began : View t → ℕ → At t
@@ -62,10 +67,6 @@ module _ {t : Types} where
   unfoldable pub IsAllowed : Input → List Did → View t → Type 0
   IsAllowed (Transmit time max) ds s = MayTransmit s (packets_of ds)
   IsAllowed (Ping time) ds s = Unit {0}
-
-  abbrev pub out_of : Option transmit.Transmit → List ℕ → Answer
-  out_of None bytes = Nothing
-  out_of (Some sent) bytes = Out sent.destination None sent.ecn bytes
 
   -- what an input answers
   unfoldable pub answer_of : Meaning t → Input → List Did → View t → Answer
