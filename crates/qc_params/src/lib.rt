@@ -3,9 +3,12 @@
 
 #![tactic(auto)]
 
+mod entries;
+mod error;
 mod params;
 mod write;
 
+pub use error::ParamError;
 pub use params::{PreferredAddress, TransportParameters};
 
 #[cfg(test)]
