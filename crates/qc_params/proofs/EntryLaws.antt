@@ -1,12 +1,11 @@
 -- Bytes and the entries in them
-use Rattle.std.proofs.Common.{◌≡◌, ℕ, zero, suc, ◌+◌, ◌-◌, ◌<◌, ◌≤◌, Bool, true, false, List, [], ◌∷◌, ◌++◌, length, take, drop, Option, Some, None, refl, arith, sym, ap, ◌∙◌, nat_lt, nat_eq, if◌then◌else◌, length-drop}
-use Rattle.std.proofs.lemmas.Grind.{common_steps}
+use Rattle.std.proofs.Common.{◌≡◌, ℕ, zero, suc, ◌+◌, ◌-◌, ◌<◌, ◌≤◌, Bool, true, false, List, [], ◌∷◌, ◌++◌, length, take, drop, Option, Some, None, refl, arith, sym, ap, ◌∙◌, nat_lt, nat_eq, length-drop}
 use Rattle.std.proofs.lemmas.Bool.Decides.{nat_tests}
-use Rattle.std.specs.Prelude.{option_to_list, ◌≢◌}
+use Rattle.std.specs.Prelude.{option_to_list}
 use Rattle.std.specs.Option.{option_and_then, option_map}
 use Rattle.std.specs.Int.{byte_len, from_be_bytes}
 use Rattle.qc_base.specs.Varint.{Form, one, two, four, eight, width, mark}
-use Rattle.qc_base.specs.Reading.{varint_of, blob_of, bytes_of, in_form, form_of}
+use Rattle.qc_base.specs.Reading.{varint_of, blob_of, bytes_of, form_of}
 use Rattle.qc_params.specs.ParametersReading.{Entry, entry_of, entries_within, entries_of, values_of, only_one, value_in}
 
 -- ---- what is read leaves fewer bytes

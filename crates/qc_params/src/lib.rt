@@ -3,9 +3,13 @@
 
 #![tactic(auto)]
 
+mod address;
 mod entries;
 mod error;
+mod octets;
 mod params;
+mod read;
+mod values;
 mod write;
 
 pub use error::ParamError;
