@@ -1,3 +1,4 @@
 pub mod BeforePadding
 pub mod Padded
 pub mod Numbers
+pub mod Ranges

@@ -1,11 +1,14 @@
 //! The frames of QUIC packets (RFC 9000, sections 12.4 and 19; RFC 9221).
 #![tactic(auto)]
 
-mod frames;
 mod eliciting;
+mod fault;
+mod frames;
 mod list;
+mod read;
 mod write;
 
+pub use fault::{FrameFault, InvalidFrame};
 pub use frames::{Ack, AckOf, EcnCounts, Frame, FrameOf, NewConnectionId, OwnedFrame};
 pub use list::FrameList;
 pub use write::put_frame;

@@ -1,1 +1,4 @@
+pub mod HeaderReading
 pub mod HeaderSpelling
+pub mod Opened
+pub mod Piece

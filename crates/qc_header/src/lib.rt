@@ -2,7 +2,14 @@
 #![tactic(auto)]
 
 mod encode;
+mod finish;
 mod header;
+mod partial_decode;
+mod protected;
+mod read;
 
 pub use encode::PartialEncode;
+pub use finish::{InitialPacket, Packet};
 pub use header::{Header, InitialHeader};
+pub use partial_decode::PartialDecode;
+pub use protected::{PacketDecodeError, ProtectedHeader};

@@ -1,1 +1,2 @@
 pub mod AddressLength
+pub mod EntryLaws

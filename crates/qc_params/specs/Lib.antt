@@ -1,1 +1,2 @@
+pub mod ParametersReading
 pub mod ParametersSpelling

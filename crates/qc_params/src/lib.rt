@@ -3,9 +3,16 @@
 
 #![tactic(auto)]
 
+mod address;
+mod entries;
+mod error;
+mod octets;
 mod params;
+mod read;
+mod values;
 mod write;
 
+pub use error::ParamError;
 pub use params::{PreferredAddress, TransportParameters};
 
 #[cfg(test)]

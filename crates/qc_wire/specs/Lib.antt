@@ -9,5 +9,8 @@ pub use Rattle.qc_base.specs.TransportErrorCode
 pub use Rattle.qc_base.specs.Varint
 pub use Rattle.qc_frame.specs.Frame
 pub use Rattle.qc_frame.specs.FrameSpelling
+pub use Rattle.qc_header.specs.HeaderReading
 pub use Rattle.qc_header.specs.HeaderSpelling
+pub use Rattle.qc_header.specs.Opened
+pub use Rattle.qc_header.specs.Piece
 pub use Rattle.qc_params.specs.ParametersSpelling

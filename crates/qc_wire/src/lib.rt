@@ -10,5 +10,6 @@ pub use qc_base::{EcnCodepoint, Fault, TransportError, TransportErrorCode};
 pub use qc_base::{HeaderMask, mask_packet, put_mask, sample, take_mask, unmask_packet};
 pub use qc_base::{PacketNumber, VarInt, VarIntBoundsExceeded, put_varint, varint_size};
 pub use qc_frame as frame;
-pub use qc_header::{Header, InitialHeader, PartialEncode};
+pub use qc_header::{Header, InitialHeader, InitialPacket, Packet, PartialEncode};
+pub use qc_header::{PacketDecodeError, PartialDecode, ProtectedHeader};
 pub use qc_params::{PreferredAddress, TransportParameters};

@@ -1,0 +1,395 @@
+//! Frames read (RFC 9000, section 19; RFC 9221, section 4): one function a kind, which gives the frame
+//! and the bytes behind it.
+
+ghost use Rattle.std.specs.Prelude.{◌≡◌, ◌<◌, ◌≤◌, ◌^◌, length, IfOk};
+ghost use Rattle.qc_base.specs.Reading.{Gives};
+ghost use Rattle.qc_frame.specs.Frame.{borrowed};
+ghost use Rattle.qc_frame.specs.FrameReading.{ack_at, application_close_at, body_at, connection_close_at, counts_at, crypto_at, data_blocked_at, datagram_at, fields_at, frame_at, max_data_at, max_stream_data_at, max_streams_at, more_ranges_at, new_connection_id_at, new_token_at, offset_at, path_challenge_at, path_response_at, ranges_at, reset_stream_at, retire_connection_id_at, stop_sending_at, stream_at, stream_data_blocked_at, streams_blocked_at, type_given};
+
+use crate::fault::{FrameFault, InvalidFrame};
+use crate::frames::{AckOf, EcnCounts, Frame, FrameOf, NewConnectionId};
+use qc_base::{
+    ConnectionId, Dir, ResetToken, StreamId, TransportErrorCode, VarInt, read_blob, read_byte,
+    read_bytes, read_u64, read_varint,
+};
+
+/// The frame at the front of the bytes, and the bytes behind it.
+#[tactic(auto, unfolding(crate::specs::FrameReading::frame_at))]
+pub(crate) fn read_frame(bytes: &[u8]) -> Result<(Frame<'_>, &[u8]), InvalidFrame>
+    ensures { Gives (λ x. (borrowed x.0, x.1.now)) result (frame_at bytes.now) }
+{
+    let (ty, rest) = match read_varint(bytes) {
+        Ok(read) => read,
+        Err(_) => {
+            return Err(InvalidFrame {
+                ty: None,
+                why: FrameFault::UnexpectedEnd,
+            });
+        }
+    };
+    match read_fields(ty, rest) {
+        Ok(read) => Ok(read),
+        Err(why) => Err(InvalidFrame { ty: Some(ty), why }),
+    }
+}
+
+#[tactic(auto, unfolding(crate::specs::FrameReading::fields_at))]
+fn read_fields(ty: u64, bytes: &[u8]) -> Result<(Frame<'_>, &[u8]), FrameFault>
+    ensures { Gives (λ x. (borrowed x.0, x.1.now)) result (fields_at ty bytes.now) }
+{
+    match ty {
+        0x00 => Ok((FrameOf::Padding, bytes)),
+        0x01 => Ok((FrameOf::Ping, bytes)),
+        0x02 => read_ack(false, bytes),
+        0x03 => read_ack(true, bytes),
+        0x04 => read_reset_stream(bytes),
+        0x05 => read_stop_sending(bytes),
+        0x06 => read_crypto(bytes),
+        0x07 => read_new_token(bytes),
+        0x08..=0x0f => read_stream(ty / 4 % 2 == 1, ty / 2 % 2 == 1, ty % 2 == 1, bytes),
+        0x10 => read_max_data(bytes),
+        0x11 => read_max_stream_data(bytes),
+        0x12 => read_max_streams(Dir::Bi, bytes),
+        0x13 => read_max_streams(Dir::Uni, bytes),
+        0x14 => read_data_blocked(bytes),
+        0x15 => read_stream_data_blocked(bytes),
+        0x16 => read_streams_blocked(Dir::Bi, bytes),
+        0x17 => read_streams_blocked(Dir::Uni, bytes),
+        0x18 => read_new_connection_id(bytes),
+        0x19 => read_retire_connection_id(bytes),
+        0x1a => read_path_challenge(bytes),
+        0x1b => read_path_response(bytes),
+        0x1c => read_connection_close(bytes),
+        0x1d => read_application_close(bytes),
+        0x1e => Ok((FrameOf::HandshakeDone, bytes)),
+        0x30 => read_datagram(false, bytes),
+        0x31 => read_datagram(true, bytes),
+        _ => Err(FrameFault::InvalidFrameId),
+    }
+}
+
+fn varint_of_number(number: u64) -> VarInt
+    requires { number < 2 ^ 62 }
+    ensures { result ≡ number }
+{
+    VarInt::from_u64(number).unwrap()
+}
+
+fn stream_id_of_number(number: u64) -> StreamId
+    requires { number < 2 ^ 62 }
+    ensures { result ≡ number }
+{
+    StreamId::from(varint_of_number(number))
+}
+
+#[tactic(auto, unfolding(crate::specs::FrameReading::ack_at))]
+fn read_ack(has_counts: bool, bytes: &[u8]) -> Result<(Frame<'_>, &[u8]), FrameFault>
+    ensures { Gives (λ x. (borrowed x.0, x.1.now)) result (ack_at has_counts bytes.now) }
+{
+    let (largest, rest) = read_varint(bytes)?;
+    let (delay, rest) = read_varint(rest)?;
+    let (count, rest) = read_varint(rest)?;
+    let behind = skip_ranges(count, largest, rest)?;
+    let (additional, _) = rest.split_at(rest.len() - behind.len());
+    let (ecn, rest) = read_counts(has_counts, behind)?;
+    let ack = AckOf {
+        largest,
+        delay,
+        additional,
+        ecn,
+    };
+    Ok((FrameOf::Ack(ack), rest))
+}
+
+// The bytes behind the ranges of an ACK: the first range, and `count` more.
+#[tactic(auto, unfolding(crate::specs::FrameReading::ranges_at))]
+fn skip_ranges(count: u64, largest: u64, bytes: &[u8]) -> Result<&[u8], FrameFault>
+    ensures exact { Gives (λ x. (tt, x.now)) result (ranges_at count largest bytes.now) }
+    ensures shorter { IfOk result (λ x. length x.now ≤ length bytes.now) }
+{
+    let (first, rest) = read_varint(bytes)?;
+    if largest < first {
+        return Err(FrameFault::Malformed);
+    }
+    skip_more_ranges(count, largest - first, rest)
+}
+
+#[tactic(auto, using(crate::proofs::Ranges::range_next, crate::proofs::Ranges::ranges_done))]
+fn skip_more_ranges(count: u64, smallest: u64, bytes: &[u8]) -> Result<&[u8], FrameFault>
+    ensures exact { Gives (λ x. (tt, x.now)) result (more_ranges_at count smallest bytes.now) }
+    ensures shorter { IfOk result (λ x. length x.now ≤ length bytes.now) }
+{
+    let mut low = smallest;
+    let mut rest = bytes;
+    for i in 0..count {
+        let (gap, behind) = read_varint(rest)?;
+        if low < gap + 2 {
+            return Err(FrameFault::Malformed);
+        }
+        let (len, behind) = read_varint(behind)?;
+        if low - (gap + 2) < len {
+            return Err(FrameFault::Malformed);
+        }
+        low = low - (gap + 2) - len;
+        rest = behind;
+    }
+    Ok(rest)
+}
+
+#[tactic(auto, unfolding(crate::specs::FrameReading::counts_at))]
+fn read_counts(has_counts: bool, bytes: &[u8]) -> Result<(Option<EcnCounts>, &[u8]), FrameFault>
+    ensures { Gives (λ x. (x.0, x.1.now)) result (counts_at has_counts bytes.now) }
+{
+    if !has_counts {
+        return Ok((None, bytes));
+    }
+    let (ect0, rest) = read_varint(bytes)?;
+    let (ect1, rest) = read_varint(rest)?;
+    let (ce, rest) = read_varint(rest)?;
+    Ok((Some(EcnCounts { ect0, ect1, ce }), rest))
+}
+
+#[tactic(auto, unfolding(crate::specs::FrameReading::reset_stream_at))]
+fn read_reset_stream(bytes: &[u8]) -> Result<(Frame<'_>, &[u8]), FrameFault>
+    ensures { Gives (λ x. (borrowed x.0, x.1.now)) result (reset_stream_at bytes.now) }
+{
+    let (id, rest) = read_varint(bytes)?;
+    let (error_code, rest) = read_varint(rest)?;
+    let (final_size, rest) = read_varint(rest)?;
+    let id = stream_id_of_number(id);
+    let error_code = varint_of_number(error_code);
+    Ok((
+        FrameOf::ResetStream {
+            id,
+            error_code,
+            final_size,
+        },
+        rest,
+    ))
+}
+
+#[tactic(auto, unfolding(crate::specs::FrameReading::stop_sending_at))]
+fn read_stop_sending(bytes: &[u8]) -> Result<(Frame<'_>, &[u8]), FrameFault>
+    ensures { Gives (λ x. (borrowed x.0, x.1.now)) result (stop_sending_at bytes.now) }
+{
+    let (id, rest) = read_varint(bytes)?;
+    let (error_code, rest) = read_varint(rest)?;
+    let id = stream_id_of_number(id);
+    let error_code = varint_of_number(error_code);
+    Ok((FrameOf::StopSending { id, error_code }, rest))
+}
+
+#[tactic(auto, unfolding(crate::specs::FrameReading::crypto_at))]
+fn read_crypto(bytes: &[u8]) -> Result<(Frame<'_>, &[u8]), FrameFault>
+    ensures { Gives (λ x. (borrowed x.0, x.1.now)) result (crypto_at bytes.now) }
+{
+    let (offset, rest) = read_varint(bytes)?;
+    let (body, rest) = read_blob(rest)?;
+    Ok((FrameOf::Crypto { offset, body }, rest))
+}
+
+#[tactic(auto, unfolding(crate::specs::FrameReading::new_token_at))]
+fn read_new_token(bytes: &[u8]) -> Result<(Frame<'_>, &[u8]), FrameFault>
+    ensures { Gives (λ x. (borrowed x.0, x.1.now)) result (new_token_at bytes.now) }
+{
+    let (token, rest) = read_blob(bytes)?;
+    Ok((FrameOf::NewToken { token }, rest))
+}
+
+#[tactic(auto, unfolding(crate::specs::FrameReading::offset_at))]
+fn read_offset(has_offset: bool, bytes: &[u8]) -> Result<(u64, &[u8]), FrameFault>
+    ensures { Gives (λ x. (x.0, x.1.now)) result (offset_at has_offset bytes.now) }
+{
+    if !has_offset {
+        return Ok((0, bytes));
+    }
+    let (offset, rest) = read_varint(bytes)?;
+    Ok((offset, rest))
+}
+
+#[tactic(auto, unfolding(crate::specs::FrameReading::body_at))]
+fn read_body(has_length: bool, bytes: &[u8]) -> Result<(&[u8], &[u8]), FrameFault>
+    ensures { Gives (λ x. (x.0.now, x.1.now)) result (body_at has_length bytes.now) }
+{
+    if !has_length {
+        return Ok((bytes, &[]));
+    }
+    let (body, rest) = read_blob(bytes)?;
+    Ok((body, rest))
+}
+
+#[tactic(auto, unfolding(crate::specs::FrameReading::stream_at))]
+fn read_stream(
+    has_offset: bool,
+    has_length: bool,
+    fin: bool,
+    bytes: &[u8],
+) -> Result<(Frame<'_>, &[u8]), FrameFault>
+    ensures { Gives (λ x. (borrowed x.0, x.1.now)) result (stream_at has_offset has_length fin bytes.now) }
+{
+    let (id, rest) = read_varint(bytes)?;
+    let (offset, rest) = read_offset(has_offset, rest)?;
+    let (body, rest) = read_body(has_length, rest)?;
+    let id = stream_id_of_number(id);
+    Ok((
+        FrameOf::Stream {
+            id,
+            offset,
+            fin,
+            body,
+        },
+        rest,
+    ))
+}
+
+#[tactic(auto, unfolding(crate::specs::FrameReading::max_data_at))]
+fn read_max_data(bytes: &[u8]) -> Result<(Frame<'_>, &[u8]), FrameFault>
+    ensures { Gives (λ x. (borrowed x.0, x.1.now)) result (max_data_at bytes.now) }
+{
+    let (limit, rest) = read_varint(bytes)?;
+    Ok((FrameOf::MaxData(limit), rest))
+}
+
+#[tactic(auto, unfolding(crate::specs::FrameReading::max_stream_data_at))]
+fn read_max_stream_data(bytes: &[u8]) -> Result<(Frame<'_>, &[u8]), FrameFault>
+    ensures { Gives (λ x. (borrowed x.0, x.1.now)) result (max_stream_data_at bytes.now) }
+{
+    let (id, rest) = read_varint(bytes)?;
+    let (offset, rest) = read_varint(rest)?;
+    let id = stream_id_of_number(id);
+    Ok((FrameOf::MaxStreamData { id, offset }, rest))
+}
+
+#[tactic(auto, unfolding(crate::specs::FrameReading::max_streams_at))]
+fn read_max_streams(dir: Dir, bytes: &[u8]) -> Result<(Frame<'_>, &[u8]), FrameFault>
+    ensures { Gives (λ x. (borrowed x.0, x.1.now)) result (max_streams_at dir bytes.now) }
+{
+    let (count, rest) = read_varint(bytes)?;
+    Ok((FrameOf::MaxStreams { dir, count }, rest))
+}
+
+#[tactic(auto, unfolding(crate::specs::FrameReading::data_blocked_at))]
+fn read_data_blocked(bytes: &[u8]) -> Result<(Frame<'_>, &[u8]), FrameFault>
+    ensures { Gives (λ x. (borrowed x.0, x.1.now)) result (data_blocked_at bytes.now) }
+{
+    let (offset, rest) = read_varint(bytes)?;
+    Ok((FrameOf::DataBlocked { offset }, rest))
+}
+
+#[tactic(auto, unfolding(crate::specs::FrameReading::stream_data_blocked_at))]
+fn read_stream_data_blocked(bytes: &[u8]) -> Result<(Frame<'_>, &[u8]), FrameFault>
+    ensures { Gives (λ x. (borrowed x.0, x.1.now)) result (stream_data_blocked_at bytes.now) }
+{
+    let (id, rest) = read_varint(bytes)?;
+    let (offset, rest) = read_varint(rest)?;
+    let id = stream_id_of_number(id);
+    Ok((FrameOf::StreamDataBlocked { id, offset }, rest))
+}
+
+#[tactic(auto, unfolding(crate::specs::FrameReading::streams_blocked_at))]
+fn read_streams_blocked(dir: Dir, bytes: &[u8]) -> Result<(Frame<'_>, &[u8]), FrameFault>
+    ensures { Gives (λ x. (borrowed x.0, x.1.now)) result (streams_blocked_at dir bytes.now) }
+{
+    let (limit, rest) = read_varint(bytes)?;
+    Ok((FrameOf::StreamsBlocked { dir, limit }, rest))
+}
+
+#[tactic(auto, unfolding(crate::specs::FrameReading::new_connection_id_at))]
+fn read_new_connection_id(bytes: &[u8]) -> Result<(Frame<'_>, &[u8]), FrameFault>
+    ensures { Gives (λ x. (borrowed x.0, x.1.now)) result (new_connection_id_at bytes.now) }
+{
+    let (sequence, rest) = read_varint(bytes)?;
+    let (retire_prior_to, rest) = read_varint(rest)?;
+    if sequence < retire_prior_to {
+        return Err(FrameFault::Malformed);
+    }
+    let (len, rest) = read_byte(rest)?;
+    if len == 0 || len > 20 {
+        return Err(FrameFault::Malformed);
+    }
+    let (id, rest) = read_bytes(rest, len as u64)?;
+    let (token, rest) = read_bytes(rest, 16)?;
+    let new = NewConnectionId {
+        sequence,
+        retire_prior_to,
+        id: ConnectionId::new(id),
+        reset_token: reset_token_of(token),
+    };
+    Ok((FrameOf::NewConnectionId(new), rest))
+}
+
+fn reset_token_of(bytes: &[u8]) -> ResetToken
+    requires { length bytes.now ≡ 16 }
+    ensures { result ≡ bytes.now }
+{
+    let mut token = [0; 16];
+    token.copy_from_slice(bytes);
+    ResetToken::from(token)
+}
+
+#[tactic(auto, unfolding(crate::specs::FrameReading::retire_connection_id_at))]
+fn read_retire_connection_id(bytes: &[u8]) -> Result<(Frame<'_>, &[u8]), FrameFault>
+    ensures { Gives (λ x. (borrowed x.0, x.1.now)) result (retire_connection_id_at bytes.now) }
+{
+    let (sequence, rest) = read_varint(bytes)?;
+    Ok((FrameOf::RetireConnectionId { sequence }, rest))
+}
+
+#[tactic(auto, unfolding(crate::specs::FrameReading::path_challenge_at))]
+fn read_path_challenge(bytes: &[u8]) -> Result<(Frame<'_>, &[u8]), FrameFault>
+    ensures { Gives (λ x. (borrowed x.0, x.1.now)) result (path_challenge_at bytes.now) }
+{
+    let (word, rest) = read_u64(bytes)?;
+    Ok((FrameOf::PathChallenge(word), rest))
+}
+
+#[tactic(auto, unfolding(crate::specs::FrameReading::path_response_at))]
+fn read_path_response(bytes: &[u8]) -> Result<(Frame<'_>, &[u8]), FrameFault>
+    ensures { Gives (λ x. (borrowed x.0, x.1.now)) result (path_response_at bytes.now) }
+{
+    let (word, rest) = read_u64(bytes)?;
+    Ok((FrameOf::PathResponse(word), rest))
+}
+
+fn type_of_number(number: u64) -> Option<u64>
+    ensures { result ≡ type_given number }
+{
+    if number == 0 { None } else { Some(number) }
+}
+
+#[tactic(auto, unfolding(crate::specs::FrameReading::connection_close_at))]
+fn read_connection_close(bytes: &[u8]) -> Result<(Frame<'_>, &[u8]), FrameFault>
+    ensures { Gives (λ x. (borrowed x.0, x.1.now)) result (connection_close_at bytes.now) }
+{
+    let (error_code, rest) = read_varint(bytes)?;
+    let (frame_type, rest) = read_varint(rest)?;
+    let (reason, rest) = read_blob(rest)?;
+    let error_code = TransportErrorCode::from(error_code);
+    let frame_type = type_of_number(frame_type);
+    Ok((
+        FrameOf::ConnectionClose {
+            error_code,
+            frame_type,
+            reason,
+        },
+        rest,
+    ))
+}
+
+#[tactic(auto, unfolding(crate::specs::FrameReading::application_close_at))]
+fn read_application_close(bytes: &[u8]) -> Result<(Frame<'_>, &[u8]), FrameFault>
+    ensures { Gives (λ x. (borrowed x.0, x.1.now)) result (application_close_at bytes.now) }
+{
+    let (error_code, rest) = read_varint(bytes)?;
+    let (reason, rest) = read_blob(rest)?;
+    let error_code = varint_of_number(error_code);
+    Ok((FrameOf::ApplicationClose { error_code, reason }, rest))
+}
+
+#[tactic(auto, unfolding(crate::specs::FrameReading::datagram_at))]
+fn read_datagram(has_length: bool, bytes: &[u8]) -> Result<(Frame<'_>, &[u8]), FrameFault>
+    ensures { Gives (λ x. (borrowed x.0, x.1.now)) result (datagram_at has_length bytes.now) }
+{
+    let (body, rest) = read_body(has_length, bytes)?;
+    Ok((FrameOf::Datagram { body }, rest))
+}

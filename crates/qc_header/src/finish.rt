@@ -1,0 +1,217 @@
+//! Taking header protection off (RFC 9001, section 5.4).
+
+ghost use Rattle.std.specs.Prelude.{◌≡◌, ◌+◌, ◌<◌, ◌≤◌, ◌^◌, ◌⊎◌, ◌↔◌, ℕ, length, take, drop, IfOk, IfErr, OnErr, IsErrOf, IsErr, OnOk, IsTrue, IsSome};
+ghost use Rattle.qc_base.specs.Mask.{unmasked, first_byte, number_len_in};
+ghost use Rattle.qc_header.specs.Piece.{is_protected, token_end};
+ghost use Rattle.qc_header.specs.Opened.{IsCut, masks_of, opened, header_end, header_from, number_from};
+
+use crate::header::{Header, InitialHeader};
+use crate::partial_decode::PartialDecode;
+use crate::protected::{PacketDecodeError, ProtectedHeader};
+use bytes::{Bytes, BytesMut};
+use qc_base::{HeaderMask, PacketNumber, unmask_packet};
+use std::alloc::AllocError;
+
+/// A packet without header protection.
+#[derive(Debug, Drop)]
+pub struct Packet {
+    /// Its header.
+    pub header: Header,
+    /// The header's bytes, up to and with the packet number.
+    pub header_data: Bytes,
+    /// What is behind the header.
+    pub payload: BytesMut,
+}
+
+/// An Initial packet without header protection.
+#[derive(Debug, Drop)]
+pub struct InitialPacket {
+    /// Its header.
+    pub header: InitialHeader,
+    /// The header's bytes, up to and with the packet number.
+    pub header_data: Bytes,
+    /// What is behind the header.
+    pub payload: BytesMut,
+}
+
+/// The number that is spelled by these 1 to 4 bytes.
+fn read_number(bytes: &[u8]) -> PacketNumber
+    ensures { result ≡ number_from bytes.now }
+{
+    match bytes {
+        [] => PacketNumber::U8(0),
+        [a] => PacketNumber::U8(*a),
+        [a, b] => PacketNumber::U16(256 * *a as u16 + *b as u16),
+        [a, b, c] => PacketNumber::U24(65_536 * *a as u32 + 256 * *b as u32 + *c as u32),
+        [a, b, c, d, ..] => PacketNumber::U32(
+            16_777_216 * *a as u32 + 65_536 * *b as u32 + 256 * *c as u32 + *d as u32,
+        ),
+    }
+}
+
+/// The first byte, or 0 where there is none.
+fn first_of(bytes: &[u8]) -> u8
+    ensures { result ≡ first_byte bytes.now }
+{
+    match bytes {
+        [] => 0,
+        [first, ..] => *first,
+    }
+}
+
+/// The whole header, whose number begins at `place` of the unprotected bytes `header_data`.
+fn read_header(
+    header: ProtectedHeader,
+    place: usize,
+    header_data: &Bytes,
+) -> Result<Header, AllocError>
+    requires place { place ≤ length header_data.now }
+    requires token { token_end header ≤ place }
+    ensures { IfOk result (λ h. h ≡ header_from header place header_data.now) }
+{
+    let number = read_number(&header_data.as_slice()[place..]);
+    match header {
+        ProtectedHeader::Initial {
+            dst_cid,
+            src_cid,
+            token_start,
+            token_len,
+            version,
+        } => {
+            let token = header_data.slice(token_start..token_start + token_len)?;
+            Ok(Header::Initial(InitialHeader {
+                dst_cid,
+                src_cid,
+                token,
+                number,
+                version,
+            }))
+        }
+        ProtectedHeader::Long {
+            ty,
+            dst_cid,
+            src_cid,
+            version,
+        } => Ok(Header::Long {
+            ty,
+            dst_cid,
+            src_cid,
+            number,
+            version,
+        }),
+        ProtectedHeader::Retry {
+            dst_cid,
+            src_cid,
+            version,
+        } => Ok(Header::Retry {
+            dst_cid,
+            src_cid,
+            version,
+        }),
+        ProtectedHeader::Short { spin, dst_cid } => Ok(Header::Short {
+            spin,
+            key_phase: first_of(header_data.as_slice()) / 4 % 2 == 1,
+            dst_cid,
+            number,
+        }),
+        ProtectedHeader::VersionNegotiate {
+            random,
+            src_cid,
+            dst_cid,
+        } => Ok(Header::VersionNegotiate {
+            random,
+            src_cid,
+            dst_cid,
+        }),
+    }
+}
+
+/// Takes header protection off a packet whose number begins at `place`, and gives where its header
+/// ends; `InvalidHeader` exactly where the packet is too short for a sample.
+fn unprotect<H: HeaderMask>(
+    place: usize,
+    bytes: &mut BytesMut,
+    key: &H,
+) -> Result<usize, PacketDecodeError>
+    requires { place ≤ length bytes.old.items }
+    ensures cut { IsErr result ↔ (length bytes.old.items < place + 20) }
+    ensures refused { IfErr result (λ e. e ≡ PacketDecodeError.InvalidHeader) }
+    ensures opened { OnOk result (bytes.new.items ≡ unmasked (H.mask_of key.now) place bytes.old.items) }
+    ensures end { IfOk result (λ end. end ≡ place + number_len_in bytes.new.items) }
+    ensures fits { IfOk result (λ end. end ≤ length bytes.new.items) }
+{
+    if bytes.len() < place + 20 {
+        return Err(PacketDecodeError::InvalidHeader);
+    }
+    unmask_packet(key, place, bytes.as_mut_slice());
+    let tag = first_of(bytes.as_slice()) % 4;
+    Ok(place + tag as usize + 1)
+}
+
+impl PartialDecode {
+    /// Takes the packet's header protection off with `key`, which a protected packet needs, and
+    /// cuts the header from the payload. `InvalidHeader` exactly where a protected packet has fewer
+    /// than 20 bytes from the place of its number on (RFC 9001, section 5.4.2).
+    pub fn finish<H: HeaderMask>(self, key: Option<&H>) -> Result<Packet, PacketDecodeError>
+        requires { IsTrue (is_protected self.header) → IsSome key }
+        ensures cut { IsErrOf result PacketDecodeError.InvalidHeader ↔ IsCut self }
+        ensures refused { IfErr result (λ e. (e ≡ PacketDecodeError.OutOfMemory)
+            ⊎ (e ≡ PacketDecodeError.InvalidHeader)) }
+        ensures header { IfOk result (λ p. p.header
+            ≡ header_from self.header self.place p.header_data) }
+        ensures header_data { IfOk result (λ p.
+            let bytes = opened (masks_of H.mask_of key.entry) self in
+            p.header_data ≡ take (header_end self bytes) bytes) }
+        ensures payload { IfOk result (λ p.
+            let bytes = opened (masks_of H.mask_of key.entry) self in
+            p.payload.items ≡ drop (header_end self bytes) bytes) }
+    {
+        let space = self.space();
+        let PartialDecode {
+            header,
+            place,
+            bytes,
+        } = self;
+        let mut bytes = bytes;
+        if space.is_none() {
+            return cut(header, place, place, bytes);
+        }
+        match key {
+            Some(key) => {
+                let end = unprotect(place, &mut bytes, key)?;
+                cut(header, place, end, bytes)
+            }
+            None => unreachable!(),
+        }
+    }
+}
+
+/// Cuts a packet without header protection where its header ends.
+fn cut(
+    header: ProtectedHeader,
+    place: usize,
+    end: usize,
+    bytes: BytesMut,
+) -> Result<Packet, PacketDecodeError>
+    requires token { token_end header ≤ place }
+    requires place { place ≤ end }
+    requires end { end ≤ length bytes.items }
+    ensures refused { IfErr result (λ e. e ≡ PacketDecodeError.OutOfMemory) }
+    ensures header { IfOk result (λ p. p.header ≡ header_from header place p.header_data) }
+    ensures header_data { IfOk result (λ p. p.header_data ≡ take end bytes.items) }
+    ensures payload { IfOk result (λ p. p.payload.items ≡ drop end bytes.items) }
+{
+    let mut payload = bytes;
+    let header_data = match payload.freeze_to(end) {
+        Ok(header_data) => header_data,
+        Err(_) => return Err(PacketDecodeError::OutOfMemory),
+    };
+    match read_header(header, place, &header_data) {
+        Ok(header) => Ok(Packet {
+            header,
+            header_data,
+            payload,
+        }),
+        Err(_) => Err(PacketDecodeError::OutOfMemory),
+    }
+}

@@ -1,0 +1,134 @@
+//! Packets whose headers are read as far as header protection lets it.
+
+ghost use Rattle.std.specs.Prelude.{◌≡◌, ◌<◌, ◌≤◌, ◌⊎◌, ℕ, length, take, drop, IfOk, IfErr, MatchOption, Ok, Err};
+ghost use Rattle.qc_header.specs.HeaderReading.{piece_at};
+ghost use Rattle.qc_header.specs.Piece.{space_of, is_0rtt_header};
+
+use crate::protected::{PacketDecodeError, ProtectedHeader};
+use crate::read::{Place, read_place};
+use bytes::BytesMut;
+use qc_base::{LongType, SpaceId};
+use std::marker::Model;
+
+/// A packet whose header is read as far as header protection lets it.
+#[derive(Debug, Drop)]
+pub struct PartialDecode {
+    pub(crate) header: ProtectedHeader,
+    pub(crate) place: usize,
+    pub(crate) bytes: BytesMut,
+}
+
+impl Model for PartialDecode {
+    ghost use Rattle.std.specs.Prelude.{List, ℕ};
+    ghost use Rattle.qc_header.specs.Piece.{Piece, IsWithin};
+
+    ghost Value = { Piece };
+
+    ghost view = { λ p. record { header = p.header; place = p.place; bytes = p.bytes.items } };
+
+    ghost invariant = { λ p. IsWithin p.header p.place p.bytes.items };
+}
+
+impl PartialDecode {
+    /// Reads the first packet of a datagram, and gives what is behind it. Connection ids of this
+    /// end have `local_cid_len` bytes; the versions that it knows are `versions`; it takes packets
+    /// with a fixed bit of 0 where it told so (`grease_quic_bit`, RFC 9287).
+    ///
+    /// `InvalidHeader` and `UnsupportedVersion` come by RFC 9000, section 17, the first that holds
+    /// in reading order; `OutOfMemory` where the rest cannot be cut off.
+    pub fn new(
+        bytes: BytesMut,
+        local_cid_len: usize,
+        versions: &[u32],
+        grease_quic_bit: bool,
+    ) -> Result<(PartialDecode, Option<BytesMut>), PacketDecodeError>
+        requires { local_cid_len ≤ 20 }
+        ensures piece { IfOk result (λ r. (end : ℕ)
+            × (piece_at local_cid_len versions.now grease_quic_bit bytes.items
+            ≡ Ok (record { header = r.0.header; place = r.0.place; end = end }))
+            × (r.0.place ≤ end) × (end ≤ length bytes.items)
+            × (r.0.bytes ≡ take end bytes.items)
+            × MatchOption r.1 (end ≡ length bytes.items)
+            (λ rest. (end < length bytes.items) × (rest.items ≡ drop end bytes.items))) }
+        ensures refused { IfErr result (λ e. (e ≡ PacketDecodeError.OutOfMemory)
+            ⊎ (piece_at local_cid_len versions.now grease_quic_bit bytes.items ≡ Err e)) }
+    {
+        let place = read_place(bytes.as_slice(), local_cid_len, versions, grease_quic_bit)?;
+        let mut bytes = bytes;
+        let Place { header, place, end } = place;
+        if end == bytes.len() {
+            return Ok((
+                PartialDecode {
+                    header,
+                    place,
+                    bytes,
+                },
+                None,
+            ));
+        }
+        match bytes.split_off(end) {
+            Ok(rest) => Ok((
+                PartialDecode {
+                    header,
+                    place,
+                    bytes,
+                },
+                Some(rest),
+            )),
+            Err(_) => Err(PacketDecodeError::OutOfMemory),
+        }
+    }
+
+    /// What is readable of its header.
+    pub fn header(&self) -> &ProtectedHeader
+        ensures { result.now ≡ self.now.header }
+    {
+        &self.header
+    }
+
+    /// Its number space (RFC 9000, section 12.3); None exactly for Retry and Version Negotiation,
+    /// which have no number.
+    pub fn space(&self) -> Option<SpaceId>
+        ensures { result ≡ space_of self.now.header }
+    {
+        match &self.header {
+            ProtectedHeader::Initial { .. } => Some(SpaceId::Initial),
+            ProtectedHeader::Long { ty, .. } => match *ty {
+                LongType::Handshake => Some(SpaceId::Handshake),
+                LongType::ZeroRtt => Some(SpaceId::Data),
+            },
+            ProtectedHeader::Short { .. } => Some(SpaceId::Data),
+            ProtectedHeader::Retry { .. } | ProtectedHeader::VersionNegotiate { .. } => None,
+        }
+    }
+
+    /// Whether it is a 0-RTT packet.
+    pub fn is_0rtt(&self) -> bool
+        ensures { result ≡ is_0rtt_header self.now.header }
+    {
+        match &self.header {
+            ProtectedHeader::Long { ty, .. } => match *ty {
+                LongType::Handshake => false,
+                LongType::ZeroRtt => true,
+            },
+            ProtectedHeader::Initial { .. }
+            | ProtectedHeader::Retry { .. }
+            | ProtectedHeader::Short { .. }
+            | ProtectedHeader::VersionNegotiate { .. } => false,
+        }
+    }
+
+    /// How many bytes the packet has.
+    pub fn len(&self) -> usize
+        ensures { result ≡ length self.now.bytes }
+    {
+        self.bytes.len()
+    }
+
+    /// All bytes of the packet.
+    pub fn bytes(&self) -> &[u8]
+        ensures { result.now ≡ self.now.bytes }
+    {
+        self.bytes.as_slice()
+    }
+}

@@ -1,0 +1,77 @@
+//! A preferred address (RFC 9000, section 18.2, figure 22).
+
+ghost use Rattle.std.specs.Prelude.{◌≡◌, ◌<◌, ◌≤◌, length, MatchResult, Some, None, IfOk};
+ghost use Rattle.std.specs.Option.{ok_or};
+ghost use Rattle.std.specs.Int.{w16};
+ghost use Rattle.qc_base.specs.Reading.{Finds, word_of};
+ghost use Rattle.qc_params.specs.ParametersReading.{address_value, ipv4_at, ipv6_at, issued_at};
+
+use crate::octets::{four, sixteen};
+use crate::{ParamError, PreferredAddress};
+use qc_base::{ConnectionId, Cut, ResetToken, read_byte, read_bytes};
+use std::net::{Ipv4Addr, Ipv6Addr};
+
+#[tactic(auto, unfolding(qc_base::specs::Reading::word_of))]
+fn port(bytes: &[u8]) -> Result<(u16, &[u8]), Cut>
+    ensures { Finds (λ x. (x.0, x.1.now)) result (word_of w16 bytes.now) }
+{
+    if bytes.len() < 2 {
+        return Err(Cut);
+    }
+    let (front, rest) = bytes.split_at(2);
+    Ok((u16::from_be_bytes([front[0], front[1]]), rest))
+}
+
+#[tactic(auto, unfolding(crate::specs::ParametersReading::ipv4_at))]
+fn ipv4(value: &[u8]) -> Result<((Ipv4Addr, u16), &[u8]), Cut>
+    ensures { Finds (λ x. (x.0, x.1.now)) result (ipv4_at value.now) }
+{
+    let (octets, rest) = read_bytes(value, 4)?;
+    let (port, rest) = port(rest)?;
+    Ok(((Ipv4Addr::from_octets(four(octets)), port), rest))
+}
+
+#[tactic(auto, unfolding(crate::specs::ParametersReading::ipv6_at))]
+fn ipv6(value: &[u8]) -> Result<((Ipv6Addr, u16), &[u8]), Cut>
+    ensures { Finds (λ x. (x.0, x.1.now)) result (ipv6_at value.now) }
+{
+    let (octets, rest) = read_bytes(value, 16)?;
+    let (port, rest) = port(rest)?;
+    Ok(((Ipv6Addr::from_octets(sixteen(octets)), port), rest))
+}
+
+// The id, and its token.
+#[tactic(auto, unfolding(crate::specs::ParametersReading::issued_at))]
+fn issued(value: &[u8]) -> Result<(&[u8], &[u8], &[u8]), Cut>
+    ensures exact { Finds (λ x. ((x.0.now, x.1.now), x.2.now)) result (issued_at value.now) }
+    ensures id { IfOk result (λ x. length x.0.now ≤ 20) }
+    ensures token { IfOk result (λ x. length x.1.now ≡ 16) }
+{
+    let (len, rest) = read_byte(value)?;
+    let (id, rest) = read_bytes(rest, len as u64)?;
+    let (token, rest) = read_bytes(rest, 16)?;
+    if len > 20 {
+        return Err(Cut);
+    }
+    Ok((id, token, rest))
+}
+
+#[tactic(auto, unfolding(crate::specs::ParametersReading::address_value))]
+pub(crate) fn preferred_address(value: &[u8]) -> Result<PreferredAddress, ParamError>
+    ensures { result ≡ ok_or (address_value value.now) ParamError.Malformed }
+{
+    let ((ipv4, port_v4), rest) = ipv4(value)?;
+    let ((ipv6, port_v6), rest) = ipv6(rest)?;
+    let (id, token, rest) = issued(rest)?;
+    if !rest.is_empty() {
+        return Err(ParamError::Malformed);
+    }
+    Ok(PreferredAddress {
+        ipv4,
+        port_v4,
+        ipv6,
+        port_v6,
+        id: ConnectionId::new(id),
+        reset_token: ResetToken::from(sixteen(token)),
+    })
+}
