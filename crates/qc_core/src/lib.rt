@@ -5,5 +5,6 @@ pub mod state;
 
 mod calls;
 mod moves;
+mod sending;
 
 pub use state::Core;

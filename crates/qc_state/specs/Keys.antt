@@ -7,26 +7,14 @@ use Rattle.qc_state.specs.declared.keys.SpaceKeys.{SpaceKeys}
 use Rattle.qc_state.specs.Spaces.{space_of, with_space}
 
 module _ {H P : Type 0} where
-  -- the key that seals, where there are keys
-  abbrev pub packet_key_in : Option (SpaceKeys H P) → Option P
-  packet_key_in None = None
-  packet_key_in (Some k) = Some k.keys.packet.local
-
-  -- the key that masks, where there are keys
-  abbrev pub header_key_in : Option (SpaceKeys H P) → Option H
-  header_key_in None = None
-  header_key_in (Some k) = Some k.keys.header.local
-
   -- one more packet sealed, where there are keys
   unfoldable pub count_one : Option (SpaceKeys H P) → Option (SpaceKeys H P)
   count_one None = None
   count_one (Some k) = Some (record k { sealed = plus k.sealed 1 })
 
-  unfoldable pub packet_key_of : KeyGroup H P → SpaceId → Option P
-  packet_key_of v id = packet_key_in (space_of v.spaces id)
-
-  unfoldable pub header_key_of : KeyGroup H P → SpaceId → Option H
-  header_key_of v id = header_key_in (space_of v.spaces id)
+  -- the keys of a space
+  unfoldable pub keys_of : KeyGroup H P → SpaceId → Option (SpaceKeys H P)
+  keys_of v id = space_of v.spaces id
 
   -- a packet was sealed in the space
   unfoldable pub key_used : KeyGroup H P → SpaceId → KeyGroup H P

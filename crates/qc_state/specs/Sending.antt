@@ -19,7 +19,8 @@ use Rattle.qc_state.specs.declared.life.ConnectionError.TheVariants as lost
 use Rattle.qc_state.specs.declared.life.State.TheVariants.{Drained}
 use Rattle.qc_state.specs.declared.transmit.Transmit.{Transmit}
 use Rattle.qc_state.specs.declared.transmit.TheConstants.{DATAGRAM_SIZE}
-use Rattle.qc_state.specs.Keys.{header_key_of, packet_key_of}
+use Rattle.qc_state.specs.declared.keys.SpaceKeys.{SpaceKeys}
+use Rattle.qc_state.specs.Keys.{keys_of}
 use Rattle.qc_state.specs.Life.{is_drained}
 use Rattle.qc_state.specs.Moves.{Move, Seal, Take, Raise, Give, Say, move_to}
 use Rattle.qc_state.specs.Numbers.{next_number}
@@ -44,11 +45,15 @@ module _ {t : Types} where
 
   -- a space with keys owes what waits there
   unfoldable pub owes : View t → Bool
-  owes s = is_some (packet_key_of s.keys Initial) && waits_in s.waiting Initial
+  owes s = is_some (keys_of s.keys Initial) && waits_in s.waiting Initial
 
   -- the next packet's number is past the limit
   unfoldable pub is_used_up : View t → Bool
   is_used_up s = is_past_limit (next_number s.numbers Initial)
+
+  -- nothing may be sealed: the end came before, nothing is owed, or the limit stands
+  unfoldable pub may_be_quiet : View t → Bool
+  may_be_quiet s = is_silent s || not (owes s) || is_used_up s
 
   -- the header of the next packet (RFC 9000, section 17.2.2)
   unfoldable pub header_of : View t → Header
@@ -60,13 +65,14 @@ module _ {t : Types} where
     version = s.setup.fixed.version;
   })
 
-  abbrev pub sealed_with : Meaning t → Option t.H → Option t.P → Header → ℕ → List ℕ → List ℕ
-  sealed_with m (Some h) (Some k) header number plain = packet_spelling (m.mask h) (m.seal k) header number plain
-  sealed_with m _ _ header number plain = []
+  -- a packet under the local keys; none without keys
+  abbrev pub sealed_with : Meaning t → Option (SpaceKeys t.H t.P) → Header → ℕ → List ℕ → List ℕ
+  sealed_with m (Some k) header number plain = packet_spelling (m.mask k.keys.header.local) (m.seal k.keys.packet.local) header number plain
+  sealed_with m None header number plain = []
 
   -- the bytes of the next packet, with these frames
   unfoldable pub packet_bytes : Meaning t → View t → List FrameValue → List ℕ
-  packet_bytes m s fs = sealed_with m (header_key_of s.keys Initial) (packet_key_of s.keys Initial) (header_of s) (next_number s.numbers Initial) (frames_spelling fs)
+  packet_bytes m s fs = sealed_with m (keys_of s.keys Initial) (header_of s) (next_number s.numbers Initial) (frames_spelling fs)
 
   -- a packet with these frames may be sealed: something is owed, each frame waits as its turn comes or is PADDING, and
   -- not all are PADDING
@@ -105,7 +111,7 @@ module _ {t : Types} where
   -- which packets a transmit may seal: one with something owed, and none only where the end came before, nothing is
   -- owed, or the limit stands
   unfoldable pub MayTransmit : View t → List (List FrameValue) → Type 0
-  MayTransmit s [] = (is_silent s || not (owes s) || is_used_up s) ≡ true
+  MayTransmit s [] = may_be_quiet s ≡ true
   MayTransmit s (fs ∷ []) = MaySeal s fs
   MayTransmit s _ = ⊥
 

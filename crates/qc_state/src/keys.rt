@@ -1,7 +1,8 @@
 //! The keys of the three spaces, with the packets that each has sealed.
 
-ghost use Rattle.std.specs.Prelude.{◌≡◌, IfSome, IfNone};
-ghost use Rattle.qc_state.specs.Keys.{packet_key_of, header_key_of, key_used, count_one};
+ghost use Rattle.std.specs.Prelude.{◌≡◌};
+ghost use Rattle.std.specs.Option.{option_copied};
+ghost use Rattle.qc_state.specs.Keys.{keys_of, key_used, count_one};
 
 use qc_base::SpaceId;
 use qc_crypto::Keys;
@@ -34,46 +35,13 @@ fn count<H, P>(keys: &mut Option<SpaceKeys<H, P>>)
     }
 }
 
-/// The local packet key, where there are keys.
-fn packet_key<H, P>(keys: &Option<SpaceKeys<H, P>>) -> Option<&P>
-    ensures some { IfSome result (λ key. packet_key_in keys.now ≡ Some key.now) }
-    ensures none { IfNone result (packet_key_in keys.now ≡ None) }
-{
-    match keys {
-        Some(keys) => Some(&keys.keys.packet.local),
-        None => None,
-    }
-}
-
-/// The local header key, where there are keys.
-fn header_key<H, P>(keys: &Option<SpaceKeys<H, P>>) -> Option<&H>
-    ensures some { IfSome result (λ key. header_key_in keys.now ≡ Some key.now) }
-    ensures none { IfNone result (header_key_in keys.now ≡ None) }
-{
-    match keys {
-        Some(keys) => Some(&keys.keys.header.local),
-        None => None,
-    }
-}
-
-ghost use Rattle.qc_state.specs.Keys.{packet_key_in, header_key_in};
-
-#[tactic(auto, unfolding(crate::specs::Keys::packet_key_of, crate::specs::Keys::header_key_of, crate::specs::Keys::key_used))]
+#[tactic(auto, unfolding(crate::specs::Keys::keys_of, crate::specs::Keys::key_used))]
 impl<H, P> KeyGroup<H, P> {
-    /// The key that seals packets of the space. None exactly where the space has no keys.
-    pub fn packet_key(&self, space: SpaceId) -> Option<&P>
-        ensures some { IfSome result (λ key. packet_key_of self.now space ≡ Some key.now) }
-        ensures none { IfNone result (packet_key_of self.now space ≡ None) }
+    /// The keys of the space. None exactly where it has none.
+    pub fn get(&self, space: SpaceId) -> Option<&SpaceKeys<H, P>>
+        ensures { option_copied result ≡ keys_of self.now space }
     {
-        packet_key(self.spaces.get(space))
-    }
-
-    /// The key that masks headers of the space. None exactly where the space has no keys.
-    pub fn header_key(&self, space: SpaceId) -> Option<&H>
-        ensures some { IfSome result (λ key. header_key_of self.now space ≡ Some key.now) }
-        ensures none { IfNone result (header_key_of self.now space ≡ None) }
-    {
-        header_key(self.spaces.get(space))
+        self.spaces.get(space).as_ref()
     }
 
     /// A packet was sealed in the space: its key's count rises by one.

@@ -1,0 +1,88 @@
+-- What a transmit seals: from what the calls of the core say, to what a transmit may do.
+use Rattle.std.proofs.Common.{◌≡◌, ℕ, ◌+◌, ◌-◌, ◌≤◌, List, [], ◌∷◌, ◌++◌, length, replicate, refl, ap, sym, ◌∙◌, subst, Bool, true, false, ◌&&◌, ◌||◌, not, if◌then◌else◌, Option, Some, None, is_some, is_none, arith}
+use Rattle.std.specs.List.{list_any}
+use Rattle.qc_base.specs.declared.side.SpaceId.{SpaceId}
+use Rattle.qc_base.specs.declared.side.SpaceId.TheVariants.{Initial}
+use Rattle.qc_frame.specs.Frame.{FrameValue}
+use Rattle.qc_frame.specs.FrameSpelling.{elicits, frames_spelling}
+use Rattle.qc_frame.specs.declared.frames.FrameOf.TheVariants.{Padding}
+use Rattle.qc_frame.proofs.BeforePadding.{any_before_padding}
+use Rattle.qc_state.specs.declared.transmit.TheConstants.{DATAGRAM_SIZE}
+use Rattle.qc_state.specs.declared.transmit.Transmit.{Transmit}
+use Rattle.qc_state.specs.declared.waiting.SpaceWaiting.{SpaceWaiting}
+use Rattle.qc_state.specs.Keys.{keys_of}
+use Rattle.qc_state.specs.Moves.{Take, Seal, state_move, move_to, numbers_move, keys_move, life_move, paths_move, timers_move, waiting_move, deeds_move}
+use Rattle.qc_state.specs.Numbers.{next_number}
+use Rattle.qc_state.specs.Sending.{is_silent, owes, is_used_up, may_be_quiet, header_of, sealed_with, packet_bytes, MaySeal, packet_after, quiet_after, transmit_after, MayTransmit, transmit_bytes, transmit_of, SealsOne, Transmits}
+use Rattle.qc_state.specs.Spaces.{space_of, with_space}
+use Rattle.qc_state.specs.Types.{Types, Meaning}
+use Rattle.qc_state.specs.View.{View, At, at}
+use Rattle.qc_state.specs.Waiting.{waits_in, waits_here, waiting_without, taken_part, WaitAll}
+use Rattle.qc_state.proofs.WaitingLemmas.{taken_waits, taken_elicits, waits_padded, without_padded}
+
+and_right : (a b : Bool) → (a && b) ≡ true → b ≡ true
+and_right true b h = h
+and_right false b h = cc
+
+-- none of three tests holds
+not_quiet_1 : (a b c : Bool) → (a || not b || c) ≡ false → a ≡ false
+not_quiet_1 true b c h = cc
+not_quiet_1 false b c h = refl
+
+not_quiet_2 : (a b c : Bool) → (a || not b || c) ≡ false → b ≡ true
+not_quiet_2 true b c h = cc
+not_quiet_2 false true c h = refl
+not_quiet_2 false false c h = cc
+
+not_quiet_3 : (a b c : Bool) → (a || not b || c) ≡ false → c ≡ false
+not_quiet_3 true b c h = cc
+not_quiet_3 false true c h = h
+not_quiet_3 false false c h = cc
+
+module _ {t : Types} where
+  -- PADDING changes nothing of what waits
+  take_padded : (id : SpaceId) (fs : List FrameValue) (n : ℕ) (s : View t) → state_move (Take id (fs ++ replicate n Padding)) s ≡ state_move (Take id fs) s
+  unfolding state_move numbers_move keys_move life_move paths_move timers_move waiting_move waiting_without
+  take_padded id fs n s = ap (λ (w : SpaceWaiting). record s { waiting = record s.waiting { spaces = with_space s.waiting.spaces id w } }) (without_padded (space_of s.waiting.spaces id) fs n)
+
+  -- what is owed waits
+  owed_waits : (s : View t) → owes s ≡ true → waits_here (space_of s.waiting.spaces Initial) ≡ true
+  unfolding owes waits_in
+  owed_waits s h = and_right _ _ h
+
+  same_keys : (fs : List FrameValue) (s : View t) → (state_move (Take Initial fs) s).keys ≡ s.keys
+  unfolding state_move keys_move
+  same_keys fs s = refl
+
+  -- frames are taken, filled up with PADDING, sealed, and counted
+  pub seals_one : (m : Meaning t) (time room number n : ℕ) (a : At t) (mid : View t) (b : At t) (buffer : List ℕ) (fs gs : List FrameValue) →
+      may_be_quiet a.state ≡ false → 19 ≤ room →
+      fs ≡ taken_part (space_of a.state.waiting.spaces Initial) room → gs ≡ fs ++ replicate n Padding →
+      mid ≡ state_move (Take Initial fs) a.state → number ≡ next_number a.state.numbers Initial →
+      b ≡ move_to (Seal time Initial number DATAGRAM_SIZE gs) (at mid a.did) →
+      buffer ≡ sealed_with m (keys_of mid.keys Initial) (header_of a.state) number (frames_spelling gs) →
+      length buffer ≡ DATAGRAM_SIZE → SealsOne m time a b buffer
+  unfolding may_be_quiet packet_after packet_bytes move_to deeds_move state_move keys_of keys_move
+  seals_one m time room number n a mid b buffer fs gs loud wide is_fs is_gs is_mid is_number is_b is_buffer full =
+      let owed : owes a.state ≡ true = not_quiet_2 _ _ _ loud in
+      let w : SpaceWaiting = space_of a.state.waiting.spaces Initial in
+      let waits : WaitAll w gs = subst (λ (x : List FrameValue). WaitAll w x) (sym (is_gs ∙ ap (λ (x : List FrameValue). x ++ replicate n Padding) is_fs)) (waits_padded w (taken_part w room) n (taken_waits w room)) in
+      let asks : list_any elicits gs ≡ true = ap (list_any elicits) (is_gs ∙ ap (λ (x : List FrameValue). x ++ replicate n Padding) is_fs) ∙ any_before_padding (taken_part w room) n ∙ taken_elicits w room (owed_waits a.state owed) wide in
+      let same : mid ≡ state_move (Take Initial gs) a.state = is_mid ∙ sym (ap (λ (x : List FrameValue). state_move (Take Initial x) a.state) is_gs ∙ take_padded Initial fs n a.state) in
+      record {
+        frames = gs;
+        may = record { alive = not_quiet_1 _ _ _ loud; owed = owed; spelled = not_quiet_3 _ _ _ loud; wait = waits; holds = asks };
+        leads = is_b ∙ ap (λ (x : View t). move_to (Seal time Initial number DATAGRAM_SIZE gs) (at x a.did)) same ∙ ap (λ (x : ℕ). move_to (Seal time Initial x DATAGRAM_SIZE gs) (move_to (Take Initial gs) a)) is_number;
+        bytes = is_buffer ∙ ap (λ (x : View t). sealed_with m (keys_of x.keys Initial) (header_of a.state) number (frames_spelling gs)) same ∙ ap (λ (x : ℕ). sealed_with m (keys_of a.state.keys Initial) (header_of a.state) x (frames_spelling gs)) is_number;
+        full = full;
+      }
+
+  -- a transmit that seals a packet
+  pub transmits_one : (m : Meaning t) (time : ℕ) (a b : At t) (sent : Transmit) (buffer : List ℕ) → SealsOne m time a b buffer → Some sent ≡ transmit_of ([] ∷ []) a.state → Transmits m time a b (Some sent) buffer
+  unfolding MayTransmit transmit_after transmit_of transmit_bytes
+  transmits_one m time a b sent buffer h e = record { packets = h.frames ∷ []; may = h.may; leads = h.leads; answer = e; bytes = h.bytes; full = h.full }
+
+  -- a transmit that seals none
+  pub transmits_quiet : (m : Meaning t) (time : ℕ) (a b : At t) (buffer : List ℕ) → may_be_quiet a.state ≡ true → b ≡ quiet_after a → buffer ≡ [] → Transmits m time a b None buffer
+  unfolding MayTransmit transmit_after transmit_of transmit_bytes
+  transmits_quiet m time a b buffer q l e = record { packets = []; may = q; leads = l; answer = refl; bytes = e; full = ap length e }

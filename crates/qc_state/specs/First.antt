@@ -1,0 +1,28 @@
+-- The first view of a connection.
+use Rattle.std.specs.Prelude.{ℕ, true, false, List, [], Option, Some, None}
+use Rattle.qc_base.specs.declared.side.Side.TheVariants.{Client}
+use Rattle.qc_state.specs.declared.life.State.TheVariants.{Handshake}
+use Rattle.qc_state.specs.declared.setup.Fixed.{Fixed}
+use Rattle.qc_state.specs.Types.{Types, Meaning}
+use Rattle.qc_state.specs.Unsent.{from_start}
+use Rattle.qc_state.specs.View.{Held}
+use Rattle.std.specs.declared.net.SocketAddr.{SocketAddr}
+
+module _ {t : Types} {R : Type 0} where
+  -- a client that was just made, at this time, of what it was set up with: its keys are those of the destination id of
+  -- its first packets, and its hello waits from the start of the Initial space's CRYPTO stream
+  unfoldable pub first_view : Meaning t → t.S → R → Fixed → SocketAddr → List ℕ → ℕ → Held t R
+  first_view m session random fixed remote first_cid time = record {
+    numbers = record { spaces = record { initial = record { next = 0 }; handshake = record { next = 0 }; application = record { next = 0 } } };
+    keys = record { spaces = record { initial = Some (record { keys = m.initial session first_cid Client; sealed = 0 }); handshake = None; application = None } };
+    life = record { state = Handshake; reason = None; lost = None; drained = false };
+    paths = record { remote = remote; remote_cid = first_cid; sent = 0 };
+    timers = record { loss_detection = None; idle = None; sets_idle = true; greatest = time };
+    waiting = record { spaces = record {
+      initial = record { ping = false; crypto = from_start (m.writes session) };
+      handshake = record { ping = false; crypto = from_start [] };
+      application = record { ping = false; crypto = from_start [] };
+    } };
+    setup = record { fixed = fixed; random = random };
+    lower = record { session = m.after_write session };
+  }
