@@ -4,7 +4,9 @@
 pub mod state;
 
 mod calls;
+mod client;
 mod moves;
 mod sending;
 
+pub use client::ClientSetup;
 pub use state::Core;

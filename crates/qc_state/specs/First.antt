@@ -1,5 +1,7 @@
 -- The first view of a connection.
-use Rattle.std.specs.Prelude.{ℕ, true, false, List, [], Option, Some, None}
+use Rattle.std.specs.Prelude.{ℕ, true, false, ◌==◌, if◌then◌else◌, List, [], Option, Some, None}
+use Rattle.std.specs.declared.net.IpAddr.{IpAddr}
+use Rattle.qc_base.specs.Time.{times}
 use Rattle.qc_base.specs.declared.side.Side.TheVariants.{Client}
 use Rattle.qc_state.specs.declared.life.State.TheVariants.{Handshake}
 use Rattle.qc_state.specs.declared.setup.Fixed.{Fixed}
@@ -7,6 +9,15 @@ use Rattle.qc_state.specs.Types.{Types, Meaning}
 use Rattle.qc_state.specs.Unsent.{from_start}
 use Rattle.qc_state.specs.View.{Held}
 use Rattle.std.specs.declared.net.SocketAddr.{SocketAddr}
+
+-- a limit on idle time in nanoseconds, of one in milliseconds: none, and 0, are no limit (RFC 9000, section 10.1)
+abbrev pub idle_limit_of : Option ℕ → Option ℕ
+idle_limit_of None = None
+idle_limit_of (Some millis) = if millis == 0 then None else Some (times millis 1000000)
+
+-- what doesn't change of a client's connection
+abbrev pub client_fixed : (version : ℕ) → (local_cid : List ℕ) → Option IpAddr → (max_idle_timeout : Option ℕ) → Fixed
+client_fixed version local_cid local_ip max_idle_timeout = record { side = Client; version = version; local_cid = local_cid; local_ip = local_ip; idle_limit = idle_limit_of max_idle_timeout }
 
 module _ {t : Types} {R : Type 0} where
   -- a client that was just made, at this time, of what it was set up with: its keys are those of the destination id of

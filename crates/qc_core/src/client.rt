@@ -1,0 +1,141 @@
+//! A client's connection is made.
+
+ghost use Rattle.std.specs.Prelude.{◌≡◌, IfOk};
+ghost use Rattle.qc_state.specs.First.{first_view, idle_limit_of, client_fixed};
+ghost use Rattle.qc_state.specs.Types.{meaning};
+
+use qc_base::{ConnectionId, Duration, Instant, Side, VarInt};
+use qc_crypto::Session;
+use qc_recovery::{IdleTimeout, TransportConfig};
+use qc_state::{CryptoQueue, Fixed, KeyGroup, Life, Lower, Numbers, Paths, Setup, SpaceKeys, SpaceNumbers, SpaceWaiting, Spaces, State, Suite, Timers, Waiting};
+use std::alloc::{AllocError, Global};
+use std::net::{IpAddr, SocketAddr};
+
+use crate::state::Core;
+
+/// What a client's connection is made of.
+#[derive(Drop)]
+pub struct ClientSetup<U: Suite> {
+    /// A client's session, which has neither read nor written.
+    pub session: U::Session,
+    /// The source of random words.
+    pub random: U::Random,
+    /// The configuration of the transport.
+    pub transport: TransportConfig,
+    /// Whether this end takes packets whose fixed bit isn't set (RFC 9287).
+    pub grease_quic_bit: bool,
+    /// This end's id, which has `cid_len` bytes.
+    pub local_cid: ConnectionId,
+    /// The destination id of the first packets, of 8 to 20 bytes (RFC 9000, 7.2).
+    pub first_cid: ConnectionId,
+    /// The length of this end's ids, in bytes.
+    pub cid_len: usize,
+    /// How long an id of this end is used; without a limit where there is none.
+    pub cid_lifetime: Option<Duration>,
+    /// The peer's address.
+    pub remote: SocketAddr,
+    /// The address to send from, where one is given.
+    pub local_ip: Option<IpAddr>,
+    /// The version of QUIC (RFC 9000, 15).
+    pub version: u32,
+    /// Whether larger datagrams are searched for (RFC 9000, 14.3).
+    pub allow_mtud: bool,
+    /// The server's name.
+    pub server_name: String,
+}
+
+/// The limit on idle time that a configuration gives: none where it has none or 0 (RFC 9000, 10.1).
+fn idle_limit(timeout: Option<IdleTimeout>) -> Option<Duration>
+    ensures { result ≡ idle_limit_of timeout }
+{
+    match timeout {
+        None => None,
+        Some(timeout) => {
+            let millis = VarInt::from(timeout).into_inner();
+            if millis == 0 {
+                return None;
+            }
+            Some(Duration::from_millis(millis))
+        }
+    }
+}
+
+/// A space in which nothing waits.
+fn nothing_waits(alloc: Global) -> SpaceWaiting
+    ensures { result ≡ record { ping = false; crypto = from_start [] } }
+{
+    SpaceWaiting {
+        ping: false,
+        crypto: CryptoQueue::from_vec(Vec::new(alloc)),
+    }
+}
+
+ghost use Rattle.std.specs.Prelude.{[], false};
+ghost use Rattle.qc_state.specs.Unsent.{from_start};
+
+impl<U: Suite> Core<U> {
+    /// A client's connection: its hello waits in the Initial space. Want of memory is the only refusal.
+    #[tactic(auto, unfolding(qc_state::specs::First::first_view))]
+    pub fn new_client(alloc: Global, setup: ClientSetup<U>, now: Instant) -> Result<Core<U>, AllocError>
+        ensures { IfOk result (λ core. core ≡ first_view (meaning U.Session.Session U.Session.HeaderKey.HeaderMask U.Session.PacketKey.PacketKey) setup.session setup.random (client_fixed setup.version setup.local_cid setup.local_ip setup.transport.max_idle_timeout) setup.remote setup.first_cid now) }
+    {
+        let mut session = setup.session;
+        let keys = session.initial_keys(&setup.first_cid, Side::Client);
+        let mut hello = Vec::new(alloc);
+        session.write_handshake(&mut hello)?;
+        Ok(Core {
+            numbers: Numbers {
+                spaces: Spaces {
+                    initial: SpaceNumbers { next: 0 },
+                    handshake: SpaceNumbers { next: 0 },
+                    application: SpaceNumbers { next: 0 },
+                },
+            },
+            keys: KeyGroup {
+                spaces: Spaces {
+                    initial: Some(SpaceKeys { keys, sealed: 0 }),
+                    handshake: None,
+                    application: None,
+                },
+            },
+            life: Life {
+                state: State::Handshake,
+                reason: None,
+                lost: None,
+                drained: false,
+            },
+            paths: Paths {
+                remote: setup.remote,
+                remote_cid: setup.first_cid,
+                sent: 0,
+            },
+            timers: Timers {
+                loss_detection: None,
+                idle: None,
+                sets_idle: true,
+                greatest: now,
+            },
+            waiting: Waiting {
+                spaces: Spaces {
+                    initial: SpaceWaiting {
+                        ping: false,
+                        crypto: CryptoQueue::from_vec(hello),
+                    },
+                    handshake: nothing_waits(alloc),
+                    application: nothing_waits(alloc),
+                },
+            },
+            setup: Setup {
+                fixed: Fixed {
+                    side: Side::Client,
+                    version: setup.version,
+                    local_cid: setup.local_cid,
+                    local_ip: setup.local_ip,
+                    idle_limit: idle_limit(setup.transport.get_max_idle_timeout()),
+                },
+                random: setup.random,
+            },
+            lower: Lower { session },
+        })
+    }
+}
