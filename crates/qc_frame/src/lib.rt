@@ -4,11 +4,13 @@
 mod eliciting;
 mod fault;
 mod frames;
+mod iter;
 mod list;
 mod read;
 mod write;
 
 pub use fault::{FrameFault, InvalidFrame};
 pub use frames::{Ack, AckOf, EcnCounts, Frame, FrameOf, NewConnectionId, OwnedFrame};
+pub use iter::Iter;
 pub use list::FrameList;
 pub use write::put_frame;
