@@ -12,5 +12,5 @@ mod write;
 pub use fault::{FrameFault, InvalidFrame};
 pub use frames::{Ack, AckOf, EcnCounts, Frame, FrameOf, NewConnectionId, OwnedFrame};
 pub use iter::Iter;
-pub use list::FrameList;
+pub use list::{FrameList, put_frames};
 pub use write::put_frame;

@@ -140,7 +140,9 @@ fn put_all(out: &mut Vec<u8>, frames: &[OwnedFrame], padding: u64) -> Result<(),
     put_padding(out, padding)
 }
 
-fn put_frames(out: &mut Vec<u8>, frames: &[OwnedFrame]) -> Result<(), AllocError>
+/// Appends the spelling of these frames, one after the other. After want of memory what stood in
+/// `out` is still at its front.
+pub fn put_frames(out: &mut Vec<u8>, frames: &[OwnedFrame]) -> Result<(), AllocError>
     ensures ok { OnOk result (out.new.items ≡ out.old.items ++ frames_spelling (map owned frames.now)) }
     ensures kept { take (length out.old.items) out.new.items ≡ out.old.items }
 {
