@@ -1,2 +1,4 @@
+pub mod ParametersFit
+pub mod ParametersGrammar
 pub mod ParametersReading
 pub mod ParametersSpelling
