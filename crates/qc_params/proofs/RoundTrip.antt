@@ -138,11 +138,11 @@ rows p = first_rows p ++ limit_rows p ++ middle_rows p ++ last_rows p
 
 all_fit : (p : TransportParameters) → Fits p → AllFit (rows p)
 all_fit p h = (
-  id_row 0x00 p.original_dst_cid (omega arith) h.original_dst_cid,
+  id_row 0x00 p.original_dst_cid (omega arith) h.first.original_dst_cid,
   (
     number_row 0x01 0 p.max_idle_timeout (omega arith),
     (
-      token_row 0x02 p.stateless_reset_token (omega arith) h.stateless_reset_token,
+      token_row 0x02 p.stateless_reset_token (omega arith) h.first.stateless_reset_token,
       (
         number_row 0x03 65527 p.max_udp_payload_size (omega arith),
         (
@@ -164,13 +164,13 @@ all_fit p h = (
                         (
                           flag_row 0x0c p.disable_active_migration (omega arith),
                           (
-                            address_row 0x0d p.preferred_address (omega arith) h.preferred_address,
+                            address_row 0x0d p.preferred_address (omega arith) h.middle.preferred_address,
                             (
                               number_row 0x0e 2 p.active_connection_id_limit (omega arith),
                               (
-                                id_row 0x0f p.initial_src_cid (omega arith) h.initial_src_cid,
+                                id_row 0x0f p.initial_src_cid (omega arith) h.last.initial_src_cid,
                                 (
-                                  id_row 0x10 p.retry_src_cid (omega arith) h.retry_src_cid,
+                                  id_row 0x10 p.retry_src_cid (omega arith) h.last.retry_src_cid,
                                   (
                                     maybe_row 0x20 p.max_datagram_frame_size (omega arith),
                                     (
@@ -212,10 +212,10 @@ unfolding first_of
 first_back p h =
     let a = rows_text (rows p) in
     rw (
-      id_back 0x00 p.original_dst_cid a h.original_dst_cid (value_back p 0x00 p.original_dst_cid h refl),
-      number_here p h 0x01 0 p.max_idle_timeout h.max_idle_timeout refl,
-      token_back 0x02 p.stateless_reset_token a h.stateless_reset_token (value_back p 0x02 p.stateless_reset_token h refl),
-      number_here p h 0x03 65527 p.max_udp_payload_size h.max_udp_payload_size refl,
+      id_back 0x00 p.original_dst_cid a h.first.original_dst_cid (value_back p 0x00 p.original_dst_cid h refl),
+      number_here p h 0x01 0 p.max_idle_timeout h.first.max_idle_timeout refl,
+      token_back 0x02 p.stateless_reset_token a h.first.stateless_reset_token (value_back p 0x02 p.stateless_reset_token h refl),
+      number_here p h 0x03 65527 p.max_udp_payload_size h.first.max_udp_payload_size refl,
     ) refl
 
 -- the parameters up to this group, the others as if absent
@@ -228,12 +228,12 @@ limits_back p h =
     let a = rows_text (rows p) in
     rw (
       first_back p h,
-      number_here p h 0x04 0 p.initial_max_data h.initial_max_data refl,
-      number_here p h 0x05 0 p.initial_max_stream_data_bidi_local h.initial_max_stream_data_bidi_local refl,
-      number_here p h 0x06 0 p.initial_max_stream_data_bidi_remote h.initial_max_stream_data_bidi_remote refl,
-      number_here p h 0x07 0 p.initial_max_stream_data_uni h.initial_max_stream_data_uni refl,
-      number_here p h 0x08 0 p.initial_max_streams_bidi h.initial_max_streams_bidi refl,
-      number_here p h 0x09 0 p.initial_max_streams_uni h.initial_max_streams_uni refl,
+      number_here p h 0x04 0 p.initial_max_data h.limits.initial_max_data refl,
+      number_here p h 0x05 0 p.initial_max_stream_data_bidi_local h.limits.initial_max_stream_data_bidi_local refl,
+      number_here p h 0x06 0 p.initial_max_stream_data_bidi_remote h.limits.initial_max_stream_data_bidi_remote refl,
+      number_here p h 0x07 0 p.initial_max_stream_data_uni h.limits.initial_max_stream_data_uni refl,
+      number_here p h 0x08 0 p.initial_max_streams_bidi h.limits.initial_max_streams_bidi refl,
+      number_here p h 0x09 0 p.initial_max_streams_uni h.limits.initial_max_streams_uni refl,
     ) refl
 
 -- the parameters up to this group, the others as if absent
@@ -246,11 +246,11 @@ middle_back p h =
     let a = rows_text (rows p) in
     rw (
       limits_back p h,
-      number_here p h 0x0a 3 p.ack_delay_exponent h.ack_delay_exponent refl,
-      number_here p h 0x0b 25 p.max_ack_delay h.max_ack_delay refl,
+      number_here p h 0x0a 3 p.ack_delay_exponent h.middle.ack_delay_exponent refl,
+      number_here p h 0x0b 25 p.max_ack_delay h.middle.max_ack_delay refl,
       flag_back 0x0c p.disable_active_migration a (value_back p 0x0c (flag_text p.disable_active_migration) h refl),
-      address_back 0x0d p.preferred_address a h.preferred_address (value_back p 0x0d (option_map address_bytes p.preferred_address) h refl),
-      number_here p h 0x0e 2 p.active_connection_id_limit h.active_connection_id_limit refl,
+      address_back 0x0d p.preferred_address a h.middle.preferred_address (value_back p 0x0d (option_map address_bytes p.preferred_address) h refl),
+      number_here p h 0x0e 2 p.active_connection_id_limit h.middle.active_connection_id_limit refl,
     ) refl
 
 all_back : (p : TransportParameters) → Fits p → parameters_of (rows_text (rows p)) ≡ Some (p)
@@ -259,9 +259,9 @@ all_back p h =
     let a = rows_text (rows p) in
     rw (
       middle_back p h,
-      id_back 0x0f p.initial_src_cid a h.initial_src_cid (value_back p 0x0f p.initial_src_cid h refl),
-      id_back 0x10 p.retry_src_cid a h.retry_src_cid (value_back p 0x10 p.retry_src_cid h refl),
-      maybe_back 0x20 p.max_datagram_frame_size a h.max_datagram_frame_size (value_back p 0x20 (option_map varint p.max_datagram_frame_size) h refl),
+      id_back 0x0f p.initial_src_cid a h.last.initial_src_cid (value_back p 0x0f p.initial_src_cid h refl),
+      id_back 0x10 p.retry_src_cid a h.last.retry_src_cid (value_back p 0x10 p.retry_src_cid h refl),
+      maybe_back 0x20 p.max_datagram_frame_size a h.last.max_datagram_frame_size (value_back p 0x20 (option_map varint p.max_datagram_frame_size) h refl),
       flag_back 0x2ab2 p.grease_quic_bit a (value_back p 0x2ab2 (flag_text p.grease_quic_bit) h refl),
     ) refl
 

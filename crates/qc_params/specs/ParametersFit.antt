@@ -26,21 +26,37 @@ pub record AddressFits (a : PreferredAddress) : Type 0 where
   pub id : IsId a.id
   pub reset_token : IsToken a.reset_token
 
-pub record Fits (p : TransportParameters) : Type 0 where
+-- 0x00 to 0x03
+pub record FirstFit (p : TransportParameters) : Type 0 where
   pub original_dst_cid : Each IsId p.original_dst_cid
   pub max_idle_timeout : IsVarint p.max_idle_timeout
   pub stateless_reset_token : Each IsToken p.stateless_reset_token
   pub max_udp_payload_size : IsVarint p.max_udp_payload_size
+
+-- 0x04 to 0x09
+pub record LimitsFit (p : TransportParameters) : Type 0 where
   pub initial_max_data : IsVarint p.initial_max_data
   pub initial_max_stream_data_bidi_local : IsVarint p.initial_max_stream_data_bidi_local
   pub initial_max_stream_data_bidi_remote : IsVarint p.initial_max_stream_data_bidi_remote
   pub initial_max_stream_data_uni : IsVarint p.initial_max_stream_data_uni
   pub initial_max_streams_bidi : IsVarint p.initial_max_streams_bidi
   pub initial_max_streams_uni : IsVarint p.initial_max_streams_uni
+
+-- 0x0a to 0x0e
+pub record MiddleFit (p : TransportParameters) : Type 0 where
   pub ack_delay_exponent : IsVarint p.ack_delay_exponent
   pub max_ack_delay : IsVarint p.max_ack_delay
   pub preferred_address : Each AddressFits p.preferred_address
   pub active_connection_id_limit : IsVarint p.active_connection_id_limit
+
+-- 0x0f to 0x20
+pub record LastFit (p : TransportParameters) : Type 0 where
   pub initial_src_cid : Each IsId p.initial_src_cid
   pub retry_src_cid : Each IsId p.retry_src_cid
   pub max_datagram_frame_size : Each IsVarint p.max_datagram_frame_size
+
+pub record Fits (p : TransportParameters) : Type 0 where
+  pub first : FirstFit p
+  pub limits : LimitsFit p
+  pub middle : MiddleFit p
+  pub last : LastFit p

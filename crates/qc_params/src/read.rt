@@ -1,6 +1,7 @@
-ghost use Rattle.std.specs.Prelude.{◌≡◌};
+ghost use Rattle.std.specs.Prelude.{◌≡◌, IfOk};
 ghost use Rattle.std.specs.Option.{ok_or};
 ghost use Rattle.qc_params.specs.ParametersReading.{first_of, limits_of, middle_of, parameters_of, may_come_to, client_may_send, is_address_allowed, is_legal, parameters_read};
+ghost use Rattle.qc_params.specs.ParametersFit.{FirstFit, LimitsFit, MiddleFit, LastFit, Fits};
 
 use crate::values::{address_under, flag_under, id_under, maybe_under, number_under, token_under};
 use crate::{ParamError, PreferredAddress, TransportParameters, params};
@@ -13,7 +14,8 @@ const MOST_STREAMS: u64 = 1 << 60;
 // 0x00 to 0x03
 #[tactic(auto, unfolding(crate::specs::ParametersReading::first_of))]
 fn read_first(bytes: &[u8]) -> Result<TransportParameters, ParamError>
-    ensures { result ≡ ok_or (first_of bytes.now) ParamError.Malformed }
+    ensures exact { result ≡ ok_or (first_of bytes.now) ParamError.Malformed }
+    ensures first { IfOk result FirstFit }
 {
     Ok(TransportParameters {
         original_dst_cid: id_under(bytes, params::ORIGINAL_DST_CID)?,
@@ -27,7 +29,9 @@ fn read_first(bytes: &[u8]) -> Result<TransportParameters, ParamError>
 // up to 0x09
 #[tactic(auto, unfolding(crate::specs::ParametersReading::limits_of))]
 fn read_limits(bytes: &[u8]) -> Result<TransportParameters, ParamError>
-    ensures { result ≡ ok_or (limits_of bytes.now) ParamError.Malformed }
+    ensures exact { result ≡ ok_or (limits_of bytes.now) ParamError.Malformed }
+    ensures first { IfOk result FirstFit }
+    ensures limits { IfOk result LimitsFit }
 {
     let p = read_first(bytes)?;
     Ok(TransportParameters {
@@ -52,7 +56,10 @@ fn read_limits(bytes: &[u8]) -> Result<TransportParameters, ParamError>
 // up to 0x0e
 #[tactic(auto, unfolding(crate::specs::ParametersReading::middle_of))]
 fn read_middle(bytes: &[u8]) -> Result<TransportParameters, ParamError>
-    ensures { result ≡ ok_or (middle_of bytes.now) ParamError.Malformed }
+    ensures exact { result ≡ ok_or (middle_of bytes.now) ParamError.Malformed }
+    ensures first { IfOk result FirstFit }
+    ensures limits { IfOk result LimitsFit }
+    ensures middle { IfOk result MiddleFit }
 {
     let p = read_limits(bytes)?;
     Ok(TransportParameters {
@@ -68,7 +75,11 @@ fn read_middle(bytes: &[u8]) -> Result<TransportParameters, ParamError>
 // all
 #[tactic(auto, unfolding(crate::specs::ParametersReading::parameters_of))]
 fn read_all(bytes: &[u8]) -> Result<TransportParameters, ParamError>
-    ensures { result ≡ ok_or (parameters_of bytes.now) ParamError.Malformed }
+    ensures exact { result ≡ ok_or (parameters_of bytes.now) ParamError.Malformed }
+    ensures first { IfOk result FirstFit }
+    ensures limits { IfOk result LimitsFit }
+    ensures middle { IfOk result MiddleFit }
+    ensures last { IfOk result LastFit }
 {
     let p = read_middle(bytes)?;
     Ok(TransportParameters {
@@ -135,7 +146,8 @@ impl TransportParameters {
     /// parameters that a server alone sends (RFC 9000, section 18.2).
     #[tactic(auto, unfolding(crate::specs::ParametersReading::parameters_read))]
     pub fn read(side: Side, bytes: &[u8]) -> Result<TransportParameters, ParamError>
-        ensures { result ≡ parameters_read side bytes.now }
+        ensures exact { result ≡ parameters_read side bytes.now }
+        ensures fits { IfOk result Fits }
     {
         let p = read_all(bytes)?;
         if !is_legal(side, &p) {
