@@ -1,11 +1,8 @@
 -- Parameters that were written are read back
-use Rattle.std.proofs.Common.{◌≡◌, ℕ, zero, suc, ◌+◌, ◌*◌, ◌%◌, ◌<◌, ◌≤◌, List, [], ◌∷◌, ◌++◌, length, Option, Some, None, Bool, true, false, Result, Ok, Err, refl, arith, sym, ap, ◌∙◌, subst, nat_eq, append_assoc, if◌then◌else◌, length-append, nat_lt}
-use Rattle.std.proofs.lemmas.List.{append-nil}
-use Rattle.std.proofs.lemmas.Bool.Decides.{nat_tests}
+use Rattle.std.proofs.Common.{◌≡◌, ℕ, ◌%◌, ◌≤◌, List, [], ◌∷◌, ◌++◌, length, Option, Some, None, Bool, true, false, Ok, refl, arith, sym, ap, ◌∙◌, subst, nat_eq, append_assoc, if◌then◌else◌, length-append, nat_lt}
 use Rattle.std.specs.Prelude.{option_to_list}
 use Rattle.std.specs.Option.{option_map}
-use Rattle.std.specs.Net.Addr.{ipv4_octets, ipv6_octets, ipv6_segments, octets_of}
-use Rattle.std.specs.Int.{w8, w16, w32, w64, to_be_bytes}
+use Rattle.std.specs.Net.Addr.{ipv6_segments}
 use Rattle.qc_base.specs.Varint.{varint, one, two, four, eight, spelled}
 use Rattle.qc_base.specs.declared.side.Side.{Side}
 use Rattle.qc_base.proofs.Varints.{varint_spelled}
@@ -14,7 +11,7 @@ use Rattle.qc_params.specs.declared.params.PreferredAddress.{PreferredAddress}
 use Rattle.qc_params.specs.ParametersFit.{IsVarint, Each, IsId, IsToken, AddressFits, Fits}
 use Rattle.qc_params.specs.ParametersGrammar.{AnEntry, Entries}
 use Rattle.qc_params.specs.ParametersSpelling.{default_parameters, Row, parameter, number_text, flag_text, row_text, rows_text, first_rows, limit_rows, middle_rows, last_rows, address_bytes, parameters_spelling}
-use Rattle.qc_params.specs.ParametersReading.{Entry, entries_of, values_of, only_one, value_in, number_in, first_of, limits_of, middle_of, parameters_of, judged, is_legal, parameters_read}
+use Rattle.qc_params.specs.ParametersReading.{Entry, values_of, only_one, value_in, number_in, first_of, limits_of, middle_of, parameters_of, is_legal, parameters_read}
 use Rattle.qc_params.proofs.GrammarLaws.{entries_again, values_from}
 use Rattle.qc_params.proofs.ValuesBack.{number_back, maybe_back, flag_back, id_back, token_back, address_back, length_octets}
 

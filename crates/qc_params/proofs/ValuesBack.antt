@@ -1,21 +1,21 @@
 -- A value that was written is read back
-use Rattle.std.proofs.Common.{◌≡◌, ℕ, zero, suc, ◌+◌, ◌*◌, ◌/◌, ◌%◌, ◌<◌, ◌≤◌, List, [], ◌∷◌, ◌++◌, length, Option, Some, None, Bool, true, false, refl, arith, sym, ap, ◌∙◌, subst, nat_eq, nat_le, append_assoc, if◌then◌else◌}
-use Rattle.std.proofs.lemmas.List.{append-nil, length-append}
+use Rattle.std.proofs.Common.{◌≡◌, ℕ, ◌+◌, ◌*◌, ◌/◌, ◌%◌, ◌<◌, List, [], ◌∷◌, ◌++◌, length, Option, Some, None, Bool, true, false, refl, arith, subst, nat_eq, nat_le, append_assoc, if◌then◌else◌}
+use Rattle.std.proofs.lemmas.List.{append-nil}
 use Rattle.std.proofs.lemmas.Bool.Decides.{nat_tests}
 use Rattle.std.proofs.lemmas.Nat.{from_be_bytes-to_be_bytes_2, be_bytes_2}
 use Rattle.std.specs.Option.{option_and_then, option_map}
-use Rattle.std.specs.Int.{w16, byte_len, to_be_bytes, from_be_bytes}
+use Rattle.std.specs.Int.{w16, to_be_bytes, from_be_bytes}
 use Rattle.std.specs.Net.Addr.{ipv4_octets, ipv6_segments, ipv6_octets, segments_of, octets_of}
 use Rattle.qc_base.specs.Varint.{varint}
-use Rattle.qc_base.specs.Grammar.{Varint, Word}
-use Rattle.qc_base.specs.Reading.{varint_of, bytes_of, word_of, byte_of}
+use Rattle.qc_base.specs.Grammar.{Varint}
+use Rattle.qc_base.specs.Reading.{varint_of, word_of}
 use Rattle.qc_base.proofs.Front.{bytes_again}
 use Rattle.qc_base.proofs.Varints.{found_varint, varint_spelled}
 use Rattle.qc_base.proofs.Words.{IsWord, found_word}
 use Rattle.qc_params.specs.declared.params.PreferredAddress.{PreferredAddress}
 use Rattle.qc_params.specs.ParametersFit.{IsVarint, Each, IsId, IsToken, AddressFits}
 use Rattle.qc_params.specs.ParametersSpelling.{number_text, flag_text, address_bytes}
-use Rattle.qc_params.specs.ParametersReading.{value_in, whole, number_value, id_value, token_value, flag_value, ipv4_at, ipv6_at, issued_at, address_value, value_or, maybe, number_in, maybe_in, flag_in, id_in, token_in, address_in}
+use Rattle.qc_params.specs.ParametersReading.{value_in, number_value, ipv4_at, ipv6_at, issued_at, address_value, value_or, number_in, maybe_in, flag_in, id_in, token_in, address_in}
 
 -- ---- numbers
 

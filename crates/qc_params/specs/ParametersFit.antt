@@ -1,6 +1,9 @@
 -- What the types of the parameters hold: numbers below 2^62, ids of at most 20 bytes, tokens of 16
-use Rattle.std.specs.Prelude.{◌≡◌, ℕ, ◌<◌, ◌≤◌, List, length, Option, Some, None}
+use Rattle.std.specs.Prelude.{◌≡◌, ℕ, ◌<◌, ◌≤◌, true, List, length, Option, Some, None, Ok}
 use Rattle.std.specs.Net.Addr.{ipv4_octets, ipv6_segments}
+use Rattle.qc_base.specs.declared.side.Side.{Side}
+use Rattle.qc_params.specs.ParametersReading.{is_legal, parameters_read}
+use Rattle.qc_params.specs.ParametersSpelling.{parameters_spelling}
 use Rattle.qc_params.specs.declared.params.TransportParameters.{TransportParameters}
 use Rattle.qc_params.specs.declared.params.PreferredAddress.{PreferredAddress}
 
@@ -60,3 +63,7 @@ pub record Fits (p : TransportParameters) : Type 0 where
   pub limits : LimitsFit p
   pub middle : MiddleFit p
   pub last : LastFit p
+
+-- parameters that the writer may send, and whose values fit, are read as what was written
+abbrev pub WrittenIsRead : Type 0
+WrittenIsRead = (side : Side) (p : TransportParameters) → Fits p → is_legal side p ≡ true → parameters_read side (parameters_spelling p) ≡ Ok p
