@@ -6,3 +6,4 @@ pub mod EachKind
 pub mod AllKinds
 pub mod FrontFrame
 pub mod Items
+pub mod Payloads

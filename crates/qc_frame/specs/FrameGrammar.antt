@@ -1,5 +1,5 @@
 -- Which bytes are which frame (RFC 9000, section 19; RFC 9221, section 4). Numbers may be spelled in any form.
-use Rattle.std.specs.Prelude.{◌≡◌, ℕ, zero, suc, ◌+◌, ◌-◌, ◌<◌, ◌≤◌, Bool, true, false, List, Option, None, Some}
+use Rattle.std.specs.Prelude.{◌≡◌, ℕ, zero, suc, ◌+◌, ◌-◌, ◌<◌, ◌≤◌, Bool, true, false, List, [], ◌∷◌, length, Option, None, Some, MatchOption, Result, Ok, Err}
 use Rattle.std.specs.Int.{w64}
 use Rattle.qc_base.specs.Grammar.{Spelling, ◌>>=◌, Is, Where, Text, Bytes, Byte, Word, Rest, Varint, Blob}
 use Rattle.qc_base.specs.StreamId.{dir_bit}
@@ -9,6 +9,7 @@ use Rattle.qc_frame.specs.FrameReading.{type_given}
 use Rattle.qc_frame.specs.FrameSpelling.{stream_type}
 use Rattle.qc_frame.specs.declared.frames.EcnCounts.{EcnCounts}
 use Rattle.qc_frame.specs.declared.frames.FrameOf.TheVariants as frames
+use Rattle.qc_frame.specs.declared.fault.InvalidFrame.{InvalidFrame}
 
 -- ---- ACK (section 19.3). No range goes below 0: between two of them lie gap + 1 numbers.
 
@@ -193,3 +194,14 @@ pub data Fields (f : FrameValue) (a z : List ℕ) : ℕ → Type 0 where
 -- the bytes begin with the frame f, and go on with z
 abbrev pub FrameAt : FrameValue → List ℕ → List ℕ → Type 0
 FrameAt f a z = (ty : ℕ) × (b : List ℕ) × Varint ty a b × Fields f b z ty
+
+-- no frame stands at the front of the bytes; the type that the fault names does, and where it names none no type does
+pub record NoFrameAt (a : List ℕ) (ty : Option ℕ) : Type 0 where
+  pub none : (f : FrameValue) (z : List ℕ) → FrameAt f a z → ⊥
+  pub typed : MatchOption ty ((n : ℕ) (b : List ℕ) → Varint n a b → ⊥) (λ n. (b : List ℕ) × Varint n a b)
+
+-- the bytes are these frames, to the end or the first bytes that are no frame
+pub data Payload : List (Result FrameValue InvalidFrame) → List ℕ → Type 0 where
+  no_more : Payload [] []
+  frame_and : (f : FrameValue) (a z : List ℕ) (others : List (Result FrameValue InvalidFrame)) → FrameAt f a z → Payload others z → Payload (Ok f ∷ others) a
+  fault : (invalid : InvalidFrame) (a : List ℕ) → 0 < length a → NoFrameAt a invalid.ty → Payload (Err invalid ∷ []) a

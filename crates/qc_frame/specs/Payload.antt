@@ -1,5 +1,5 @@
 -- Payloads (RFC 9000, section 12.4): frames, one after the other, to the end or the first bytes that are no frame
-use Rattle.std.specs.Prelude.{ℕ, zero, suc, List, [], ◌∷◌, length, Result, Ok, Err}
+use Rattle.std.specs.Prelude.{ℕ, zero, suc, List, [], ◌∷◌, ◌++◌, length, map, Option, None, Some, Result, Ok, Err}
 use Rattle.std.specs.Borrow.{Bor}
 use Rattle.qc_frame.specs.Frame.{FrameValue, borrowed}
 use Rattle.qc_frame.specs.FrameReading.{frame_at}
@@ -29,3 +29,8 @@ items_of bytes = items_within (length bytes) bytes
 abbrev pub item_view : Result (FrameOf (Bor (List ℕ))) InvalidFrame → Item
 item_view (Ok frame) = Ok (borrowed frame)
 item_view (Err fault) = Err fault
+
+-- frames, and the fault behind them, if there is one
+abbrev pub with_fault : List FrameValue → Option InvalidFrame → List Item
+with_fault frames None = map Ok frames
+with_fault frames (Some fault) = map Ok frames ++ Err fault ∷ []

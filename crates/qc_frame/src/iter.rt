@@ -1,7 +1,11 @@
 //! The frames of a payload (RFC 9000, section 12.4).
 
-ghost use Rattle.std.specs.Prelude.{◌≡◌, ◌<◌, [], length, Err, IfOk, MatchResult};
+ghost use Rattle.std.specs.Prelude.{◌≡◌, ℕ, ◌↔◌, List, length, IfOk, IfErr, IsErr, IsOkAnd};
 ghost use Rattle.std.specs.Iterator.{YieldsFirstBy, item_count};
+ghost use Rattle.qc_base.specs.Reading.{Gives};
+ghost use Rattle.qc_frame.specs.Frame.{FrameValue, borrowed};
+ghost use Rattle.qc_frame.specs.FrameGrammar.{FrameAt, NoFrameAt, Payload};
+ghost use Rattle.qc_frame.specs.FrameReading.{frame_at};
 ghost use Rattle.qc_frame.specs.Payload.{item_view, items_of};
 
 use crate::fault::InvalidFrame;
@@ -29,7 +33,10 @@ impl<'a> Iter<'a> {
     /// The frames of `payload`. PROTOCOL_VIOLATION exactly where it is empty (RFC 9000, section
     /// 12.4).
     pub fn new(payload: &'a [u8]) -> Result<Iter<'a>, TransportError>
-        ensures { MatchResult result (λ iter. (0 < length payload.now) × (iter ≡ payload.now)) (λ e. (length payload.now ≡ 0) × (e.code ≡ 10) × (e.frame ≡ None)) }
+        ensures bytes { IfOk result (λ iter. iter ≡ payload.now) }
+        ensures empty { IsErr result ↔ (length payload.now ≡ 0) }
+        ensures error { IfErr result (λ e. (e.code ≡ 10) × (e.frame ≡ None)) }
+        ensures grammar { Payload (items_of payload.now) payload.now }
     {
         if payload.is_empty() {
             return Err(TransportError {
@@ -39,6 +46,17 @@ impl<'a> Iter<'a> {
         }
         Ok(Iter { bytes: payload })
     }
+}
+
+/// The frame at the front of the bytes, and the bytes behind it. Refused exactly where no frame
+/// stands there.
+pub fn first_frame(bytes: &[u8]) -> Result<(Frame<'_>, &[u8]), InvalidFrame>
+    ensures exact { Gives (λ x. (borrowed x.0, x.1.now)) result (frame_at bytes.now) }
+    ensures found { IfOk result (λ x. FrameAt (borrowed x.0) bytes.now x.1.now) }
+    ensures only { (f : FrameValue) (rest : List ℕ) → FrameAt f bytes.now rest → IsOkAnd result (λ x. (borrowed x.0 ≡ f) × (x.1.now ≡ rest)) }
+    ensures refused { IfErr result (λ e. NoFrameAt bytes.now e.ty) }
+{
+    read_frame(bytes)
 }
 
 impl<'a> Iterator for Iter<'a> {

@@ -1,11 +1,14 @@
 //! Frames kept in a list.
 
-ghost use Rattle.std.specs.Prelude.{◌≡◌, ◌==◌, ℕ, take, ◌+◌, ◌≤◌, ◌^◌, [], ◌∷◌, ◌++◌, length, map, replicate, OnOk, OnErr};
-ghost use Rattle.qc_frame.specs.Frame.{owned};
+ghost use Rattle.std.specs.Prelude.{◌≡◌, ◌==◌, ℕ, take, ◌+◌, ◌≤◌, ◌^◌, [], ◌∷◌, ◌++◌, length, map, replicate, IfOk, OnOk, OnErr};
+ghost use Rattle.qc_frame.specs.Frame.{borrowed, owned};
 ghost use Rattle.qc_frame.specs.FrameSpelling.{frames_spelling};
+ghost use Rattle.qc_frame.specs.Payload.{items_of, with_fault};
 ghost use Rattle.qc_frame.specs.declared.frames.FrameOf.TheVariants.{Padding};
 
-use crate::frames::{FrameOf, OwnedFrame};
+use crate::fault::InvalidFrame;
+use crate::frames::{Frame, FrameOf, OwnedFrame};
+use crate::iter::Iter;
 use crate::write::put_frame;
 use std::alloc::{AllocError, Global};
 use std::marker::Model;
@@ -78,6 +81,32 @@ impl FrameList {
         }
         self.padding += count;
         Ok(())
+    }
+
+    /// Appends a frame that was read. After want of memory the list is as before.
+    pub fn push_read(&mut self, alloc: Global, frame: &Frame<'_>) -> Result<(), AllocError>
+        ensures ok { OnOk result (self.new ≡ self.old ++ borrowed frame.now ∷ []) }
+        ensures err { OnErr result (self.new ≡ self.old) }
+    {
+        if let FrameOf::Padding = frame {
+            return self.push_padding(1);
+        }
+        let frame = frame.to_owned(alloc)?;
+        self.push(frame)
+    }
+
+    /// The frames of a payload, and the fault that ended it, if one did.
+    pub fn read_all(alloc: Global, frames: Iter<'_>) -> Result<(FrameList, Option<InvalidFrame>), AllocError>
+        ensures { IfOk result (λ r. items_of frames.entry ≡ with_fault r.0 r.1) }
+    {
+        let mut list = FrameList::new(alloc);
+        for item in frames {
+            match item {
+                Ok(frame) => list.push_read(alloc, &frame)?,
+                Err(invalid) => return Ok((list, Some(invalid))),
+            }
+        }
+        Ok((list, None))
     }
 
     /// The frames, but for PADDING frames at the end that are only counted, and how many of these
