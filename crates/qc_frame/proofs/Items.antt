@@ -39,3 +39,13 @@ pub items_fault : (a : List ℕ) (e : InvalidFrame) → 0 < length a → frame_a
 unfolding items_of
 items_fault [] f some e = absurd (omega arith)
 items_fault (b ∷ a) f some e = ap (λ v. item_and v (items_within (length a))) e
+
+ends_at : (v : Result (FrameValue × List ℕ) InvalidFrame) (others : List ℕ → List Item) (e : InvalidFrame) (rest : List Item) → item_and v others ≡ Err e ∷ rest → rest ≡ []
+ends_at (Ok x) others e rest is = cc
+ends_at (Err f) others e rest is = cc
+
+-- nothing follows a fault
+pub fault_last : (a : List ℕ) (e : InvalidFrame) (rest : List Item) → items_of a ≡ Err e ∷ rest → rest ≡ []
+unfolding items_of
+fault_last [] e rest is = cc
+fault_last (b ∷ a) e rest is = ends_at (frame_at (b ∷ a)) (items_within (length a)) e rest is

@@ -14,4 +14,4 @@ pub use fault::{FrameFault, InvalidFrame};
 pub use frames::{Ack, AckOf, EcnCounts, Frame, FrameOf, NewConnectionId, OwnedFrame};
 pub use iter::{Iter, first_frame};
 pub use list::{FrameList, put_frames};
-pub use write::put_frame;
+pub use write::{put_frame, put_last_frame};

@@ -96,7 +96,10 @@ impl FrameList {
     }
 
     /// The frames of a payload, and the fault that ended it, if one did.
-    pub fn read_all(alloc: Global, frames: Iter<'_>) -> Result<(FrameList, Option<InvalidFrame>), AllocError>
+    pub fn read_all(
+        alloc: Global,
+        frames: Iter<'_>,
+    ) -> Result<(FrameList, Option<InvalidFrame>), AllocError>
         ensures { IfOk result (λ r. items_of frames.entry ≡ with_fault r.0 r.1) }
     {
         let mut list = FrameList::new(alloc);
