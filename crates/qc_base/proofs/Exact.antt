@@ -1,5 +1,5 @@
 -- Readers that give exactly what a grammar says
-use Rattle.std.proofs.Common.{◌≡◌, ℕ, ◌-◌, List, [], ◌∷◌, ◌++◌, Bool, true, false, cond, length, take, Option, None, Some, Result, Ok, Err, refl, ap, sym, ◌∙◌, subst, arith, append_assoc, append-nil, length-append}
+use Rattle.std.proofs.Common.{◌≡◌, ◌≤◌, ℕ, ◌-◌, List, [], ◌∷◌, ◌++◌, Bool, true, false, cond, length, take, Option, None, Some, Result, Ok, Err, refl, ap, sym, ◌∙◌, subst, arith, append_assoc, append-nil, length-append}
 use Rattle.std.proofs.Math.Seq.{take-append_seam}
 use Rattle.std.specs.Option.{ok_or}
 use Rattle.qc_base.specs.Reading.{Reader, read_on, give, text_of, left_at, rest_at, or_fault, byte_of, bytes_of}
@@ -12,6 +12,9 @@ Ends a z = (front : List ℕ) × (a ≡ front ++ z)
 
 pub ends_bytes : (a z : List ℕ) → Ends a z → IsBytes a → IsBytes z
 ends_bytes a z (front, e) h = behind_bytes front z (subst (λ (s : List ℕ). IsBytes s) e h)
+
+pub ends_length : (a z : List ℕ) → Ends a z → length z ≤ length a
+ends_length a z (front, e) = let all = ap length e in omega (arith, all, length-append front z)
 
 -- what the reader gives is what the bytes spell, and where they spell something the reader gives it
 pub record Exact {E X : Type 0} (r : Reader E X) (S : Spelling X) : Type 0 where

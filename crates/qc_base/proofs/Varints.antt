@@ -9,7 +9,7 @@ use Rattle.qc_base.specs.Reading.{bytes_of, form_of, in_form, varint_of, blob_of
 use Rattle.qc_base.specs.Grammar.{Varint, Blob, IsBytes}
 use Rattle.qc_base.proofs.Front.{bytes_again, bytes_take, same_first, same_second, before_bytes}
 use Rattle.qc_base.proofs.Exact.{Found, Ends, ends_both, found_bytes}
-use Rattle.std.proofs.lemmas.List.{get_or_past, get_or_append_left}
+use Rattle.std.proofs.lemmas.List.{get_or_past, get_or_append_left, length-append}
 
 -- what makes the reading of a form and its spelling one
 pub record IsForm (f : Form) : Type 0 where
@@ -160,6 +160,17 @@ varint_ends [] n z e = cc
 varint_ends (b ∷ a) n z e =
     let w = formed (form_of b) (bytes_of (byte_len (width (form_of b))) (b ∷ a)) n z e in
     (w.0, (bytes_take (byte_len (width (form_of b))) (b ∷ a) w.0 z w.1).1)
+
+-- it has at least one byte
+pub varint_shorter : (a : List ℕ) (n : ℕ) (z : List ℕ) → varint_of a ≡ Some (n, z) → length z < length a
+unfolding varint_of
+varint_shorter [] n z e = cc
+varint_shorter (b ∷ a) n z e =
+    let w = formed (form_of b) (bytes_of (byte_len (width (form_of b))) (b ∷ a)) n z e in
+    let t = bytes_take (byte_len (width (form_of b))) (b ∷ a) w.0 z w.1 in
+    let some = (is_form (form_of b)).some in
+    let all = ap length t.1 in
+    omega (arith, some, t.0, all, length-append w.0 z)
 
 varint_again : (a : List ℕ) (n : ℕ) (z : List ℕ) → Varint n a z → varint_of a ≡ Some (n, z)
 varint_again a n z (f, less, e) =

@@ -6,6 +6,7 @@ ghost use Rattle.qc_base.specs.declared.side.Side.{Side};
 ghost use Rattle.qc_base.specs.declared.side.SpaceId.{SpaceId};
 ghost use Rattle.qc_base.specs.declared.transport_error.TransportError.{TransportError};
 ghost use Rattle.qc_params.specs.declared.params.TransportParameters.{TransportParameters};
+ghost use Rattle.qc_params.specs.ParametersReading.{is_legal};
 ghost use Rattle.qc_crypto.specs.declared.keys.Keys.{Keys};
 ghost use Rattle.qc_crypto.specs.declared.keys.KeyPair.{KeyPair};
 ghost use Rattle.qc_crypto.specs.Mates.{AreMates, ArePacketMates, ArePacketsApart};
@@ -231,6 +232,9 @@ pub trait Session: Drop {
     ghost refusal: { (s : Self) (bytes : List ℕ) (error : TransportError) → reads s bytes ≡ Err error → IsSendable error };
 
     ghost unreadable: { (s : Self) (error : TransportError) → parameters s ≡ Err error → IsSendable error };
+
+    // The parameters that are given are allowed (RFC 9000, section 18.2).
+    ghost allowed: { (s : Self) (p : TransportParameters) → parameters s ≡ Ok (Some p) → is_legal (side_of s) p ≡ true };
 
     // A server that changed keys has read the client's parameters, or can't read them. Writing
     // tells nothing new of the peer.

@@ -86,6 +86,12 @@ spelling (frames.Datagram body) = varint 0x31 ++ blob body
 abbrev pub frames_spelling : List FrameValue → List ℕ
 frames_spelling fs = flat_map spelling fs
 
+-- the bytes of a frame at the end of a packet, where STREAM and DATAGRAM need no length
+unfoldable pub last_spelling : FrameValue → List ℕ
+last_spelling (frames.Stream id offset fin body) = varint (stream_type (has_offset offset) false fin) ++ varint id ++ offset_spelling offset ++ body
+last_spelling (frames.Datagram body) = varint 0x30 ++ body
+last_spelling f = spelling f
+
 -- whether the receiver owes an acknowledgement of the frame (RFC 9000, section 13.2)
 unfoldable pub elicits : FrameValue → Bool
 elicits frames.Padding = false

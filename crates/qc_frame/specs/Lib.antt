@@ -1,3 +1,5 @@
 pub mod Frame
+pub mod FrameGrammar
 pub mod FrameReading
 pub mod FrameSpelling
+pub mod Payload

@@ -1,9 +1,10 @@
 //! The kinds of frames (RFC 9000, section 19; DATAGRAM: RFC 9221).
 
-ghost use Rattle.std.specs.Prelude.{◌≡◌};
+ghost use Rattle.std.specs.Prelude.{◌≡◌, IfOk};
 ghost use Rattle.qc_frame.specs.Frame.{borrowed, owned};
 
 use qc_base::{ConnectionId, Dir, ResetToken, StreamId, TransportErrorCode, VarInt};
+use std::alloc::{AllocError, Global};
 
 /// A frame, whose byte strings are held as `B`: borrowed from a payload in a [`Frame`], its own in
 /// an [`OwnedFrame`].
@@ -234,5 +235,95 @@ impl OwnedFrame {
                 body: body.as_slice(),
             },
         }
+    }
+}
+
+impl Frame<'_> {
+    /// The same frame, with byte strings of its own.
+    pub fn to_owned(&self, alloc: Global) -> Result<OwnedFrame, AllocError>
+        ensures { IfOk result (λ frame. owned frame ≡ borrowed self.now) }
+    {
+        Ok(match self {
+            FrameOf::Padding => FrameOf::Padding,
+            FrameOf::Ping => FrameOf::Ping,
+            FrameOf::Ack(ack) => FrameOf::Ack(AckOf {
+                largest: ack.largest,
+                delay: ack.delay,
+                additional: Vec::from_slice(alloc, ack.additional)?,
+                ecn: ack.ecn,
+            }),
+            FrameOf::ResetStream {
+                id,
+                error_code,
+                final_size,
+            } => FrameOf::ResetStream {
+                id: *id,
+                error_code: *error_code,
+                final_size: *final_size,
+            },
+            FrameOf::StopSending { id, error_code } => FrameOf::StopSending {
+                id: *id,
+                error_code: *error_code,
+            },
+            FrameOf::Crypto { offset, body } => FrameOf::Crypto {
+                offset: *offset,
+                body: Vec::from_slice(alloc, body)?,
+            },
+            FrameOf::NewToken { token } => FrameOf::NewToken {
+                token: Vec::from_slice(alloc, token)?,
+            },
+            FrameOf::Stream {
+                id,
+                offset,
+                fin,
+                body,
+            } => FrameOf::Stream {
+                id: *id,
+                offset: *offset,
+                fin: *fin,
+                body: Vec::from_slice(alloc, body)?,
+            },
+            FrameOf::MaxData(limit) => FrameOf::MaxData(*limit),
+            FrameOf::MaxStreamData { id, offset } => FrameOf::MaxStreamData {
+                id: *id,
+                offset: *offset,
+            },
+            FrameOf::MaxStreams { dir, count } => FrameOf::MaxStreams {
+                dir: *dir,
+                count: *count,
+            },
+            FrameOf::DataBlocked { offset } => FrameOf::DataBlocked { offset: *offset },
+            FrameOf::StreamDataBlocked { id, offset } => FrameOf::StreamDataBlocked {
+                id: *id,
+                offset: *offset,
+            },
+            FrameOf::StreamsBlocked { dir, limit } => FrameOf::StreamsBlocked {
+                dir: *dir,
+                limit: *limit,
+            },
+            FrameOf::NewConnectionId(new) => FrameOf::NewConnectionId(*new),
+            FrameOf::RetireConnectionId { sequence } => FrameOf::RetireConnectionId {
+                sequence: *sequence,
+            },
+            FrameOf::PathChallenge(data) => FrameOf::PathChallenge(*data),
+            FrameOf::PathResponse(data) => FrameOf::PathResponse(*data),
+            FrameOf::ConnectionClose {
+                error_code,
+                frame_type,
+                reason,
+            } => FrameOf::ConnectionClose {
+                error_code: *error_code,
+                frame_type: *frame_type,
+                reason: Vec::from_slice(alloc, reason)?,
+            },
+            FrameOf::ApplicationClose { error_code, reason } => FrameOf::ApplicationClose {
+                error_code: *error_code,
+                reason: Vec::from_slice(alloc, reason)?,
+            },
+            FrameOf::HandshakeDone => FrameOf::HandshakeDone,
+            FrameOf::Datagram { body } => FrameOf::Datagram {
+                body: Vec::from_slice(alloc, body)?,
+            },
+        })
     }
 }

@@ -4,11 +4,14 @@
 mod eliciting;
 mod fault;
 mod frames;
+mod iter;
 mod list;
+mod names;
 mod read;
 mod write;
 
 pub use fault::{FrameFault, InvalidFrame};
 pub use frames::{Ack, AckOf, EcnCounts, Frame, FrameOf, NewConnectionId, OwnedFrame};
-pub use list::FrameList;
-pub use write::put_frame;
+pub use iter::{Iter, first_frame};
+pub use list::{FrameList, put_frames};
+pub use write::{put_frame, put_last_frame};

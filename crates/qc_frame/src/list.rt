@@ -1,11 +1,14 @@
 //! Frames kept in a list.
 
-ghost use Rattle.std.specs.Prelude.{◌≡◌, ◌==◌, ℕ, take, ◌+◌, ◌≤◌, ◌^◌, [], ◌∷◌, ◌++◌, length, map, replicate, OnOk, OnErr};
-ghost use Rattle.qc_frame.specs.Frame.{owned};
+ghost use Rattle.std.specs.Prelude.{◌≡◌, ◌==◌, ℕ, take, ◌+◌, ◌≤◌, ◌^◌, [], ◌∷◌, ◌++◌, length, map, replicate, IfOk, OnOk, OnErr};
+ghost use Rattle.qc_frame.specs.Frame.{borrowed, owned};
 ghost use Rattle.qc_frame.specs.FrameSpelling.{frames_spelling};
+ghost use Rattle.qc_frame.specs.Payload.{items_of, with_fault};
 ghost use Rattle.qc_frame.specs.declared.frames.FrameOf.TheVariants.{Padding};
 
-use crate::frames::{FrameOf, OwnedFrame};
+use crate::fault::InvalidFrame;
+use crate::frames::{Frame, FrameOf, OwnedFrame};
+use crate::iter::Iter;
 use crate::write::put_frame;
 use std::alloc::{AllocError, Global};
 use std::marker::Model;
@@ -80,6 +83,35 @@ impl FrameList {
         Ok(())
     }
 
+    /// Appends a frame that was read. After want of memory the list is as before.
+    pub fn push_read(&mut self, alloc: Global, frame: &Frame<'_>) -> Result<(), AllocError>
+        ensures ok { OnOk result (self.new ≡ self.old ++ borrowed frame.now ∷ []) }
+        ensures err { OnErr result (self.new ≡ self.old) }
+    {
+        if let FrameOf::Padding = frame {
+            return self.push_padding(1);
+        }
+        let frame = frame.to_owned(alloc)?;
+        self.push(frame)
+    }
+
+    /// The frames of a payload, and the fault that ended it, if one did.
+    pub fn read_all(
+        alloc: Global,
+        frames: Iter<'_>,
+    ) -> Result<(FrameList, Option<InvalidFrame>), AllocError>
+        ensures { IfOk result (λ r. items_of frames.entry ≡ with_fault r.0 r.1) }
+    {
+        let mut list = FrameList::new(alloc);
+        for item in frames {
+            match item {
+                Ok(frame) => list.push_read(alloc, &frame)?,
+                Err(invalid) => return Ok((list, Some(invalid))),
+            }
+        }
+        Ok((list, None))
+    }
+
     /// The frames, but for PADDING frames at the end that are only counted, and how many of these
     /// follow.
     pub fn parts(&self) -> (&[OwnedFrame], u64)
@@ -140,7 +172,9 @@ fn put_all(out: &mut Vec<u8>, frames: &[OwnedFrame], padding: u64) -> Result<(),
     put_padding(out, padding)
 }
 
-fn put_frames(out: &mut Vec<u8>, frames: &[OwnedFrame]) -> Result<(), AllocError>
+/// Appends the spelling of these frames, one after the other. After want of memory what stood in
+/// `out` is still at its front.
+pub fn put_frames(out: &mut Vec<u8>, frames: &[OwnedFrame]) -> Result<(), AllocError>
     ensures ok { OnOk result (out.new.items ≡ out.old.items ++ frames_spelling (map owned frames.now)) }
     ensures kept { take (length out.old.items) out.new.items ≡ out.old.items }
 {

@@ -1,12 +1,12 @@
 //! Frames written (RFC 9000, section 19; RFC 9221, section 4): each number in its shortest form.
 
-ghost use Rattle.std.specs.Prelude.{◌≡◌, ◌+◌, ◌/◌, ◌<◌, ◌^◌, ◌∷◌, ◌++◌, length, take, true, unwrap_or, OnOk, OnErr};
+ghost use Rattle.std.specs.Prelude.{◌≡◌, ◌+◌, ◌/◌, ◌<◌, ◌^◌, ◌∷◌, ◌++◌, length, take, true, false, unwrap_or, OnOk, OnErr};
 ghost use Rattle.std.specs.Int.{w64, to_be_bytes};
 ghost use Rattle.std.specs.List.{flat_map};
 ghost use Rattle.qc_base.specs.StreamId.{dir_bit};
 ghost use Rattle.qc_base.specs.Varint.{varint};
 ghost use Rattle.qc_frame.specs.Frame.{ack_map, borrowed};
-ghost use Rattle.qc_frame.specs.FrameSpelling.{ack_spelling, ack_type, blob, ecn_spelling, has_offset, numbers_of, offset_spelling, spelling, stream_type};
+ghost use Rattle.qc_frame.specs.FrameSpelling.{ack_spelling, ack_type, blob, ecn_spelling, has_offset, last_spelling, numbers_of, offset_spelling, spelling, stream_type};
 
 use crate::frames::{Ack, EcnCounts, Frame, FrameOf, NewConnectionId};
 use qc_base::{Cut, Dir, StreamId, TransportErrorCode, VarInt, put_varint, read_varint};
@@ -19,6 +19,22 @@ pub fn put_frame(out: &mut Vec<u8>, frame: &Frame<'_>) -> Result<(), AllocError>
 {
     let len = out.len();
     match put_fields(out, frame) {
+        Ok(()) => Ok(()),
+        Err(e) => {
+            out.truncate(len);
+            Err(e)
+        }
+    }
+}
+
+/// Appends the frame as the last one of a packet: a STREAM or DATAGRAM frame has no length then
+/// (RFC 9000, section 19.8; RFC 9221, section 4). After want of memory `out` is as before.
+pub fn put_last_frame(out: &mut Vec<u8>, frame: &Frame<'_>) -> Result<(), AllocError>
+    ensures ok { OnOk result (out.new.items ≡ out.old.items ++ last_spelling (borrowed frame.now)) }
+    ensures err { OnErr result (out.new.items ≡ out.old.items) }
+{
+    let len = out.len();
+    match put_last_fields(out, frame) {
         Ok(()) => Ok(()),
         Err(e) => {
             out.truncate(len);
@@ -87,6 +103,26 @@ fn put_fields(out: &mut Vec<u8>, frame: &Frame<'_>) -> Result<(), AllocError>
         ),
         FrameOf::HandshakeDone => put_varint(out, 0x1e),
         FrameOf::Datagram { body } => put_typed_blob(out, 0x31, body),
+    }
+}
+
+#[tactic(auto, unfolding(crate::specs::FrameSpelling::last_spelling))]
+fn put_last_fields(out: &mut Vec<u8>, frame: &Frame<'_>) -> Result<(), AllocError>
+    ensures ok { OnOk result (out.new.items ≡ out.old.items ++ last_spelling (borrowed frame.now)) }
+    ensures kept { take (length out.old.items) out.new.items ≡ out.old.items }
+{
+    match frame {
+        FrameOf::Stream {
+            id,
+            offset,
+            fin,
+            body,
+        } => put_last_stream(out, *id, *offset, *fin, body),
+        FrameOf::Datagram { body } => {
+            put_varint(out, 0x30)?;
+            out.extend_from_slice(body)
+        }
+        _ => put_fields(out, frame),
     }
 }
 
@@ -163,12 +199,12 @@ fn put_crypto(out: &mut Vec<u8>, offset: u64, body: &[u8]) -> Result<(), AllocEr
     put_blob(out, body)
 }
 
-// The type of a STREAM frame with a length.
-fn stream_type_of(offset: u64, fin: bool) -> u64
-    ensures { result ≡ stream_type (has_offset offset) true fin }
+fn stream_type_of(offset: u64, has_length: bool, fin: bool) -> u64
+    ensures { result ≡ stream_type (has_offset offset) has_length fin }
 {
-    let ty = if offset == 0 { 0x0a } else { 0x0e };
-    if fin { ty + 1 } else { ty }
+    let offset_bit = if offset == 0 { 0 } else { 4 };
+    let length_bit = if has_length { 2 } else { 0 };
+    0x08 + offset_bit + length_bit + u64::from(fin)
 }
 
 fn put_offset(out: &mut Vec<u8>, offset: u64) -> Result<(), AllocError>
@@ -191,9 +227,24 @@ fn put_stream(
     ensures ok { OnOk result (out.new.items ≡ out.old.items ++ (varint (stream_type (has_offset offset) true fin) ++ varint id ++ offset_spelling offset ++ blob body.now)) }
     ensures kept { take (length out.old.items) out.new.items ≡ out.old.items }
 {
-    put_typed_number(out, stream_type_of(offset, fin), id.value())?;
+    put_typed_number(out, stream_type_of(offset, true, fin), id.value())?;
     put_offset(out, offset)?;
     put_blob(out, body)
+}
+
+fn put_last_stream(
+    out: &mut Vec<u8>,
+    id: StreamId,
+    offset: u64,
+    fin: bool,
+    body: &[u8],
+) -> Result<(), AllocError>
+    ensures ok { OnOk result (out.new.items ≡ out.old.items ++ (varint (stream_type (has_offset offset) false fin) ++ varint id ++ offset_spelling offset ++ body.now)) }
+    ensures kept { take (length out.old.items) out.new.items ≡ out.old.items }
+{
+    put_typed_number(out, stream_type_of(offset, false, fin), id.value())?;
+    put_offset(out, offset)?;
+    out.extend_from_slice(body)
 }
 
 fn put_new_connection_id(out: &mut Vec<u8>, new: &NewConnectionId) -> Result<(), AllocError>

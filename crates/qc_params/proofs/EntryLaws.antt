@@ -10,7 +10,7 @@ use Rattle.qc_params.specs.ParametersReading.{Entry, entry_of, entries_within, e
 
 -- ---- what is read leaves fewer bytes
 
-in_some : {X : Type 0} (x y : X) → Some x ≡ Some y → x ≡ y
+pub in_some : {X : Type 0} (x y : X) → Some x ≡ Some y → x ≡ y
 in_some x y e = cc
 
 -- the front and what is left, where the bytes are long enough
@@ -179,7 +179,7 @@ behind_again id b v e a rest h t = rw (entries_step b a, h) (again_from id v e (
 
 -- ---- the same, of bytes that aren't taken apart
 
-nothing : (e : Entry) (rest : List ℕ) → entry_of [] ≡ Some (e, rest) → ⊥
+pub nothing : (e : Entry) (rest : List ℕ) → entry_of [] ≡ Some (e, rest) → ⊥
 unfolding entry_of varint_of
 nothing e rest h = cc
 

@@ -1,2 +1,5 @@
 pub mod AddressLength
 pub mod EntryLaws
+pub mod GrammarLaws
+pub mod ValuesBack
+pub mod RoundTrip

@@ -5,6 +5,8 @@ ghost use Rattle.std.specs.Option.{ok_or};
 ghost use Rattle.std.specs.Int.{w16};
 ghost use Rattle.qc_base.specs.Reading.{Finds, word_of};
 ghost use Rattle.qc_params.specs.ParametersReading.{address_value, ipv4_at, ipv6_at, issued_at};
+ghost use Rattle.std.specs.Net.Addr.{ipv4_octets, ipv6_segments};
+ghost use Rattle.qc_params.specs.ParametersFit.{AddressFits};
 
 use crate::octets::{four, sixteen};
 use crate::{ParamError, PreferredAddress};
@@ -24,7 +26,8 @@ fn port(bytes: &[u8]) -> Result<(u16, &[u8]), Cut>
 
 #[tactic(auto, unfolding(crate::specs::ParametersReading::ipv4_at))]
 fn ipv4(value: &[u8]) -> Result<((Ipv4Addr, u16), &[u8]), Cut>
-    ensures { Finds (λ x. (x.0, x.1.now)) result (ipv4_at value.now) }
+    ensures exact { Finds (λ x. (x.0, x.1.now)) result (ipv4_at value.now) }
+    ensures fits { IfOk result (λ x. length (ipv4_octets x.0.0) ≡ 4) }
 {
     let (octets, rest) = read_bytes(value, 4)?;
     let (port, rest) = port(rest)?;
@@ -33,7 +36,8 @@ fn ipv4(value: &[u8]) -> Result<((Ipv4Addr, u16), &[u8]), Cut>
 
 #[tactic(auto, unfolding(crate::specs::ParametersReading::ipv6_at))]
 fn ipv6(value: &[u8]) -> Result<((Ipv6Addr, u16), &[u8]), Cut>
-    ensures { Finds (λ x. (x.0, x.1.now)) result (ipv6_at value.now) }
+    ensures exact { Finds (λ x. (x.0, x.1.now)) result (ipv6_at value.now) }
+    ensures fits { IfOk result (λ x. length (ipv6_segments x.0.0) ≡ 8) }
 {
     let (octets, rest) = read_bytes(value, 16)?;
     let (port, rest) = port(rest)?;
@@ -58,7 +62,8 @@ fn issued(value: &[u8]) -> Result<(&[u8], &[u8], &[u8]), Cut>
 
 #[tactic(auto, unfolding(crate::specs::ParametersReading::address_value))]
 pub(crate) fn preferred_address(value: &[u8]) -> Result<PreferredAddress, ParamError>
-    ensures { result ≡ ok_or (address_value value.now) ParamError.Malformed }
+    ensures exact { result ≡ ok_or (address_value value.now) ParamError.Malformed }
+    ensures fits { IfOk result AddressFits }
 {
     let ((ipv4, port_v4), rest) = ipv4(value)?;
     let ((ipv6, port_v6), rest) = ipv6(rest)?;

@@ -6,6 +6,8 @@
 mod address;
 mod entries;
 mod error;
+mod laws;
+mod limits;
 mod octets;
 mod params;
 mod read;
@@ -13,6 +15,7 @@ mod values;
 mod write;
 
 pub use error::ParamError;
+pub use laws::{entries_are_read, written_is_read};
 pub use params::{PreferredAddress, TransportParameters};
 
 #[cfg(test)]

@@ -1,6 +1,8 @@
-ghost use Rattle.std.specs.Prelude.{◌≡◌};
+ghost use Rattle.std.specs.Prelude.{◌≡◌, IfOk};
 ghost use Rattle.std.specs.Option.{ok_or};
 ghost use Rattle.qc_params.specs.ParametersReading.{first_of, limits_of, middle_of, parameters_of, may_come_to, client_may_send, is_address_allowed, is_legal, parameters_read};
+ghost use Rattle.qc_params.specs.ParametersFit.{FirstFit, LimitsFit, MiddleFit, LastFit, Fits};
+ghost use Rattle.qc_params.specs.ParametersGrammar.{HasEntries};
 
 use crate::values::{address_under, flag_under, id_under, maybe_under, number_under, token_under};
 use crate::{ParamError, PreferredAddress, TransportParameters, params};
@@ -13,7 +15,8 @@ const MOST_STREAMS: u64 = 1 << 60;
 // 0x00 to 0x03
 #[tactic(auto, unfolding(crate::specs::ParametersReading::first_of))]
 fn read_first(bytes: &[u8]) -> Result<TransportParameters, ParamError>
-    ensures { result ≡ ok_or (first_of bytes.now) ParamError.Malformed }
+    ensures exact { result ≡ ok_or (first_of bytes.now) ParamError.Malformed }
+    ensures first { IfOk result FirstFit }
 {
     Ok(TransportParameters {
         original_dst_cid: id_under(bytes, params::ORIGINAL_DST_CID)?,
@@ -27,7 +30,9 @@ fn read_first(bytes: &[u8]) -> Result<TransportParameters, ParamError>
 // up to 0x09
 #[tactic(auto, unfolding(crate::specs::ParametersReading::limits_of))]
 fn read_limits(bytes: &[u8]) -> Result<TransportParameters, ParamError>
-    ensures { result ≡ ok_or (limits_of bytes.now) ParamError.Malformed }
+    ensures exact { result ≡ ok_or (limits_of bytes.now) ParamError.Malformed }
+    ensures first { IfOk result FirstFit }
+    ensures limits { IfOk result LimitsFit }
 {
     let p = read_first(bytes)?;
     Ok(TransportParameters {
@@ -52,7 +57,10 @@ fn read_limits(bytes: &[u8]) -> Result<TransportParameters, ParamError>
 // up to 0x0e
 #[tactic(auto, unfolding(crate::specs::ParametersReading::middle_of))]
 fn read_middle(bytes: &[u8]) -> Result<TransportParameters, ParamError>
-    ensures { result ≡ ok_or (middle_of bytes.now) ParamError.Malformed }
+    ensures exact { result ≡ ok_or (middle_of bytes.now) ParamError.Malformed }
+    ensures first { IfOk result FirstFit }
+    ensures limits { IfOk result LimitsFit }
+    ensures middle { IfOk result MiddleFit }
 {
     let p = read_limits(bytes)?;
     Ok(TransportParameters {
@@ -68,7 +76,11 @@ fn read_middle(bytes: &[u8]) -> Result<TransportParameters, ParamError>
 // all
 #[tactic(auto, unfolding(crate::specs::ParametersReading::parameters_of))]
 fn read_all(bytes: &[u8]) -> Result<TransportParameters, ParamError>
-    ensures { result ≡ ok_or (parameters_of bytes.now) ParamError.Malformed }
+    ensures exact { result ≡ ok_or (parameters_of bytes.now) ParamError.Malformed }
+    ensures first { IfOk result FirstFit }
+    ensures limits { IfOk result LimitsFit }
+    ensures middle { IfOk result MiddleFit }
+    ensures last { IfOk result LastFit }
 {
     let p = read_middle(bytes)?;
     Ok(TransportParameters {
@@ -121,6 +133,18 @@ fn is_address_allowed(address: &Option<PreferredAddress>) -> bool
     }
 }
 
+#[tactic(auto, unfolding(crate::specs::ParametersReading::parameters_read))]
+fn read_parameters(side: Side, bytes: &[u8]) -> Result<TransportParameters, ParamError>
+    ensures exact { result ≡ parameters_read side bytes.now }
+    ensures fits { IfOk result Fits }
+{
+    let p = read_all(bytes)?;
+    if !is_legal(side, &p) {
+        return Err(ParamError::IllegalValue);
+    }
+    Ok(p)
+}
+
 impl TransportParameters {
     /// Reads the parameters that the other end sent; `side` is the reader's (RFC 9000, section 18).
     /// Unknown ids are skipped, and an absent parameter has its default. It takes no memory.
@@ -133,14 +157,11 @@ impl TransportParameters {
     /// 1200, more than 2^60 streams, an exponent above 20, a delay of 2^14 ms or more, fewer than
     /// two connection ids, an empty id at a preferred address, or from a client one of the four
     /// parameters that a server alone sends (RFC 9000, section 18.2).
-    #[tactic(auto, unfolding(crate::specs::ParametersReading::parameters_read))]
     pub fn read(side: Side, bytes: &[u8]) -> Result<TransportParameters, ParamError>
-        ensures { result ≡ parameters_read side bytes.now }
+        ensures exact { result ≡ parameters_read side bytes.now }
+        ensures fits { IfOk result Fits }
+        ensures entries { IfOk result (λ _. HasEntries bytes.now) }
     {
-        let p = read_all(bytes)?;
-        if !is_legal(side, &p) {
-            return Err(ParamError::IllegalValue);
-        }
-        Ok(p)
+        read_parameters(side, bytes)
     }
 }

@@ -5,6 +5,7 @@ ghost use Rattle.std.specs.Option.{option_copied, ok_or, option_map};
 ghost use Rattle.std.specs.Net.Addr.{ipv4_octets, ipv6_segments};
 ghost use Rattle.qc_base.specs.Reading.{Finds};
 ghost use Rattle.qc_params.specs.ParametersReading.{number_value, id_value, token_value, flag_value, number_in, maybe_in, flag_in, id_in, token_in, address_in};
+ghost use Rattle.qc_params.specs.ParametersFit.{IsVarint, IsId, IsToken, AddressFits, Each};
 
 use crate::address::preferred_address;
 use crate::entries::value_under;
@@ -15,7 +16,8 @@ use qc_base::{ConnectionId, ResetToken, VarInt, read_varint};
 // A variable-length integer, in any of its forms.
 #[tactic(auto, unfolding(crate::specs::ParametersReading::number_value))]
 fn number(value: &[u8]) -> Result<VarInt, ParamError>
-    ensures { result ≡ ok_or (number_value value.now) ParamError.Malformed }
+    ensures exact { result ≡ ok_or (number_value value.now) ParamError.Malformed }
+    ensures fits { IfOk result IsVarint }
 {
     let (n, rest) = read_varint(value)?;
     if !rest.is_empty() {
@@ -28,7 +30,8 @@ fn number(value: &[u8]) -> Result<VarInt, ParamError>
 }
 
 fn cid(value: &[u8]) -> Result<ConnectionId, ParamError>
-    ensures { result ≡ ok_or (id_value value.now) ParamError.Malformed }
+    ensures exact { result ≡ ok_or (id_value value.now) ParamError.Malformed }
+    ensures fits { IfOk result IsId }
 {
     if value.len() > 20 {
         return Err(ParamError::Malformed);
@@ -37,7 +40,8 @@ fn cid(value: &[u8]) -> Result<ConnectionId, ParamError>
 }
 
 fn token(value: &[u8]) -> Result<ResetToken, ParamError>
-    ensures { result ≡ ok_or (token_value value.now) ParamError.Malformed }
+    ensures exact { result ≡ ok_or (token_value value.now) ParamError.Malformed }
+    ensures fits { IfOk result IsToken }
 {
     if value.len() != 16 {
         return Err(ParamError::Malformed);
@@ -57,7 +61,8 @@ fn flag(value: &[u8]) -> Result<bool, ParamError>
 // A parameter that is a number, or what it is where it is absent.
 #[tactic(auto, unfolding(crate::specs::ParametersReading::number_in))]
 pub(crate) fn number_under(bytes: &[u8], id: u64, default: u32) -> Result<VarInt, ParamError>
-    ensures { result ≡ ok_or (number_in id default bytes.now) ParamError.Malformed }
+    ensures exact { result ≡ ok_or (number_in id default bytes.now) ParamError.Malformed }
+    ensures fits { IfOk result IsVarint }
 {
     match value_under(bytes, id)? {
         Some(value) => number(value),
@@ -68,7 +73,8 @@ pub(crate) fn number_under(bytes: &[u8], id: u64, default: u32) -> Result<VarInt
 // A number that may be absent.
 #[tactic(auto, unfolding(crate::specs::ParametersReading::maybe_in))]
 pub(crate) fn maybe_under(bytes: &[u8], id: u64) -> Result<Option<VarInt>, ParamError>
-    ensures { result ≡ ok_or (maybe_in id bytes.now) ParamError.Malformed }
+    ensures exact { result ≡ ok_or (maybe_in id bytes.now) ParamError.Malformed }
+    ensures fits { IfOk result (Each IsVarint) }
 {
     match value_under(bytes, id)? {
         Some(value) => Ok(Some(number(value)?)),
@@ -89,7 +95,8 @@ pub(crate) fn flag_under(bytes: &[u8], id: u64) -> Result<bool, ParamError>
 
 #[tactic(auto, unfolding(crate::specs::ParametersReading::id_in))]
 pub(crate) fn id_under(bytes: &[u8], id: u64) -> Result<Option<ConnectionId>, ParamError>
-    ensures { result ≡ ok_or (id_in id bytes.now) ParamError.Malformed }
+    ensures exact { result ≡ ok_or (id_in id bytes.now) ParamError.Malformed }
+    ensures fits { IfOk result (Each IsId) }
 {
     match value_under(bytes, id)? {
         Some(value) => Ok(Some(cid(value)?)),
@@ -99,7 +106,8 @@ pub(crate) fn id_under(bytes: &[u8], id: u64) -> Result<Option<ConnectionId>, Pa
 
 #[tactic(auto, unfolding(crate::specs::ParametersReading::token_in))]
 pub(crate) fn token_under(bytes: &[u8], id: u64) -> Result<Option<ResetToken>, ParamError>
-    ensures { result ≡ ok_or (token_in id bytes.now) ParamError.Malformed }
+    ensures exact { result ≡ ok_or (token_in id bytes.now) ParamError.Malformed }
+    ensures fits { IfOk result (Each IsToken) }
 {
     match value_under(bytes, id)? {
         Some(value) => Ok(Some(token(value)?)),
@@ -109,7 +117,8 @@ pub(crate) fn token_under(bytes: &[u8], id: u64) -> Result<Option<ResetToken>, P
 
 #[tactic(auto, unfolding(crate::specs::ParametersReading::address_in))]
 pub(crate) fn address_under(bytes: &[u8], id: u64) -> Result<Option<PreferredAddress>, ParamError>
-    ensures { result ≡ ok_or (address_in id bytes.now) ParamError.Malformed }
+    ensures exact { result ≡ ok_or (address_in id bytes.now) ParamError.Malformed }
+    ensures fits { IfOk result (Each AddressFits) }
 {
     match value_under(bytes, id)? {
         Some(value) => Ok(Some(preferred_address(value)?)),

@@ -1,8 +1,8 @@
 ghost use Rattle.std.specs.Prelude.{◌≡◌, ◌++◌, ◌<◌, ◌≤◌, ◌^◌, [], OnOk, OnErr, length, take};
-ghost use Rattle.std.specs.Int.{w16, to_be_bytes};
+ghost use Rattle.std.specs.Option.{option_map};
 ghost use Rattle.std.specs.Net.Addr.{ipv4_octets, ipv6_octets};
 ghost use Rattle.qc_base.specs.Varint.{varint};
-ghost use Rattle.qc_params.specs.ParametersSpelling.{parameter, number_row, maybe_row, flag_row, id_row, token_row, address_bytes, address_row, parameters_spelling};
+ghost use Rattle.qc_params.specs.ParametersSpelling.{parameter, number_text, flag_text, row_text, rows_text, address_bytes, parameters_spelling};
 
 use crate::params;
 use crate::params::{PreferredAddress, TransportParameters};
@@ -36,9 +36,9 @@ fn put_varint_value(buf: &mut Vec<u8>, id: u64, n: u64) -> Result<(), AllocError
     put_varint(buf, n)
 }
 
-#[tactic(auto, unfolding(crate::specs::ParametersSpelling::number_row))]
+#[tactic(auto, unfolding(crate::specs::ParametersSpelling::number_text, crate::specs::ParametersSpelling::row_text))]
 fn put_number(buf: &mut Vec<u8>, id: u64, default: u64, value: VarInt) -> Result<(), AllocError>
-    ensures ok { OnOk result (buf.new.items ≡ buf.old.items ++ number_row id default value) }
+    ensures ok { OnOk result (buf.new.items ≡ buf.old.items ++ row_text id (number_text default value)) }
     ensures kept { take (length buf.old.items) buf.new.items ≡ buf.old.items }
 {
     let n = value.into_inner();
@@ -48,9 +48,9 @@ fn put_number(buf: &mut Vec<u8>, id: u64, default: u64, value: VarInt) -> Result
     put_varint_value(buf, id, n)
 }
 
-#[tactic(auto, unfolding(crate::specs::ParametersSpelling::maybe_row))]
+#[tactic(auto, unfolding(crate::specs::ParametersSpelling::row_text))]
 fn put_maybe(buf: &mut Vec<u8>, id: u64, value: Option<VarInt>) -> Result<(), AllocError>
-    ensures ok { OnOk result (buf.new.items ≡ buf.old.items ++ maybe_row id value) }
+    ensures ok { OnOk result (buf.new.items ≡ buf.old.items ++ row_text id (option_map varint value)) }
     ensures kept { take (length buf.old.items) buf.new.items ≡ buf.old.items }
 {
     match value {
@@ -59,9 +59,9 @@ fn put_maybe(buf: &mut Vec<u8>, id: u64, value: Option<VarInt>) -> Result<(), Al
     }
 }
 
-#[tactic(auto, unfolding(crate::specs::ParametersSpelling::flag_row))]
+#[tactic(auto, unfolding(crate::specs::ParametersSpelling::row_text))]
 fn put_flag(buf: &mut Vec<u8>, id: u64, value: bool) -> Result<(), AllocError>
-    ensures ok { OnOk result (buf.new.items ≡ buf.old.items ++ flag_row id value) }
+    ensures ok { OnOk result (buf.new.items ≡ buf.old.items ++ row_text id (flag_text value)) }
     ensures kept { take (length buf.old.items) buf.new.items ≡ buf.old.items }
 {
     if value {
@@ -70,9 +70,9 @@ fn put_flag(buf: &mut Vec<u8>, id: u64, value: bool) -> Result<(), AllocError>
     Ok(())
 }
 
-#[tactic(auto, unfolding(crate::specs::ParametersSpelling::id_row))]
+#[tactic(auto, unfolding(crate::specs::ParametersSpelling::row_text))]
 fn put_id(buf: &mut Vec<u8>, id: u64, value: &Option<ConnectionId>) -> Result<(), AllocError>
-    ensures ok { OnOk result (buf.new.items ≡ buf.old.items ++ id_row id value.now) }
+    ensures ok { OnOk result (buf.new.items ≡ buf.old.items ++ row_text id value.now) }
     ensures kept { take (length buf.old.items) buf.new.items ≡ buf.old.items }
 {
     match value {
@@ -81,9 +81,9 @@ fn put_id(buf: &mut Vec<u8>, id: u64, value: &Option<ConnectionId>) -> Result<()
     }
 }
 
-#[tactic(auto, unfolding(crate::specs::ParametersSpelling::token_row))]
+#[tactic(auto, unfolding(crate::specs::ParametersSpelling::row_text))]
 fn put_token(buf: &mut Vec<u8>, id: u64, value: &Option<ResetToken>) -> Result<(), AllocError>
-    ensures ok { OnOk result (buf.new.items ≡ buf.old.items ++ token_row id value.now) }
+    ensures ok { OnOk result (buf.new.items ≡ buf.old.items ++ row_text id value.now) }
     ensures kept { take (length buf.old.items) buf.new.items ≡ buf.old.items }
 {
     match value {
@@ -117,13 +117,13 @@ fn address_len(address: &PreferredAddress) -> usize
     ipv4.len() + ipv6.len() + address.id.len() + token.len() + 5
 }
 
-#[tactic(auto, unfolding(crate::specs::ParametersSpelling::address_row, crate::specs::ParametersSpelling::parameter))]
+#[tactic(auto, unfolding(crate::specs::ParametersSpelling::row_text, crate::specs::ParametersSpelling::parameter))]
 fn put_address(
     buf: &mut Vec<u8>,
     id: u64,
     value: &Option<PreferredAddress>,
 ) -> Result<(), AllocError>
-    ensures ok { OnOk result (buf.new.items ≡ buf.old.items ++ address_row id value.now) }
+    ensures ok { OnOk result (buf.new.items ≡ buf.old.items ++ row_text id (option_map address_bytes value.now)) }
     ensures kept { take (length buf.old.items) buf.new.items ≡ buf.old.items }
 {
     match value {
@@ -144,7 +144,6 @@ impl TransportParameters {
     /// # Errors
     ///
     /// `AllocError` for want of memory; `buf` is then as it was.
-    #[tactic(auto, unfolding(crate::specs::ParametersSpelling::parameters_spelling))]
     pub fn write(&self, buf: &mut Vec<u8>) -> Result<(), AllocError>
         ensures ok { OnOk result (buf.new.items ≡ buf.old.items ++ parameters_spelling self.now) }
         ensures err { OnErr result (buf.new.items ≡ buf.old.items) }
@@ -171,9 +170,8 @@ impl TransportParameters {
     }
 
     // 0x00 to 0x03
-    #[tactic(auto, unfolding(crate::specs::ParametersSpelling::first_rows))]
     fn put_first_rows(&self, buf: &mut Vec<u8>) -> Result<(), AllocError>
-        ensures ok { OnOk result (buf.new.items ≡ buf.old.items ++ first_rows self.now) }
+        ensures ok { OnOk result (buf.new.items ≡ buf.old.items ++ rows_text (first_rows self.now)) }
         ensures kept { take (length buf.old.items) buf.new.items ≡ buf.old.items }
     {
         put_id(buf, params::ORIGINAL_DST_CID, &self.original_dst_cid)?;
@@ -192,9 +190,8 @@ impl TransportParameters {
     }
 
     // 0x04 to 0x09
-    #[tactic(auto, unfolding(crate::specs::ParametersSpelling::limit_rows))]
     fn put_limit_rows(&self, buf: &mut Vec<u8>) -> Result<(), AllocError>
-        ensures ok { OnOk result (buf.new.items ≡ buf.old.items ++ limit_rows self.now) }
+        ensures ok { OnOk result (buf.new.items ≡ buf.old.items ++ rows_text (limit_rows self.now)) }
         ensures kept { take (length buf.old.items) buf.new.items ≡ buf.old.items }
     {
         put_number(buf, params::INITIAL_MAX_DATA, 0, self.initial_max_data)?;
@@ -231,9 +228,8 @@ impl TransportParameters {
     }
 
     // 0x0a to 0x0e
-    #[tactic(auto, unfolding(crate::specs::ParametersSpelling::middle_rows))]
     fn put_middle_rows(&self, buf: &mut Vec<u8>) -> Result<(), AllocError>
-        ensures ok { OnOk result (buf.new.items ≡ buf.old.items ++ middle_rows self.now) }
+        ensures ok { OnOk result (buf.new.items ≡ buf.old.items ++ rows_text (middle_rows self.now)) }
         ensures kept { take (length buf.old.items) buf.new.items ≡ buf.old.items }
     {
         put_number(buf, params::ACK_DELAY_EXPONENT, 3, self.ack_delay_exponent)?;
@@ -253,9 +249,8 @@ impl TransportParameters {
     }
 
     // 0x0f to 0x2ab2
-    #[tactic(auto, unfolding(crate::specs::ParametersSpelling::last_rows))]
     fn put_last_rows(&self, buf: &mut Vec<u8>) -> Result<(), AllocError>
-        ensures ok { OnOk result (buf.new.items ≡ buf.old.items ++ last_rows self.now) }
+        ensures ok { OnOk result (buf.new.items ≡ buf.old.items ++ rows_text (last_rows self.now)) }
         ensures kept { take (length buf.old.items) buf.new.items ≡ buf.old.items }
     {
         put_id(buf, params::INITIAL_SRC_CID, &self.initial_src_cid)?;

@@ -1,0 +1,10 @@
+pub mod Cipher
+pub mod CipherLaws
+pub mod Handshake
+pub mod KeyBytes
+pub mod MessageLaws
+pub mod Messages
+pub mod SessionLaws
+pub mod Settings
+pub mod Start
+pub mod ToyKeys

@@ -1,2 +1,21 @@
-//! To be written.
+//! The toy session: a handshake and keys with a real handshake's shape and no secrecy at all. It
+//! makes a connection's behaviour visible byte by byte.
 #![tactic(auto)]
+
+mod body;
+mod cipher;
+mod config;
+mod export;
+mod header_key;
+mod key_bytes;
+mod keys;
+mod messages;
+mod packet_key;
+mod session;
+mod settings;
+
+pub use config::{ToyClient, ToyServer};
+pub use header_key::ToyHeaderKey;
+pub use packet_key::ToyPacketKey;
+pub use session::ToySession;
+pub use settings::ToySettings;

@@ -1,0 +1,9 @@
+use Rattle.std.proofs.Common.{arith}
+use Rattle.qc_frame.proofs.Payloads.{items_meet}
+use Rattle.qc_frame.proofs.iter.Iter.new.Goals as goal
+
+pub returns-then-is_empty-clause-grammar : goal.returns-then-is_empty-clause-grammar
+returns-then-is_empty-clause-grammar c = items_meet c.args.payload.now (λ i. omega (arith, c.type_inv.payload i))
+
+pub returns-clause-grammar : goal.returns-clause-grammar
+returns-clause-grammar c = items_meet c.args.payload.now (λ i. omega (arith, c.type_inv.payload i))

@@ -1,0 +1,207 @@
+-- Which bytes are which frame (RFC 9000, section 19; RFC 9221, section 4). Numbers may be spelled in any form.
+use Rattle.std.specs.Prelude.{◌≡◌, ℕ, zero, suc, ◌+◌, ◌-◌, ◌<◌, ◌≤◌, Bool, true, false, List, [], ◌∷◌, length, Option, None, Some, MatchOption, Result, Ok, Err}
+use Rattle.std.specs.Int.{w64}
+use Rattle.qc_base.specs.Grammar.{Spelling, ◌>>=◌, Is, Where, Text, Bytes, Byte, Word, Rest, Varint, Blob}
+use Rattle.qc_base.specs.StreamId.{dir_bit}
+use Rattle.qc_base.specs.declared.side.Dir.{Dir}
+use Rattle.qc_frame.specs.Frame.{FrameValue}
+use Rattle.qc_frame.specs.FrameReading.{type_given}
+use Rattle.qc_frame.specs.FrameSpelling.{stream_type}
+use Rattle.qc_frame.specs.declared.frames.EcnCounts.{EcnCounts}
+use Rattle.qc_frame.specs.declared.frames.FrameOf.TheVariants as frames
+use Rattle.qc_frame.specs.declared.fault.InvalidFrame.{InvalidFrame}
+
+-- ---- ACK (section 19.3). No range goes below 0: between two of them lie gap + 1 numbers.
+
+abbrev pub MoreRanges : ℕ → ℕ → Spelling (Unit {0})
+MoreRanges zero smallest = Is tt
+MoreRanges (suc count) smallest = do
+  gap ← Varint
+  Where (gap + 2 ≤ smallest) (do
+    len ← Varint
+    Where (len ≤ smallest - (gap + 2)) (MoreRanges count (smallest - (gap + 2) - len)))
+
+abbrev pub Ranges : ℕ → ℕ → Spelling (Unit {0})
+Ranges count largest = do
+  first ← Varint
+  Where (first ≤ largest) (MoreRanges count (largest - first))
+
+abbrev pub Counts : Bool → Spelling (Option EcnCounts)
+Counts false = Is None
+Counts true = do
+  ect0 ← Varint
+  ect1 ← Varint
+  ce ← Varint
+  Is (Some (record { ect0 = ect0; ect1 = ect1; ce = ce }))
+
+abbrev pub Ack : Bool → Spelling FrameValue
+Ack has_counts = do
+  largest ← Varint
+  delay ← Varint
+  count ← Varint
+  additional ← Text (Ranges count largest)
+  ecn ← Counts has_counts
+  Is (frames.Ack (record { largest = largest; delay = delay; additional = additional; ecn = ecn }))
+
+-- ---- streams (sections 19.4, 19.5, 19.8 to 19.14)
+
+abbrev pub ResetStream : Spelling FrameValue
+ResetStream = do
+  id ← Varint
+  error_code ← Varint
+  final_size ← Varint
+  Is (frames.ResetStream id error_code final_size)
+
+abbrev pub StopSending : Spelling FrameValue
+StopSending = do
+  id ← Varint
+  error_code ← Varint
+  Is (frames.StopSending id error_code)
+
+abbrev pub Offset : Bool → Spelling ℕ
+Offset false = Is 0
+Offset true = Varint
+
+abbrev pub Body : Bool → Spelling (List ℕ)
+Body false = Rest
+Body true = Blob
+
+abbrev pub Stream : Bool → Bool → Bool → Spelling FrameValue
+Stream has_offset has_length fin = do
+  id ← Varint
+  offset ← Offset has_offset
+  body ← Body has_length
+  Is (frames.Stream id offset fin body)
+
+abbrev pub MaxData : Spelling FrameValue
+MaxData = do
+  limit ← Varint
+  Is (frames.MaxData limit)
+
+abbrev pub MaxStreamData : Spelling FrameValue
+MaxStreamData = do
+  id ← Varint
+  offset ← Varint
+  Is (frames.MaxStreamData id offset)
+
+abbrev pub MaxStreams : Dir → Spelling FrameValue
+MaxStreams dir = do
+  count ← Varint
+  Is (frames.MaxStreams dir count)
+
+abbrev pub DataBlocked : Spelling FrameValue
+DataBlocked = do
+  offset ← Varint
+  Is (frames.DataBlocked offset)
+
+abbrev pub StreamDataBlocked : Spelling FrameValue
+StreamDataBlocked = do
+  id ← Varint
+  offset ← Varint
+  Is (frames.StreamDataBlocked id offset)
+
+abbrev pub StreamsBlocked : Dir → Spelling FrameValue
+StreamsBlocked dir = do
+  limit ← Varint
+  Is (frames.StreamsBlocked dir limit)
+
+-- ---- the handshake and the connection (sections 19.6, 19.7, 19.15 to 19.19; RFC 9221, section 4)
+
+abbrev pub Crypto : Spelling FrameValue
+Crypto = do
+  offset ← Varint
+  body ← Blob
+  Is (frames.Crypto offset body)
+
+abbrev pub NewToken : Spelling FrameValue
+NewToken = do
+  token ← Blob
+  Is (frames.NewToken token)
+
+abbrev pub NewConnectionId : Spelling FrameValue
+NewConnectionId = do
+  sequence ← Varint
+  retire_prior_to ← Varint
+  Where (retire_prior_to ≤ sequence) (do
+    len ← Byte
+    Where ((0 < len) × (len ≤ 20)) (do
+      id ← Bytes len
+      reset_token ← Bytes 16
+      Is (frames.NewConnectionId (record { sequence = sequence; retire_prior_to = retire_prior_to; id = id; reset_token = reset_token }))))
+
+abbrev pub RetireConnectionId : Spelling FrameValue
+RetireConnectionId = do
+  sequence ← Varint
+  Is (frames.RetireConnectionId sequence)
+
+abbrev pub PathChallenge : Spelling FrameValue
+PathChallenge = do
+  word ← Word w64
+  Is (frames.PathChallenge word)
+
+abbrev pub PathResponse : Spelling FrameValue
+PathResponse = do
+  word ← Word w64
+  Is (frames.PathResponse word)
+
+abbrev pub ConnectionClose : Spelling FrameValue
+ConnectionClose = do
+  error_code ← Varint
+  frame_type ← Varint
+  reason ← Blob
+  Is (frames.ConnectionClose error_code (type_given frame_type) reason)
+
+abbrev pub ApplicationClose : Spelling FrameValue
+ApplicationClose = do
+  error_code ← Varint
+  reason ← Blob
+  Is (frames.ApplicationClose error_code reason)
+
+abbrev pub Datagram : Bool → Spelling FrameValue
+Datagram has_length = do
+  body ← Body has_length
+  Is (frames.Datagram body)
+
+-- ---- the types (RFC 9000, section 12.4, table 3)
+
+-- the bytes a, which stand behind the type, begin with the other fields of f, and go on with z
+pub data Fields (f : FrameValue) (a z : List ℕ) : ℕ → Type 0 where
+  is_padding : Is frames.Padding f a z → Fields f a z 0x00
+  is_ping : Is frames.Ping f a z → Fields f a z 0x01
+  is_ack : Ack false f a z → Fields f a z 0x02
+  is_ack_with_counts : Ack true f a z → Fields f a z 0x03
+  is_reset_stream : ResetStream f a z → Fields f a z 0x04
+  is_stop_sending : StopSending f a z → Fields f a z 0x05
+  is_crypto : Crypto f a z → Fields f a z 0x06
+  is_new_token : NewToken f a z → Fields f a z 0x07
+  is_stream : (has_offset has_length fin : Bool) → Stream has_offset has_length fin f a z → Fields f a z (stream_type has_offset has_length fin)
+  is_max_data : MaxData f a z → Fields f a z 0x10
+  is_max_stream_data : MaxStreamData f a z → Fields f a z 0x11
+  is_max_streams : (dir : Dir) → MaxStreams dir f a z → Fields f a z (0x12 + dir_bit dir)
+  is_data_blocked : DataBlocked f a z → Fields f a z 0x14
+  is_stream_data_blocked : StreamDataBlocked f a z → Fields f a z 0x15
+  is_streams_blocked : (dir : Dir) → StreamsBlocked dir f a z → Fields f a z (0x16 + dir_bit dir)
+  is_new_connection_id : NewConnectionId f a z → Fields f a z 0x18
+  is_retire_connection_id : RetireConnectionId f a z → Fields f a z 0x19
+  is_path_challenge : PathChallenge f a z → Fields f a z 0x1a
+  is_path_response : PathResponse f a z → Fields f a z 0x1b
+  is_connection_close : ConnectionClose f a z → Fields f a z 0x1c
+  is_application_close : ApplicationClose f a z → Fields f a z 0x1d
+  is_handshake_done : Is frames.HandshakeDone f a z → Fields f a z 0x1e
+  is_datagram : Datagram false f a z → Fields f a z 0x30
+  is_datagram_with_length : Datagram true f a z → Fields f a z 0x31
+
+-- the bytes begin with the frame f, and go on with z
+abbrev pub FrameAt : FrameValue → List ℕ → List ℕ → Type 0
+FrameAt f a z = (ty : ℕ) × (b : List ℕ) × Varint ty a b × Fields f b z ty
+
+-- no frame stands at the front of the bytes; the type that the fault names does, and where it names none no type does
+pub record NoFrameAt (a : List ℕ) (ty : Option ℕ) : Type 0 where
+  pub none : (f : FrameValue) (z : List ℕ) → FrameAt f a z → ⊥
+  pub typed : MatchOption ty ((n : ℕ) (b : List ℕ) → Varint n a b → ⊥) (λ n. (b : List ℕ) × Varint n a b)
+
+-- the bytes are these frames, to the end or the first bytes that are no frame
+pub data Payload : List (Result FrameValue InvalidFrame) → List ℕ → Type 0 where
+  no_more : Payload [] []
+  frame_and : (f : FrameValue) (a z : List ℕ) (others : List (Result FrameValue InvalidFrame)) → FrameAt f a z → Payload others z → Payload (Ok f ∷ others) a
+  fault : (invalid : InvalidFrame) (a : List ℕ) → 0 < length a → NoFrameAt a invalid.ty → Payload (Err invalid ∷ []) a

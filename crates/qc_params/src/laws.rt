@@ -1,0 +1,18 @@
+//! Laws of the transport parameters. The functions do nothing: what they promise is the law.
+
+ghost use Rattle.qc_params.specs.ParametersFit.{WrittenIsRead};
+ghost use Rattle.qc_params.specs.ParametersGrammar.{EntriesAreRead};
+
+/// What [`crate::TransportParameters::write`] appends is read as the parameters that were written, by
+/// each side that may be sent them; whatever was read from bytes before fits.
+#[tactic(auto, using(crate::proofs::RoundTrip::written_back))]
+pub fn written_is_read()
+    ensures { WrittenIsRead }
+{}
+
+/// Bytes that are entries by the grammar of RFC 9000, section 18, are read as these entries, whatever
+/// the forms of their variable-length integers.
+#[tactic(auto, using(crate::proofs::GrammarLaws::entries_read))]
+pub fn entries_are_read()
+    ensures { EntriesAreRead }
+{}

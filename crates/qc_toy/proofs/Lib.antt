@@ -1,0 +1,2 @@
+pub mod CipherLemmas
+pub mod MessageLemmas

@@ -1,0 +1,100 @@
+-- The messages of the toy's handshake: a type byte, two bytes of length, and a body.
+use Rattle.std.specs.Prelude.{ℕ, ◌+◌, ◌*◌, ◌==◌, ◌||◌, if◌then◌else◌, Bool, true, false, List, [], ◌∷◌, ◌++◌, length, take, drop, nat_lt, nat_le, is_some, Option, Some, None}
+use Rattle.std.specs.Int.{w16, to_be_bytes}
+use Rattle.qc_base.specs.declared.side.Side.{Side}
+use Rattle.qc_base.specs.declared.side.Side.TheVariants.{Client, Server}
+use Rattle.qc_toy.specs.declared.messages.Kind.{Kind}
+use Rattle.qc_toy.specs.declared.messages.Kind.TheVariants.{Hello, Reply, ServerEnd, ClientEnd}
+
+abbrev pub kind_byte : Kind → ℕ
+kind_byte Hello = 1
+kind_byte Reply = 2
+kind_byte ServerEnd = 3
+kind_byte ClientEnd = 4
+
+-- A message as it is written. Two bytes of length count at most 65535 bytes of body.
+unfoldable pub message : Kind → List ℕ → List ℕ
+message kind body = kind_byte kind ∷ to_be_bytes w16 (length (take 65535 body)) ++ take 65535 body
+
+-- The same of a body in two parts that fits.
+abbrev pub message_by_parts : Kind → List ℕ → List ℕ → List ℕ
+message_by_parts kind first rest = kind_byte kind ∷ to_be_bytes w16 (length first + length rest) ++ first ++ rest
+
+pub record Message : Type 0 where
+  pub kind : ℕ
+  pub body : List ℕ
+  pub rest : List ℕ
+
+abbrev pub message_by_length : ℕ → ℕ → List ℕ → Option Message
+message_by_length kind n bytes =
+    if nat_lt (length bytes) n then None else Some (record { kind = kind; body = take n bytes; rest = drop n bytes })
+
+-- The first message of some bytes, once it is whole, and what follows it.
+unfoldable pub first_message : List ℕ → Option Message
+first_message [] = None
+first_message (kind ∷ []) = None
+first_message (kind ∷ high ∷ []) = None
+first_message (kind ∷ high ∷ low ∷ bytes) = message_by_length kind (high * 256 + low) bytes
+
+-- A body that begins with an early byte, 0 or 1.
+abbrev pub begins_early : List ℕ → Bool
+begins_early [] = false
+begins_early (b ∷ parameters) = nat_lt b 2
+
+-- A body that is one byte 0.
+abbrev pub is_one_zero : List ℕ → Bool
+is_one_zero [] = false
+is_one_zero (b ∷ []) = b == 0
+is_one_zero (b ∷ c ∷ rest) = false
+
+-- The form of each body. A hello and a server's end hold an early byte and transport parameters.
+unfoldable pub has_form : Kind → List ℕ → Bool
+has_form Hello body = begins_early body
+has_form Reply body = is_one_zero body
+has_form ServerEnd body = begins_early body
+has_form ClientEnd body = length body == 0
+
+-- What an end reads of its peer, in order.
+abbrev pub peer_messages : Side → List Kind
+peer_messages Client = Reply ∷ ServerEnd ∷ []
+peer_messages Server = Hello ∷ ClientEnd ∷ []
+
+-- The TLS alerts of a message out of turn and of one of wrong form (RFC 8446, section 6.2).
+abbrev pub unexpected_message : ℕ
+unexpected_message = 0x0a
+
+abbrev pub decode_error : ℕ
+decode_error = 0x32
+
+-- The alert with which a message is refused, where it has another type than the next, or a body of
+-- wrong form; else what `next` says of the rest. A cut message waits.
+abbrev pub refusal_at : Kind → (List ℕ → Option ℕ) → Option Message → Option ℕ
+refusal_at kind next None = None
+refusal_at kind next (Some m) =
+    if m.kind == kind_byte kind then (if has_form kind m.body then next m.rest else Some decode_error)
+    else Some unexpected_message
+
+-- After the last message no other may come.
+abbrev pub refusal_after : Option Message → Option ℕ
+refusal_after None = None
+refusal_after (Some m) = Some unexpected_message
+
+-- The alert with which some bytes are refused that are to hold these messages, if they are.
+unfoldable pub refusal : List Kind → List ℕ → Option ℕ
+refusal [] bytes = refusal_after (first_message bytes)
+refusal (kind ∷ kinds) bytes = refusal_at kind (λ rest. refusal kinds rest) (first_message bytes)
+
+-- The bodies of the first and the second message, once they are whole.
+abbrev pub body_of : Option Message → Option (List ℕ)
+body_of None = None
+body_of (Some m) = Some m.body
+
+abbrev pub second_of : Option Message → Option (List ℕ)
+second_of None = None
+second_of (Some m) = body_of (first_message m.rest)
+
+abbrev pub first_body : List ℕ → Option (List ℕ)
+first_body bytes = body_of (first_message bytes)
+
+abbrev pub second_body : List ℕ → Option (List ℕ)
+second_body bytes = second_of (first_message bytes)

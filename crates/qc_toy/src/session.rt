@@ -1,0 +1,540 @@
+//! The toy's sessions.
+
+ghost use Rattle.std.specs.Prelude.{◌≡◌, ◌++◌, ◌==◌, ◌≤◌, take, drop, length, IfOk, OnOk};
+ghost use Rattle.std.specs.Option.{option_copied};
+ghost use Rattle.qc_toy.specs.Start.{session_of};
+ghost use Rattle.qc_toy.specs.ToyKeys.{level_keys};
+ghost use Rattle.qc_toy.specs.Handshake.{flag_byte, session_due, has_early, early_flag, written_for, given_for, progress_for, heard_parameters, parameters_in, before_hello, before_server_end, cached_parameters, retry_tag};
+
+use crate::body::Body;
+use crate::cipher::{checksum_of_parts, tag_of};
+use crate::export::{put_exported, sum_of};
+use crate::header_key::ToyHeaderKey;
+use crate::key_bytes::{Level, secret_of_id};
+use crate::keys::{keys_of_level, packet_keys_of};
+use crate::messages::{Kind, alert_of, body_of_first, body_of_second, put_message};
+use crate::packet_key::ToyPacketKey;
+use crate::settings::ToySettings;
+use qc_base::{ConnectionId, Side, TransportError, TransportErrorCode, VarInt};
+use qc_crypto::{ExportKeyingMaterialError, KeyPair, Keys, Session, SessionError};
+use qc_params::TransportParameters;
+use std::alloc::{AllocError, Global};
+use std::default::Default;
+
+/// How far a session has come.
+#[derive(Clone, Copy, Debug, PartialEq, Eq)]
+pub(crate) enum Progress {
+    /// Nothing was written.
+    Start,
+    /// A client has written its hello.
+    Greeted,
+    /// The Handshake keys were given.
+    Handshake,
+    /// The 1-RTT keys were given.
+    Data,
+}
+
+/// What a session is to write next.
+#[derive(Clone, Copy, Debug, PartialEq, Eq)]
+pub(crate) enum Due {
+    /// Nothing.
+    Silence,
+    /// The client's hello.
+    Hello,
+    /// No bytes, but the Handshake keys.
+    Keys,
+    /// The client's last message, with the 1-RTT keys.
+    ClientEnd,
+    /// The server's reply, with the Handshake keys.
+    Reply,
+    /// The server's last message, with the 1-RTT keys.
+    ServerEnd,
+}
+
+/// A toy session of one end.
+#[derive(Drop)]
+pub struct ToySession {
+    side: Side,
+    settings: ToySettings,
+    /// This end's parameters, spelled.
+    parameters: Body,
+    /// All that was read and not refused.
+    heard: Body,
+    progress: Progress,
+    /// The epoch of the newest 1-RTT keys.
+    epoch: u64,
+}
+
+fn flag(set: bool) -> u8
+    ensures { result ≡ flag_byte set }
+{
+    if set { 1 } else { 0 }
+}
+
+// Whether a body begins with the early byte 1.
+fn asks_early(body: Option<&[u8]>) -> bool
+    ensures { result ≡ early_flag (option_copied body.entry) }
+{
+    match body {
+        Some([1, ..]) => true,
+        _ => false,
+    }
+}
+
+impl ToySession {
+    /// The session of an end that announces `params`, and has read and written nothing.
+    #[tactic(auto, unfolding(crate::specs::Start::session_of))]
+    pub(crate) fn start(
+        alloc: Global,
+        settings: &ToySettings,
+        side: Side,
+        params: &TransportParameters,
+    ) -> Result<ToySession, AllocError>
+        ensures { IfOk result (λ session. session ≡ session_of settings.now side params.now) }
+    {
+        let mut parameters = Vec::new(alloc);
+        params.write(&mut parameters)?;
+        Ok(ToySession {
+            side,
+            settings: *settings,
+            parameters: Body::from_vec(parameters),
+            heard: Body::new(alloc),
+            progress: Progress::Start,
+            epoch: 0,
+        })
+    }
+
+    #[tactic(auto, unfolding(crate::specs::Handshake::session_due))]
+    fn due(&self) -> Due
+        ensures { result ≡ session_due self.now }
+    {
+        let heard = self.heard.as_slice();
+        let first = body_of_first(heard).is_some();
+        let second = body_of_second(heard).is_some();
+        match (self.side, self.progress) {
+            (Side::Client, Progress::Start) => Due::Hello,
+            (Side::Client, Progress::Greeted) if first => Due::Keys,
+            (Side::Client, Progress::Handshake) if second => Due::ClientEnd,
+            (Side::Server, Progress::Start) if first => Due::Reply,
+            (Side::Server, Progress::Handshake) => Due::ServerEnd,
+            _ => Due::Silence,
+        }
+    }
+
+    fn before_server_end(&self) -> Result<Option<TransportParameters>, TransportError>
+        ensures { result ≡ before_server_end self.now.settings.early }
+    {
+        if self.settings.early {
+            Ok(Some(cached()))
+        } else {
+            Ok(None)
+        }
+    }
+
+    fn before_hello(&self) -> Result<Option<TransportParameters>, TransportError>
+        ensures { result ≡ before_hello self.now.progress }
+    {
+        match self.progress {
+            Progress::Start | Progress::Greeted => Ok(None),
+            Progress::Handshake | Progress::Data => Err(TransportError {
+                code: TransportErrorCode::TRANSPORT_PARAMETER_ERROR,
+                frame: None,
+            }),
+        }
+    }
+
+    fn has_early(&self) -> bool
+        ensures { result ≡ has_early self.now }
+    {
+        match self.side {
+            Side::Client => self.settings.early,
+            Side::Server => {
+                self.settings.early && asks_early(body_of_first(self.heard.as_slice()))
+            }
+        }
+    }
+
+    fn keys_of_level(&self, level: Level) -> Keys<ToyHeaderKey, ToyPacketKey>
+        ensures { result ≡ level_keys self.now.settings self.now.settings.secret level self.now.side }
+    {
+        keys_of_level(&self.settings, self.settings.secret, level, self.side)
+    }
+
+    // Appends what is due.
+    fn put_due(&self, due: Due, buf: &mut Vec<u8>) -> Result<(), AllocError>
+        ensures ok { OnOk result (buf.new.items ≡ buf.old.items ++ written_for self.now due) }
+        ensures kept { take (length buf.old.items) buf.new.items ≡ buf.old.items }
+    {
+        let parameters = self.parameters.as_slice();
+        match due {
+            Due::Silence | Due::Keys => Ok(()),
+            Due::Hello => put_message(buf, Kind::Hello, &[flag(self.settings.early)], parameters),
+            Due::ClientEnd => put_message(buf, Kind::ClientEnd, &[], &[]),
+            Due::Reply => put_message(buf, Kind::Reply, &[0], &[]),
+            Due::ServerEnd => put_message(
+                buf,
+                Kind::ServerEnd,
+                &[flag(self.has_early())],
+                parameters,
+            ),
+        }
+    }
+
+    // The keys that go with it.
+    fn keys_due(&self, due: Due) -> Option<Keys<ToyHeaderKey, ToyPacketKey>>
+        ensures { result ≡ given_for self.now due }
+    {
+        match due {
+            Due::Silence | Due::Hello => None,
+            Due::Keys | Due::Reply => Some(self.keys_of_level(Level::Handshake)),
+            Due::ClientEnd | Due::ServerEnd => Some(self.keys_of_level(Level::Data)),
+        }
+    }
+}
+
+fn progress_after(progress: Progress, due: Due) -> Progress
+    ensures { result ≡ progress_for progress due }
+{
+    match due {
+        Due::Silence => progress,
+        Due::Hello => Progress::Greeted,
+        Due::Keys | Due::Reply => Progress::Handshake,
+        Due::ClientEnd | Due::ServerEnd => Progress::Data,
+    }
+}
+
+// The parameters behind an early byte.
+fn read_parameters(side: Side, body: &[u8]) -> Result<Option<TransportParameters>, TransportError>
+    ensures { result ≡ heard_parameters side (drop 1 body.now) }
+{
+    let bytes = &body[body.len().min(1)..];
+    match TransportParameters::read(side, bytes) {
+        Ok(parameters) => Ok(Some(parameters)),
+        Err(_) => Err(TransportError {
+            code: TransportErrorCode::TRANSPORT_PARAMETER_ERROR,
+            frame: None,
+        }),
+    }
+}
+
+fn peer_parameters(
+    side: Side,
+    before: Result<Option<TransportParameters>, TransportError>,
+    body: Option<&[u8]>,
+) -> Result<Option<TransportParameters>, TransportError>
+    ensures { result ≡ parameters_in side before (option_copied body.entry) }
+{
+    match body {
+        None => before,
+        Some(body) => read_parameters(side, body),
+    }
+}
+
+fn cached() -> TransportParameters
+    ensures { result ≡ cached_parameters }
+{
+    TransportParameters {
+        max_idle_timeout: VarInt::from_u32(30_000),
+        max_udp_payload_size: VarInt::from_u32(1472),
+        initial_max_data: VarInt::MAX,
+        initial_max_stream_data_bidi_local: VarInt::from_u32(1_250_000),
+        initial_max_stream_data_bidi_remote: VarInt::from_u32(1_250_000),
+        initial_max_stream_data_uni: VarInt::from_u32(1_250_000),
+        initial_max_streams_bidi: VarInt::from_u32(100),
+        initial_max_streams_uni: VarInt::from_u32(100),
+        active_connection_id_limit: VarInt::from_u32(5),
+        max_datagram_frame_size: Some(VarInt::from_u32(65_535)),
+        grease_quic_bit: true,
+        ..TransportParameters::default()
+    }
+}
+
+/// The integrity tag of a Retry packet that is `header` and then `token`.
+#[tactic(auto, unfolding(crate::specs::Handshake::retry_tag))]
+pub(crate) fn tag_of_retry(id: &[u8], header: &[u8], token: &[u8]) -> [u8; 16]
+    requires { length id.now ≤ 20 }
+    ensures { result ≡ retry_tag id.now (header.now ++ token.now) }
+{
+    let t = checksum_of_parts(id, header, token);
+    tag_of(&[82; 16], t, 0)
+}
+
+impl Session for ToySession {
+    ghost use Rattle.std.specs.Prelude.{◌≡◌, None};
+    ghost use Rattle.qc_toy.specs.Handshake.{session_negotiated, early_keys, session_early_taken, session_handshaking, session_reads, session_after_read, session_parameters, session_writes, session_write_keys, session_after_write, steps_left, changes_of, bytes_left, session_next_keys, session_after_next, fits_retry as toy_fits_retry, exported_bytes, keys_of_id, keys_of_space, keys_of_epoch, ArePaired};
+
+    type HeaderKey = ToyHeaderKey;
+
+    type PacketKey = ToyPacketKey;
+
+    type HandshakeData = ();
+
+    type PeerIdentity = ();
+
+    ghost initial = { keys_of_id };
+
+    ghost negotiated = { session_negotiated };
+
+    ghost identity = { λ _. None };
+
+    ghost early = { early_keys };
+
+    ghost early_taken = { session_early_taken };
+
+    ghost handshaking = { session_handshaking };
+
+    ghost reads = { session_reads };
+
+    ghost after_read = { session_after_read };
+
+    ghost parameters = { session_parameters };
+
+    ghost writes = { session_writes };
+
+    ghost write_keys = { session_write_keys };
+
+    ghost after_write = { session_after_write };
+
+    ghost left = { λ s. steps_left s.progress };
+
+    ghost changes = { λ s. changes_of s.progress };
+
+    ghost unwritten = { λ s. bytes_left s.progress };
+
+    ghost next_keys = { session_next_keys };
+
+    ghost after_next = { session_after_next };
+
+    ghost fits_retry = { λ _. toy_fits_retry };
+
+    ghost export_limit = { λ _. 255 };
+
+    ghost exported = { λ s. exported_bytes s.settings.secret };
+
+    ghost side_of = { λ s. s.side };
+
+    ghost space_keys = { keys_of_space };
+
+    ghost epoch_keys = { keys_of_epoch };
+
+    ghost epoch = { λ s. s.epoch };
+
+    ghost are_paired = { ArePaired };
+
+    fn initial_keys(&self, dst_cid: &ConnectionId, side: Side) -> Keys<ToyHeaderKey, ToyPacketKey> {
+        keys_of_level(
+            &self.settings,
+            secret_of_id(dst_cid.as_slice()),
+            Level::Initial,
+            side,
+        )
+    }
+
+    #[tactic(auto, unfolding(crate::specs::Handshake::session_negotiated))]
+    fn handshake_data(&self) -> Option<&()> {
+        match body_of_first(self.heard.as_slice()) {
+            Some(_) => Some(&()),
+            None => None,
+        }
+    }
+
+    fn peer_identity(&self) -> Option<&()> {
+        None
+    }
+
+    #[tactic(auto, unfolding(crate::specs::Handshake::early_keys))]
+    fn early_crypto(&self) -> Option<(ToyHeaderKey, ToyPacketKey)> {
+        if !self.has_early() {
+            return None;
+        }
+        let secret = self.settings.secret;
+        Some((
+            ToyHeaderKey::new(secret, Level::Early, Side::Client),
+            ToyPacketKey::new(&self.settings, secret, Level::Early, Side::Client, 0),
+        ))
+    }
+
+    #[tactic(auto, unfolding(crate::specs::Handshake::session_early_taken))]
+    fn early_data_accepted(&self) -> Option<bool> {
+        if self.is_handshaking() || !self.has_early() {
+            return None;
+        }
+        match self.side {
+            Side::Client => Some(asks_early(body_of_second(self.heard.as_slice()))),
+            Side::Server => Some(true),
+        }
+    }
+
+    #[tactic(auto, unfolding(crate::specs::Handshake::session_handshaking))]
+    fn is_handshaking(&self) -> bool {
+        match (self.side, self.progress) {
+            (Side::Client, Progress::Data) => false,
+            (Side::Server, Progress::Data) => body_of_second(self.heard.as_slice()).is_none(),
+            _ => true,
+        }
+    }
+
+    #[tactic(auto, unfolding(crate::specs::Handshake::session_reads, crate::specs::Handshake::session_after_read))]
+    fn read_handshake(&mut self, buf: &[u8]) -> Result<bool, SessionError> {
+        let before = self.heard.as_slice().len();
+        let was_ready = body_of_first(self.heard.as_slice()).is_some();
+        match self.heard.extend(buf) {
+            Ok(()) => {}
+            Err(_) => return Err(SessionError::OutOfMemory),
+        }
+        match alert_of(self.side, self.heard.as_slice()) {
+            None => Ok(!was_ready && body_of_first(self.heard.as_slice()).is_some()),
+            Some(alert) => {
+                self.heard.truncate(before);
+                Err(SessionError::Transport(TransportError {
+                    code: TransportErrorCode::crypto(alert),
+                    frame: None,
+                }))
+            }
+        }
+    }
+
+    #[tactic(auto, unfolding(crate::specs::Handshake::session_parameters))]
+    fn transport_parameters(&self) -> Result<Option<TransportParameters>, TransportError> {
+        let heard = self.heard.as_slice();
+        match self.side {
+            Side::Client => peer_parameters(
+                Side::Client,
+                self.before_server_end(),
+                body_of_second(heard),
+            ),
+            Side::Server => peer_parameters(
+                Side::Server,
+                self.before_hello(),
+                body_of_first(heard),
+            ),
+        }
+    }
+
+    #[tactic(auto, unfolding(crate::specs::Handshake::session_writes, crate::specs::Handshake::session_write_keys, crate::specs::Handshake::session_after_write))]
+    fn write_handshake(
+        &mut self,
+        buf: &mut Vec<u8>,
+    ) -> Result<Option<Keys<ToyHeaderKey, ToyPacketKey>>, AllocError> {
+        let before = buf.len();
+        let due = self.due();
+        match self.put_due(due, buf) {
+            Ok(()) => {}
+            Err(e) => {
+                buf.truncate(before);
+                return Err(e);
+            }
+        }
+        let keys = self.keys_due(due);
+        self.progress = progress_after(self.progress, due);
+        Ok(keys)
+    }
+
+    #[tactic(auto, unfolding(crate::specs::Handshake::session_next_keys, crate::specs::Handshake::session_after_next))]
+    fn next_1rtt_keys(&mut self) -> Option<KeyPair<ToyPacketKey>> {
+        match self.progress {
+            Progress::Data => {
+                self.epoch = self.epoch.wrapping_add(1);
+                Some(packet_keys_of(
+                    &self.settings,
+                    self.settings.secret,
+                    Level::Data,
+                    self.side,
+                    self.epoch,
+                ))
+            }
+            _ => None,
+        }
+    }
+
+    #[tactic(auto, unfolding(crate::specs::Handshake::fits_retry))]
+    fn is_valid_retry(&self, orig_dst_cid: &ConnectionId, header: &[u8], payload: &[u8]) -> bool {
+        if payload.len() < 16 {
+            return false;
+        }
+        let (token, tag) = payload.split_at(payload.len() - 16);
+        tag == tag_of_retry(orig_dst_cid.as_slice(), header, token).as_slice()
+    }
+
+    #[tactic(auto, unfolding(crate::specs::Handshake::exported_bytes))]
+    fn export_keying_material(
+        &self,
+        output: &mut [u8],
+        label: &[u8],
+        context: &[u8],
+    ) -> Result<(), ExportKeyingMaterialError> {
+        if output.len() > 255 {
+            return Err(ExportKeyingMaterialError);
+        }
+        put_exported(
+            output,
+            &self.settings.secret,
+            sum_of(label).wrapping_add(sum_of(context).wrapping_mul(3)),
+        );
+        Ok(())
+    }
+
+    ghost use Rattle.qc_toy.specs.SessionLaws.{toy_falls, toy_stays, toy_short, toy_changes_most, toy_changes_write, toy_changes_read, toy_changes_next, toy_unwritten_most, toy_unwritten_write, toy_unwritten_call, toy_over_late, toy_over_stays, toy_over_early, toy_ready_once, toy_ready_then, toy_ready_stays, toy_refusal, toy_unreadable, toy_allowed, toy_server_knows, toy_write_parameters, toy_write_early, toy_same_keys, toy_given_keys, toy_first_epoch, toy_given_next, toy_next_epoch, toy_initial_mates, toy_space_mates, toy_epoch_mates, toy_epochs_apart};
+
+    ghost falls = { toy_falls };
+
+    ghost stays = { toy_stays };
+
+    ghost short = { toy_short };
+
+    ghost changes_most = { toy_changes_most };
+
+    ghost changes_write = { toy_changes_write };
+
+    ghost changes_read = { toy_changes_read };
+
+    ghost changes_next = { toy_changes_next };
+
+    ghost unwritten_most = { toy_unwritten_most };
+
+    ghost unwritten_write = { toy_unwritten_write };
+
+    ghost unwritten_call = { toy_unwritten_call };
+
+    ghost over_late = { toy_over_late };
+
+    ghost over_stays = { toy_over_stays };
+
+    ghost over_early = { toy_over_early };
+
+    ghost ready_once = { toy_ready_once };
+
+    ghost ready_then = { toy_ready_then };
+
+    ghost ready_stays = { toy_ready_stays };
+
+    ghost refusal = { toy_refusal };
+
+    ghost unreadable = { toy_unreadable };
+
+    ghost allowed = { toy_allowed };
+
+    ghost server_knows = { toy_server_knows };
+
+    ghost write_parameters = { toy_write_parameters };
+
+    ghost write_early = { toy_write_early };
+
+    ghost same_keys = { toy_same_keys };
+
+    ghost given_keys = { toy_given_keys };
+
+    ghost first_epoch = { toy_first_epoch };
+
+    ghost given_next = { toy_given_next };
+
+    ghost next_epoch = { toy_next_epoch };
+
+    ghost initial_mates = { toy_initial_mates };
+
+    ghost space_mates = { toy_space_mates };
+
+    ghost epoch_mates = { toy_epoch_mates };
+
+    ghost epochs_apart = { toy_epochs_apart };
+}
