@@ -71,3 +71,8 @@ header_number (Long ty dst_cid src_cid number version) = Some number
 header_number (Retry dst_cid src_cid version) = None
 header_number (Short spin key_phase dst_cid number) = Some number
 header_number (VersionNegotiate random src_cid dst_cid) = None
+
+-- how many bytes a header has at the most
+abbrev pub header_most : Header → ℕ
+header_most (Initial h) = 61 + length h.token
+header_most _ = 61

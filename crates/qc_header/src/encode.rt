@@ -3,7 +3,7 @@
 ghost use Rattle.std.specs.Prelude.{◌≡◌, ◌+◌, ◌^◌, ◌<◌, ◌≤◌, ℕ, ◌++◌, ◌∷◌, [], take, length, vec_len, OnOk, OnErr, IfOk, IfSome};
 ghost use Rattle.std.specs.Option.{option_map};
 ghost use Rattle.qc_base.specs.PacketNumber.{number_len};
-ghost use Rattle.qc_header.specs.HeaderSpelling.{header_spelling, header_number, initial_spelling, short_spelling, length_and_number, long_start, number_tag, bit};
+ghost use Rattle.qc_header.specs.HeaderSpelling.{header_spelling, header_number, header_most, initial_spelling, short_spelling, length_and_number, long_start, number_tag, bit};
 
 use crate::header::{Header, InitialHeader};
 use qc_base::{ConnectionId, LongType, PacketNumber, put_varint, varint_size};
@@ -105,6 +105,7 @@ fn put_initial(
 fn initial_len(header: &InitialHeader) -> usize
     ensures len { (n : ℕ) → result ≡ length (initial_spelling header.now n) }
     ensures behind { number_len header.now.number < result }
+    ensures most { result ≤ 61 + length header.now.token }
 {
     let token_len = header.token.len();
     let start_len = long_start_len(&header.dst_cid, &header.src_cid);
@@ -257,6 +258,7 @@ impl Header {
     pub fn encoded_len(&self) -> usize
         ensures len { (n : ℕ) → result ≡ length (header_spelling self.now n) }
         ensures behind { IfSome (header_number self.now) (λ number. number_len number < result) }
+        ensures most { result ≤ header_most self.now }
     {
         match self {
             Header::Initial(initial) => initial_len(initial),
