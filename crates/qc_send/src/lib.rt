@@ -1,2 +1,6 @@
-//! To be written.
+//! What a connection sends: one transmit makes the datagrams that are due.
 #![tactic(auto)]
+
+mod sending;
+
+pub use sending::transmit;

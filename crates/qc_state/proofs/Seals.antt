@@ -1,5 +1,6 @@
 -- What a transmit seals: from what the calls of the core say, to what a transmit may do.
-use Rattle.std.proofs.Common.{◌≡◌, ℕ, ◌+◌, ◌-◌, ◌≤◌, List, [], ◌∷◌, ◌++◌, length, replicate, refl, ap, sym, ◌∙◌, subst, Bool, true, false, ◌&&◌, ◌||◌, not, if◌then◌else◌, Option, Some, None, is_some, is_none, arith}
+use Rattle.std.proofs.Common.{◌≡◌, ℕ, ◌+◌, ◌-◌, ◌≤◌, List, [], ◌∷◌, ◌++◌, length, replicate, refl, ap, sym, ◌∙◌, subst, Bool, true, false, ◌&&◌, ◌||◌, not, if◌then◌else◌, Option, Some, None, is_some, IsSome, nat_le, ◌<◌, ◌^◌, arith}
+use Rattle.std.proofs.lemmas.Bool.Decides.{nat_tests}
 use Rattle.std.specs.List.{list_any}
 use Rattle.qc_base.specs.declared.side.SpaceId.{SpaceId}
 use Rattle.qc_base.specs.declared.side.SpaceId.TheVariants.{Initial}
@@ -7,6 +8,8 @@ use Rattle.qc_frame.specs.Frame.{FrameValue}
 use Rattle.qc_frame.specs.FrameSpelling.{elicits, frames_spelling}
 use Rattle.qc_frame.specs.declared.frames.FrameOf.TheVariants.{Padding}
 use Rattle.qc_frame.proofs.BeforePadding.{any_before_padding}
+use Rattle.qc_header.specs.declared.header.Header.{Header}
+use Rattle.qc_header.specs.HeaderSpelling.{header_spelling, header_number, header_most}
 use Rattle.qc_state.specs.declared.transmit.TheConstants.{DATAGRAM_SIZE}
 use Rattle.qc_state.specs.declared.transmit.Transmit.{Transmit}
 use Rattle.qc_state.specs.declared.waiting.SpaceWaiting.{SpaceWaiting}
@@ -18,7 +21,7 @@ use Rattle.qc_state.specs.Spaces.{space_of, with_space}
 use Rattle.qc_state.specs.Types.{Types, Meaning}
 use Rattle.qc_state.specs.View.{View, At, at}
 use Rattle.qc_state.specs.Waiting.{waits_in, waits_here, waiting_without, taken_part, WaitAll}
-use Rattle.qc_state.proofs.WaitingLemmas.{taken_waits, taken_elicits, waits_padded, without_padded}
+use Rattle.qc_state.proofs.WaitingLemmas.{taken_waits, taken_elicits, taken_fits, waits_padded, without_padded}
 
 and_right : (a b : Bool) → (a && b) ≡ true → b ≡ true
 and_right true b h = h
@@ -39,6 +42,10 @@ not_quiet_3 true b c h = cc
 not_quiet_3 false true c h = h
 not_quiet_3 false false c h = cc
 
+and_left : (a b : Bool) → (a && b) ≡ true → a ≡ true
+and_left true b h = refl
+and_left false b h = cc
+
 module _ {t : Types} where
   -- PADDING changes nothing of what waits
   take_padded : (id : SpaceId) (fs : List FrameValue) (n : ℕ) (s : View t) → state_move (Take id (fs ++ replicate n Padding)) s ≡ state_move (Take id fs) s
@@ -55,15 +62,15 @@ module _ {t : Types} where
   same_keys fs s = refl
 
   -- frames are taken, filled up with PADDING, sealed, and counted
-  pub seals_one : (m : Meaning t) (time room number n : ℕ) (a : At t) (mid : View t) (b : At t) (buffer : List ℕ) (fs gs : List FrameValue) →
+  pub seals_one : (m : Meaning t) (time room number n : ℕ) (a : At t) (mid : View t) (b : At t) (buffer : List ℕ) (fs gs : List FrameValue) (h : Header) →
       may_be_quiet a.state ≡ false → 19 ≤ room →
       fs ≡ taken_part (space_of a.state.waiting.spaces Initial) room → gs ≡ fs ++ replicate n Padding →
       mid ≡ state_move (Take Initial fs) a.state → number ≡ next_number a.state.numbers Initial →
       b ≡ move_to (Seal time Initial number DATAGRAM_SIZE gs) (at mid a.did) →
-      buffer ≡ sealed_with m (keys_of mid.keys Initial) (header_of a.state) number (frames_spelling gs) →
+      h ≡ header_of a.state → buffer ≡ sealed_with m (keys_of mid.keys Initial) h number (frames_spelling gs) →
       length buffer ≡ DATAGRAM_SIZE → SealsOne m time a b buffer
   unfolding may_be_quiet packet_after packet_bytes move_to deeds_move state_move keys_of keys_move
-  seals_one m time room number n a mid b buffer fs gs loud wide is_fs is_gs is_mid is_number is_b is_buffer full =
+  seals_one m time room number n a mid b buffer fs gs h loud wide is_fs is_gs is_mid is_number is_b is_h is_buffer full =
       let owed : owes a.state ≡ true = not_quiet_2 _ _ _ loud in
       let w : SpaceWaiting = space_of a.state.waiting.spaces Initial in
       let waits : WaitAll w gs = subst (λ (x : List FrameValue). WaitAll w x) (sym (is_gs ∙ ap (λ (x : List FrameValue). x ++ replicate n Padding) is_fs)) (waits_padded w (taken_part w room) n (taken_waits w room)) in
@@ -73,7 +80,7 @@ module _ {t : Types} where
         frames = gs;
         may = record { alive = not_quiet_1 _ _ _ loud; owed = owed; spelled = not_quiet_3 _ _ _ loud; wait = waits; holds = asks };
         leads = is_b ∙ ap (λ (x : View t). move_to (Seal time Initial number DATAGRAM_SIZE gs) (at x a.did)) same ∙ ap (λ (x : ℕ). move_to (Seal time Initial x DATAGRAM_SIZE gs) (move_to (Take Initial gs) a)) is_number;
-        bytes = is_buffer ∙ ap (λ (x : View t). sealed_with m (keys_of x.keys Initial) (header_of a.state) number (frames_spelling gs)) same ∙ ap (λ (x : ℕ). sealed_with m (keys_of a.state.keys Initial) (header_of a.state) x (frames_spelling gs)) is_number;
+        bytes = is_buffer ∙ ap (λ (x : Header). sealed_with m (keys_of mid.keys Initial) x number (frames_spelling gs)) is_h ∙ ap (λ (x : View t). sealed_with m (keys_of x.keys Initial) (header_of a.state) number (frames_spelling gs)) same ∙ ap (λ (x : ℕ). sealed_with m (keys_of a.state.keys Initial) (header_of a.state) x (frames_spelling gs)) is_number;
         full = full;
       }
 
@@ -86,3 +93,29 @@ module _ {t : Types} where
   pub transmits_quiet : (m : Meaning t) (time : ℕ) (a b : At t) (buffer : List ℕ) → may_be_quiet a.state ≡ true → b ≡ quiet_after a → buffer ≡ [] → Transmits m time a b None buffer
   unfolding MayTransmit transmit_after transmit_of transmit_bytes
   transmits_quiet m time a b buffer q l e = record { packets = []; may = q; leads = l; answer = refl; bytes = e; full = ap length e }
+
+  -- what stands where a packet may be sealed
+  pub loud_low : (s : View t) → may_be_quiet s ≡ false → next_number s.numbers Initial < 2 ^ 31
+  unfolding may_be_quiet is_used_up
+  loud_low s h = let below : nat_le (2 ^ 31) (next_number s.numbers Initial) ≡ false = not_quiet_3 _ _ _ h in grind (arith, nat_tests)
+
+  pub loud_keyed : (s mid : View t) (fs : List FrameValue) → may_be_quiet s ≡ false → mid ≡ state_move (Take Initial fs) s → IsSome (keys_of mid.keys Initial)
+  unfolding may_be_quiet owes state_move keys_move
+  loud_keyed s mid fs h e = ap (λ (x : View t). is_some (keys_of x.keys Initial)) e ∙ and_left _ _ (not_quiet_2 _ _ _ h)
+
+  -- the header is an Initial one without a token
+  pub header_is_short : (s : View t) (h : Header) (n : ℕ) → h ≡ header_of s → n ≤ header_most h → n ≤ 61
+  unfolding header_of
+  header_is_short s h n e most = subst (λ (x : Header). n ≤ header_most x) e most
+
+  pub header_has_number : (s : View t) (h : Header) → h ≡ header_of s → IsSome (header_number h)
+  unfolding header_of
+  header_has_number s h e = ap (λ (x : Header). is_some (header_number x)) e
+
+-- the frames that are taken fit behind it
+pub taken_room : (w : SpaceWaiting) (h : Header) (fs : List FrameValue) (n room : ℕ) → n ≡ length (header_spelling h 0) → n ≤ 61 → room ≡ 1180 - n → fs ≡ taken_part w room →
+    length (header_spelling h 0) + length (frames_spelling fs) + 20 ≤ DATAGRAM_SIZE
+taken_room w h fs n room is_n most is_room is_fs =
+    let fits : length (frames_spelling (taken_part w room)) ≤ room = taken_fits w room (omega arith) in
+    let same : length (frames_spelling fs) ≡ length (frames_spelling (taken_part w room)) = ap (λ (x : List FrameValue). length (frames_spelling x)) is_fs in
+    omega arith

@@ -1,0 +1,36 @@
+use Rattle.std.proofs.Common.{◌≡◌, ◌<◌, ◌^◌, arith, refl}
+use Rattle.qc_base.specs.declared.side.SpaceId.TheVariants.{Initial}
+use Rattle.qc_state.specs.Numbers.{next_number}
+use Rattle.qc_state.specs.View.{ideal, held}
+use Rattle.qc_state.proofs.Seals.{loud_low, loud_keyed, header_is_short, header_has_number, taken_room, seals_one}
+use Rattle.qc_send.proofs.sending.seal_one.Goals as goal
+
+-- the number lies below the limit
+pub header-header-requires : goal.header-header-requires
+header-header-requires g c = loud_low _ c.requires.loud
+
+-- the header is short
+pub overflow_sub-room-2 : goal.overflow_sub-room-2
+overflow_sub-room-2 g c = omega (arith, header_is_short _ _ _ c.header-header.ensures c.encoded_len.ensures.most)
+
+pub seal-requires-clause-keyed : goal.seal-requires-clause-keyed
+seal-requires-clause-keyed g c = loud_keyed _ _ _ c.requires.loud c.in_ok-frames.ensures.leads
+
+pub seal-requires-clause-numbered : goal.seal-requires-clause-numbered
+seal-requires-clause-numbered g c = header_has_number _ _ c.header-header.ensures
+
+pub seal-requires-clause-room : goal.seal-requires-clause-room
+seal-requires-clause-room g c = taken_room _ _ _ _ _ (c.encoded_len.ensures.len 0) (header_is_short _ _ _ c.header-header.ensures c.encoded_len.ensures.most) refl c.in_ok-frames.ensures.frames
+
+pub sealed-requires : goal.sealed-requires
+sealed-requires g c =
+    let low : next_number c.args.core.now.numbers Initial < 2 ^ 31 = loud_low (ideal g.U.Random.Rng.stream c.args.core.now) c.requires.loud in
+    omega (arith, c.next_number-number.ensures)
+
+-- what was taken, sealed and counted is one packet
+pub returns : goal.returns
+returns g c =
+    seals_one _ _ _ _ _ _ _ _ _ _ _ _ c.requires.loud
+    (omega (arith, header_is_short _ _ _ c.header-header.ensures c.encoded_len.ensures.most))
+    c.in_ok-frames.ensures.frames c.in_ok-seal.ensures.frames c.in_ok-frames.ensures.leads c.next_number-number.ensures
+    c.in_ok-sealed.ensures c.header-header.ensures c.in_ok-seal.ensures.bytes c.in_ok-seal.ensures.full

@@ -1,0 +1,59 @@
+//! One transmit. So far it seals at most one packet, an Initial that fills a datagram of its own.
+
+ghost use Rattle.std.specs.Prelude.{◌≡◌, ◌≤◌, ◌<◌, ◌^◌, [], true, false, OnOk, IfOk};
+ghost use Rattle.qc_state.specs.Numbers.{next_number};
+ghost use Rattle.qc_state.specs.Sending.{may_be_quiet, SealsOne, Transmits};
+ghost use Rattle.qc_state.specs.Types.{meaning};
+ghost use Rattle.qc_state.specs.View.{ideal, held};
+
+use qc_base::Instant;
+use qc_core::Core;
+use qc_state::{DATAGRAM_SIZE, Dids, Suite, Transmit};
+use std::alloc::{AllocError, Global};
+
+/// What of a datagram's size stays free of frames beside the header, in bytes: the tag of 16 bytes, and 4 bytes that
+/// make sure that there is a sample for header protection (RFC 9001, section 5.4.2).
+const RESERVED: usize = 20;
+
+/// Seals one packet into an empty buffer.
+fn seal_one<U: Suite>(
+    core: &mut Core<U>,
+    did: &mut Dids,
+    alloc: Global,
+    now: Instant,
+    buf: &mut Vec<u8>,
+) -> Result<(), AllocError>
+    requires loud { may_be_quiet (ideal U.Random.stream core.old) ≡ false }
+    requires empty { buf.old.items ≡ [] }
+    ensures { OnOk result (SealsOne (meaning U.Session.Session U.Session.HeaderKey.HeaderMask U.Session.PacketKey.PacketKey) now (held U.Random.stream core.old did.old) (held U.Random.stream core.new did.new) buf.new.items) }
+{
+    let number = core.next_number();
+    let header = core.header();
+    let room = DATAGRAM_SIZE as usize - RESERVED - header.encoded_len();
+    let mut frames = core.take(alloc, room)?;
+    core.seal(number, &header, &mut frames, buf)?;
+    core.sealed(did, now, number, frames)?;
+    Ok(())
+}
+
+/// Seals what is due into an empty buffer, and says where it goes. None where nothing is sealed, for the cause that the
+/// last deed names. Want of memory is the only refusal.
+#[tactic(auto, using(qc_state::proofs::Seals::transmits_one, qc_state::proofs::Seals::transmits_quiet))]
+pub fn transmit<U: Suite>(
+    core: &mut Core<U>,
+    alloc: Global,
+    now: Instant,
+    buf: &mut Vec<u8>,
+    did: &mut Dids,
+) -> Result<Option<Transmit>, AllocError>
+    requires { buf.old.items ≡ [] }
+    ensures { IfOk result (λ sent. Transmits (meaning U.Session.Session U.Session.HeaderKey.HeaderMask U.Session.PacketKey.PacketKey) now (held U.Random.stream core.old did.old) (held U.Random.stream core.new did.new) sent buf.new.items) }
+{
+    if core.may_be_quiet() {
+        core.quiet(did)?;
+        return Ok(None);
+    }
+    let to = core.transmit_to();
+    seal_one(core, did, alloc, now, buf)?;
+    Ok(Some(to))
+}
