@@ -1,2 +1,8 @@
-//! To be written.
+//! A connection, and `drive`, which hands it inputs one after another and keeps the trace.
 #![tactic(auto)]
+
+mod connection;
+mod steps;
+
+pub use connection::Connection;
+pub use qc_core::ClientSetup;

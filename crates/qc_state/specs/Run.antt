@@ -1,5 +1,5 @@
 -- The steps of a driven connection, and its runs: lists of steps, each beginning where the one before ended.
-use Rattle.std.specs.Prelude.{◌≡◌, ℕ, ◌+◌, ◌≤◌, List, [], ◌∷◌, ◌++◌, Option, Some, None, option_to_list}
+use Rattle.std.specs.Prelude.{◌≡◌, ℕ, ◌+◌, ◌≤◌, List, [], ◌∷◌, ◌++◌, length, take, Option, Some, None, option_to_list}
 use Rattle.qc_base.specs.declared.side.SpaceId.{SpaceId}
 use Rattle.qc_base.specs.declared.side.SpaceId.TheVariants.{Initial}
 use Rattle.qc_frame.specs.Frame.{FrameValue}
@@ -105,3 +105,15 @@ abbrev pub AreValid : ℕ → List Input → Type 0
 AreValid greatest [] = Unit {0}
 AreValid greatest (Transmit time max ∷ is) = (greatest ≤ time) × (1 ≤ max) × AreValid time is
 AreValid greatest (Ping time ∷ is) = (greatest ≤ time) × AreValid time is
+
+module _ {t : Types} where
+  -- what a call makes of an input, before anything is reported, and its answer
+  pub record Calls (m : Meaning t) (s : View t) (i : Input) (b : At t) (answer : Answer) : Type 0 where
+    pub leads : b ≡ called s i b.did
+    pub allowed : IsAllowed i b.did (began s (time_of i)).state
+    pub answers : answer ≡ answer_of m i b.did (began s (time_of i)).state
+
+  -- a run over the first inputs, as many as there are steps
+  pub record Ran (m : Meaning t) (k : ℕ) (s : View t) (is : List Input) (xs : List Step) : Type 0 where
+    pub last : View t
+    pub run : Run m k s (take (length xs) is) xs last

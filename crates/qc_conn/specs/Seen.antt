@@ -1,0 +1,18 @@
+-- What contracts see of a connection, and what its calls do.
+use Rattle.std.specs.Prelude.{◌≡◌, ℕ, Bool, List, [], Option}
+use Rattle.qc_state.specs.declared.deeds.Did.{Did}
+use Rattle.qc_state.specs.declared.transmit.Transmit.{Transmit}
+use Rattle.qc_state.specs.Run.{began}
+use Rattle.qc_state.specs.Sending.{Transmits}
+use Rattle.qc_state.specs.Types.{Types, Meaning}
+use Rattle.qc_state.specs.View.{View, Held, at}
+
+-- the state, and the mark that a call met want of memory
+pub record Seen (t : Types) (R : Type 0) : Type 0 where
+  pub core : Held t R
+  pub failed : Bool
+
+-- a transmit into an empty buffer, whose deeds no one keeps
+pub record Sends {t : Types} (m : Meaning t) (time : ℕ) (s s' : View t) (sent : Option Transmit) (buffer : List ℕ) : Type 0 where
+  pub deeds : List Did
+  pub transmits : Transmits m time (began s time) (at s' deeds) sent buffer

@@ -1,0 +1,159 @@
+//! A connection and its calls.
+
+ghost use Rattle.std.specs.Prelude.{◌≡◌, ◌≤◌, [], true, false, Err, OnOk, OnErr, IfOk};
+ghost use Rattle.qc_conn.specs.Seen.{Sends};
+ghost use Rattle.qc_state.specs.First.{first_view, client_fixed};
+ghost use Rattle.qc_state.specs.Life.{lost_event, drained_event};
+ghost use Rattle.qc_state.specs.Moves.{Ask, ReportLost, ReportDrained, state_move};
+ghost use Rattle.qc_state.specs.Run.{time_of, IsStep};
+ghost use Rattle.qc_state.specs.Timers.{next_timeout};
+ghost use Rattle.qc_state.specs.Types.{meaning};
+ghost use Rattle.qc_state.specs.View.{ideal};
+
+use qc_base::{Fault, Instant, SpaceId};
+use qc_config::TokenStore;
+use qc_core::{ClientSetup, Core};
+use qc_state::{EndpointEvent, Event, Input, Step, Suite, Transmit};
+use std::alloc::{AllocError, Global};
+use std::marker::Model;
+
+use crate::steps::{core_send, core_step};
+
+/// A connection. It does no input or output: inputs are handed in, and what is to be sent comes out of `poll_transmit`.
+///
+/// A call that answers `OutOfMemory` marks the connection as failed; from then on each call that can want memory answers
+/// `Failed`, nothing is sealed and no packet number is taken.
+#[derive(Drop)]
+pub struct Connection<U: Suite> {
+    core: Core<U>,
+    failed: bool,
+}
+
+impl<U: Suite> Model for Connection<U> {
+    ghost use Rattle.qc_conn.specs.Seen.{Seen};
+
+    ghost Value = { Seen (record { S = U.Session; H = U.Session.HeaderKey; P = U.Session.PacketKey; D = U.Session.HandshakeData; I = U.Session.PeerIdentity }) U.Random };
+
+    ghost view = { λ c. record { core = c.core; failed = c.failed } };
+}
+
+impl<U: Suite> Connection<U> {
+    /// A client's connection, made at `now`: its hello waits to be sealed. So far no token is taken from the store.
+    ///
+    /// # Errors
+    ///
+    /// `AllocError` for want of memory alone.
+    pub fn new_client<G: TokenStore>(alloc: Global, setup: ClientSetup<U>, store: &mut G, now: Instant) -> Result<Connection<U>, AllocError>
+        ensures made { IfOk result (λ c. c.core ≡ first_view (meaning U.Session.Session U.Session.HeaderKey.HeaderMask U.Session.PacketKey.PacketKey) setup.session setup.random (client_fixed setup.version setup.local_cid setup.local_ip setup.transport.max_idle_timeout) setup.remote setup.first_cid now) }
+        ensures alive { IfOk result (λ c. c.failed ≡ false) }
+        ensures store { store.new ≡ store.old }
+    {
+        let _store = store;
+        let core = Core::new_client(alloc, setup, now)?;
+        Ok(Connection {
+            core,
+            failed: false,
+        })
+    }
+
+    /// Seals what is due at `now` into `buf`, which is empty, and says where it goes: at most `max_datagrams` datagrams,
+    /// and so far at most one. None exactly where nothing is sealed: the connection had ended, nothing was owed, or the
+    /// packet numbers are used up, which ends the connection.
+    ///
+    /// # Errors
+    ///
+    /// `OutOfMemory` for want of memory; the connection is then marked as failed, and `buf` is empty. `Failed` exactly
+    /// where it was marked before; then nothing changes.
+    pub fn poll_transmit(&mut self, alloc: Global, now: Instant, max_datagrams: usize, buf: &mut Vec<u8>) -> Result<Option<Transmit>, Fault>
+        requires some { 1 ≤ max_datagrams }
+        requires empty { buf.old.items ≡ [] }
+        ensures sends { IfOk result (λ sent. Sends (meaning U.Session.Session U.Session.HeaderKey.HeaderMask U.Session.PacketKey.PacketKey) now (ideal U.Random.stream self.old.core) (ideal U.Random.stream self.new.core) sent buf.new.items) }
+        ensures alive { OnOk result (self.new.failed ≡ false) }
+        ensures failed { self.old.failed ≡ true → (result ≡ Err Fault.Failed) × (self.new ≡ self.old) }
+        ensures cause { result ≡ Err Fault.Failed → self.old.failed ≡ true }
+        ensures memory { result ≡ Err Fault.OutOfMemory → self.new.failed ≡ true }
+        ensures cut_back { OnErr result (buf.new.items ≡ []) }
+    {
+        let _most = max_datagrams;
+        if self.failed {
+            return Err(Fault::Failed);
+        }
+        match core_send(&mut self.core, alloc, now, buf) {
+            Ok(sent) => Ok(sent),
+            Err(_) => {
+                self.failed = true;
+                buf.clear();
+                Err(Fault::OutOfMemory)
+            }
+        }
+    }
+
+    /// A PING is owed from now on in the highest space (RFC 9000, 19.2).
+    pub fn ping(&mut self)
+        ensures leads { (ideal U.Random.stream self.new.core) ≡ state_move (Ask SpaceId.Initial) (ideal U.Random.stream self.old.core) }
+        ensures mark { self.new.failed ≡ self.old.failed }
+    {
+        self.core.ping();
+    }
+
+    /// The next event for the application. None exactly where none waits.
+    pub fn poll(&mut self) -> Option<Event>
+        ensures event { result ≡ lost_event self.old.core.life }
+        ensures leads { (ideal U.Random.stream self.new.core) ≡ state_move ReportLost (ideal U.Random.stream self.old.core) }
+        ensures mark { self.new.failed ≡ self.old.failed }
+    {
+        self.core.poll()
+    }
+
+    /// The next event for the endpoint. None exactly where none waits.
+    pub fn poll_endpoint_events(&mut self) -> Option<EndpointEvent>
+        ensures event { result ≡ drained_event self.old.core.life }
+        ensures leads { (ideal U.Random.stream self.new.core) ≡ state_move ReportDrained (ideal U.Random.stream self.old.core) }
+        ensures mark { self.new.failed ≡ self.old.failed }
+    {
+        self.core.poll_endpoint_events()
+    }
+
+    /// The time at which the connection wants to be called again, in nanoseconds. None exactly where no timer is set.
+    pub fn poll_timeout(&self) -> Option<Instant>
+        ensures { result ≡ next_timeout self.now.core.timers }
+    {
+        self.core.poll_timeout()
+    }
+
+    /// One input of `drive`: the call, and the reports after it.
+    pub(crate) fn call(&mut self, alloc: Global, at: u64, input: &Input) -> Result<Step, Fault>
+        requires { self.old.core.timers.greatest ≤ time_of input.now }
+        ensures step { IfOk result (λ x. IsStep (meaning U.Session.Session U.Session.HeaderKey.HeaderMask U.Session.PacketKey.PacketKey) at (ideal U.Random.stream self.old.core) input.now x (ideal U.Random.stream self.new.core)) }
+        ensures alive { OnOk result (self.new.failed ≡ false) }
+        ensures failed { self.old.failed ≡ true → (result ≡ Err Fault.Failed) × (self.new ≡ self.old) }
+        ensures cause { result ≡ Err Fault.Failed → self.old.failed ≡ true }
+        ensures memory { result ≡ Err Fault.OutOfMemory → self.new.failed ≡ true }
+    {
+        if self.failed {
+            return Err(Fault::Failed);
+        }
+        match core_step(&mut self.core, alloc, at, input) {
+            Ok(step) => Ok(step),
+            Err(_) => {
+                self.failed = true;
+                Err(Fault::OutOfMemory)
+            }
+        }
+    }
+
+    /// Whether a call met want of memory.
+    pub(crate) fn is_failed(&self) -> bool
+        ensures { result ≡ self.now.failed }
+    {
+        self.failed
+    }
+
+    /// Marks the connection as failed.
+    pub(crate) fn fail(&mut self)
+        ensures mark { self.new.failed ≡ true }
+        ensures core { self.new.core ≡ self.old.core }
+    {
+        self.failed = true;
+    }
+}

@@ -1,0 +1,146 @@
+//! One input of a driven connection: its call, and the reports after it.
+
+ghost use Rattle.std.specs.Prelude.{◌≡◌, ◌≤◌, ◌++◌, [], OnOk, IfOk, option_to_list};
+ghost use Rattle.qc_conn.specs.Seen.{Sends};
+ghost use Rattle.qc_state.specs.Life.{lost_event, drained_event};
+ghost use Rattle.qc_state.specs.Moves.{ReportLost, ReportDrained, state_move};
+ghost use Rattle.qc_state.specs.Run.{time_of, word_of, out_of, Calls, IsStep};
+ghost use Rattle.qc_state.specs.Types.{meaning};
+ghost use Rattle.qc_state.specs.View.{ideal, held};
+
+use qc_base::Instant;
+use qc_core::Core;
+use qc_send::transmit;
+use qc_state::{Answer, Body, Dids, EndpointEvents, Event, Events, Input, Step, Suite, Transmit, Word};
+use std::alloc::{AllocError, Global};
+
+/// The answer to a transmit.
+fn sent_answer(sent: Option<Transmit>, buf: Vec<u8>) -> Answer
+    ensures { result ≡ out_of sent buf.items }
+{
+    match sent {
+        None => Answer::Nothing,
+        Some(sent) => Answer::Out {
+            destination: sent.destination,
+            segment: None,
+            ecn: sent.ecn,
+            bytes: Body::from_vec(buf),
+        },
+    }
+}
+
+/// A transmit at `now` into an empty buffer, whose deeds no one keeps.
+pub(crate) fn core_send<U: Suite>(core: &mut Core<U>, alloc: Global, now: Instant, buf: &mut Vec<u8>) -> Result<Option<Transmit>, AllocError>
+    requires { buf.old.items ≡ [] }
+    ensures { IfOk result (λ sent. Sends (meaning U.Session.Session U.Session.HeaderKey.HeaderMask U.Session.PacketKey.PacketKey) now (ideal U.Random.stream core.old) (ideal U.Random.stream core.new) sent buf.new.items) }
+{
+    let mut did = Dids::new(alloc);
+    core.clock(now);
+    let sent = transmit(core, alloc, now, buf, &mut did)?;
+    Ok(sent)
+}
+
+/// A transmit at `now`.
+#[tactic(auto, using(qc_state::proofs::Steps::calls_transmit))]
+fn transmit_call<U: Suite>(core: &mut Core<U>, alloc: Global, now: Instant, max_datagrams: usize, did: &mut Dids) -> Result<Answer, AllocError>
+    requires { did.old ≡ [] }
+    ensures { IfOk result (λ answer. Calls (meaning U.Session.Session U.Session.HeaderKey.HeaderMask U.Session.PacketKey.PacketKey) (ideal U.Random.stream core.old) (Input.Transmit now max_datagrams) (held U.Random.stream core.new did.new) answer) }
+{
+    let mut buf = Vec::new(alloc);
+    core.clock(now);
+    let sent = transmit(core, alloc, now, &mut buf, did)?;
+    Ok(sent_answer(sent, buf))
+}
+
+/// A PING is asked for at `now`.
+#[tactic(auto, using(qc_state::proofs::Steps::calls_ping))]
+fn ping_call<U: Suite>(core: &mut Core<U>, now: Instant, did: &Dids) -> Answer
+    requires { did.now ≡ [] }
+    ensures { Calls (meaning U.Session.Session U.Session.HeaderKey.HeaderMask U.Session.PacketKey.PacketKey) (ideal U.Random.stream core.old) (Input.Ping now) (held U.Random.stream core.new did.now) result }
+{
+    core.clock(now);
+    core.ping();
+    Answer::Done
+}
+
+/// The call that an input is for.
+fn call<U: Suite>(core: &mut Core<U>, alloc: Global, input: &Input, did: &mut Dids) -> Result<Answer, AllocError>
+    requires { did.old ≡ [] }
+    ensures { IfOk result (λ answer. Calls (meaning U.Session.Session U.Session.HeaderKey.HeaderMask U.Session.PacketKey.PacketKey) (ideal U.Random.stream core.old) input.now (held U.Random.stream core.new did.new) answer) }
+{
+    match *input {
+        Input::Transmit { now, max_datagrams } => transmit_call(core, alloc, now, max_datagrams, did),
+        Input::Ping { now } => Ok(ping_call(core, now, did)),
+    }
+}
+
+/// What waits to be reported to the application.
+fn report_events<U: Suite>(core: &mut Core<U>, alloc: Global) -> Result<Events, AllocError>
+    ensures events { IfOk result (λ events. events ≡ option_to_list (lost_event core.old.life)) }
+    ensures leads { OnOk result ((ideal U.Random.stream core.new) ≡ state_move ReportLost (ideal U.Random.stream core.old)) }
+{
+    let mut events = Events::new(alloc);
+    match core.poll() {
+        None => {}
+        Some(event) => match event {
+            Event::ConnectionLost { reason } => events.push_lost(reason)?,
+        },
+    }
+    Ok(events)
+}
+
+/// What waits to be reported to the endpoint.
+fn report_end<U: Suite>(core: &mut Core<U>, alloc: Global) -> Result<EndpointEvents, AllocError>
+    ensures events { IfOk result (λ events. events ≡ option_to_list (drained_event core.old.life)) }
+    ensures leads { OnOk result ((ideal U.Random.stream core.new) ≡ state_move ReportDrained (ideal U.Random.stream core.old)) }
+{
+    let mut events = EndpointEvents::new(alloc);
+    match core.poll_endpoint_events() {
+        None => {}
+        Some(event) => events.push(event)?,
+    }
+    Ok(events)
+}
+
+/// The kind of an input.
+fn word(input: &Input) -> Word
+    ensures { result ≡ word_of input.now }
+{
+    match *input {
+        Input::Transmit { .. } => Word::Transmit,
+        Input::Ping { .. } => Word::Ping,
+    }
+}
+
+/// The time of an input.
+fn time(input: &Input) -> Instant
+    ensures { result ≡ time_of input.now }
+{
+    match *input {
+        Input::Transmit { now, .. } => now,
+        Input::Ping { now } => now,
+    }
+}
+
+/// One input: the call, and the reports after it. Want of memory is the only refusal.
+#[tactic(auto, using(qc_state::proofs::Steps::is_step))]
+pub(crate) fn core_step<U: Suite>(core: &mut Core<U>, alloc: Global, at: u64, input: &Input) -> Result<Step, AllocError>
+    requires { core.old.timers.greatest ≤ time_of input.now }
+    ensures { IfOk result (λ x. IsStep (meaning U.Session.Session U.Session.HeaderKey.HeaderMask U.Session.PacketKey.PacketKey) at (ideal U.Random.stream core.old) input.now x (ideal U.Random.stream core.new)) }
+{
+    let mut did = Dids::new(alloc);
+    let answer = call(core, alloc, input, &mut did)?;
+    let events = report_events(core, alloc)?;
+    let endpoint = report_end(core, alloc)?;
+    let timeout = core.poll_timeout();
+    Ok(Step {
+        at,
+        word: word(input),
+        now: time(input),
+        did,
+        answer,
+        events,
+        endpoint,
+        timeout,
+    })
+}

@@ -1,0 +1,132 @@
+-- From a call and the reports after it to a step.
+use Rattle.std.proofs.Common.{◌≡◌, ℕ, ◌+◌, ◌≤◌, List, [], ◌∷◌, ◌++◌, length, take, refl, ap, sym, ◌∙◌, subst, Bool, true, false, Option, Some, None, if◌then◌else◌, arith}
+use Rattle.std.specs.Prelude.{option_to_list}
+use Rattle.qc_frame.specs.Frame.{FrameValue}
+use Rattle.qc_state.specs.declared.deeds.Did.{Did}
+use Rattle.qc_state.specs.declared.deeds.Did.TheVariants as did
+use Rattle.qc_state.specs.declared.deeds.Quiet.TheVariants.{NothingOwed, Silent, Killed}
+use Rattle.qc_state.specs.declared.life.State.TheVariants.{Drained}
+use Rattle.qc_base.specs.declared.side.SpaceId.TheVariants.{Initial}
+use Rattle.qc_state.specs.declared.input.Input.{Input}
+use Rattle.qc_state.specs.declared.input.Input.TheVariants as input
+use Rattle.qc_state.specs.declared.life.ConnectionError.{ConnectionError}
+use Rattle.qc_state.specs.declared.trace.Answer.{Answer}
+use Rattle.qc_state.specs.declared.trace.Answer.TheVariants.{Done}
+use Rattle.qc_state.specs.declared.trace.Step.{Step}
+use Rattle.qc_state.specs.declared.transmit.Transmit.{Transmit}
+use Rattle.qc_state.specs.Life.{lost_event, lost_reported, drained_event}
+use Rattle.qc_state.specs.Moves.{Ask, Clock, Raise, Give, Say, ReportLost, ReportDrained, state_move, move_to, deeds_move, life_move}
+use Rattle.qc_state.specs.Run.{time_of, word_of, packets_of, began, input_after, called, reported, step_after, IsAllowed, out_of, answer_of, IsStep, Run, Calls, Ran}
+use Rattle.qc_state.specs.Sending.{is_silent, owes, internal_error, given_after, killed_after, quiet_after, packet_after, transmit_after, MayTransmit, transmit_bytes, transmit_of, Transmits}
+use Rattle.qc_state.specs.Timers.{next_timeout}
+use Rattle.qc_state.specs.Types.{Types, Meaning}
+use Rattle.qc_state.specs.View.{View, At, at}
+
+module _ {t : Types} where
+  -- deeds that seal nothing name no packets, whichever they are
+  quiet_told : (s : View t) (why : ConnectionError) (x y z : Bool) →
+      let b : At t = move_to (Raise Drained) (at s []) in
+      packets_of (if x then move_to (Say Silent) (at s []) else if y then move_to (Say Killed) (if z then move_to (Give why) b else b) else move_to (Say NothingOwed) (at s [])).did ≡ []
+  unfolding move_to deeds_move
+  quiet_told s why true y z = refl
+  quiet_told s why false true true = refl
+  quiet_told s why false true false = refl
+  quiet_told s why false false z = refl
+
+  -- a transmit's deeds name the packets that it sealed
+  packets_told : (time : ℕ) (s : View t) (packets : List (List FrameValue)) → MayTransmit s packets → packets_of (transmit_after time packets (at s [])).did ≡ packets
+  unfolding MayTransmit transmit_after quiet_after killed_after given_after packet_after move_to deeds_move
+  packets_told time s [] may = quiet_told s internal_error _ _ _
+  packets_told time s (fs ∷ []) may = refl
+  packets_told time s (fs ∷ gs ∷ rest) may = absurd may
+
+  pub calls_transmit : (m : Meaning t) (s : View t) (time max : ℕ) (b : At t) (sent : Option Transmit) (buffer : List ℕ) (answer : Answer) →
+      Transmits m time (began s time) b sent buffer → answer ≡ out_of sent buffer → Calls m s (input.Transmit time max) b answer
+  unfolding began input_after called IsAllowed answer_of
+  calls_transmit m s time max b sent buffer answer h e =
+      let names : packets_of b.did ≡ h.packets = ap (λ (x : At t). packets_of x.did) h.leads ∙ packets_told time (state_move (Clock time) s) h.packets h.may in
+      record {
+        leads = h.leads ∙ ap (λ (ps : List (List FrameValue)). transmit_after time ps (began s time)) (sym names);
+        allowed = subst (λ (ps : List (List FrameValue)). MayTransmit (began s time).state ps) (sym names) h.may;
+        answers = e ∙ ap (λ (x : Option Transmit). out_of x buffer) h.answer ∙ ap (λ (x : List ℕ). out_of (transmit_of h.packets (began s time).state) x) h.bytes
+            ∙ ap (λ (ps : List (List FrameValue)). out_of (transmit_of ps (began s time).state) (transmit_bytes m ps (began s time).state)) (sym names);
+      }
+
+  pub calls_ping : (m : Meaning t) (s mid : View t) (time : ℕ) (b : View t) (ds : List Did) (answer : Answer) →
+      mid ≡ state_move (Clock time) s → b ≡ state_move (Ask Initial) mid → ds ≡ [] → answer ≡ Done → Calls m s (input.Ping time) (at b ds) answer
+  unfolding began input_after called IsAllowed answer_of move_to deeds_move
+  calls_ping m s mid time b ds answer is_mid is_b is_ds e = record {
+      leads = ap (λ (x : List Did). at b x) is_ds ∙ ap (λ (x : View t). at x []) (is_b ∙ ap (λ (x : View t). state_move (Ask Initial) x) is_mid);
+      allowed = tt;
+      answers = e;
+    }
+
+  -- the report of the reason leaves that of the end as it was
+  same_end : (s : View t) → drained_event (state_move ReportLost s).life ≡ drained_event s.life
+  unfolding drained_event state_move life_move lost_reported
+  same_end s = refl
+
+  pub is_step : (m : Meaning t) (k : ℕ) (s : View t) (i : Input) (x : Step) (b : At t) (s' : View t) →
+      s.timers.greatest ≤ time_of i → Calls m s i b x.answer → x.did ≡ b.did →
+      s' ≡ state_move ReportDrained (state_move ReportLost b.state) →
+      x.events ≡ option_to_list (lost_event b.state.life) → x.endpoint ≡ option_to_list (drained_event (state_move ReportLost b.state).life) →
+      x.timeout ≡ next_timeout s'.timers → x.at ≡ k → x.word ≡ word_of i → x.now ≡ time_of i → IsStep m k s i x s'
+  unfolding reported step_after
+  is_step m k s i x b s' forward h is_did is_s' is_events is_endpoint is_timeout is_at is_word is_now =
+      let same : b ≡ called s i x.did = h.leads ∙ ap (λ (ds : List Did). called s i ds) (sym is_did) in
+      let state : s' ≡ step_after s i x.did = is_s' ∙ ap (λ (y : At t). state_move ReportDrained (state_move ReportLost y.state)) same in
+      record {
+        numbers = ap (λ (v : View t). v.numbers) state;
+        keys = ap (λ (v : View t). v.keys) state;
+        life = ap (λ (v : View t). v.life) state;
+        paths = ap (λ (v : View t). v.paths) state;
+        timers = ap (λ (v : View t). v.timers) state;
+        waiting = ap (λ (v : View t). v.waiting) state;
+        setup = ap (λ (v : View t). v.setup) state;
+        lower = ap (λ (v : View t). v.lower) state;
+        forward = forward;
+        deeds = is_did ∙ ap (λ (y : At t). y.did) same;
+        allowed = subst (λ (ds : List Did). IsAllowed i ds (began s (time_of i)).state) (sym is_did) h.allowed;
+        answer = h.answers ∙ ap (λ (ds : List Did). answer_of m i ds (began s (time_of i)).state) (sym is_did);
+        events = is_events ∙ ap (λ (y : At t). option_to_list (lost_event y.state.life)) same;
+        endpoint = is_endpoint ∙ ap option_to_list (same_end b.state) ∙ ap (λ (y : At t). option_to_list (drained_event y.state.life)) same;
+        timeout = is_timeout;
+        place = is_at;
+        word = is_word;
+        time = is_now;
+      }
+
+  -- runs
+  pub run_none : (m : Meaning t) (k : ℕ) (s : View t) → Run m k s [] [] s
+  unfolding Run
+  run_none m k s = refl
+
+  pub run_more : (m : Meaning t) (k : ℕ) (s : View t) (is : List Input) (xs : List Step) (mid s' : View t) (i : Input) (x : Step) →
+      Run m k s is xs mid → IsStep m (k + length xs) mid i x s' → Run m k s (is ++ i ∷ []) (xs ++ x ∷ []) s'
+  unfolding Run
+  run_more m k s [] [] mid s' i x r h =
+      (s', subst (λ (n : ℕ). IsStep m n s i x s') (omega arith) (subst (λ (v : View t). IsStep m (k + 0) v i x s') r h), refl)
+  run_more m k s (j ∷ is) (y ∷ ys) mid s' i x r h =
+      let place : k + length (y ∷ ys) ≡ k + 1 + length ys = omega arith in
+      (r.0, r.1, run_more m (k + 1) r.0 is ys mid s' i x r.2 (subst (λ (n : ℕ). IsStep m n mid i x s') place h))
+  run_more m k s [] (y ∷ ys) mid s' i x r h = absurd r
+  run_more m k s (j ∷ is) [] mid s' i x r h = absurd r
+
+  pub ran : (m : Meaning t) (k : ℕ) (s : View t) (is : List Input) (xs : List Step) (last : View t) (n : ℕ) → length xs ≡ n → Run m k s (take n is) xs last → Ran m k s is xs
+  ran m k s is xs last n e r = record { last = last; run = subst (λ (l : ℕ). Run m k s (take l is) xs last) (sym e) r }
+
+  -- a transmit once the connection was told the time
+  pub transmits_began : (m : Meaning t) (s mid : View t) (time : ℕ) (ds : List Did) (b : At t) (sent : Option Transmit) (buffer : List ℕ) →
+      mid ≡ state_move (Clock time) s → ds ≡ [] → Transmits m time (at mid ds) b sent buffer → Transmits m time (began s time) b sent buffer
+  unfolding began
+  transmits_began m s mid time ds b sent buffer is_mid is_ds h =
+      subst (λ (a : At t). Transmits m time a b sent buffer) (ap (λ (x : List Did). at mid x) is_ds ∙ ap (λ (x : View t). at x []) is_mid) h
+
+  -- a step of a call, the report of the reason, and the report of the end
+  pub is_step_by : (m : Meaning t) (k : ℕ) (s : View t) (i : Input) (x : Step) (ds : List Did) (s2 s3 s4 : View t) →
+      s.timers.greatest ≤ time_of i → Calls m s i (at s2 ds) x.answer → x.did ≡ ds → s3 ≡ state_move ReportLost s2 → s4 ≡ state_move ReportDrained s3 →
+      x.events ≡ option_to_list (lost_event s2.life) → x.endpoint ≡ option_to_list (drained_event s3.life) →
+      x.timeout ≡ next_timeout s4.timers → x.at ≡ k → x.word ≡ word_of i → x.now ≡ time_of i → IsStep m k s i x s4
+  is_step_by m k s i x ds s2 s3 s4 forward h is_did is_s3 is_s4 is_events is_endpoint is_timeout is_at is_word is_now =
+      is_step m k s i x (at s2 ds) s4 forward h is_did (is_s4 ∙ ap (λ (v : View t). state_move ReportDrained v) is_s3) is_events
+      (is_endpoint ∙ ap (λ (v : View t). option_to_list (drained_event v.life)) is_s3) is_timeout is_at is_word is_now
