@@ -2,7 +2,9 @@
 #![tactic(auto)]
 
 mod connection;
+mod driving;
 mod steps;
 
 pub use connection::Connection;
+pub use driving::{DriveError, DriveKind, drive};
 pub use qc_core::ClientSetup;

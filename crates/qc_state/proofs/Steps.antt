@@ -1,7 +1,12 @@
 -- From a call and the reports after it to a step.
-use Rattle.std.proofs.Common.{◌≡◌, ℕ, ◌+◌, ◌≤◌, List, [], ◌∷◌, ◌++◌, length, take, refl, ap, sym, ◌∙◌, subst, Bool, true, false, Option, Some, None, if◌then◌else◌, arith}
+use Rattle.std.proofs.Common.{◌≡◌, ℕ, ◌+◌, ◌≤◌, List, [], ◌∷◌, ◌++◌, length, take, drop, get_or, suc, ◌<◌, refl, ap, sym, ◌∙◌, subst, Bool, true, false, Option, Some, None, if◌then◌else◌, arith, length-append}
+use Rattle.std.proofs.Math.Seq.{drop-cons}
+use Rattle.std.proofs.lemmas.List.{take_more}
 use Rattle.std.specs.Prelude.{option_to_list}
+use Rattle.std.specs.List.{list_any}
 use Rattle.qc_frame.specs.Frame.{FrameValue}
+use Rattle.qc_frame.specs.FrameSpelling.{elicits}
+use Rattle.qc_state.specs.declared.timers.Timers.{Timers}
 use Rattle.qc_state.specs.declared.deeds.Did.{Did}
 use Rattle.qc_state.specs.declared.deeds.Did.TheVariants as did
 use Rattle.qc_state.specs.declared.deeds.Quiet.TheVariants.{NothingOwed, Silent, Killed}
@@ -15,12 +20,41 @@ use Rattle.qc_state.specs.declared.trace.Answer.TheVariants.{Done}
 use Rattle.qc_state.specs.declared.trace.Step.{Step}
 use Rattle.qc_state.specs.declared.transmit.Transmit.{Transmit}
 use Rattle.qc_state.specs.Life.{lost_event, lost_reported, drained_event}
-use Rattle.qc_state.specs.Moves.{Ask, Clock, Raise, Give, Say, ReportLost, ReportDrained, state_move, move_to, deeds_move, life_move}
-use Rattle.qc_state.specs.Run.{time_of, word_of, packets_of, began, input_after, called, reported, step_after, IsAllowed, out_of, answer_of, IsStep, Run, Calls, Ran}
+use Rattle.qc_state.specs.Moves.{Ask, Clock, Raise, Give, Say, ReportLost, ReportDrained, state_move, move_to, deeds_move, life_move, timers_move}
+use Rattle.qc_state.specs.Run.{time_of, word_of, packets_of, began, input_after, called, reported, step_after, IsAllowed, out_of, answer_of, IsStep, Run, Calls, Ran, AreValid, Adds}
 use Rattle.qc_state.specs.Sending.{is_silent, owes, internal_error, given_after, killed_after, quiet_after, packet_after, transmit_after, MayTransmit, transmit_bytes, transmit_of, Transmits}
-use Rattle.qc_state.specs.Timers.{next_timeout}
+use Rattle.qc_state.specs.Timers.{next_timeout, timers_sealed, timers_stopped, clock_set}
 use Rattle.qc_state.specs.Types.{Types, Meaning}
 use Rattle.qc_state.specs.View.{View, At, at}
+
+-- the clock stands at the input's time after a step
+sealed_time : (timers : Timers) (limit : Option ℕ) (time : ℕ) (b : Bool) → (if b then timers_sealed timers limit time else timers).greatest ≡ timers.greatest
+unfolding timers_sealed
+sealed_time timers limit time true = refl
+sealed_time timers limit time false = refl
+
+-- the next input of valid ones, and those after it
+pub valid_first : (greatest : ℕ) (i : Input) (is : List Input) → AreValid greatest (i ∷ is) → greatest ≤ time_of i
+valid_first greatest (input.Transmit time max) is h = h.0
+valid_first greatest (input.Ping time) is h = h.0
+
+pub valid_rest : (greatest : ℕ) (i : Input) (is : List Input) → AreValid greatest (i ∷ is) → AreValid (time_of i) is
+valid_rest greatest (input.Transmit time max) is h = h.2
+valid_rest greatest (input.Ping time) is h = h.1
+
+-- the next of valid inputs
+valid_item : (greatest : ℕ) (is : List Input) (i : ℕ) (x : Input) → i < length is → x ≡ get_or is i x → AreValid greatest (drop i is) → AreValid greatest (x ∷ drop (i + 1) is)
+valid_item greatest is i x h e v =
+    let cut : drop i is ≡ get_or is i x ∷ drop (suc i) is = drop-cons is i x h in
+    let one : suc i ≡ i + 1 = omega arith in
+    let next : drop (suc i) is ≡ drop (i + 1) is = ap (λ (n : ℕ). drop n is) one in
+    subst (λ (js : List Input). AreValid greatest js) (cut ∙ ap (λ (y : Input). y ∷ drop (suc i) is) (sym e) ∙ ap (λ (js : List Input). x ∷ js) next) v
+
+pub valid_forward : (greatest : ℕ) (is : List Input) (i : ℕ) (x : Input) → i < length is → x ≡ get_or is i x → AreValid greatest (drop i is) → greatest ≤ time_of x
+valid_forward greatest is i x h e v = valid_first greatest x (drop (i + 1) is) (valid_item greatest is i x h e v)
+
+pub valid_next : (greatest later : ℕ) (is : List Input) (i : ℕ) (x : Input) → i < length is → x ≡ get_or is i x → later ≡ time_of x → AreValid greatest (drop i is) → AreValid later (drop (i + 1) is)
+valid_next greatest later is i x h e l v = subst (λ (n : ℕ). AreValid n (drop (i + 1) is)) (sym l) (valid_rest greatest x (drop (i + 1) is) (valid_item greatest is i x h e v))
 
 module _ {t : Types} where
   -- deeds that seal nothing name no packets, whichever they are
@@ -130,3 +164,54 @@ module _ {t : Types} where
   is_step_by m k s i x ds s2 s3 s4 forward h is_did is_s3 is_s4 is_events is_endpoint is_timeout is_at is_word is_now =
       is_step m k s i x (at s2 ds) s4 forward h is_did (is_s4 ∙ ap (λ (v : View t). state_move ReportDrained v) is_s3) is_events
       (is_endpoint ∙ ap (λ (v : View t). option_to_list (drained_event v.life)) is_s3) is_timeout is_at is_word is_now
+
+  quiet_time : (a : At t) (why : ConnectionError) (x y z : Bool) →
+      let b : At t = move_to (Raise Drained) a in
+      (if x then move_to (Say Silent) a else if y then move_to (Say Killed) (if z then move_to (Give why) b else b) else move_to (Say NothingOwed) a).state.timers.greatest ≡ a.state.timers.greatest
+  unfolding move_to state_move timers_move timers_stopped
+  quiet_time a why true y z = refl
+  quiet_time a why false true true = refl
+  quiet_time a why false true false = refl
+  quiet_time a why false false z = refl
+
+  transmit_time : (time : ℕ) (ps : List (List FrameValue)) (a : At t) → (transmit_after time ps a).state.timers.greatest ≡ a.state.timers.greatest
+  unfolding transmit_after quiet_after killed_after given_after packet_after move_to state_move timers_move
+  transmit_time time [] a = quiet_time a internal_error _ _ _
+  transmit_time time (fs ∷ rest) a = sealed_time a.state.timers a.state.setup.fixed.idle_limit time (list_any elicits fs)
+
+  input_time : (i : Input) (ds : List Did) (a : At t) → (input_after i ds a).state.timers.greatest ≡ a.state.timers.greatest
+  unfolding input_after move_to state_move timers_move
+  input_time (input.Transmit time max) ds a = transmit_time time (packets_of ds) a
+  input_time (input.Ping time) ds a = refl
+
+  pub step_time : (m : Meaning t) (k : ℕ) (s : View t) (i : Input) (x : Step) (s' : View t) → IsStep m k s i x s' → s'.timers.greatest ≡ time_of i
+  unfolding called began step_after reported state_move timers_move clock_set
+  step_time m k s i x s' h = ap (λ v. v.greatest) h.timers ∙ input_time i x.did (began s (time_of i))
+
+  -- the empty trace
+  pub ran_none : (m : Meaning t) (k : ℕ) (s : View t) (is : List Input) (xs : List Step) → xs ≡ [] → Ran m k s is xs
+  ran_none m k s is xs e = ran m k s is xs s 0 (ap length e) (subst (λ (ys : List Step). Run m k s [] ys s) (sym e) (run_none m k s))
+
+  -- a run, and one step more
+  pub run_added : (m : Meaning t) (s : View t) (is : List Input) (xs ys : List Step) (mid s' : View t) (i : Input) (k : ℕ) →
+      k ≡ length xs → Run m 0 s is xs mid → Adds m k mid i s' xs ys → Run m 0 s (is ++ i ∷ []) ys s'
+  run_added m s is xs ys mid s' i k e r h =
+      let place : k ≡ 0 + length xs = omega arith in
+      subst (λ (zs : List Step). Run m 0 s (is ++ i ∷ []) zs s') (sym h.added) (run_more m 0 s is xs mid s' i h.step r (subst (λ (n : ℕ). IsStep m n mid i h.step s') place h.is_step))
+
+  -- a trace with one step more is one longer
+  pub added_length : (m : Meaning t) (k : ℕ) (s : View t) (i : Input) (s' : View t) (xs ys : List Step) → Adds m k s i s' xs ys → length ys ≡ length xs + 1
+  added_length m k s i s' xs ys h = ap length h.added ∙ length-append xs (h.step ∷ [])
+
+  pub run_empty : (m : Meaning t) (k : ℕ) (s : View t) (xs : List Step) → xs ≡ [] → Run m k s [] xs s
+  run_empty m k s xs e = subst (λ (ys : List Step). Run m k s [] ys s) (sym e) (run_none m k s)
+
+  pub ran_kept : (m : Meaning t) (k : ℕ) (s : View t) (is : List Input) (xs ys : List Step) (last : View t) (n : ℕ) → ys ≡ xs → length xs ≡ n → Run m k s (take n is) xs last → Ran m k s is ys
+  ran_kept m k s is xs ys last n e l r = subst (λ (zs : List Step). Ran m k s is zs) (sym e) (ran m k s is xs last n l r)
+
+  -- the run over one input more
+  pub run_next : (m : Meaning t) (s : View t) (is : List Input) (xs ys : List Step) (mid s' : View t) (x : Input) (i k : ℕ) → i < length is → x ≡ get_or is i x → length xs ≡ i → k ≡ i →
+      Run m 0 s (take i is) xs mid → Adds m k mid x s' xs ys → Run m 0 s (take (i + 1) is) ys s'
+  run_next m s is xs ys mid s' x i k h e count place r adds =
+      let more : take (i + 1) is ≡ take i is ++ x ∷ [] = take_more is i x h ∙ ap (λ (y : Input). take i is ++ y ∷ []) (sym e) in
+      subst (λ (js : List Input). Run m 0 s js ys s') (sym more) (run_added m s (take i is) xs ys mid s' x k (omega arith) r adds)

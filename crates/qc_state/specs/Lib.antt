@@ -1,4 +1,5 @@
 pub mod First
+pub mod Headline
 pub mod Keys
 pub mod Life
 pub mod Moves

@@ -117,3 +117,9 @@ module _ {t : Types} where
   pub record Ran (m : Meaning t) (k : ℕ) (s : View t) (is : List Input) (xs : List Step) : Type 0 where
     pub last : View t
     pub run : Run m k s (take (length xs) is) xs last
+
+  -- one step more than these
+  pub record Adds (m : Meaning t) (k : ℕ) (s : View t) (i : Input) (s' : View t) (xs ys : List Step) : Type 0 where
+    pub step : Step
+    pub is_step : IsStep m k s i step s'
+    pub added : ys ≡ xs ++ step ∷ []

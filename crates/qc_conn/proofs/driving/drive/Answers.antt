@@ -1,0 +1,13 @@
+use Rattle.qc_state.proofs.Steps.{ran_none}
+use Rattle.qc_state.proofs.Told.{none_rises, none_loses_once}
+use Rattle.qc_conn.proofs.driving.drive.Goals as goal
+
+-- the empty trace is a run over no inputs
+pub returns-then-is_failed-clause-part : goal.returns-then-is_failed-clause-part
+returns-then-is_failed-clause-part g c = ran_none _ _ _ _ _ c.new.ensures
+
+pub returns-then-is_failed-clause-rising_part : goal.returns-then-is_failed-clause-rising_part
+returns-then-is_failed-clause-rising_part g c = none_rises _ _ c.new.ensures
+
+pub returns-then-is_failed-clause-reason_part : goal.returns-then-is_failed-clause-reason_part
+returns-then-is_failed-clause-reason_part g c = none_loses_once _ _ c.new.ensures

@@ -1,0 +1,131 @@
+//! Driving a connection: inputs in, the trace out.
+
+ghost use Rattle.std.specs.Prelude.{◌≡◌, ◌≤◌, [], true, false, OnOk, OnErr, IfOk, IfErr, IsErr};
+ghost use Rattle.qc_state.specs.Headline.{EachRises, LosesOnce};
+ghost use Rattle.qc_state.specs.Run.{time_of, AreValid, Adds, Run, Ran};
+ghost use Rattle.qc_state.specs.Types.{meaning};
+ghost use Rattle.qc_state.specs.View.{ideal};
+
+use qc_config::TokenStore;
+use qc_state::{Input, Suite, Trace};
+use std::alloc::{AllocError, Global};
+
+use crate::connection::Connection;
+
+/// Why `drive` stopped.
+#[derive(Clone, Copy, Debug, PartialEq, Eq)]
+pub enum DriveKind {
+    /// There was no memory. The connection is then marked as failed.
+    OutOfMemory,
+    /// The connection had met want of memory before this call.
+    Failed,
+}
+
+/// Why `drive` stopped, and the steps of the inputs before.
+#[derive(Drop)]
+pub struct DriveError {
+    /// The steps of the inputs before the one that was refused.
+    pub done: Trace,
+    /// Why it was refused.
+    pub kind: DriveKind,
+}
+
+/// One input more: its step is put at the trace's end. After want of memory the trace is as before, and the connection
+/// is marked as failed.
+fn add_step<U: Suite>(connection: &mut Connection<U>, alloc: Global, at: u64, input: &Input, trace: &mut Trace) -> Result<(), AllocError>
+    requires alive { connection.old.failed ≡ false }
+    requires forward { connection.old.core.timers.greatest ≤ time_of input.now }
+    ensures adds { OnOk result (Adds (meaning U.Session.Session U.Session.HeaderKey.HeaderMask U.Session.PacketKey.PacketKey) at (ideal U.Random.stream connection.old.core) input.now (ideal U.Random.stream connection.new.core) trace.old trace.new) }
+    ensures time { OnOk result (connection.new.core.timers.greatest ≡ time_of input.now) }
+    ensures alive { OnOk result (connection.new.failed ≡ false) }
+    ensures mark { OnErr result (connection.new.failed ≡ true) }
+    ensures kept { OnErr result (trace.new ≡ trace.old) }
+{
+    match connection.call(alloc, at, input) {
+        Ok(step) => match trace.push(step) {
+            Ok(()) => Ok(()),
+            Err(e) => {
+                connection.fail();
+                Err(e)
+            }
+        },
+        Err(_) => Err(AllocError),
+    }
+}
+
+/// Hands the inputs to a connection that hasn't failed.
+fn drive_all<U: Suite>(connection: &mut Connection<U>, alloc: Global, inputs: &[Input]) -> Result<Trace, DriveError>
+    requires alive { connection.old.failed ≡ false }
+    requires valid { AreValid connection.old.core.timers.greatest inputs.now }
+    ensures run { IfOk result (λ trace. Run (meaning U.Session.Session U.Session.HeaderKey.HeaderMask U.Session.PacketKey.PacketKey) 0 (ideal U.Random.stream connection.old.core) inputs.now trace (ideal U.Random.stream connection.new.core)) }
+    ensures part { IfErr result (λ e. Ran (meaning U.Session.Session U.Session.HeaderKey.HeaderMask U.Session.PacketKey.PacketKey) 0 (ideal U.Random.stream connection.old.core) inputs.now e.done) }
+    ensures alive { OnOk result (connection.new.failed ≡ false) }
+    ensures memory { IfErr result (λ e. e.kind ≡ DriveKind.OutOfMemory) }
+    ensures mark { OnErr result (connection.new.failed ≡ true) }
+{
+    let mut trace = Trace::new(alloc);
+    let mut at = 0;
+    for input in inputs {
+        match add_step(connection, alloc, at, input, &mut trace) {
+            Ok(()) => {}
+            Err(_) => {
+                return Err(DriveError {
+                    done: trace,
+                    kind: DriveKind::OutOfMemory,
+                });
+            }
+        }
+        at += 1;
+    }
+    Ok(trace)
+}
+
+/// Hands inputs to a connection, one after another: for each the one call, then the reports to the application and to
+/// the endpoint until none is left, then the time of the next timeout. The trace has one step an input.
+///
+/// So far the inputs have to be valid: their times never fall, and a transmit may send at least one datagram.
+///
+/// # Errors
+///
+/// `Failed` exactly where the connection had met want of memory before; then nothing changes. `OutOfMemory` for want of
+/// memory; the steps of the inputs before are carried, and the connection is marked as failed.
+#[tactic(auto, using(
+    qc_state::proofs::Told::run_rises,
+    qc_state::proofs::Told::run_loses_once,
+    qc_state::proofs::Told::ran_rises,
+    qc_state::proofs::Told::ran_loses_once
+))]
+pub fn drive<U: Suite, G: TokenStore>(
+    alloc: Global,
+    connection: &mut Connection<U>,
+    inputs: &[Input],
+    store: &mut G,
+) -> Result<Trace, DriveError>
+    requires { AreValid connection.old.core.timers.greatest inputs.now }
+
+    // The trace is a run from the connection's view at entry to its view at exit.
+    ensures run { IfOk result (λ trace. Run (meaning U.Session.Session U.Session.HeaderKey.HeaderMask U.Session.PacketKey.PacketKey) 0 (ideal U.Random.stream connection.old.core) inputs.now trace (ideal U.Random.stream connection.new.core)) }
+    ensures part { IfErr result (λ e. Ran (meaning U.Session.Session U.Session.HeaderKey.HeaderMask U.Session.PacketKey.PacketKey) 0 (ideal U.Random.stream connection.old.core) inputs.now e.done) }
+
+    // No packet number is used twice, and at most one reason for the end is given.
+    ensures rising { IfOk result (λ trace. EachRises (ideal U.Random.stream connection.old.core) trace) }
+    ensures rising_part { IfErr result (λ e. EachRises (ideal U.Random.stream connection.old.core) e.done) }
+    ensures reason { IfOk result (λ trace. LosesOnce (ideal U.Random.stream connection.old.core) trace) }
+    ensures reason_part { IfErr result (λ e. LosesOnce (ideal U.Random.stream connection.old.core) e.done) }
+
+    ensures alive { OnOk result (connection.new.failed ≡ false) }
+    ensures failed { connection.old.failed ≡ true → IfErr result (λ e. (e.kind ≡ DriveKind.Failed) × (e.done ≡ [])) × (connection.new ≡ connection.old) }
+    ensures refused { connection.old.failed ≡ true → IsErr result }
+    ensures cause { IfErr result (λ e. e.kind ≡ DriveKind.Failed → connection.old.failed ≡ true) }
+    ensures memory { OnErr result (connection.new.failed ≡ true) }
+    ensures store { store.new ≡ store.old }
+{
+    let _store = store;
+    if connection.is_failed() {
+        return Err(DriveError {
+            done: Trace::new(alloc),
+            kind: DriveKind::Failed,
+        });
+    }
+    drive_all(connection, alloc, inputs)
+}
