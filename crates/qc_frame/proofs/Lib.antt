@@ -7,3 +7,4 @@ pub mod AllKinds
 pub mod FrontFrame
 pub mod Items
 pub mod Payloads
+pub mod Lengths

@@ -3,3 +3,4 @@ pub mod FrameGrammar
 pub mod FrameReading
 pub mod FrameSpelling
 pub mod Payload
+pub mod Sizes

@@ -8,10 +8,15 @@ mod iter;
 mod list;
 mod names;
 mod read;
+mod size;
 mod write;
 
 pub use fault::{FrameFault, InvalidFrame};
 pub use frames::{Ack, AckOf, EcnCounts, Frame, FrameOf, NewConnectionId, OwnedFrame};
 pub use iter::{Iter, first_frame};
 pub use list::{FrameList, put_frames};
+pub use size::{
+    CONNECTION_CLOSE_HEAD_MAX, CRYPTO_HEAD_MAX, DATAGRAM_HEAD_MAX, NEW_CONNECTION_ID_MAX,
+    RETIRE_CONNECTION_ID_MAX, fit_application_reason, fit_close_reason, greatest_sizes,
+};
 pub use write::{put_frame, put_last_frame};
