@@ -13,9 +13,11 @@ mod messages;
 mod packet_key;
 mod session;
 mod settings;
+mod zero_random;
 
 pub use config::{ToyClient, ToyServer};
 pub use header_key::ToyHeaderKey;
 pub use packet_key::ToyPacketKey;
 pub use session::ToySession;
 pub use settings::ToySettings;
+pub use zero_random::ZeroRandom;
