@@ -12,7 +12,7 @@ use Rattle.qc_base.specs.declared.side.Side.{Side}
 use Rattle.qc_toy.specs.declared.key_bytes.Level.{Level}
 use Rattle.qc_toy.specs.declared.key_bytes.Usage.{Usage}
 use Rattle.qc_toy.specs.KeyBytes.{key_bytes}
-use Rattle.qc_toy.specs.Cipher.{xored, weight, checksum, number_bytes, tabulated, tag_byte, tag, toy_seal, toy_opening, tag_fits, plain_of}
+use Rattle.qc_toy.specs.Cipher.{xored, weight, checksum, number_bytes, tabulated, tag_byte, tag, toy_seal, toy_opening, toy_signature, tag_fits, plain_of}
 
 pub length-xored : (key : List ℕ) (at : ℕ) (xs : List ℕ) → length (xored key at xs) ≡ length xs
 length-xored key at [] = refl
@@ -184,3 +184,7 @@ opens_only_sealed key number header sealed plain e =
     let end = (bytes_eq-Decides _ _).0 s.1.0 in
     sym (take-append-drop (length sealed - 16) sealed) ∙ ap (λ xs. xs ++ drop (length sealed - 16) sealed) front
     ∙ ap (λ xs. xored key 0 plain ++ xs) (end ∙ ap (λ p. tag key (checksum number header p) number) s.1.1)
+
+pub length-toy_signature : (key body : List ℕ) → length (toy_signature key body) ≡ 16
+unfolding toy_signature
+length-toy_signature key body = length-tag key _ 0

@@ -13,6 +13,8 @@ mod messages;
 mod packet_key;
 mod session;
 mod settings;
+mod token_keys;
+mod toy_keys;
 mod zero_random;
 
 pub use config::{ToyClient, ToyServer};
@@ -20,4 +22,6 @@ pub use header_key::ToyHeaderKey;
 pub use packet_key::ToyPacketKey;
 pub use session::ToySession;
 pub use settings::ToySettings;
+pub use token_keys::{ToyAeadKey, ToyHmacKey, ToyTokenKey};
+pub use toy_keys::ToyKeys;
 pub use zero_random::ZeroRandom;
