@@ -1,5 +1,7 @@
+pub mod AddedRanges
 pub mod Differences
 pub mod Masks
+pub mod RangeLaws
 pub mod Windows
 pub mod Front
 pub mod Exact

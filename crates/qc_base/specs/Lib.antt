@@ -3,6 +3,7 @@ pub mod Ecn
 pub mod Grammar
 pub mod Mask
 pub mod PacketNumber
+pub mod RangeSet
 pub mod Reading
 pub mod StreamId
 pub mod Time

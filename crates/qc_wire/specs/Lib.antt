@@ -1,7 +1,9 @@
 pub use Rattle.qc_base.specs.ConnectionId
 pub use Rattle.qc_base.specs.Ecn
+pub use Rattle.qc_base.specs.Grammar
 pub use Rattle.qc_base.specs.Mask
 pub use Rattle.qc_base.specs.PacketNumber
+pub use Rattle.qc_base.specs.RangeSet
 pub use Rattle.qc_base.specs.Reading
 pub use Rattle.qc_base.specs.StreamId
 pub use Rattle.qc_base.specs.Time

@@ -3,6 +3,7 @@
 #![tactic(auto)]
 
 pub use qc_base::constant_time;
+pub use qc_base::{ArrayRangeSet, NumberRange};
 pub use qc_base::{ConnectionId, IssuedCid, ResetToken};
 pub use qc_base::{Dir, LongType, Side, SpaceId, StreamId};
 pub use qc_base::{Duration, Instant, SystemTime};
