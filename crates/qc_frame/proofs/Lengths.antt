@@ -1,10 +1,10 @@
 -- How long the spellings of frames are
-use Rattle.std.proofs.Common.{◌≡◌, ℕ, ◌+◌, ◌%◌, ◌<◌, ◌≤◌, Bool, true, false, cond, List, [], ◌++◌, length, take, nat_lt, Option, unwrap_or, refl, sym, ap, ◌∙◌, arith, lit<}
+use Rattle.std.proofs.Common.{◌≡◌, ℕ, ◌+◌, ◌%◌, ◌<◌, ◌≤◌, Bool, true, false, cond, List, [], length, take, nat_lt, Option, unwrap_or, refl, sym, ap, ◌∙◌, arith, lit<}
 use Rattle.std.proofs.lemmas.Bool.Decides.{nat_tests}
 use Rattle.std.proofs.lemmas.List.{length-append, length-take-le}
 use Rattle.qc_base.specs.Varint.{varint, spelled, one, two, four, eight}
 use Rattle.qc_frame.specs.Frame.{FrameValue}
-use Rattle.qc_frame.specs.FrameSpelling.{spelling, blob}
+use Rattle.qc_frame.specs.FrameSpelling.{spelling}
 use Rattle.qc_frame.specs.Sizes.{IsLongestReason}
 use Rattle.qc_frame.specs.declared.frames.FrameOf.TheVariants as frames
 use Rattle.qc_frame.specs.declared.frames.NewConnectionId.{NewConnectionId}

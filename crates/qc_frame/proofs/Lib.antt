@@ -8,3 +8,6 @@ pub mod FrontFrame
 pub mod Items
 pub mod Payloads
 pub mod Lengths
+pub mod ReadBack
+pub mod ReadFits
+pub mod WrittenPayload

@@ -4,3 +4,4 @@ pub mod FrameReading
 pub mod FrameSpelling
 pub mod Payload
 pub mod Sizes
+pub mod FrameFits

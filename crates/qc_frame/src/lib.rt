@@ -5,6 +5,7 @@ mod eliciting;
 mod fault;
 mod frames;
 mod iter;
+mod laws;
 mod list;
 mod names;
 mod read;
@@ -14,6 +15,7 @@ mod write;
 pub use fault::{FrameFault, InvalidFrame};
 pub use frames::{Ack, AckOf, EcnCounts, Frame, FrameOf, NewConnectionId, OwnedFrame};
 pub use iter::{Iter, first_frame};
+pub use laws::written_is_read;
 pub use list::{FrameList, put_frames};
 pub use size::{
     CONNECTION_CLOSE_HEAD_MAX, CRYPTO_HEAD_MAX, DATAGRAM_HEAD_MAX, NEW_CONNECTION_ID_MAX,

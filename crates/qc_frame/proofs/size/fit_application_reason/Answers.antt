@@ -1,4 +1,4 @@
-use Rattle.std.proofs.Common.{◌≡◌, ℕ, ◌+◌, length, ap, ◌∙◌, arith}
+use Rattle.std.proofs.Common.{ℕ, ◌+◌, length, ap, arith}
 use Rattle.qc_base.specs.Varint.{varint}
 use Rattle.qc_frame.specs.declared.frames.FrameOf.TheVariants as frames
 use Rattle.qc_frame.proofs.Lengths.{is_longest, length-application_close}
