@@ -1,2 +1,4 @@
 //! To be written.
 #![tactic(auto)]
+
+pub mod text;
