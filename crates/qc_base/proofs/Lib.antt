@@ -1,5 +1,6 @@
 pub mod AddedRanges
 pub mod Differences
+pub mod MaskLaws
 pub mod Masks
 pub mod RangeLaws
 pub mod Windows

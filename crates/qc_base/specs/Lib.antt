@@ -5,6 +5,7 @@ pub mod Mask
 pub mod PacketNumber
 pub mod RangeSet
 pub mod Reading
+pub mod ResetToken
 pub mod StreamId
 pub mod Time
 pub mod TransportErrorCode
