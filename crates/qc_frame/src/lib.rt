@@ -22,3 +22,6 @@ pub use size::{
     RETIRE_CONNECTION_ID_MAX, fit_application_reason, fit_close_reason, greatest_sizes,
 };
 pub use write::{put_frame, put_last_frame};
+
+#[cfg(test)]
+mod tests;
