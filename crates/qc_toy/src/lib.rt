@@ -25,3 +25,8 @@ pub use settings::ToySettings;
 pub use token_keys::{ToyAeadKey, ToyHmacKey, ToyTokenKey};
 pub use toy_keys::ToyKeys;
 pub use zero_random::ZeroRandom;
+
+#[cfg(test)]
+mod handshake_tests;
+#[cfg(test)]
+mod tests;
