@@ -4,13 +4,34 @@ ghost use Rattle.std.specs.Prelude.{◌≡◌, ◌+◌, ◌-◌, ◌%◌, ◌≤
 ghost use Rattle.qc_crypto.specs.Sealing.{sealed_in_place};
 ghost use Rattle.qc_toy.specs.Cipher.{xored, weight, checksum, number_bytes, tag, toy_seal, tag_fits, plain_of, toy_mask};
 
-/// Xors each byte with a byte of the key, these in turn.
-pub(crate) fn xor_with(bytes: &mut [u8], key: &[u8; 16])
+// Xors each byte with a byte of the key, these in turn.
+fn xor_few(bytes: &mut [u8], key: &[u8; 16])
     ensures { bytes.new ≡ xored key.now 0 bytes.old }
 {
     for i in 0..bytes.len() {
         bytes[i] ^= key[i % 16];
     }
+}
+
+// The same of as many bytes as the key has, which a processor does at once.
+fn xor_block(bytes: &mut [u8], key: &[u8; 16])
+    requires { length bytes.old ≡ 16 }
+    ensures { bytes.new ≡ xored key.now 0 bytes.old }
+{
+    for i in 0..16 {
+        bytes[i] ^= key[i];
+    }
+}
+
+/// Xors each byte with a byte of the key, these in turn.
+pub(crate) fn xor_with(bytes: &mut [u8], key: &[u8; 16])
+    ensures { bytes.new ≡ xored key.now 0 bytes.old }
+{
+    let blocks = bytes.len() / 16;
+    for i in 0..blocks {
+        xor_block(&mut bytes[16 * i..16 * i + 16], key);
+    }
+    xor_few(&mut bytes[16 * blocks..], key);
 }
 
 // The sum of each byte times its place, the first having place `start` + 1.

@@ -1,6 +1,8 @@
 use crate::{ToyClient, ToyServer, ToySession, ToySettings};
 use qc_base::{ConnectionId, Side, TransportErrorCode, VarInt};
-use qc_crypto::{ClientConfig, ConnectError, PacketKey, ServerConfig, Session, SessionError, UnsupportedVersion};
+use qc_crypto::{
+    ClientConfig, ConnectError, PacketKey, ServerConfig, Session, SessionError, UnsupportedVersion,
+};
 use qc_params::TransportParameters;
 use std::alloc::Global;
 use std::default::Default;
@@ -142,7 +144,9 @@ fn refusals_retries_and_exports(rt: HostRuntime) -> Result<(), Fail> {
         (b"\x02\x00\x01\x00\x03\x00\x01\x02".as_slice(), 0x32),
     ] {
         let answer = session.read_handshake(bytes);
-        assert!(rt; matches!(answer, Err(SessionError::Transport(error)) if error.code == TransportErrorCode::crypto(alert)));
+        assert!(rt;
+            matches!(answer, Err(SessionError::Transport(error)) if error.code == TransportErrorCode::crypto(alert))
+        );
     }
     assert!(rt; session.transport_parameters()?.is_none());
 
@@ -150,10 +154,20 @@ fn refusals_retries_and_exports(rt: HostRuntime) -> Result<(), Fail> {
     let mut payload = Vec::from_slice(rt.alloc(), b"token")?;
     payload.extend_from_slice(&tag)?;
     assert!(rt; session.is_valid_retry(&id, b"\xf0\x00\x00\x00\x01", payload.as_slice()));
-    assert!(rt; !session.is_valid_retry(&ConnectionId::new(&[4; 8]), b"\xf0\x00\x00\x00\x01", payload.as_slice()));
+    assert!(rt;
+        !session.is_valid_retry(
+            &ConnectionId::new(&[4; 8]),
+            b"\xf0\x00\x00\x00\x01",
+            payload.as_slice()
+        )
+    );
 
     let mut material = [0; 7];
-    assert!(rt; session.export_keying_material(&mut material, b"\x02", b"\x01\x01").is_ok());
+    assert!(rt;
+        session
+            .export_keying_material(&mut material, b"\x02", b"\x01\x01")
+            .is_ok()
+    );
     assert_eq!(rt; material, [8, 9, 10, 11, 12, 13, 14]);
     let mut long = [0; 256];
     assert!(rt; session.export_keying_material(&mut long, &[], &[]).is_err());

@@ -17,16 +17,23 @@ fn a_packet_is_sealed_masked_and_opened(rt: HostRuntime) -> Result<(), Fail> {
     keys.keys(Side::Client, 0).local.encrypt(7, &mut packet, 2);
     let header = ToyHeaderKey::new([0; 5], Level::Data, Side::Client);
     header.encrypt(1, &mut packet);
-    let sealed = b"\x40\x5f\x01\x00\x00\x00\x58\xb0\x08\x60\xb8\x12\x68\xc0\x18\x70\xc8\x20\x78\xd0\x28\x80";
+    let sealed =
+        b"\x40\x5f\x01\x00\x00\x00\x58\xb0\x08\x60\xb8\x12\x68\xc0\x18\x70\xc8\x20\x78\xd0\x28\x80";
     assert_eq!(rt; packet, *sealed);
 
     header.decrypt(1, &mut packet);
     assert_eq!(rt; &packet[..2], b"\x40\x07".as_slice());
     let mate = keys.keys(Side::Server, 0).remote;
     let mut payload = BytesMut::copy_from_slice(rt.alloc(), &packet[2..])?;
-    assert_eq!(rt; mate.decrypt(8, &packet[..2], &mut payload), Err(CryptoError));
+    assert_eq!(rt;
+        mate.decrypt(8, &packet[..2], &mut payload),
+        Err(CryptoError)
+    );
     let other = keys.keys(Side::Server, 1).remote;
-    assert_eq!(rt; other.decrypt(7, &packet[..2], &mut payload), Err(CryptoError));
+    assert_eq!(rt;
+        other.decrypt(7, &packet[..2], &mut payload),
+        Err(CryptoError)
+    );
     assert_eq!(rt; mate.decrypt(7, &packet[..2], &mut payload), Ok(()));
     assert_eq!(rt; payload.as_slice(), [1, 0, 0, 0].as_slice());
     Ok(())
