@@ -27,3 +27,6 @@ pub use stream_id::StreamId;
 pub use time::{Duration, Instant, SystemTime};
 pub use transport_error::{TransportError, TransportErrorCode};
 pub use varint::{VarInt, VarIntBoundsExceeded, put_varint, varint_size};
+
+#[cfg(test)]
+mod tests;
