@@ -7,3 +7,6 @@ mod token_store;
 
 pub use announcement::announced;
 pub use token_store::{NoneTokenStore, TokenStore};
+
+#[cfg(test)]
+mod tests;
