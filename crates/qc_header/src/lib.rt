@@ -13,3 +13,6 @@ pub use finish::{InitialPacket, Packet};
 pub use header::{Header, InitialHeader};
 pub use partial_decode::PartialDecode;
 pub use protected::{PacketDecodeError, ProtectedHeader};
+
+#[cfg(test)]
+mod tests;
