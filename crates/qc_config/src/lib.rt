@@ -3,9 +3,11 @@
 #![tactic(auto)]
 
 mod announcement;
+mod stateless_reset;
 mod token_store;
 
 pub use announcement::announced;
+pub use stateless_reset::reset_token;
 pub use token_store::{NoneTokenStore, TokenStore};
 
 #[cfg(test)]
