@@ -13,4 +13,5 @@ pub use qc_base::{PacketNumber, VarInt, VarIntBoundsExceeded, put_varint, varint
 pub use qc_frame as frame;
 pub use qc_header::{Header, InitialHeader, InitialPacket, Packet, PartialEncode};
 pub use qc_header::{PacketDecodeError, PartialDecode, ProtectedHeader};
-pub use qc_params::{PreferredAddress, TransportParameters};
+pub use qc_params::{ParamError, PreferredAddress, TransportParameters};
+pub use qc_params::{entries_are_read, written_is_read};
