@@ -8,6 +8,7 @@ ghost use Rattle.std.specs.Prelude.{◌≡◌, ◌++◌, IfOk, OnOk};
 ghost use Rattle.std.specs.List.{flat_map};
 ghost use Rattle.qc_conn.specs.TraceText.{step_text, trace_text};
 
+mod digits;
 mod frames;
 mod pieces;
 mod steps;

@@ -8,7 +8,7 @@ ghost use Rattle.qc_frame.specs.declared.frames.FrameOf.TheVariants.{Padding};
 ghost use Rattle.hex.specs.Hex.{encode_lower};
 ghost use Rattle.qc_conn.specs.TraceText.{is_padding, padding_text, frame_text, padded_text, frames_text};
 
-use crate::text::pieces::put_hex;
+use crate::text::digits::put_hex;
 use itoa::Buffer;
 use qc_frame::{FrameList, FrameOf, OwnedFrame, put_frames as put_spelling};
 use std::alloc::AllocError;

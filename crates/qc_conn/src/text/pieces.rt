@@ -1,9 +1,9 @@
 //! Pieces of lines: words, numbers, bytes and addresses.
 
 ghost use Rattle.std.specs.Prelude.{◌≡◌, ◌++◌, decimal, OnOk};
-ghost use Rattle.hex.specs.Hex.{encode_lower};
 ghost use Rattle.qc_conn.specs.TraceText.{address_text, ip_text, number_or_dash};
 
+use crate::text::digits::put_hex;
 use itoa::Buffer;
 use std::alloc::AllocError;
 use std::net::{IpAddr, SocketAddr};
@@ -24,25 +24,6 @@ pub fn put_optional(out: &mut Vec<u8>, number: Option<u64>) -> Result<(), AllocE
     match number {
         Some(number) => put_number(out, number),
         None => out.extend_from_slice(b"-"),
-    }
-}
-
-/// Appends bytes in lower-case hex.
-pub fn put_hex(out: &mut Vec<u8>, bytes: &[u8]) -> Result<(), AllocError>
-    ensures { OnOk result (out.new.items ≡ out.old.items ++ encode_lower bytes.now) }
-{
-    let start = out.len();
-    let Some(end) = bytes
-        .len()
-        .checked_mul(2)
-        .and_then(|digits| digits.checked_add(start))
-    else {
-        return Err(AllocError);
-    };
-    out.resize(end, 0)?;
-    match hex::encode_to_slice(bytes, &mut out.as_mut_slice()[start..]) {
-        Ok(()) => Ok(()),
-        Err(_) => Err(AllocError),
     }
 }
 

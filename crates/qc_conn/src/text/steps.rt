@@ -4,8 +4,9 @@ ghost use Rattle.std.specs.Prelude.{◌≡◌, ◌++◌, codes, decimal, OnOk};
 ghost use Rattle.std.specs.List.{flat_map};
 ghost use Rattle.qc_conn.specs.TraceText.{answer_text, did_text, ecn_text, endpoint_text, epoch_text, event_text, marks_text, nothing_text, out_text, packet_text, quiet_name, reason_text, sealed_text, space_name, step_head, step_text, target_text, timer_text, word_name};
 
+use crate::text::digits::put_hex;
 use crate::text::frames::put_frames;
-use crate::text::pieces::{put_address, put_hex, put_number, put_optional};
+use crate::text::pieces::{put_address, put_number, put_optional};
 use qc_base::{EcnCodepoint, Instant, SpaceId};
 use qc_frame::FrameList;
 use qc_state::{Answer, ConnectionError, Did, EndpointEvent, Event, Quiet, Step, Word};
