@@ -15,6 +15,7 @@ pub use Rattle.qc_header.specs.HeaderReading
 pub use Rattle.qc_header.specs.HeaderSpelling
 pub use Rattle.qc_header.specs.Opened
 pub use Rattle.qc_header.specs.Piece
+pub use Rattle.qc_header.specs.ReadBack
 pub use Rattle.qc_params.specs.ParametersFit
 pub use Rattle.qc_params.specs.ParametersGrammar
 pub use Rattle.qc_params.specs.ParametersReading
