@@ -9,12 +9,10 @@ pub use qc_base::{
     mask_packet, put_mask, put_varint, sample, take_mask, unmask_packet, varint_size,
 };
 pub use qc_frame as frame;
-pub use qc_header::{Header, InitialHeader, InitialPacket, Packet, PartialEncode};
-pub use qc_header::{PacketDecodeError, PartialDecode, ProtectedHeader};
-pub use qc_params::{ParamError, PreferredAddress, TransportParameters};
-pub use qc_params::{entries_are_read, written_is_read};
 pub use qc_header::{
     Header, InitialHeader, InitialPacket, Packet, PacketDecodeError, PartialDecode, PartialEncode,
     ProtectedHeader,
 };
-pub use qc_params::{PreferredAddress, TransportParameters};
+pub use qc_params::{
+    ParamError, PreferredAddress, TransportParameters, entries_are_read, written_is_read,
+};
