@@ -1,10 +1,9 @@
 -- Lemmas on the toy's arithmetic.
-use Rattle.std.proofs.Common.{◌≡◌, ℕ, zero, suc, ◌+◌, ◌-◌, ◌*◌, ◌/◌, ◌%◌, ◌<◌, ◌≤◌, List, [], ◌∷◌, ◌++◌, length, take, drop, get_or, set, refl, ap, sym, ◌∙◌, arith, zero-add, length-append, append_assoc}
+use Rattle.std.proofs.Common.{◌≡◌, ℕ, zero, suc, ◌+◌, ◌-◌, ◌*◌, ◌/◌, ◌%◌, ◌<◌, ◌≤◌, List, [], ◌∷◌, ◌++◌, length, take, drop, get_or, set, refl, ap, sym, ◌∙◌, arith, zero-add, append_assoc}
 use Rattle.std.specs.Prelude.{bit_xor, if◌then◌else◌, ◌==◌}
 use Rattle.std.proofs.lemmas.List.{take_more, drop_more, set_at, get_or_at, length-take-le, take_at, drop_at, drop-drop, take_all, drop_all, append-nil}
 use Rattle.std.proofs.Math.Seq.{take-add}
 use borrow.Rule.Slice.PartMut.{put_mid}
-use Rattle.std.proofs.lemmas.Grind.{common_steps}
 use Rattle.qc_toy.specs.Cipher.{xored, weight, checksum, tabulated}
 use Rattle.qc_toy.specs.CipherLaws.{length-xored, length-tabulated}
 use Rattle.qc_toy.specs.KeyBytes.{sum_of_fifths}

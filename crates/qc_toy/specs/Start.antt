@@ -1,5 +1,5 @@
 -- How the toy's sessions start.
-use Rattle.std.specs.Prelude.{ℕ, ◌-◌, ◌<◌, nat_le, List, [], ◌++◌, Bool, true, false, cond, Option, None, Some, IsSome, length, ◌≡◌, refl}
+use Rattle.std.specs.Prelude.{ℕ, ◌-◌, nat_le, List, [], ◌++◌, Bool, true, false, cond, None, Some, IsSome, length, ◌≡◌, refl}
 use Rattle.std.proofs.Common.{sym}
 use Rattle.qc_base.specs.declared.side.Side.{Side}
 use Rattle.qc_base.specs.declared.side.Side.TheVariants.{Client, Server}
@@ -15,7 +15,6 @@ use Rattle.qc_toy.specs.Messages.{first_message}
 use Rattle.qc_toy.specs.MessageLaws.{message_begins}
 use Rattle.qc_toy.specs.Handshake.{session_due, session_writes, session_write_keys, session_after_write, session_parameters, early_keys, before_server_end, changes_of, keys_of_id, retry_tag, fits_retry}
 use Rattle.std.proofs.Common.{arith, length-append}
-use Rattle.std.specs.Str.{bytes_eq}
 use Rattle.std.proofs.lemmas.List.{take_at, drop_at}
 use Rattle.std.proofs.lemmas.Slice.Eq.{bytes_eq-Decides}
 use Rattle.qc_crypto.specs.Mates.{AreMates}

@@ -1,4 +1,4 @@
-use Rattle.std.proofs.Common.{◌≡◌, ◌<◌, ◌%◌, refl, take, arith}
+use Rattle.std.proofs.Common.{◌≡◌, ◌%◌, refl, take, arith}
 use Rattle.qc_toy.specs.Cipher.{xored}
 use Rattle.qc_toy.proofs.CipherLemmas.{xored_step}
 use Rattle.qc_toy.proofs.cipher.xor_block.Goals as goal

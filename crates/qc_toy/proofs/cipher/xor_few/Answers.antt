@@ -1,4 +1,4 @@
-use Rattle.std.proofs.Common.{refl, rules}
+use Rattle.std.proofs.Common.{refl}
 use Rattle.std.proofs.Common.{take}
 use Rattle.qc_toy.specs.Cipher.{xored}
 use Rattle.qc_toy.proofs.CipherLemmas.{xored_step}

@@ -1,4 +1,4 @@
-use Rattle.std.proofs.Common.{ℕ, ◌<◌, get_or, replicate, arith}
+use Rattle.std.proofs.Common.{ℕ, get_or, replicate, arith}
 use Rattle.std.specs.Prelude.{bit_xor}
 use Rattle.qc_toy.proofs.CipherLemmas.{tabulated_step}
 use Rattle.qc_toy.proofs.token_keys.bytes_of_token_key.Goals as goal
