@@ -1,5 +1,8 @@
+pub mod AddedRanges
 pub mod Differences
+pub mod MaskLaws
 pub mod Masks
+pub mod RangeLaws
 pub mod Windows
 pub mod Front
 pub mod Exact

@@ -3,7 +3,9 @@ pub mod Ecn
 pub mod Grammar
 pub mod Mask
 pub mod PacketNumber
+pub mod RangeSet
 pub mod Reading
+pub mod ResetToken
 pub mod StreamId
 pub mod Time
 pub mod TransportErrorCode

@@ -12,7 +12,7 @@ pub fn eq(a: &[u8], b: &[u8]) -> bool
     }
     let mut different = 0u8;
     for i in 0..a.len() {
-        different |= a[i].wrapping_sub(b[i]);
+        different |= a[i] ^ b[i];
     }
     different == 0
 }

@@ -1,13 +1,15 @@
 //! Connection ids (RFC 9000, section 5.1) and stateless reset tokens (section 10.3).
 
-ghost use Rattle.std.specs.Prelude.{◌≡◌, ◌≤◌, ◌==◌, length, nat_eq};
+ghost use Rattle.std.specs.Prelude.{◌≡◌, ◌≤◌, ◌==◌, length, nat_eq, Some};
 ghost use Rattle.std.specs.Cmp.Lexicographic.{pointwise, nat_list_eq_equiv};
 ghost use Rattle.std.specs.Cmp.{partial_equiv_from_equiv};
 ghost use Rattle.std.specs.Cmp.Rules.{hashing};
 ghost use Rattle.std.specs.Hash as fed;
 ghost use Rattle.std.proofs.Common.{rules};
+ghost use Rattle.qc_base.specs.ResetToken.{byte_text, token_text};
 
 use crate::constant_time;
+use std::fmt;
 use std::hash::{Hash, Hasher};
 use std::marker::Model;
 use std::ops::Deref;
@@ -129,6 +131,32 @@ impl Hash for ResetToken {
 
     fn hash<H: Hasher>(&self, state: &mut H) {
         self.0.as_slice().hash(state);
+    }
+}
+
+/// A byte that is printed as two lower hexadecimal digits.
+#[derive(Drop)]
+struct HexByte(u8);
+
+impl fmt::Display for HexByte {
+    ghost output = { λ byte. Some (byte_text byte.0) };
+
+    #[tactic(auto, using(std::proofs::lemmas::Fmt::hex_byte))]
+    fn fmt<W: fmt::Write>(&self, f: &mut fmt::Formatter<W>) -> fmt::Result {
+        let byte = self.0;
+        write!(f, "{byte:02x}")
+    }
+}
+
+impl fmt::Display for ResetToken {
+    ghost output = { λ token. Some (token_text token) };
+
+    fn fmt<W: fmt::Write>(&self, f: &mut fmt::Formatter<W>) -> fmt::Result {
+        for byte in &self.0 {
+            let byte = HexByte(*byte);
+            write!(f, "{byte}")?;
+        }
+        Ok(())
     }
 }
 

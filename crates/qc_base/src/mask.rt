@@ -89,3 +89,11 @@ pub fn unmask_packet<H: HeaderMask>(key: &H, pn_offset: usize, packet: &mut [u8]
     let mask = key.mask(sample(packet, pn_offset));
     take_mask(packet, pn_offset, &mask);
 }
+
+/// The mask that was put over a packet comes off again: its sample is not masked, and the first byte
+/// tells the number's length once it is unmasked. (This does nothing; its clause is the law.)
+pub fn mask_comes_off()
+    ensures { (mask_of : List ℕ → List ℕ) (place : ℕ) (packet : List ℕ)
+        → 1 ≤ place → place ≤ length packet
+        → unmasked mask_of place (masked mask_of place packet) ≡ packet }
+{}

@@ -3,7 +3,12 @@
 #![tactic(auto)]
 
 mod announcement;
+mod stateless_reset;
 mod token_store;
 
 pub use announcement::announced;
+pub use stateless_reset::reset_token;
 pub use token_store::{NoneTokenStore, TokenStore};
+
+#[cfg(test)]
+mod tests;

@@ -1,9 +1,10 @@
-//! A connection, and `drive`, which hands it inputs one after another and keeps the trace.
+//! A connection; `drive`, which hands it inputs one after another and keeps the trace; and the text of a trace.
 #![tactic(auto)]
 
 mod connection;
 mod driving;
 mod steps;
+pub mod text;
 
 pub use connection::Connection;
 pub use driving::{DriveError, DriveKind, drive};

@@ -40,3 +40,9 @@ pub record AreHeaderMates {H : Type 0} (mask : H → List ℕ → List ℕ) (one
 pub record AreMates {H P : Type 0} (mask : H → List ℕ → List ℕ) (seal : P → Sealing) (opening : P → Opening) (one other : Keys H P) : Type 0 where
   pub header : AreHeaderMates mask one.header other.header
   pub packet : ArePacketMates seal opening one.packet other.packet
+
+-- The early keys of two ends, each a header key and a packet key, are mates if the one end opens what
+-- the other seals, and masks alike.
+pub record AreEarlyMates {H P : Type 0} (mask : H → List ℕ → List ℕ) (seal : P → Sealing) (opening : P → Opening) (one other : H × P) : Type 0 where
+  pub header : (sample : List ℕ) → mask one.0 sample ≡ mask other.0 sample
+  pub packet : OpensItsPackets (seal one.1) (opening other.1)

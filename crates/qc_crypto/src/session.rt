@@ -9,7 +9,7 @@ ghost use Rattle.qc_params.specs.declared.params.TransportParameters.{TransportP
 ghost use Rattle.qc_params.specs.ParametersReading.{is_legal};
 ghost use Rattle.qc_crypto.specs.declared.keys.Keys.{Keys};
 ghost use Rattle.qc_crypto.specs.declared.keys.KeyPair.{KeyPair};
-ghost use Rattle.qc_crypto.specs.Mates.{AreMates, ArePacketMates, ArePacketsApart};
+ghost use Rattle.qc_crypto.specs.Mates.{AreEarlyMates, AreMates, ArePacketMates, ArePacketsApart};
 ghost use Rattle.qc_crypto.specs.Refusal.{AnswersError, IsSendable};
 ghost use Rattle.qc_crypto.specs.SessionCall.{SessionCall, after_call, keys_given, space_of_change, HasSameKeys};
 
@@ -258,6 +258,8 @@ pub trait Session: Drop {
     ghost initial_mates: { (s : Self) (id : List ℕ) → AreMates Self.HeaderKey.mask_of Self.PacketKey.seal Self.PacketKey.opening (initial s id Side.Client) (initial s id Side.Server) };
 
     ghost space_mates: { (client server : Self) (space : SpaceId) → are_paired client server → AreMates Self.HeaderKey.mask_of Self.PacketKey.seal Self.PacketKey.opening (space_keys client space) (space_keys server space) };
+
+    ghost early_mates: { (client server : Self) (one other : Self.HeaderKey × Self.PacketKey) → are_paired client server → early client ≡ Some one → early server ≡ Some other → AreEarlyMates Self.HeaderKey.mask_of Self.PacketKey.seal Self.PacketKey.opening one other };
 
     ghost epoch_mates: { (client server : Self) (epoch : ℕ) → are_paired client server → ArePacketMates Self.PacketKey.seal Self.PacketKey.opening (epoch_keys client epoch) (epoch_keys server epoch) };
 

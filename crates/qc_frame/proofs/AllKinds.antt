@@ -1,12 +1,9 @@
 -- All kinds of frames: what is read is what the grammar says
-use Rattle.std.proofs.Common.{◌≡◌, ℕ, zero, suc, ◌+◌, ◌*◌, ◌/◌, ◌%◌, ◌<◌, ◌≤◌, Bool, true, false, ◌&&◌, nat_le, ◌==◌, List, [], ◌∷◌, Option, None, Some, Result, Ok, Err, cond, refl, sym, ap, ◌∙◌, subst, arith}
+use Rattle.std.proofs.Common.{◌≡◌, ℕ, zero, suc, ◌/◌, ◌%◌, ◌<◌, ◌≤◌, Bool, true, false, ◌&&◌, nat_le, ◌==◌, List, [], ◌∷◌, Ok, cond, refl, subst, arith}
 use Rattle.std.proofs.lemmas.Bool.Decides.{nat_tests}
-use Rattle.qc_base.specs.StreamId.{dir_bit}
-use Rattle.qc_base.specs.Grammar.{IsBytes, Varint}
-use Rattle.qc_base.specs.Reading.{varint_of, give}
-use Rattle.qc_base.specs.declared.side.Dir.{Dir}
+use Rattle.qc_base.specs.Grammar.{IsBytes}
 use Rattle.qc_base.specs.declared.side.Dir.TheVariants.{Bi, Uni}
-use Rattle.qc_base.proofs.Exact.{Exact, Ends, exact_give}
+use Rattle.qc_base.proofs.Exact.{Ends, exact_give}
 use Rattle.qc_frame.specs.Frame.{FrameValue}
 use Rattle.qc_frame.specs.FrameReading.{Row, pick, rows, fields_at}
 use Rattle.qc_frame.specs.FrameSpelling.{bit, stream_type}

@@ -1,19 +1,15 @@
 -- Each kind of frame: what is read is what its grammar says
-use Rattle.std.proofs.Common.{◌≡◌, ℕ, zero, suc, ◌+◌, ◌-◌, ◌<◌, ◌≤◌, Bool, true, false, ◌||◌, nat_lt, ◌==◌, List, Option, None, Some, refl, arith}
+use Rattle.std.proofs.Common.{ℕ, zero, suc, ◌+◌, ◌-◌, ◌<◌, ◌≤◌, Bool, true, false, ◌||◌, nat_lt, ◌==◌, None, Some, arith}
 use Rattle.std.specs.Int.{w64}
 use Rattle.std.proofs.lemmas.Bool.Decides.{nat_tests}
-use Rattle.qc_base.specs.StreamId.{dir_bit}
 use Rattle.qc_base.specs.Grammar.{Varint, Blob, Bytes, Byte, Word}
-use Rattle.qc_base.specs.Reading.{byte_of, bytes_of, blob_of, varint_of, word_of, or_fault}
 use Rattle.qc_base.specs.declared.side.Dir.{Dir}
 use Rattle.qc_base.proofs.Exact.{Exact, Tests, exact_or, exact_then, exact_give, exact_where, exact_text, exact_rest, found_byte, found_bytes}
 use Rattle.qc_base.proofs.Varints.{found_varint, found_blob}
 use Rattle.qc_base.proofs.Words.{found_word, word_64}
-use Rattle.qc_frame.specs.Frame.{FrameValue}
 use Rattle.qc_frame.specs.FrameReading as reading
 use Rattle.qc_frame.specs.FrameReading.{number_at, byte_at, bytes_at, blob_at, word_at, type_given}
 use Rattle.qc_frame.specs.FrameGrammar as grammar
-use Rattle.qc_frame.specs.declared.frames.EcnCounts.{EcnCounts}
 use Rattle.qc_frame.specs.declared.frames.FrameOf.TheVariants as frames
 use Rattle.qc_frame.specs.declared.fault.FrameFault.TheVariants.{UnexpectedEnd, Malformed}
 

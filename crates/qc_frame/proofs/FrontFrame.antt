@@ -1,5 +1,5 @@
 -- The frame at the front of bytes
-use Rattle.std.proofs.Common.{◌≡◌, ℕ, ◌+◌, ◌<◌, List, [], ◌∷◌, ◌++◌, length, Option, None, Some, MatchOption, IfOk, IfErr, IsOkAnd, Result, Ok, Err, refl, ap, ◌∙◌, subst, arith}
+use Rattle.std.proofs.Common.{◌≡◌, ℕ, ◌<◌, List, length, Option, None, Some, MatchOption, IfOk, IfErr, IsOkAnd, Result, Ok, Err, refl, ap, ◌∙◌, subst, arith}
 use Rattle.qc_base.specs.Reading.{Gives, varint_of}
 use Rattle.qc_base.specs.Grammar.{IsBytes, Varint}
 use Rattle.qc_base.proofs.Exact.{Ends, ends_both, ends_bytes, ends_length, same_value, same_rest}

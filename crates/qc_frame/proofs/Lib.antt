@@ -7,3 +7,7 @@ pub mod AllKinds
 pub mod FrontFrame
 pub mod Items
 pub mod Payloads
+pub mod Lengths
+pub mod ReadBack
+pub mod ReadFits
+pub mod WrittenPayload

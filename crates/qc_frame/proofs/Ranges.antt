@@ -1,5 +1,5 @@
 -- The ranges of an ACK, one by one
-use Rattle.std.proofs.Common.{◌≡◌, ℕ, ◌+◌, ◌-◌, ◌<◌, ◌≤◌, List, Result, Ok, Err, refl, arith, zero, suc, nat_lt}
+use Rattle.std.proofs.Common.{◌≡◌, ℕ, ◌+◌, ◌-◌, ◌<◌, ◌≤◌, List, Ok, refl, arith, suc, nat_lt}
 use Rattle.qc_base.specs.Reading.{◌>>=◌, refuse}
 use Rattle.qc_frame.specs.FrameReading.{more_ranges_at, number_at}
 use Rattle.qc_frame.specs.declared.fault.FrameFault.TheVariants.{Malformed}

@@ -3,3 +3,5 @@ pub mod FrameGrammar
 pub mod FrameReading
 pub mod FrameSpelling
 pub mod Payload
+pub mod Sizes
+pub mod FrameFits

@@ -1,12 +1,13 @@
 //! The frames of a payload (RFC 9000, section 12.4).
 
-ghost use Rattle.std.specs.Prelude.{◌≡◌, ℕ, ◌↔◌, List, length, IfOk, IfErr, IsErr, IsOkAnd};
+ghost use Rattle.std.specs.Prelude.{◌≡◌, ℕ, ◌↔◌, List, length, map, IfOk, IfErr, IsErr, IsOkAnd};
 ghost use Rattle.std.specs.Iterator.{YieldsFirstBy, item_count};
+ghost use Rattle.std.specs.Result.{result_ok};
 ghost use Rattle.qc_base.specs.Reading.{Gives};
 ghost use Rattle.qc_frame.specs.Frame.{FrameValue, borrowed};
 ghost use Rattle.qc_frame.specs.FrameGrammar.{FrameAt, NoFrameAt, Payload};
 ghost use Rattle.qc_frame.specs.FrameReading.{frame_at};
-ghost use Rattle.qc_frame.specs.Payload.{item_view, items_of};
+ghost use Rattle.qc_frame.specs.Payload.{Item, item_view, items_of};
 
 use crate::fault::InvalidFrame;
 use crate::frames::Frame;
@@ -37,6 +38,7 @@ impl<'a> Iter<'a> {
         ensures empty { IsErr result ↔ (length payload.now ≡ 0) }
         ensures error { IfErr result (λ e. (e.code ≡ 10) × (e.frame ≡ None)) }
         ensures grammar { Payload (items_of payload.now) payload.now }
+        ensures only { (items : List Item) → Payload items payload.now → map result_ok items ≡ map result_ok (items_of payload.now) }
     {
         if payload.is_empty() {
             return Err(TransportError {

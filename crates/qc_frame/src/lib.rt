@@ -5,13 +5,23 @@ mod eliciting;
 mod fault;
 mod frames;
 mod iter;
+mod laws;
 mod list;
 mod names;
 mod read;
+mod size;
 mod write;
 
 pub use fault::{FrameFault, InvalidFrame};
 pub use frames::{Ack, AckOf, EcnCounts, Frame, FrameOf, NewConnectionId, OwnedFrame};
 pub use iter::{Iter, first_frame};
+pub use laws::written_is_read;
 pub use list::{FrameList, put_frames};
+pub use size::{
+    CONNECTION_CLOSE_HEAD_MAX, CRYPTO_HEAD_MAX, DATAGRAM_HEAD_MAX, NEW_CONNECTION_ID_MAX,
+    RETIRE_CONNECTION_ID_MAX, fit_application_reason, fit_close_reason, greatest_sizes,
+};
 pub use write::{put_frame, put_last_frame};
+
+#[cfg(test)]
+mod tests;

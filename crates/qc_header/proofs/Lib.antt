@@ -1,1 +1,4 @@
 pub mod Cuts
+pub mod ReadHeaders
+pub mod WrittenHeaders
+pub mod WrittenNumbered

@@ -2,3 +2,4 @@ pub mod HeaderReading
 pub mod HeaderSpelling
 pub mod Opened
 pub mod Piece
+pub mod ReadBack

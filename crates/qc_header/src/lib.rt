@@ -7,9 +7,14 @@ mod header;
 mod partial_decode;
 mod protected;
 mod read;
+mod read_back;
 
 pub use encode::PartialEncode;
 pub use finish::{InitialPacket, Packet};
 pub use header::{Header, InitialHeader};
 pub use partial_decode::PartialDecode;
 pub use protected::{PacketDecodeError, ProtectedHeader};
+pub use read_back::{initial_is_read, long_is_read, short_is_read};
+
+#[cfg(test)]
+mod tests;

@@ -8,7 +8,7 @@ use Rattle.qc_base.specs.declared.side.Side.{Side}
 use Rattle.qc_base.proofs.Varints.{varint_spelled}
 use Rattle.qc_params.specs.declared.params.TransportParameters.{TransportParameters}
 use Rattle.qc_params.specs.declared.params.PreferredAddress.{PreferredAddress}
-use Rattle.qc_params.specs.ParametersFit.{IsVarint, Each, IsId, IsToken, AddressFits, Fits}
+use Rattle.qc_params.specs.ParametersFit.{IsVarint, Each, IsId, IsToken, AddressFits, Fits, ReadsBack}
 use Rattle.qc_params.specs.ParametersGrammar.{AnEntry, Entries}
 use Rattle.qc_params.specs.ParametersSpelling.{default_parameters, Row, parameter, number_text, flag_text, row_text, rows_text, first_rows, limit_rows, middle_rows, last_rows, address_bytes, parameters_spelling}
 use Rattle.qc_params.specs.ParametersReading.{Entry, values_of, only_one, value_in, number_in, first_of, limits_of, middle_of, parameters_of, is_legal, parameters_read}
@@ -263,6 +263,9 @@ all_back p h =
     ) refl
 
 -- parameters that may be sent, and whose values fit, are read as what was written
-pub written_back : (side : Side) (p : TransportParameters) → Fits p → is_legal side p ≡ true → parameters_read side (parameters_spelling p) ≡ Ok p
+written_back : (side : Side) (p : TransportParameters) → Fits p → is_legal side p ≡ true → parameters_read side (parameters_spelling p) ≡ Ok p
 unfolding parameters_read parameters_spelling
 written_back side p h legal = rw (all_back p h, legal) refl
+
+pub reads_back : (p : TransportParameters) → Fits p → ReadsBack p
+reads_back p h = record { reads = λ side legal. written_back side p h legal }

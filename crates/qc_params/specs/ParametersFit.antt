@@ -64,6 +64,9 @@ pub record Fits (p : TransportParameters) : Type 0 where
   pub middle : MiddleFit p
   pub last : LastFit p
 
--- parameters that the writer may send, and whose values fit, are read as what was written
+-- a side that may be sent the parameters reads what was written as them
+pub record ReadsBack (p : TransportParameters) : Type 0 where
+  pub reads : (side : Side) → is_legal side p ≡ true → parameters_read side (parameters_spelling p) ≡ Ok p
+
 abbrev pub WrittenIsRead : Type 0
-WrittenIsRead = (side : Side) (p : TransportParameters) → Fits p → is_legal side p ≡ true → parameters_read side (parameters_spelling p) ≡ Ok p
+WrittenIsRead = (p : TransportParameters) → Fits p → ReadsBack p

@@ -4,8 +4,9 @@ ghost use Rattle.qc_params.specs.ParametersFit.{WrittenIsRead};
 ghost use Rattle.qc_params.specs.ParametersGrammar.{EntriesAreRead};
 
 /// What [`crate::TransportParameters::write`] appends is read as the parameters that were written, by
-/// each side that may be sent them; whatever was read from bytes before fits.
-#[tactic(auto, using(crate::proofs::RoundTrip::written_back))]
+/// each side that may be sent them, where the values fit their types. What was read from bytes does,
+/// and so does what was written.
+#[tactic(auto, using(crate::proofs::RoundTrip::reads_back))]
 pub fn written_is_read()
     ensures { WrittenIsRead }
 {}

@@ -1,8 +1,9 @@
 ghost use Rattle.std.specs.Prelude.{◌≡◌, ◌++◌, ◌<◌, ◌≤◌, ◌^◌, [], OnOk, OnErr, length, take};
 ghost use Rattle.std.specs.Option.{option_map};
-ghost use Rattle.std.specs.Net.Addr.{ipv4_octets, ipv6_octets};
+ghost use Rattle.std.specs.Net.Addr.{ipv4_octets, ipv6_segments};
 ghost use Rattle.qc_base.specs.Varint.{varint};
 ghost use Rattle.qc_params.specs.ParametersSpelling.{parameter, number_text, flag_text, row_text, rows_text, address_bytes, parameters_spelling};
+ghost use Rattle.qc_params.specs.ParametersFit.{IsVarint, IsId, IsToken, AddressFits, Each, FirstFit, LimitsFit, MiddleFit, LastFit, Fits, ReadsBack};
 
 use crate::params;
 use crate::params::{PreferredAddress, TransportParameters};
@@ -40,6 +41,7 @@ fn put_varint_value(buf: &mut Vec<u8>, id: u64, n: u64) -> Result<(), AllocError
 fn put_number(buf: &mut Vec<u8>, id: u64, default: u64, value: VarInt) -> Result<(), AllocError>
     ensures ok { OnOk result (buf.new.items ≡ buf.old.items ++ row_text id (number_text default value)) }
     ensures kept { take (length buf.old.items) buf.new.items ≡ buf.old.items }
+    ensures fits { IsVarint value }
 {
     let n = value.into_inner();
     if n == default {
@@ -52,6 +54,7 @@ fn put_number(buf: &mut Vec<u8>, id: u64, default: u64, value: VarInt) -> Result
 fn put_maybe(buf: &mut Vec<u8>, id: u64, value: Option<VarInt>) -> Result<(), AllocError>
     ensures ok { OnOk result (buf.new.items ≡ buf.old.items ++ row_text id (option_map varint value)) }
     ensures kept { take (length buf.old.items) buf.new.items ≡ buf.old.items }
+    ensures fits { Each IsVarint value }
 {
     match value {
         Some(n) => put_varint_value(buf, id, n.into_inner()),
@@ -74,6 +77,7 @@ fn put_flag(buf: &mut Vec<u8>, id: u64, value: bool) -> Result<(), AllocError>
 fn put_id(buf: &mut Vec<u8>, id: u64, value: &Option<ConnectionId>) -> Result<(), AllocError>
     ensures ok { OnOk result (buf.new.items ≡ buf.old.items ++ row_text id value.now) }
     ensures kept { take (length buf.old.items) buf.new.items ≡ buf.old.items }
+    ensures fits { Each IsId value.now }
 {
     match value {
         Some(cid) => put_bytes(buf, id, cid.as_slice()),
@@ -85,6 +89,7 @@ fn put_id(buf: &mut Vec<u8>, id: u64, value: &Option<ConnectionId>) -> Result<()
 fn put_token(buf: &mut Vec<u8>, id: u64, value: &Option<ResetToken>) -> Result<(), AllocError>
     ensures ok { OnOk result (buf.new.items ≡ buf.old.items ++ row_text id value.now) }
     ensures kept { take (length buf.old.items) buf.new.items ≡ buf.old.items }
+    ensures fits { Each IsToken value.now }
 {
     match value {
         Some(token) => put_bytes(buf, id, &**token),
@@ -96,6 +101,8 @@ fn put_token(buf: &mut Vec<u8>, id: u64, value: &Option<ResetToken>) -> Result<(
 fn put_address_bytes(buf: &mut Vec<u8>, address: &PreferredAddress) -> Result<(), AllocError>
     ensures ok { OnOk result (buf.new.items ≡ buf.old.items ++ address_bytes address.now) }
     ensures kept { take (length buf.old.items) buf.new.items ≡ buf.old.items }
+    ensures port_v4 { OnOk result (address.now.port_v4 < 65536) }
+    ensures port_v6 { OnOk result (address.now.port_v6 < 65536) }
 {
     buf.extend_from_slice(&address.ipv4.octets())?;
     buf.extend_from_slice(&address.port_v4.to_be_bytes())?;
@@ -107,9 +114,13 @@ fn put_address_bytes(buf: &mut Vec<u8>, address: &PreferredAddress) -> Result<()
     buf.extend_from_slice(&*address.reset_token)
 }
 
-#[tactic(auto, using(crate::proofs::AddressLength::address_length))]
+#[tactic(auto, using(crate::proofs::AddressLength::address_length, crate::proofs::ValuesBack::length_octets))]
 fn address_len(address: &PreferredAddress) -> usize
-    ensures { result ≡ length (address_bytes address.now) }
+    ensures value { result ≡ length (address_bytes address.now) }
+    ensures ipv4 { length (ipv4_octets address.now.ipv4) ≡ 4 }
+    ensures ipv6 { length (ipv6_segments address.now.ipv6) ≡ 8 }
+    ensures id { IsId address.now.id }
+    ensures reset_token { IsToken address.now.reset_token }
 {
     let ipv4: &[u8] = &address.ipv4.octets();
     let ipv6: &[u8] = &address.ipv6.octets();
@@ -125,6 +136,7 @@ fn put_address(
 ) -> Result<(), AllocError>
     ensures ok { OnOk result (buf.new.items ≡ buf.old.items ++ row_text id (option_map address_bytes value.now)) }
     ensures kept { take (length buf.old.items) buf.new.items ≡ buf.old.items }
+    ensures fits { OnOk result (Each AddressFits value.now) }
 {
     match value {
         Some(address) => {
@@ -139,14 +151,18 @@ impl TransportParameters {
     ghost use Rattle.qc_params.specs.ParametersSpelling.{first_rows, limit_rows, middle_rows, last_rows};
 
     /// Appends the parameters: those that differ from their defaults, by ascending ids, each as its
-    /// id, the length of its value and the value (RFC 9000, section 18).
+    /// id, the length of its value and the value (RFC 9000, section 18). A side that may be sent the
+    /// parameters reads them back.
     ///
     /// # Errors
     ///
     /// `AllocError` for want of memory; `buf` is then as it was.
+    #[tactic(auto, using(crate::proofs::RoundTrip::reads_back))]
     pub fn write(&self, buf: &mut Vec<u8>) -> Result<(), AllocError>
         ensures ok { OnOk result (buf.new.items ≡ buf.old.items ++ parameters_spelling self.now) }
         ensures err { OnErr result (buf.new.items ≡ buf.old.items) }
+        ensures fits { OnOk result (Fits self.now) }
+        ensures reads_back { OnOk result (ReadsBack self.now) }
     {
         let start = buf.len();
         match self.put_rows(buf) {
@@ -162,6 +178,7 @@ impl TransportParameters {
     fn put_rows(&self, buf: &mut Vec<u8>) -> Result<(), AllocError>
         ensures ok { OnOk result (buf.new.items ≡ buf.old.items ++ parameters_spelling self.now) }
         ensures kept { take (length buf.old.items) buf.new.items ≡ buf.old.items }
+        ensures fits { OnOk result (Fits self.now) }
     {
         self.put_first_rows(buf)?;
         self.put_limit_rows(buf)?;
@@ -173,6 +190,7 @@ impl TransportParameters {
     fn put_first_rows(&self, buf: &mut Vec<u8>) -> Result<(), AllocError>
         ensures ok { OnOk result (buf.new.items ≡ buf.old.items ++ rows_text (first_rows self.now)) }
         ensures kept { take (length buf.old.items) buf.new.items ≡ buf.old.items }
+        ensures fits { OnOk result (FirstFit self.now) }
     {
         put_id(buf, params::ORIGINAL_DST_CID, &self.original_dst_cid)?;
         put_number(buf, params::MAX_IDLE_TIMEOUT, 0, self.max_idle_timeout)?;
@@ -193,6 +211,7 @@ impl TransportParameters {
     fn put_limit_rows(&self, buf: &mut Vec<u8>) -> Result<(), AllocError>
         ensures ok { OnOk result (buf.new.items ≡ buf.old.items ++ rows_text (limit_rows self.now)) }
         ensures kept { take (length buf.old.items) buf.new.items ≡ buf.old.items }
+        ensures fits { OnOk result (LimitsFit self.now) }
     {
         put_number(buf, params::INITIAL_MAX_DATA, 0, self.initial_max_data)?;
         put_number(
@@ -231,6 +250,7 @@ impl TransportParameters {
     fn put_middle_rows(&self, buf: &mut Vec<u8>) -> Result<(), AllocError>
         ensures ok { OnOk result (buf.new.items ≡ buf.old.items ++ rows_text (middle_rows self.now)) }
         ensures kept { take (length buf.old.items) buf.new.items ≡ buf.old.items }
+        ensures fits { OnOk result (MiddleFit self.now) }
     {
         put_number(buf, params::ACK_DELAY_EXPONENT, 3, self.ack_delay_exponent)?;
         put_number(buf, params::MAX_ACK_DELAY, 25, self.max_ack_delay)?;
@@ -252,6 +272,7 @@ impl TransportParameters {
     fn put_last_rows(&self, buf: &mut Vec<u8>) -> Result<(), AllocError>
         ensures ok { OnOk result (buf.new.items ≡ buf.old.items ++ rows_text (last_rows self.now)) }
         ensures kept { take (length buf.old.items) buf.new.items ≡ buf.old.items }
+        ensures fits { OnOk result (LastFit self.now) }
     {
         put_id(buf, params::INITIAL_SRC_CID, &self.initial_src_cid)?;
         put_id(buf, params::RETRY_SRC_CID, &self.retry_src_cid)?;

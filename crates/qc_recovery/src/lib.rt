@@ -9,3 +9,6 @@ mod transport_config;
 pub use idle_timeout::IdleTimeout;
 pub use mtu_config::MtuDiscoveryConfig;
 pub use transport_config::TransportConfig;
+
+#[cfg(test)]
+mod tests;

@@ -1,8 +1,9 @@
 -- Lemmas on the toy's arithmetic.
-use Rattle.std.proofs.Common.{◌≡◌, ℕ, zero, suc, ◌+◌, ◌-◌, ◌*◌, ◌/◌, ◌%◌, ◌<◌, ◌≤◌, List, [], ◌∷◌, ◌++◌, length, take, drop, get_or, set, refl, ap, sym, ◌∙◌, arith, zero-add, length-append, append_assoc}
+use Rattle.std.proofs.Common.{◌≡◌, ℕ, zero, suc, ◌+◌, ◌-◌, ◌*◌, ◌/◌, ◌%◌, ◌<◌, ◌≤◌, List, [], ◌∷◌, ◌++◌, length, take, drop, get_or, set, refl, ap, sym, ◌∙◌, arith, zero-add, append_assoc}
 use Rattle.std.specs.Prelude.{bit_xor, if◌then◌else◌, ◌==◌}
-use Rattle.std.proofs.lemmas.List.{take_more, drop_more, set_at, get_or_at, length-take-le}
-use Rattle.std.proofs.lemmas.Grind.{common_steps}
+use Rattle.std.proofs.lemmas.List.{take_more, drop_more, set_at, get_or_at, length-take-le, take_at, drop_at, drop-drop, take_all, drop_all, append-nil}
+use Rattle.std.proofs.Math.Seq.{take-add}
+use borrow.Rule.Slice.PartMut.{put_mid}
 use Rattle.qc_toy.specs.Cipher.{xored, weight, checksum, tabulated}
 use Rattle.qc_toy.specs.CipherLaws.{length-xored, length-tabulated}
 use Rattle.qc_toy.specs.KeyBytes.{sum_of_fifths}
@@ -79,3 +80,46 @@ checksum_parts id header token =
 -- a byte of exported material as its sum wraps
 pub export_sum : (a b c : ℕ) → ((a + b) % 256 + c % 256) % 256 ≡ (a + b + c) % 256
 export_sum a b c = omega arith
+
+-- the key's bytes come again after 16
+pub xored_again : (key : List ℕ) (at : ℕ) (xs : List ℕ) → xored key (at + 16) xs ≡ xored key at xs
+xored_again key at [] = refl
+xored_again key at (x ∷ xs) =
+    let same : (at + 16) % 16 ≡ at % 16 = omega arith in
+    let next : at + 16 + 1 ≡ at + 1 + 16 = omega arith in
+    rw (same, next, xored_again key (at + 1) xs) refl
+
+pub xored_at_block : (key : List ℕ) (i : ℕ) (xs : List ℕ) → xored key (16 * i) xs ≡ xored key 0 xs
+xored_at_block key zero xs = refl
+xored_at_block key (suc i) xs =
+    let next : 16 * suc i ≡ 16 * i + 16 = omega arith in
+    rw next (xored_again key (16 * i) xs ∙ xored_at_block key i xs)
+
+-- a part xored in place, which begins where the key does
+pub xored_part : (key xs front : List ℕ) (i k : ℕ) → 16 * i + k ≤ length xs → front ≡ xored key 0 (take (16 * i) xs)
+    → put_mid (16 * i) k (front ++ drop (16 * i) xs) (xored key 0 (take k (drop (16 * i) (front ++ drop (16 * i) xs))))
+    ≡ xored key 0 (take (16 * i + k) xs) ++ drop (16 * i + k) xs
+xored_part key xs front i k h e =
+    let n = 16 * i in
+    let l : length front ≡ n = ap length e ∙ length-xored key 0 (take n xs) ∙ length-take-le n xs (omega arith) in
+    let tl : length (take n xs) ≡ n = length-take-le n xs (omega arith) in
+    let mid = take k (drop n xs) in
+    let a : take n (front ++ drop n xs) ≡ front = take_at front (drop n xs) n l in
+    let b : drop n (front ++ drop n xs) ≡ drop n xs = drop_at front (drop n xs) n l in
+    let whole : xored key 0 (take (n + k) xs) ≡ front ++ xored key 0 mid =
+    ap (xored key 0) (take-add n k xs) ∙ xored-append key 0 (take n xs) mid
+    ∙ ap (λ m. xored key 0 (take n xs) ++ xored key m mid) (zero-add (length (take n xs)) ∙ tl)
+    ∙ ap (λ ys. xored key 0 (take n xs) ++ ys) (xored_at_block key i mid)
+    ∙ ap (λ ys. ys ++ xored key 0 mid) (sym e) in
+    rw (a, b, drop-drop k n xs, whole) (sym (append_assoc front (xored key 0 mid) (drop (n + k) xs)))
+
+-- the last part xored in place
+pub xored_end : (key xs bytes : List ℕ) (i : ℕ) → 16 * i ≤ length xs → length bytes ≡ length xs → bytes ≡ xored key 0 (take (16 * i) xs) ++ drop (16 * i) xs
+    → put_mid (16 * i) (length bytes - 16 * i) bytes (xored key 0 (take (length bytes - 16 * i) (drop (16 * i) bytes))) ≡ xored key 0 xs
+xored_end key xs bytes i h n e =
+    let k = length bytes - 16 * i in
+    let all : 16 * i + k ≡ length xs = omega arith in
+    let part = xored_part key xs (xored key 0 (take (16 * i) xs)) i k (omega arith) refl in
+    ap (λ (b : List ℕ). put_mid (16 * i) k b (xored key 0 (take k (drop (16 * i) b)))) e
+    ∙ part ∙ ap (λ m. xored key 0 (take m xs) ++ drop m xs) all
+    ∙ rw (take_all (length xs) xs (omega arith), drop_all (length xs) xs (omega arith)) (append-nil (xored key 0 xs))

@@ -54,3 +54,11 @@ toy_opening key number header sealed =
 -- The mask: the first five bytes of the key xored with those of the sample.
 unfoldable pub toy_mask : List ℕ → List ℕ → List ℕ
 toy_mask key sample = tabulated (λ i. bit_xor (slice_index key i) (slice_index sample i)) 0 5
+
+-- A signature is a tag of the checksum of the body, with number 0.
+unfoldable pub toy_signature : List ℕ → List ℕ → List ℕ
+toy_signature key body = tag key (checksum 0 [] body) 0
+
+-- The key of a token: the master key xored with the token's random bytes.
+unfoldable pub token_key : List ℕ → List ℕ → List ℕ
+token_key master nonce = tabulated (λ i. bit_xor (slice_index master i) (slice_index nonce i)) 0 16

@@ -1,18 +1,17 @@
 -- What the toy's sealing and opening keep.
-use Rattle.std.specs.Prelude.{bit_xor, slice_index, Option, Some, None, cond, Bool, true, false, nat_lt}
-use Rattle.std.proofs.Common.{◌≡◌, ◌≢◌, ℕ, zero, suc, ◌+◌, ◌-◌, ◌*◌, ◌/◌, ◌%◌, ◌^◌, ◌<◌, ◌≤◌, List, [], ◌∷◌, ◌++◌, length, take, drop, get_or, refl, ap, sym, ◌∙◌, subst, arith, length-append, rules}
+use Rattle.std.specs.Prelude.{bit_xor, slice_index, Some, None, cond, Bool, true, false, nat_lt}
+use Rattle.std.proofs.Common.{◌≡◌, ◌≢◌, ℕ, zero, suc, ◌+◌, ◌-◌, ◌*◌, ◌/◌, ◌%◌, ◌^◌, ◌<◌, List, [], ◌∷◌, ◌++◌, length, take, drop, get_or, refl, ap, sym, ◌∙◌, subst, arith, length-append}
 use Rattle.std.specs.Int.{w64, to_le_bytes, from_le_bytes, to_be_bytes, from_be_bytes}
 use Rattle.std.specs.Int.Bits.{xor_assoc, xor_self, xor_zero_r}
 use Rattle.std.specs.Str.{bytes_eq}
 use Rattle.std.proofs.lemmas.Nat.{from_le_bytes-to_le_bytes_8, from_be_bytes-to_be_bytes_8}
 use Rattle.std.proofs.lemmas.List.{take_at, drop_at, length-take-le, take-append-drop}
 use Rattle.std.proofs.lemmas.Slice.Eq.{bytes_eq-Decides}
-use Rattle.std.proofs.lemmas.Grind.{common_steps}
 use Rattle.qc_base.specs.declared.side.Side.{Side}
 use Rattle.qc_toy.specs.declared.key_bytes.Level.{Level}
 use Rattle.qc_toy.specs.declared.key_bytes.Usage.{Usage}
 use Rattle.qc_toy.specs.KeyBytes.{key_bytes}
-use Rattle.qc_toy.specs.Cipher.{xored, weight, checksum, number_bytes, tabulated, tag_byte, tag, toy_seal, toy_opening, tag_fits, plain_of}
+use Rattle.qc_toy.specs.Cipher.{xored, checksum, number_bytes, tabulated, tag, toy_seal, toy_opening, toy_signature, tag_fits, plain_of}
 
 pub length-xored : (key : List ℕ) (at : ℕ) (xs : List ℕ) → length (xored key at xs) ≡ length xs
 length-xored key at [] = refl
@@ -184,3 +183,7 @@ opens_only_sealed key number header sealed plain e =
     let end = (bytes_eq-Decides _ _).0 s.1.0 in
     sym (take-append-drop (length sealed - 16) sealed) ∙ ap (λ xs. xs ++ drop (length sealed - 16) sealed) front
     ∙ ap (λ xs. xored key 0 plain ++ xs) (end ∙ ap (λ p. tag key (checksum number header p) number) s.1.1)
+
+pub length-toy_signature : (key body : List ℕ) → length (toy_signature key body) ≡ 16
+unfolding toy_signature
+length-toy_signature key body = length-tag key _ 0

@@ -8,3 +8,4 @@ pub mod SessionLaws
 pub mod Settings
 pub mod Start
 pub mod ToyKeys
+pub mod Zeros

@@ -1,8 +1,7 @@
 -- What the messages' definitions keep.
 use Rattle.std.specs.Prelude.{Bool, true, false, nat_lt, ◌==◌, cond, is_some, Option, Some, None}
-use Rattle.std.proofs.Common.{◌≡◌, ℕ, ◌+◌, ◌*◌, ◌<◌, ◌≤◌, List, [], ◌∷◌, ◌++◌, length, take, drop, min, refl, ap, sym, ◌∙◌, subst, arith, length-append, lit<}
+use Rattle.std.proofs.Common.{◌≡◌, ℕ, ◌+◌, ◌*◌, ◌<◌, ◌≤◌, List, [], ◌∷◌, ◌++◌, length, take, drop, refl, ap, subst, arith, length-append, lit<}
 use Rattle.std.proofs.lemmas.List.{length-take, take-append-le, drop-append-le}
-use Rattle.std.specs.Int.{w16, to_be_bytes}
 use Rattle.qc_toy.specs.declared.messages.Kind.{Kind}
 use Rattle.qc_toy.specs.Messages.{Message, message, message_by_length, first_message, first_body, second_body, body_of, second_of, refusal, refusal_at, refusal_after, has_form, kind_byte, unexpected_message, decode_error}
 

@@ -1,6 +1,6 @@
 -- The laws that the toy's sessions keep.
 use Rattle.std.specs.Prelude.{Bool, true, false, not, ◌&&◌, ◌⊎◌, ◌==◌, cond, is_some, IsSome, Option, Some, None, Result, Ok, Err}
-use Rattle.std.proofs.Common.{◌≡◌, ◌≢◌, ℕ, ◌+◌, ◌%◌, ◌^◌, ◌<◌, ◌≤◌, List, [], ◌∷◌, ◌++◌, length, refl, ap, sym, ◌∙◌, subst, arith, lit<, lit≤, inl, inr}
+use Rattle.std.proofs.Common.{◌≡◌, ◌≢◌, ℕ, ◌+◌, ◌%◌, ◌^◌, ◌<◌, ◌≤◌, List, [], ◌++◌, length, refl, ap, sym, ◌∙◌, subst, arith, lit<, lit≤, inl, inr}
 use Rattle.qc_base.specs.declared.side.Side.{Side}
 use Rattle.qc_base.specs.declared.side.Side.TheVariants.{Client, Server}
 use Rattle.qc_base.specs.declared.side.SpaceId.{SpaceId}
@@ -10,7 +10,7 @@ use Rattle.qc_params.specs.declared.params.TransportParameters.{TransportParamet
 use Rattle.qc_params.specs.declared.error.ParamError.{ParamError}
 use Rattle.qc_params.specs.declared.error.ParamError.TheVariants.{IllegalValue}
 use Rattle.qc_params.specs.ParametersReading.{parameters_read, parameters_of, judged, is_legal}
-use Rattle.qc_crypto.specs.Mates.{OpensItsPackets, OpensNoPackets, ArePacketMates, ArePacketsApart, AreHeaderMates, AreMates}
+use Rattle.qc_crypto.specs.Mates.{AreEarlyMates, OpensItsPackets, ArePacketMates, ArePacketsApart, AreMates}
 use Rattle.qc_crypto.specs.Refusal.{IsSendable}
 use Rattle.qc_toy.specs.declared.messages.Kind.{Kind}
 use Rattle.qc_crypto.specs.SessionCall.{SessionCall, Read, Write, Next, after_call, keys_given, space_of_change, HasSameKeys}
@@ -32,7 +32,7 @@ use Rattle.qc_toy.specs.CipherLaws.{opens_sealed, opens_no_other, opens_no_other
 use Rattle.qc_toy.specs.Messages.{message, first_body, second_body, refusal, peer_messages}
 use Rattle.qc_toy.specs.MessageLaws.{length-message, first_stays, second_stays, refusal_small}
 use Rattle.qc_toy.specs.ToyKeys.{level_keys, packet_keys, packet_key, header_key}
-use Rattle.qc_toy.specs.Handshake.{due_of, session_due, written_for, given_for, progress_for, session_writes, session_write_keys, session_after_write, steps_left, bytes_left, changes_of, session_reads, session_after_read, read_answer, heard_after, alert_error, goes_on, session_handshaking, session_negotiated, ready_unit, early_keys, has_early, session_early_taken, early_taken_by, session_next_keys, session_after_next, session_parameters, parameters_by, parameters_in, parameters_or_error, heard_parameters, parameter_error, before_hello, before_server_end, cached_parameters, keys_of_space, keys_of_epoch, keys_of_id, level_of, ArePaired}
+use Rattle.qc_toy.specs.Handshake.{due_of, session_due, written_for, given_for, progress_for, session_writes, session_write_keys, session_after_write, steps_left, bytes_left, changes_of, session_reads, session_after_read, read_answer, heard_after, goes_on, session_handshaking, session_negotiated, ready_unit, early_keys, has_early, session_early_taken, early_taken_by, session_next_keys, session_after_next, session_parameters, parameters_by, parameters_in, parameters_or_error, heard_parameters, parameter_error, before_hello, before_server_end, cached_parameters, keys_of_space, keys_of_epoch, keys_of_id, level_of, ArePaired}
 
 true_false : true ≡ false → ⊥
 true_false e = cc
@@ -381,6 +381,34 @@ paired R client server e f h r =
     subst (λ x. R (packet_keys client.settings client.settings.secret level.Data x e) (keys_of_epoch server f)) (sym h.client_side)
     (subst (λ x. R (packet_keys client.settings client.settings.secret level.Data Client e) (packet_keys server.settings server.settings.secret level.Data x f)) (sym h.server_side)
     (subst (λ x. R (packet_keys client.settings client.settings.secret level.Data Client e) (packet_keys server.settings x level.Data Server f)) h.secret r))
+
+-- the early keys of a session that has them
+abbrev early_pair : ToySession → ToyHeaderKey × ToyPacketKey
+early_pair s = (header_key s.settings.secret level.Early Client, packet_key s.settings s.settings.secret level.Early Client 0)
+
+some_pair : {x y : ToyHeaderKey × ToyPacketKey} → Some x ≡ Some y → x ≡ y
+some_pair e = cc
+
+none_pair : {x : ToyHeaderKey × ToyPacketKey} → None ≡ Some x → ⊥
+none_pair e = cc
+
+early_is : (b : Bool) (x y : ToyHeaderKey × ToyPacketKey) → cond b (Some x) None ≡ Some y → x ≡ y
+early_is true x y e = some_pair e
+early_is false x y e = absurd (none_pair e)
+
+early_mate : (one other : ToySettings) (secret their : List ℕ) → secret ≡ their
+    → AreEarlyMates mask_by seal_by open_by (header_key secret level.Early Client, packet_key one secret level.Early Client 0) (header_key their level.Early Client, packet_key other their level.Early Client 0)
+early_mate one other secret their h =
+    subst (λ x. AreEarlyMates mask_by seal_by open_by (header_key secret level.Early Client, packet_key one secret level.Early Client 0) (header_key x level.Early Client, packet_key other x level.Early Client 0)) h
+    (record { header = λ _. refl; packet = opens_its_packets _ })
+
+pub toy_early_mates : (client server : ToySession) (one other : ToyHeaderKey × ToyPacketKey) → ArePaired client server → early_keys client ≡ Some one → early_keys server ≡ Some other
+    → AreEarlyMates mask_by seal_by open_by one other
+unfolding early_keys
+toy_early_mates client server one other h e f =
+    subst (λ x. AreEarlyMates mask_by seal_by open_by x other) (early_is (has_early client) (early_pair client) one e)
+    (subst (λ x. AreEarlyMates mask_by seal_by open_by (early_pair client) x) (early_is (has_early server) (early_pair server) other f)
+    (early_mate client.settings server.settings client.settings.secret server.settings.secret h.secret))
 
 pub toy_epoch_mates : (client server : ToySession) (epoch : ℕ) → ArePaired client server
     → ArePacketMates seal_by open_by (keys_of_epoch client epoch) (keys_of_epoch server epoch)

@@ -4,13 +4,34 @@ ghost use Rattle.std.specs.Prelude.{◌≡◌, ◌+◌, ◌-◌, ◌%◌, ◌≤
 ghost use Rattle.qc_crypto.specs.Sealing.{sealed_in_place};
 ghost use Rattle.qc_toy.specs.Cipher.{xored, weight, checksum, number_bytes, tag, toy_seal, tag_fits, plain_of, toy_mask};
 
-/// Xors each byte with a byte of the key, these in turn.
-pub(crate) fn xor_with(bytes: &mut [u8], key: &[u8; 16])
+// Xors each byte with a byte of the key, these in turn.
+fn xor_few(bytes: &mut [u8], key: &[u8; 16])
     ensures { bytes.new ≡ xored key.now 0 bytes.old }
 {
     for i in 0..bytes.len() {
         bytes[i] ^= key[i % 16];
     }
+}
+
+// The same of as many bytes as the key has, which a processor does at once.
+fn xor_block(bytes: &mut [u8], key: &[u8; 16])
+    requires { length bytes.old ≡ 16 }
+    ensures { bytes.new ≡ xored key.now 0 bytes.old }
+{
+    for i in 0..16 {
+        bytes[i] ^= key[i];
+    }
+}
+
+/// Xors each byte with a byte of the key, these in turn.
+pub(crate) fn xor_with(bytes: &mut [u8], key: &[u8; 16])
+    ensures { bytes.new ≡ xored key.now 0 bytes.old }
+{
+    let blocks = bytes.len() / 16;
+    for i in 0..blocks {
+        xor_block(&mut bytes[16 * i..16 * i + 16], key);
+    }
+    xor_few(&mut bytes[16 * blocks..], key);
 }
 
 // The sum of each byte times its place, the first having place `start` + 1.
@@ -61,18 +82,27 @@ pub(crate) fn tag_of(key: &[u8; 16], t: u8, number: u64) -> [u8; 16]
     tag
 }
 
+/// Seals plain bytes in place, which 16 bytes of room for the tag follow.
+#[tactic(auto, unfolding(crate::specs::Cipher::toy_seal))]
+pub(crate) fn seal_bytes(key: &[u8; 16], number: u64, header: &[u8], bytes: &mut [u8])
+    requires { 16 ≤ length bytes.old }
+    ensures { bytes.new ≡ toy_seal key.now number header.now (take (length bytes.old - 16) bytes.old) }
+{
+    let plain_len = bytes.len() - 16;
+    let (plain, room) = bytes.split_at_mut(plain_len);
+    let t = checksum_of(number, header, plain);
+    xor_with(plain, key);
+    room.copy_from_slice(&tag_of(key, t, number));
+}
+
 /// Seals in place what follows the header: the plain bytes, and 16 bytes of room for the tag.
-#[tactic(auto, unfolding(qc_crypto::specs::Sealing::sealed_in_place, crate::specs::Cipher::toy_seal))]
+#[tactic(auto, unfolding(qc_crypto::specs::Sealing::sealed_in_place))]
 pub(crate) fn seal_in_place(key: &[u8; 16], number: u64, buf: &mut [u8], header_len: usize)
     requires { header_len + 16 ≤ length buf.old }
     ensures { buf.new ≡ sealed_in_place (toy_seal key.now) number buf.old header_len }
 {
     let (header, rest) = buf.split_at_mut(header_len);
-    let plain_len = rest.len() - 16;
-    let (plain, room) = rest.split_at_mut(plain_len);
-    let t = checksum_of(number, header, plain);
-    xor_with(plain, key);
-    room.copy_from_slice(&tag_of(key, t, number));
+    seal_bytes(key, number, header, rest);
 }
 
 /// Opens in place: answers whether the tag fits. Where it does, the plain bytes stand at the front.

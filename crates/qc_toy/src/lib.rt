@@ -13,9 +13,20 @@ mod messages;
 mod packet_key;
 mod session;
 mod settings;
+mod token_keys;
+mod toy_keys;
+mod zero_random;
 
 pub use config::{ToyClient, ToyServer};
 pub use header_key::ToyHeaderKey;
 pub use packet_key::ToyPacketKey;
 pub use session::ToySession;
 pub use settings::ToySettings;
+pub use token_keys::{ToyAeadKey, ToyHmacKey, ToyTokenKey};
+pub use toy_keys::ToyKeys;
+pub use zero_random::ZeroRandom;
+
+#[cfg(test)]
+mod handshake_tests;
+#[cfg(test)]
+mod tests;

@@ -474,7 +474,7 @@ impl Session for ToySession {
         Ok(())
     }
 
-    ghost use Rattle.qc_toy.specs.SessionLaws.{toy_falls, toy_stays, toy_short, toy_changes_most, toy_changes_write, toy_changes_read, toy_changes_next, toy_unwritten_most, toy_unwritten_write, toy_unwritten_call, toy_over_late, toy_over_stays, toy_over_early, toy_ready_once, toy_ready_then, toy_ready_stays, toy_refusal, toy_unreadable, toy_allowed, toy_server_knows, toy_write_parameters, toy_write_early, toy_same_keys, toy_given_keys, toy_first_epoch, toy_given_next, toy_next_epoch, toy_initial_mates, toy_space_mates, toy_epoch_mates, toy_epochs_apart};
+    ghost use Rattle.qc_toy.specs.SessionLaws.{toy_falls, toy_stays, toy_short, toy_changes_most, toy_changes_write, toy_changes_read, toy_changes_next, toy_unwritten_most, toy_unwritten_write, toy_unwritten_call, toy_over_late, toy_over_stays, toy_over_early, toy_ready_once, toy_ready_then, toy_ready_stays, toy_refusal, toy_unreadable, toy_allowed, toy_server_knows, toy_write_parameters, toy_write_early, toy_same_keys, toy_given_keys, toy_first_epoch, toy_given_next, toy_next_epoch, toy_initial_mates, toy_space_mates, toy_early_mates, toy_epoch_mates, toy_epochs_apart};
 
     ghost falls = { toy_falls };
 
@@ -533,6 +533,8 @@ impl Session for ToySession {
     ghost initial_mates = { toy_initial_mates };
 
     ghost space_mates = { toy_space_mates };
+
+    ghost early_mates = { toy_early_mates };
 
     ghost epoch_mates = { toy_epoch_mates };
 

@@ -1,7 +1,9 @@
 pub use Rattle.qc_base.specs.ConnectionId
 pub use Rattle.qc_base.specs.Ecn
+pub use Rattle.qc_base.specs.Grammar
 pub use Rattle.qc_base.specs.Mask
 pub use Rattle.qc_base.specs.PacketNumber
+pub use Rattle.qc_base.specs.RangeSet
 pub use Rattle.qc_base.specs.Reading
 pub use Rattle.qc_base.specs.StreamId
 pub use Rattle.qc_base.specs.Time
@@ -13,4 +15,9 @@ pub use Rattle.qc_header.specs.HeaderReading
 pub use Rattle.qc_header.specs.HeaderSpelling
 pub use Rattle.qc_header.specs.Opened
 pub use Rattle.qc_header.specs.Piece
+pub use Rattle.qc_header.specs.ReadBack
+pub use Rattle.qc_params.specs.ParametersFit
+pub use Rattle.qc_params.specs.ParametersGrammar
+pub use Rattle.qc_params.specs.ParametersReading
 pub use Rattle.qc_params.specs.ParametersSpelling
+pub use Rattle.qc_params.specs.Resumption

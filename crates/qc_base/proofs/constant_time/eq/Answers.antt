@@ -1,15 +1,12 @@
-use Rattle.std.proofs.Common.{◌<◌, slice_index, refl, arith, rules}
+use Rattle.std.proofs.Common.{refl, arith, rules}
 use Rattle.qc_base.proofs.Differences.{agree_more, same_more, all_agree}
 use Rattle.qc_base.proofs.constant_time.eq.Goals as goal
 
 pub loop-i-preserved : goal.loop-i-preserved
-loop-i-preserved c =
-    let a_byte : slice_index c.args.a.now c.loop-i.i < 256 = omega (arith, c.type_inv.a c.loop-i.i) in
-    let b_byte : slice_index c.args.b.now c.loop-i.i < 256 = omega (arith, c.type_inv.b c.loop-i.i) in
-    record {
-      agree = agree_more c.args.a.now c.args.b.now c.loop-i.i c.loop-i.different a_byte b_byte c.loop-i.invariant.agree;
-      same = same_more c.args.a.now c.args.b.now c.loop-i.i c.loop-i.different a_byte c.loop-i.invariant.same;
-    }
+loop-i-preserved c = record {
+  agree = agree_more c.args.a.now c.args.b.now c.loop-i.i c.loop-i.different c.loop-i.invariant.agree;
+  same = same_more c.args.a.now c.args.b.now c.loop-i.i c.loop-i.different c.loop-i.invariant.same;
+}
 
 pub returns : goal.returns
 returns c = (

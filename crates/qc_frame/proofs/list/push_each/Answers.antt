@@ -1,7 +1,6 @@
-use Rattle.std.proofs.Common.{◌≡◌, ◌∙◌, ◌<◌, rules, arith}
+use Rattle.std.proofs.Common.{◌∙◌, ◌<◌, arith}
 use Rattle.std.proofs.lemmas.List.{map-append}
 use Rattle.std.proofs.lemmas.Grind.{common_steps}
-use Rattle.qc_frame.specs.Frame.{owned}
 use Rattle.qc_frame.proofs.Padded.{padded_one}
 use Rattle.qc_frame.proofs.list.push_each.Goals as goal
 

@@ -1,4 +1,4 @@
-use Rattle.std.proofs.Common.{◌≡◌, ◌<◌, length, arith}
+use Rattle.std.proofs.Common.{◌<◌, length, arith}
 use Rattle.std.proofs.lemmas.Grind.{common_steps}
 use Rattle.qc_frame.specs.FrameSpelling.{numbers_of}
 use Rattle.qc_frame.proofs.Numbers.{written_next, written_none}

@@ -1,4 +1,4 @@
-use Rattle.std.proofs.Common.{◌+◌, ◌*◌, ◌≡◌, refl, ap, ◌∙◌, get_or, arith, length, drop, replicate, ◌++◌, ◌<◌}
+use Rattle.std.proofs.Common.{arith, replicate}
 use Rattle.qc_toy.specs.Cipher.{tag_byte}
 use Rattle.qc_toy.proofs.CipherLemmas.{tabulated_step, tag_sum}
 use Rattle.qc_toy.proofs.cipher.tag_of.Goals as goal

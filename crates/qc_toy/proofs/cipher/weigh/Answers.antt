@@ -1,4 +1,4 @@
-use Rattle.std.proofs.Common.{◌≡◌, ◌+◌, ◌%◌, ◌∙◌, ap, sym, arith, add_assoc, get_or, drop}
+use Rattle.std.proofs.Common.{◌+◌, ◌%◌, ◌∙◌, ap, sym, arith, add_assoc, get_or, drop}
 use Rattle.qc_toy.specs.Cipher.{weight}
 use Rattle.qc_toy.proofs.CipherLemmas.{weight_more, weigh_step}
 use Rattle.qc_toy.proofs.cipher.weigh.Goals as goal

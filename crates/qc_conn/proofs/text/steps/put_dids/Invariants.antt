@@ -1,0 +1,7 @@
+use Rattle.std.proofs.Common.{◌≡◌, ◌++◌, drop}
+use Rattle.std.specs.List.{flat_map}
+use Rattle.qc_conn.specs.TraceText.{did_text}
+use Rattle.qc_conn.proofs.text.steps.put_dids.Given as goal
+
+abbrev pub invariant-loop-did : goal.invariant-loop-did
+invariant-loop-did l = l.out.items ++ flat_map did_text (drop l.did-index l.dids) ≡ l.fn.out.items ++ flat_map did_text l.dids

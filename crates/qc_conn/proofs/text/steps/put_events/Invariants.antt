@@ -1,0 +1,7 @@
+use Rattle.std.proofs.Common.{◌≡◌, ◌++◌, drop}
+use Rattle.std.specs.List.{flat_map}
+use Rattle.qc_conn.specs.TraceText.{event_text}
+use Rattle.qc_conn.proofs.text.steps.put_events.Given as goal
+
+abbrev pub invariant-loop-event : goal.invariant-loop-event
+invariant-loop-event l = l.out.items ++ flat_map event_text (drop l.event-index l.events) ≡ l.fn.out.items ++ flat_map event_text l.events

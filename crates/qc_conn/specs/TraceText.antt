@@ -1,0 +1,162 @@
+-- The text of a trace.
+use Rattle.std.specs.Prelude.{ℕ, ◌+◌, List, [], ◌∷◌, ◌++◌, Bool, true, false, length, if◌then◌else◌, ◌==◌, Option, Some, None, codes, decimal}
+use Rattle.std.specs.List.{flat_map}
+use Rattle.std.specs.Net.Addr.{ipv4_octets, ipv6_octets}
+use Rattle.std.specs.Net.Socket.{socket_ip, socket_port}
+use Rattle.std.specs.declared.net.ip_addr.IpAddr.{IpAddr}
+use Rattle.std.specs.declared.net.ip_addr.IpAddr.TheVariants.{V4, V6}
+use Rattle.std.specs.declared.net.socket_addr.SocketAddr.{SocketAddr}
+use Rattle.hex.specs.Hex.{encode_lower}
+use Rattle.qc_base.specs.Ecn.{ecn_bits}
+use Rattle.qc_base.specs.declared.ecn.EcnCodepoint.{EcnCodepoint}
+use Rattle.qc_base.specs.declared.side.SpaceId.{SpaceId}
+use Rattle.qc_base.specs.declared.side.SpaceId.TheVariants.{Initial, Handshake, Data}
+use Rattle.qc_frame.specs.Frame.{FrameValue}
+use Rattle.qc_frame.specs.FrameSpelling.{frame_name, spelling}
+use Rattle.qc_frame.specs.declared.frames.FrameOf.TheVariants as frames
+use Rattle.qc_state.specs.declared.deeds.Did.{Did}
+use Rattle.qc_state.specs.declared.deeds.Did.TheVariants as deed
+use Rattle.qc_state.specs.declared.deeds.Quiet.{Quiet}
+use Rattle.qc_state.specs.declared.deeds.Quiet.TheVariants.{NothingOwed, Silent, Killed}
+use Rattle.qc_state.specs.declared.events.EndpointEvent.{EndpointEvent}
+use Rattle.qc_state.specs.declared.events.EndpointEvent.TheVariants.{Drained}
+use Rattle.qc_state.specs.declared.events.Event.{Event}
+use Rattle.qc_state.specs.declared.events.Event.TheVariants.{ConnectionLost}
+use Rattle.qc_state.specs.declared.input.Word.{Word}
+use Rattle.qc_state.specs.declared.input.Word.TheVariants as word
+use Rattle.qc_state.specs.declared.life.ConnectionError.{ConnectionError}
+use Rattle.qc_state.specs.declared.life.ConnectionError.TheVariants.{TransportError}
+use Rattle.qc_state.specs.declared.trace.Answer.{Answer}
+use Rattle.qc_state.specs.declared.trace.Answer.TheVariants as answer
+use Rattle.qc_state.specs.declared.trace.Step.{Step}
+
+-- a number, or `-` where there is none
+unfoldable pub number_or_dash : Option ℕ → List ℕ
+number_or_dash None = codes "-"
+number_or_dash (Some number) = decimal number
+
+unfoldable pub ip_text : IpAddr → List ℕ
+ip_text (V4 ip) = encode_lower (ipv4_octets ip)
+ip_text (V6 ip) = encode_lower (ipv6_octets ip)
+
+unfoldable pub address_text : SocketAddr → List ℕ
+address_text address = ip_text (socket_ip address) ++ codes "/" ++ decimal (socket_port address)
+
+-- ---- frames
+
+abbrev pub is_padding : FrameValue → Bool
+is_padding frames.Padding = true
+is_padding _ = false
+
+-- a frame that isn't PADDING: its name and the hex of its spelling
+unfoldable pub frame_text : FrameValue → List ℕ
+frame_text frame = codes " " ++ frame_name frame ++ codes "/" ++ encode_lower (spelling frame)
+
+-- a run of so many PADDING frames
+unfoldable pub padding_text : ℕ → List ℕ
+padding_text count = if count == 0 then [] else codes " PADDING*" ++ decimal count
+
+-- frames after a run of so many PADDING frames
+abbrev pub padded_text : ℕ → List FrameValue → List ℕ
+padded_text run [] = padding_text run
+padded_text run (frame ∷ frames) =
+    if is_padding frame then padded_text (run + 1) frames
+    else padding_text run ++ frame_text frame ++ padded_text 0 frames
+
+-- the frames of a packet, each longest run of PADDING frames as one
+unfoldable pub frames_text : List FrameValue → List ℕ
+frames_text frames = padded_text 0 frames
+
+-- ---- deeds
+
+unfoldable pub space_name : SpaceId → List ℕ
+space_name Initial = codes "initial"
+space_name Handshake = codes "handshake"
+space_name Data = codes "data"
+
+-- a key's epoch, or that the packet is a 0-RTT one
+unfoldable pub epoch_text : ℕ → Bool → List ℕ
+epoch_text epoch early = if early then codes "early" else decimal epoch
+
+unfoldable pub packet_text : SpaceId → ℕ → List ℕ
+packet_text space number = space_name space ++ codes " " ++ decimal number ++ codes " "
+
+unfoldable pub sealed_text : SpaceId → ℕ → ℕ → Bool → List FrameValue → List ℕ
+sealed_text space number epoch early frames =
+    codes "seal " ++ packet_text space number ++ epoch_text epoch early ++ frames_text frames ++ codes "\n"
+
+-- a reason for the end: the kind, and for an error of the transport its code and the type of the frame that was at fault
+unfoldable pub reason_text : ConnectionError → List ℕ
+reason_text (TransportError error) = codes "TransportError " ++ decimal error.code ++ codes " " ++ number_or_dash error.frame
+
+unfoldable pub quiet_name : Quiet → List ℕ
+quiet_name NothingOwed = codes "NothingOwed"
+quiet_name Silent = codes "Silent"
+quiet_name Killed = codes "Killed"
+
+unfoldable pub did_text : Did → List ℕ
+did_text (deed.Sealed space number epoch early frames) = sealed_text space number epoch early frames
+did_text (deed.Rose life) = codes "life " ++ decimal life ++ codes "\n"
+did_text (deed.Lost reason) = codes "lost " ++ reason_text reason ++ codes "\n"
+did_text (deed.Quiet quiet) = codes "quiet " ++ quiet_name quiet ++ codes "\n"
+
+-- ---- answers
+
+-- a mark of congestion as the two bits that it is, or `-`
+unfoldable pub ecn_text : Option EcnCodepoint → List ℕ
+ecn_text None = codes "-"
+ecn_text (Some mark) = decimal (ecn_bits mark)
+
+-- where the bytes go, and how many they are
+unfoldable pub target_text : SocketAddr → ℕ → List ℕ
+target_text destination size = codes "out " ++ address_text destination ++ codes " " ++ decimal size ++ codes " "
+
+unfoldable pub marks_text : Option ℕ → Option EcnCodepoint → List ℕ
+marks_text segment ecn = number_or_dash segment ++ codes " " ++ ecn_text ecn ++ codes " "
+
+unfoldable pub out_text : SocketAddr → Option ℕ → Option EcnCodepoint → List ℕ → List ℕ
+out_text destination segment ecn bytes =
+    target_text destination (length bytes) ++ marks_text segment ecn ++ encode_lower bytes ++ codes "\n"
+
+-- a transmit that sent nothing has the deed `quiet` and no answer
+abbrev pub nothing_text : Word → List ℕ
+nothing_text word.Transmit = []
+nothing_text _ = codes "answer none\n"
+
+unfoldable pub answer_text : Word → Answer → List ℕ
+answer_text w answer.Done = codes "answer done\n"
+answer_text w answer.Nothing = nothing_text w
+answer_text w (answer.Out destination segment ecn bytes) = out_text destination segment ecn bytes
+
+-- ---- steps
+
+unfoldable pub event_text : Event → List ℕ
+event_text (ConnectionLost reason) = codes "event lost " ++ reason_text reason ++ codes "\n"
+
+unfoldable pub endpoint_text : EndpointEvent → List ℕ
+endpoint_text Drained = codes "endpoint drained\n"
+
+unfoldable pub timer_text : Option ℕ → List ℕ
+timer_text timeout = codes "timer " ++ number_or_dash timeout ++ codes "\n"
+
+unfoldable pub word_name : Word → List ℕ
+word_name word.Transmit = codes "transmit"
+word_name word.Ping = codes "ping"
+
+unfoldable pub step_head : ℕ → Word → ℕ → List ℕ
+step_head at word now = codes "step " ++ decimal at ++ codes " " ++ word_name word ++ codes " " ++ decimal now ++ codes "\n"
+
+-- the lines of a step
+unfoldable pub step_text : Step → List ℕ
+step_text step =
+    step_head step.at step.word step.now ++ flat_map did_text step.did ++ answer_text step.word step.answer
+    ++ flat_map event_text step.events ++ flat_map endpoint_text step.endpoint ++ timer_text step.timeout
+
+-- ---- traces
+
+abbrev pub steps_text : List Step → List ℕ
+steps_text steps = codes "qconn 1\n" ++ flat_map step_text steps
+
+-- the text of a whole trace
+unfoldable pub trace_text : List Step → List ℕ
+trace_text steps = steps_text steps ++ codes "end\n"

@@ -1,0 +1,38 @@
+//! The text of a trace: what `qconn run` prints.
+//!
+//! First the line `qconn 1`, then for each step its line, its deeds in order, its answer, its
+//! events, its endpoint events and its timer, and last the line `end`. Each line is ended by LF,
+//! fields are separated by one space, numbers are decimal, bytes are lower-case hex.
+
+ghost use Rattle.std.specs.Prelude.{◌≡◌, ◌++◌, IfOk, OnOk};
+ghost use Rattle.std.specs.List.{flat_map};
+ghost use Rattle.qc_conn.specs.TraceText.{step_text, trace_text};
+
+mod digits;
+mod frames;
+mod pieces;
+mod steps;
+
+use qc_state::{Step, Trace};
+use std::alloc::{AllocError, Global};
+use steps::put_step;
+
+/// The text of a trace.
+#[tactic(auto, unfolding(crate::specs::TraceText::trace_text))]
+pub fn trace_text(alloc: Global, trace: &Trace) -> Result<Vec<u8>, AllocError>
+    ensures { IfOk result (λ text. text.items ≡ trace_text trace.now) }
+{
+    let mut out = Vec::from_slice(alloc, b"qconn 1\n")?;
+    put_steps(&mut out, trace.as_slice())?;
+    out.extend_from_slice(b"end\n")?;
+    Ok(out)
+}
+
+fn put_steps(out: &mut Vec<u8>, steps: &[Step]) -> Result<(), AllocError>
+    ensures { OnOk result (out.new.items ≡ out.old.items ++ flat_map step_text steps.now) }
+{
+    for step in steps {
+        put_step(out, step)?;
+    }
+    Ok(())
+}

@@ -1,0 +1,75 @@
+-- How long the spellings of frames are
+use Rattle.std.proofs.Common.{◌≡◌, ℕ, ◌+◌, ◌%◌, ◌<◌, ◌≤◌, Bool, true, false, cond, List, [], length, take, nat_lt, Option, unwrap_or, refl, sym, ap, ◌∙◌, arith, lit<}
+use Rattle.std.proofs.lemmas.Bool.Decides.{nat_tests}
+use Rattle.std.proofs.lemmas.List.{length-append, length-take-le}
+use Rattle.qc_base.specs.Varint.{varint, spelled, one, two, four, eight}
+use Rattle.qc_frame.specs.Frame.{FrameValue}
+use Rattle.qc_frame.specs.FrameSpelling.{spelling}
+use Rattle.qc_frame.specs.Sizes.{IsLongestReason}
+use Rattle.qc_frame.specs.declared.frames.FrameOf.TheVariants as frames
+use Rattle.qc_frame.specs.declared.frames.NewConnectionId.{NewConnectionId}
+
+less : (n m : ℕ) → n < m → nat_lt n m ≡ true
+less n m h = grind (arith, nat_tests)
+
+one_of : (n m : ℕ) (a b c : Bool) → length (cond a (spelled one n) (cond b (spelled two n) (cond c (spelled four n) (spelled eight m)))) ≤ 8
+one_of n m true b c = omega arith
+one_of n m false true c = omega arith
+one_of n m false false true = omega arith
+one_of n m false false false = omega arith
+
+-- a number has at most eight bytes
+pub varint_size_max : (n : ℕ) → length (varint n) ≤ 8
+unfolding varint
+varint_size_max n = one_of n (n % 4611686018427387904) (nat_lt n 64) (nat_lt n 16384) (nat_lt n 1073741824)
+
+-- a type below 64 has one byte
+pub length_type : (ty : ℕ) → ty < 64 → length (varint ty) ≡ 1
+unfolding varint
+length_type ty h = rw (less ty 64 h) refl
+
+pub length-crypto : (offset : ℕ) (body : List ℕ) → length (spelling (frames.Crypto offset body)) ≡ 1 + length (varint offset) + length (varint (length body)) + length body
+unfolding spelling
+length-crypto offset body = let ty = length_type 6 (lit< tt) in simp length-append (omega (arith, ty))
+
+pub length-connection_close : (code : ℕ) (ty : Option ℕ) (reason : List ℕ)
+    → length (spelling (frames.ConnectionClose code ty reason)) ≡ 1 + length (varint code) + length (varint (unwrap_or ty 0)) + length (varint (length reason)) + length reason
+unfolding spelling
+length-connection_close code ty reason = let one_byte = length_type 28 (lit< tt) in simp length-append (omega (arith, one_byte))
+
+pub length-application_close : (code : ℕ) (reason : List ℕ)
+    → length (spelling (frames.ApplicationClose code reason)) ≡ 1 + length (varint code) + length (varint (length reason)) + length reason
+unfolding spelling
+length-application_close code reason = let ty = length_type 29 (lit< tt) in simp length-append (omega (arith, ty))
+
+pub length-new_connection_id : (new : NewConnectionId)
+    → length (spelling (frames.NewConnectionId new)) ≡ 2 + length (varint new.sequence) + length (varint new.retire_prior_to) + length new.id + length new.reset_token
+unfolding spelling
+length-new_connection_id new = let ty = length_type 24 (lit< tt) in simp length-append (omega (arith, ty))
+
+pub length-retire_connection_id : (sequence : ℕ) → length (spelling (frames.RetireConnectionId sequence)) ≡ 1 + length (varint sequence)
+unfolding spelling
+length-retire_connection_id sequence = let ty = length_type 25 (lit< tt) in simp length-append (omega (arith, ty))
+
+pub length-datagram : (body : List ℕ) → length (spelling (frames.Datagram body)) ≡ 1 + length (varint (length body)) + length body
+unfolding spelling
+length-datagram body = let ty = length_type 49 (lit< tt) in simp length-append (omega (arith, ty))
+
+-- the longest front of a reason, for a frame that has `head` bytes before its count
+pub is_longest : (close : List ℕ → FrameValue) (head : ℕ) (reason : List ℕ) (room kept : ℕ)
+    → ((r : List ℕ) → length (spelling (close r)) ≡ head + length (varint (length r)) + length r)
+    → kept ≤ length reason → (head + length (varint 0) ≤ room → head + length (varint kept) + kept ≤ room)
+    → ((n : ℕ) → n ≤ length reason → head + length (varint n) + n ≤ room → n ≤ kept)
+    → IsLongestReason close reason room (take kept reason)
+is_longest close head reason room kept size within fits longest =
+    let has : length (take kept reason) ≡ kept = length-take-le kept reason within in
+    let whole : length (spelling (close (take kept reason))) ≡ head + length (varint kept) + kept = size (take kept reason) ∙ ap (λ (n : ℕ). head + length (varint n) + n) has in
+    record {
+      front = ap (λ (n : ℕ). take n reason) (sym has);
+      fits = λ h. let none = size [] in let all = fits (omega arith) in omega arith;
+      longest = λ n less h.
+          let has_n : length (take n reason) ≡ n = length-take-le n reason less in
+          let part : length (spelling (close (take n reason))) ≡ head + length (varint n) + n = size (take n reason) ∙ ap (λ (m : ℕ). head + length (varint m) + m) has_n in
+          let most = longest n less (omega arith) in
+          omega arith;
+    }

@@ -1,0 +1,27 @@
+use Rattle.std.proofs.Common.{length, unwrap_or, arith}
+use Rattle.qc_frame.proofs.Lengths.{varint_size_max, length-crypto, length-connection_close, length-application_close, length-new_connection_id, length-retire_connection_id, length-datagram}
+use Rattle.qc_frame.proofs.size.greatest_sizes.Goals as goal
+
+pub returns-clause-crypto : goal.returns-clause-crypto
+returns-clause-crypto c offset body =
+    omega (arith, length-crypto offset body, varint_size_max offset, varint_size_max (length body))
+
+pub returns-clause-connection_close : goal.returns-clause-connection_close
+returns-clause-connection_close c code ty reason =
+    omega (arith, length-connection_close code ty reason, varint_size_max code, varint_size_max (unwrap_or ty 0), varint_size_max (length reason))
+
+pub returns-clause-application_close : goal.returns-clause-application_close
+returns-clause-application_close c code reason =
+    omega (arith, length-application_close code reason, varint_size_max code, varint_size_max (length reason))
+
+pub returns-clause-new_connection_id : goal.returns-clause-new_connection_id
+returns-clause-new_connection_id c new id token =
+    omega (arith, length-new_connection_id new, varint_size_max new.sequence, varint_size_max new.retire_prior_to)
+
+pub returns-clause-retire_connection_id : goal.returns-clause-retire_connection_id
+returns-clause-retire_connection_id c sequence =
+    omega (arith, length-retire_connection_id sequence, varint_size_max sequence)
+
+pub returns-clause-datagram : goal.returns-clause-datagram
+returns-clause-datagram c body =
+    omega (arith, length-datagram body, varint_size_max (length body))

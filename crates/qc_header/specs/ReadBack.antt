@@ -1,0 +1,45 @@
+-- Headers that can be written, and what is read of them
+use Rattle.std.specs.Prelude.{ℕ, ◌+◌, ◌-◌, ◌<◌, ◌≤◌, ◌^◌, ◌==◌, IsTrue, List, ◌++◌, length}
+use Rattle.std.specs.List.{list_any}
+use Rattle.std.specs.Option.{option_map_or}
+use Rattle.qc_base.specs.declared.packet_number.PacketNumber.{PacketNumber}
+use Rattle.qc_base.specs.declared.packet_number.PacketNumber.TheVariants.{U8, U16, U24, U32}
+use Rattle.qc_base.specs.Mask.{masked}
+use Rattle.qc_base.specs.PacketNumber.{number_len}
+use Rattle.qc_base.specs.Varint.{varint}
+use Rattle.qc_header.specs.declared.header.Header.{Header}
+use Rattle.qc_header.specs.declared.header.InitialHeader.{InitialHeader}
+use Rattle.qc_header.specs.HeaderSpelling.{header_spelling, header_number}
+
+-- the number's low bytes have as many bytes as its form says
+abbrev pub FitsItsForm : PacketNumber → Type 0
+FitsItsForm (U8 n) = n < 0x100
+FitsItsForm (U16 n) = n < 0x10000
+FitsItsForm (U24 n) = n < 0x1000000
+FitsItsForm (U32 n) = n < 0x100000000
+
+-- what a header's fields hold in code
+pub record IsWritable (dst_cid src_cid : List ℕ) (of_packet : PacketNumber) (of_quic : ℕ) : Type 0 where
+  pub dst : length dst_cid ≤ 20
+  pub src : length src_cid ≤ 20
+  pub number : FitsItsForm of_packet
+  pub version : of_quic < 2 ^ 32
+
+-- the reader knows this version
+pub record IsKnown (version : ℕ) (versions : List ℕ) : Type 0 where
+  pub some : 0 < version
+  pub listed : IsTrue (list_any (λ v. v == version) versions)
+
+-- where the token of an Initial packet begins
+abbrev pub token_place : InitialHeader → ℕ
+token_place h = 7 + length h.dst_cid + length h.src_cid + length (varint (length h.token))
+
+-- where a header's number begins
+abbrev pub number_place : Header → ℕ → ℕ
+number_place header length_field =
+    length (header_spelling header length_field) - option_map_or number_len (header_number header) 0
+
+-- a packet of this header and this sealed payload, under the mask that mask_of makes of it
+abbrev pub protected_packet : (List ℕ → List ℕ) → Header → ℕ → List ℕ → List ℕ
+protected_packet mask_of header length_field payload =
+    masked mask_of (number_place header length_field) (header_spelling header length_field ++ payload)

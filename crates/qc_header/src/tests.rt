@@ -1,0 +1,164 @@
+//! Worked examples of RFC 9001, appendix A, and one call of each kind.
+
+ghost use Rattle.std.specs.Prelude.{ℕ, List};
+
+use crate::{Header, InitialHeader, PacketDecodeError, PartialDecode};
+use bytes::{Bytes, BytesMut};
+use qc_base::{ConnectionId, HeaderMask, LongType, PacketNumber, SpaceId};
+use std::test::Fail;
+
+struct FixedMask([u8; 5]);
+
+impl Drop for FixedMask {
+    fn drop(self) {
+        let FixedMask(_) = self;
+    }
+}
+
+impl HeaderMask for FixedMask {
+    ghost mask_of = { λ key sample. key.0 };
+
+    fn mask(&self, _sample: &[u8]) -> [u8; 5] {
+        self.0
+    }
+}
+
+// The headers of RFC 9001, appendices A.2 (with its Length field), A.3 and A.5.
+#[test]
+fn encoded(rt: HostRuntime) -> Result<(), Fail> {
+    let none = ConnectionId::new(b"");
+    let initial = Header::Initial(InitialHeader {
+        dst_cid: ConnectionId::new(b"\x83\x94\xc8\xf0\x3e\x51\x57\x08"),
+        src_cid: none,
+        token: Bytes::new(),
+        number: PacketNumber::U32(2),
+        version: 1,
+    });
+    let mut out = b"ab".to_vec(rt.alloc())?;
+    let place = initial.encode_sized(0x49e, &mut out)?;
+    let want =
+        b"ab\xc3\x00\x00\x00\x01\x08\x83\x94\xc8\xf0\x3e\x51\x57\x08\x00\x00\x44\x9e\x00\x00\x00\x02";
+    assert_eq!(rt; out.as_slice(), want.as_slice());
+    assert_eq!(rt;
+        (place.start, place.header_len, place.pn_len),
+        (2, 22, Some(4))
+    );
+    assert_eq!(rt; initial.encoded_len(), 22);
+
+    let short = Header::Short {
+        spin: false,
+        key_phase: false,
+        dst_cid: none,
+        number: PacketNumber::U24(0xbff4),
+    };
+    let mut out = Vec::new(rt.alloc());
+    let _ = short.encode(&mut out)?;
+    assert_eq!(rt; out.as_slice(), b"\x42\x00\xbf\xf4".as_slice());
+
+    let retry = Header::Retry {
+        dst_cid: none,
+        src_cid: ConnectionId::new(b"\xf0\x67\xa5\x50\x2a\x42\x62\xb5"),
+        version: 1,
+    };
+    let mut out = Vec::new(rt.alloc());
+    let place = retry.encode(&mut out)?;
+    assert_eq!(rt;
+        out.as_slice(),
+        b"\xf0\x00\x00\x00\x01\x00\x08\xf0\x67\xa5\x50\x2a\x42\x62\xb5".as_slice()
+    );
+    assert_eq!(rt; place.pn_len, None);
+    Ok(())
+}
+
+// The packet of RFC 9001, appendix A.5.
+#[test]
+fn short_decoded(rt: HostRuntime) -> Result<(), Fail> {
+    let datagram =
+        b"\x4c\xfe\x41\x89\x65\x5e\x5c\xd5\x5c\x41\xf6\x90\x80\x57\x5d\x79\x99\xc2\x5a\x5b\xfb";
+    let bytes = BytesMut::copy_from_slice(rt.alloc(), datagram)?;
+    let (partial, rest) = PartialDecode::new(bytes, 0, &[1], false)
+        .ok()
+        .ok_or("unread")?;
+    assert!(rt; rest.is_none());
+    assert_eq!(rt; partial.space(), Some(SpaceId::Data));
+    assert_eq!(rt; partial.len(), 21);
+    assert!(rt; !partial.is_0rtt());
+    let key = FixedMask([0xae, 0xfe, 0xfe, 0x7d, 0x03]);
+    let packet = partial.finish(Some(&key)).ok().ok_or("cut")?;
+    let want = Header::Short {
+        spin: false,
+        key_phase: false,
+        dst_cid: ConnectionId::new(b""),
+        number: PacketNumber::U24(0xbff4),
+    };
+    assert!(rt; packet.header == want);
+    assert_eq!(rt;
+        packet.header_data.as_slice(),
+        b"\x42\x00\xbf\xf4".as_slice()
+    );
+    assert_eq!(rt; packet.payload.len(), 17);
+    Ok(())
+}
+
+// A Handshake packet of 2 bytes of number and 20 of payload, and one byte behind it.
+#[test]
+fn long_decoded(rt: HostRuntime) -> Result<(), Fail> {
+    let header = Header::Long {
+        ty: LongType::Handshake,
+        dst_cid: ConnectionId::new(b"\xaa\xbb"),
+        src_cid: ConnectionId::new(b"\xcc"),
+        number: PacketNumber::U16(0x1234),
+        version: 1,
+    };
+    let mut datagram = Vec::new(rt.alloc());
+    let _ = header.encode_sized(22, &mut datagram)?;
+    datagram.extend_from_slice(b"abcdefghijklmnopqrstZ")?;
+    let bytes = BytesMut::copy_from_slice(rt.alloc(), datagram.as_slice())?;
+    let (partial, rest) = PartialDecode::new(bytes, 8, &[1], false)
+        .ok()
+        .ok_or("unread")?;
+    assert_eq!(rt; rest.map_or(0, |r| r.len()), 1);
+    assert_eq!(rt; partial.space(), Some(SpaceId::Handshake));
+    let key = FixedMask([0; 5]);
+    let packet = partial.finish(Some(&key)).ok().ok_or("cut")?;
+    assert!(rt; packet.header == header);
+    assert_eq!(rt;
+        packet.payload.as_slice(),
+        b"abcdefghijklmnopqrst".as_slice()
+    );
+    Ok(())
+}
+
+/// Why the datagram is refused where version 1 is known.
+fn refusal(datagram: BytesMut) -> Option<PacketDecodeError> {
+    PartialDecode::new(datagram, 0, &[1], false).err()
+}
+
+// RFC 9000, sections 17.2.1 and 6.1.
+#[test]
+fn refused(rt: HostRuntime) -> Result<(), Fail> {
+    let unknown = PacketDecodeError::UnsupportedVersion {
+        src_cid: ConnectionId::new(b"\xbb"),
+        dst_cid: ConnectionId::new(b"\xaa"),
+        version: 9,
+    };
+    let bytes = BytesMut::copy_from_slice(rt.alloc(), b"\xc0\x00\x00\x00\x09\x01\xaa\x01\xbb")?;
+    assert_eq!(rt; refusal(bytes), Some(unknown));
+    let table: [&[u8]; 3] = [b"\xc0\x00\x00\x00\x01\x15", b"\x00\x01\x02", b""];
+    for datagram in table {
+        let bytes = BytesMut::copy_from_slice(rt.alloc(), datagram)?;
+        assert_eq!(rt; refusal(bytes), Some(PacketDecodeError::InvalidHeader));
+    }
+    let bytes = BytesMut::copy_from_slice(
+        rt.alloc(),
+        b"\x80\x00\x00\x00\x00\x01\xaa\x01\xbb\x00\x00\x00\x01",
+    )?;
+    let (partial, _) = PartialDecode::new(bytes, 0, &[1], true)
+        .ok()
+        .ok_or("unread")?;
+    assert_eq!(rt; partial.space(), None);
+    let key: Option<&FixedMask> = None;
+    let packet = partial.finish(key).ok().ok_or("cut")?;
+    assert_eq!(rt; packet.payload.as_slice(), b"\x00\x00\x00\x01".as_slice());
+    Ok(())
+}
