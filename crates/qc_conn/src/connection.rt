@@ -10,14 +10,13 @@ ghost use Rattle.qc_state.specs.Timers.{next_timeout};
 ghost use Rattle.qc_state.specs.Types.{meaning};
 ghost use Rattle.qc_state.specs.View.{ideal};
 
+use crate::steps::{core_send, core_step};
 use qc_base::{Fault, Instant, SpaceId};
 use qc_config::TokenStore;
 use qc_core::{ClientSetup, Core};
 use qc_state::{EndpointEvent, Event, Input, Step, Suite, Transmit};
 use std::alloc::{AllocError, Global};
 use std::marker::Model;
-
-use crate::steps::{core_send, core_step};
 
 /// A connection. It does no input or output: inputs are handed in, and what is to be sent comes out of `poll_transmit`.
 ///
@@ -43,7 +42,12 @@ impl<U: Suite> Connection<U> {
     /// # Errors
     ///
     /// `AllocError` for want of memory alone.
-    pub fn new_client<G: TokenStore>(alloc: Global, setup: ClientSetup<U>, store: &mut G, now: Instant) -> Result<Connection<U>, AllocError>
+    pub fn new_client<G: TokenStore>(
+        alloc: Global,
+        setup: ClientSetup<U>,
+        store: &mut G,
+        now: Instant,
+    ) -> Result<Connection<U>, AllocError>
         ensures made { IfOk result (λ c. c.core ≡ first_view (meaning U.Session.Session U.Session.HeaderKey.HeaderMask U.Session.PacketKey.PacketKey) setup.session setup.random (client_fixed setup.version setup.local_cid setup.local_ip setup.transport.max_idle_timeout) setup.remote setup.first_cid now) }
         ensures alive { IfOk result (λ c. c.failed ≡ false) }
         ensures store { store.new ≡ store.old }
@@ -64,7 +68,13 @@ impl<U: Suite> Connection<U> {
     ///
     /// `OutOfMemory` for want of memory; the connection is then marked as failed, and `buf` is empty. `Failed` exactly
     /// where it was marked before; then nothing changes.
-    pub fn poll_transmit(&mut self, alloc: Global, now: Instant, max_datagrams: usize, buf: &mut Vec<u8>) -> Result<Option<Transmit>, Fault>
+    pub fn poll_transmit(
+        &mut self,
+        alloc: Global,
+        now: Instant,
+        max_datagrams: usize,
+        buf: &mut Vec<u8>,
+    ) -> Result<Option<Transmit>, Fault>
         requires some { 1 ≤ max_datagrams }
         requires empty { buf.old.items ≡ [] }
         ensures sends { IfOk result (λ sent. Sends (meaning U.Session.Session U.Session.HeaderKey.HeaderMask U.Session.PacketKey.PacketKey) now (ideal U.Random.stream self.old.core) (ideal U.Random.stream self.new.core) sent buf.new.items) }

@@ -6,11 +6,10 @@ ghost use Rattle.qc_state.specs.Run.{time_of, AreValid, Adds, Run, Ran};
 ghost use Rattle.qc_state.specs.Types.{meaning};
 ghost use Rattle.qc_state.specs.View.{ideal};
 
+use crate::connection::Connection;
 use qc_config::TokenStore;
 use qc_state::{Input, Suite, Trace};
 use std::alloc::{AllocError, Global};
-
-use crate::connection::Connection;
 
 /// Why `drive` stopped.
 #[derive(Clone, Copy, Debug, PartialEq, Eq)]
@@ -32,7 +31,13 @@ pub struct DriveError {
 
 /// One input more: its step is put at the trace's end. After want of memory the trace is as before, and the connection
 /// is marked as failed.
-fn add_step<U: Suite>(connection: &mut Connection<U>, alloc: Global, at: u64, input: &Input, trace: &mut Trace) -> Result<(), AllocError>
+fn add_step<U: Suite>(
+    connection: &mut Connection<U>,
+    alloc: Global,
+    at: u64,
+    input: &Input,
+    trace: &mut Trace,
+) -> Result<(), AllocError>
     requires alive { connection.old.failed ≡ false }
     requires forward { connection.old.core.timers.greatest ≤ time_of input.now }
     ensures adds { OnOk result (Adds (meaning U.Session.Session U.Session.HeaderKey.HeaderMask U.Session.PacketKey.PacketKey) at (ideal U.Random.stream connection.old.core) input.now (ideal U.Random.stream connection.new.core) trace.old trace.new) }
@@ -54,7 +59,11 @@ fn add_step<U: Suite>(connection: &mut Connection<U>, alloc: Global, at: u64, in
 }
 
 /// Hands the inputs to a connection that hasn't failed.
-fn drive_all<U: Suite>(connection: &mut Connection<U>, alloc: Global, inputs: &[Input]) -> Result<Trace, DriveError>
+fn drive_all<U: Suite>(
+    connection: &mut Connection<U>,
+    alloc: Global,
+    inputs: &[Input],
+) -> Result<Trace, DriveError>
     requires alive { connection.old.failed ≡ false }
     requires valid { AreValid connection.old.core.timers.greatest inputs.now }
     ensures run { IfOk result (λ trace. Run (meaning U.Session.Session U.Session.HeaderKey.HeaderMask U.Session.PacketKey.PacketKey) 0 (ideal U.Random.stream connection.old.core) inputs.now trace (ideal U.Random.stream connection.new.core)) }
@@ -89,12 +98,7 @@ fn drive_all<U: Suite>(connection: &mut Connection<U>, alloc: Global, inputs: &[
 ///
 /// `Failed` exactly where the connection had met want of memory before; then nothing changes. `OutOfMemory` for want of
 /// memory; the steps of the inputs before are carried, and the connection is marked as failed.
-#[tactic(auto, using(
-    qc_state::proofs::Told::run_rises,
-    qc_state::proofs::Told::run_loses_once,
-    qc_state::proofs::Told::ran_rises,
-    qc_state::proofs::Told::ran_loses_once
-))]
+#[tactic(auto, using(qc_state::proofs::Told::run_rises, qc_state::proofs::Told::run_loses_once, qc_state::proofs::Told::ran_rises, qc_state::proofs::Told::ran_loses_once))]
 pub fn drive<U: Suite, G: TokenStore>(
     alloc: Global,
     connection: &mut Connection<U>,

@@ -11,7 +11,9 @@ ghost use Rattle.qc_state.specs.View.{ideal, held};
 use qc_base::Instant;
 use qc_core::Core;
 use qc_send::transmit;
-use qc_state::{Answer, Body, Dids, EndpointEvents, Event, Events, Input, Step, Suite, Transmit, Word};
+use qc_state::{
+    Answer, Body, Dids, EndpointEvents, Event, Events, Input, Step, Suite, Transmit, Word,
+};
 use std::alloc::{AllocError, Global};
 
 /// The answer to a transmit.
@@ -30,7 +32,12 @@ fn sent_answer(sent: Option<Transmit>, buf: Vec<u8>) -> Answer
 }
 
 /// A transmit at `now` into an empty buffer, whose deeds no one keeps.
-pub(crate) fn core_send<U: Suite>(core: &mut Core<U>, alloc: Global, now: Instant, buf: &mut Vec<u8>) -> Result<Option<Transmit>, AllocError>
+pub(crate) fn core_send<U: Suite>(
+    core: &mut Core<U>,
+    alloc: Global,
+    now: Instant,
+    buf: &mut Vec<u8>,
+) -> Result<Option<Transmit>, AllocError>
     requires { buf.old.items ≡ [] }
     ensures { IfOk result (λ sent. Sends (meaning U.Session.Session U.Session.HeaderKey.HeaderMask U.Session.PacketKey.PacketKey) now (ideal U.Random.stream core.old) (ideal U.Random.stream core.new) sent buf.new.items) }
 {
@@ -42,7 +49,13 @@ pub(crate) fn core_send<U: Suite>(core: &mut Core<U>, alloc: Global, now: Instan
 
 /// A transmit at `now`.
 #[tactic(auto, using(qc_state::proofs::Steps::calls_transmit))]
-fn transmit_call<U: Suite>(core: &mut Core<U>, alloc: Global, now: Instant, max_datagrams: usize, did: &mut Dids) -> Result<Answer, AllocError>
+fn transmit_call<U: Suite>(
+    core: &mut Core<U>,
+    alloc: Global,
+    now: Instant,
+    max_datagrams: usize,
+    did: &mut Dids,
+) -> Result<Answer, AllocError>
     requires { did.old ≡ [] }
     ensures { IfOk result (λ answer. Calls (meaning U.Session.Session U.Session.HeaderKey.HeaderMask U.Session.PacketKey.PacketKey) (ideal U.Random.stream core.old) (Input.Transmit now max_datagrams) (held U.Random.stream core.new did.new) answer) }
 {
@@ -64,12 +77,23 @@ fn ping_call<U: Suite>(core: &mut Core<U>, now: Instant, did: &Dids) -> Answer
 }
 
 /// The call that an input is for.
-fn call<U: Suite>(core: &mut Core<U>, alloc: Global, input: &Input, did: &mut Dids) -> Result<Answer, AllocError>
+fn call<U: Suite>(
+    core: &mut Core<U>,
+    alloc: Global,
+    input: &Input,
+    did: &mut Dids,
+) -> Result<Answer, AllocError>
     requires { did.old ≡ [] }
     ensures { IfOk result (λ answer. Calls (meaning U.Session.Session U.Session.HeaderKey.HeaderMask U.Session.PacketKey.PacketKey) (ideal U.Random.stream core.old) input.now (held U.Random.stream core.new did.new) answer) }
 {
     match *input {
-        Input::Transmit { now, max_datagrams } => transmit_call(core, alloc, now, max_datagrams, did),
+        Input::Transmit { now, max_datagrams } => transmit_call(
+            core,
+            alloc,
+            now,
+            max_datagrams,
+            did,
+        ),
         Input::Ping { now } => Ok(ping_call(core, now, did)),
     }
 }
@@ -124,7 +148,12 @@ fn time(input: &Input) -> Instant
 
 /// One input: the call, and the reports after it. Want of memory is the only refusal.
 #[tactic(auto, using(qc_state::proofs::Steps::is_step))]
-pub(crate) fn core_step<U: Suite>(core: &mut Core<U>, alloc: Global, at: u64, input: &Input) -> Result<Step, AllocError>
+pub(crate) fn core_step<U: Suite>(
+    core: &mut Core<U>,
+    alloc: Global,
+    at: u64,
+    input: &Input,
+) -> Result<Step, AllocError>
     requires { core.old.timers.greatest ≤ time_of input.now }
     ensures { IfOk result (λ x. IsStep (meaning U.Session.Session U.Session.HeaderKey.HeaderMask U.Session.PacketKey.PacketKey) at (ideal U.Random.stream core.old) input.now x (ideal U.Random.stream core.new)) }
 {

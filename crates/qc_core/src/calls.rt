@@ -6,10 +6,9 @@ ghost use Rattle.qc_state.specs.Moves.{Clock, Ask, ReportLost, ReportDrained, mo
 ghost use Rattle.qc_state.specs.Timers.{next_timeout};
 ghost use Rattle.qc_state.specs.View.{ideal, held};
 
+use crate::state::Core;
 use qc_base::{Instant, SpaceId};
 use qc_state::{EndpointEvent, Event, Suite};
-
-use crate::state::Core;
 
 impl<U: Suite> Core<U> {
     /// A PING waits from now on in the highest space (RFC 9000, section 19.2).

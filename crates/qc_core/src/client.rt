@@ -4,14 +4,16 @@ ghost use Rattle.std.specs.Prelude.{◌≡◌, IfOk};
 ghost use Rattle.qc_state.specs.First.{first_view, idle_limit_of, client_fixed};
 ghost use Rattle.qc_state.specs.Types.{meaning};
 
+use crate::state::Core;
 use qc_base::{ConnectionId, Duration, Instant, Side, VarInt};
 use qc_crypto::Session;
 use qc_recovery::{IdleTimeout, TransportConfig};
-use qc_state::{CryptoQueue, Fixed, KeyGroup, Life, Lower, Numbers, Paths, Setup, SpaceKeys, SpaceNumbers, SpaceWaiting, Spaces, State, Suite, Timers, Waiting};
+use qc_state::{
+    CryptoQueue, Fixed, KeyGroup, Life, Lower, Numbers, Paths, Setup, SpaceKeys, SpaceNumbers,
+    SpaceWaiting, Spaces, State, Suite, Timers, Waiting,
+};
 use std::alloc::{AllocError, Global};
 use std::net::{IpAddr, SocketAddr};
-
-use crate::state::Core;
 
 /// What a client's connection is made of.
 #[derive(Drop)]
@@ -76,7 +78,11 @@ ghost use Rattle.qc_state.specs.Unsent.{from_start};
 impl<U: Suite> Core<U> {
     /// A client's connection: its hello waits in the Initial space. Want of memory is the only refusal.
     #[tactic(auto, unfolding(qc_state::specs::First::first_view))]
-    pub fn new_client(alloc: Global, setup: ClientSetup<U>, now: Instant) -> Result<Core<U>, AllocError>
+    pub fn new_client(
+        alloc: Global,
+        setup: ClientSetup<U>,
+        now: Instant,
+    ) -> Result<Core<U>, AllocError>
         ensures { IfOk result (λ core. core ≡ first_view (meaning U.Session.Session U.Session.HeaderKey.HeaderMask U.Session.PacketKey.PacketKey) setup.session setup.random (client_fixed setup.version setup.local_cid setup.local_ip setup.transport.max_idle_timeout) setup.remote setup.first_cid now) }
     {
         let mut session = setup.session;

@@ -7,25 +7,13 @@ ghost use Rattle.qc_state.specs.Spaces.{space_of};
 ghost use Rattle.qc_state.specs.View.{ideal, held};
 ghost use Rattle.qc_state.specs.Waiting.{taken_part};
 
+use crate::state::Core;
 use qc_base::{Instant, SpaceId};
 use qc_frame::FrameList;
 use qc_state::{ConnectionError, Dids, EndpointEvent, Event, Quiet, State, Suite};
 use std::alloc::{AllocError, Global};
 
-use crate::state::Core;
-
-#[tactic(auto, unfolding(
-    qc_state::specs::Moves::move_to,
-    qc_state::specs::Moves::state_move,
-    qc_state::specs::Moves::numbers_move,
-    qc_state::specs::Moves::keys_move,
-    qc_state::specs::Moves::life_move,
-    qc_state::specs::Moves::paths_move,
-    qc_state::specs::Moves::timers_move,
-    qc_state::specs::Moves::waiting_move,
-    qc_state::specs::Moves::deeds_move,
-    qc_state::specs::Setup::ideal_setup
-))]
+#[tactic(auto, unfolding(qc_state::specs::Moves::move_to, qc_state::specs::Moves::state_move, qc_state::specs::Moves::numbers_move, qc_state::specs::Moves::keys_move, qc_state::specs::Moves::life_move, qc_state::specs::Moves::paths_move, qc_state::specs::Moves::timers_move, qc_state::specs::Moves::waiting_move, qc_state::specs::Moves::deeds_move, qc_state::specs::Setup::ideal_setup))]
 impl<U: Suite> Core<U> {
     /// The connection is told a time.
     pub(crate) fn do_clock(&mut self, now: Instant)
@@ -42,7 +30,12 @@ impl<U: Suite> Core<U> {
     }
 
     /// Frames leave what waits, for a packet with so much room for them.
-    pub(crate) fn do_take(&mut self, alloc: Global, space: SpaceId, room: usize) -> Result<FrameList, AllocError>
+    pub(crate) fn do_take(
+        &mut self,
+        alloc: Global,
+        space: SpaceId,
+        room: usize,
+    ) -> Result<FrameList, AllocError>
         ensures frames { IfOk result (λ frames. frames ≡ taken_part (space_of self.old.waiting.spaces space) room) }
         ensures leads { IfOk result (λ frames. (ideal U.Random.stream self.new) ≡ state_move (Take space frames) (ideal U.Random.stream self.old)) }
     {
@@ -50,7 +43,15 @@ impl<U: Suite> Core<U> {
     }
 
     /// A packet is sealed.
-    pub(crate) fn do_seal(&mut self, did: &mut Dids, now: Instant, space: SpaceId, number: u64, size: u64, frames: FrameList) -> Result<(), AllocError>
+    pub(crate) fn do_seal(
+        &mut self,
+        did: &mut Dids,
+        now: Instant,
+        space: SpaceId,
+        number: u64,
+        size: u64,
+        frames: FrameList,
+    ) -> Result<(), AllocError>
         requires { number < 2 ^ 62 }
         ensures { OnOk result ((held U.Random.stream self.new did.new) ≡ move_to (Seal now space number size frames) (held U.Random.stream self.old did.old)) }
     {

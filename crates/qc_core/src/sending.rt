@@ -14,6 +14,7 @@ ghost use Rattle.qc_state.specs.Types.{meaning};
 ghost use Rattle.qc_state.specs.View.{ideal, held};
 ghost use Rattle.qc_state.specs.Waiting.{taken_part};
 
+use crate::state::Core;
 use bytes::Bytes;
 use qc_base::{EcnCodepoint, Instant, PacketNumber, SpaceId, TransportError, TransportErrorCode};
 use qc_frame::FrameList;
@@ -21,8 +22,6 @@ use qc_header::{Header, InitialHeader};
 use qc_packet::{NUMBER_LIMIT, seal_full};
 use qc_state::{ConnectionError, DATAGRAM_SIZE, Dids, Quiet, State, Suite, Transmit};
 use std::alloc::{AllocError, Global};
-
-use crate::state::Core;
 
 impl<U: Suite> Core<U> {
     /// Whether nothing is sent any more.
@@ -128,7 +127,13 @@ impl<U: Suite> Core<U> {
     }
 
     /// A packet of a datagram's size was sealed.
-    pub fn sealed(&mut self, did: &mut Dids, now: Instant, number: u64, frames: FrameList) -> Result<(), AllocError>
+    pub fn sealed(
+        &mut self,
+        did: &mut Dids,
+        now: Instant,
+        number: u64,
+        frames: FrameList,
+    ) -> Result<(), AllocError>
         requires { number < 2 ^ 62 }
         ensures { OnOk result ((held U.Random.stream self.new did.new) ≡ move_to (Seal now SpaceId.Initial number DATAGRAM_SIZE frames) (held U.Random.stream self.old did.old)) }
     {
@@ -151,7 +156,13 @@ impl<U: Suite> Core<U> {
 
     /// Seals a packet with these frames, filled up with PADDING to a datagram's size, into an empty buffer. The PADDING
     /// frames are added to the list.
-    pub fn seal(&self, number: u64, header: &Header, frames: &mut FrameList, buf: &mut Vec<u8>) -> Result<(), AllocError>
+    pub fn seal(
+        &self,
+        number: u64,
+        header: &Header,
+        frames: &mut FrameList,
+        buf: &mut Vec<u8>,
+    ) -> Result<(), AllocError>
         requires empty { buf.old.items ≡ [] }
         requires keyed { IsSome (keys_of self.now.keys SpaceId.Initial) }
         requires numbered { IsSome (header_number header.now) }

@@ -8,7 +8,10 @@ use std::marker::Model;
 #[derive(Drop)]
 pub struct Core<U: Suite> {
     pub(crate) numbers: Numbers,
-    pub(crate) keys: KeyGroup<<U::Session as Session>::HeaderKey, <U::Session as Session>::PacketKey>,
+    pub(crate) keys: KeyGroup<
+        <U::Session as Session>::HeaderKey,
+        <U::Session as Session>::PacketKey,
+    >,
     pub(crate) life: Life,
     pub(crate) paths: Paths,
     pub(crate) timers: Timers,
@@ -23,13 +26,13 @@ impl<U: Suite> Model for Core<U> {
     ghost Value = { Held (record { S = U.Session; H = U.Session.HeaderKey; P = U.Session.PacketKey; D = U.Session.HandshakeData; I = U.Session.PeerIdentity }) U.Random };
 
     ghost view = { λ c. record {
-        numbers = c.numbers;
-        keys = c.keys;
-        life = c.life;
-        paths = c.paths;
-        timers = c.timers;
-        waiting = c.waiting;
-        setup = c.setup;
-        lower = c.lower;
+      numbers = c.numbers;
+      keys = c.keys;
+      life = c.life;
+      paths = c.paths;
+      timers = c.timers;
+      waiting = c.waiting;
+      setup = c.setup;
+      lower = c.lower;
     } };
 }

@@ -62,7 +62,14 @@ fn protect_all<H: HeaderKey, P: PacketKey>(
     ensures bytes { buf.new.items ≡ masked (H.mask_of header_key.now) pn_offset (sealed_in_place (P.seal packet_key.now) number buf.old.items header_len) }
     ensures len { length buf.new.items ≡ length buf.old.items }
 {
-    protect(header_key, packet_key, number, header_len, pn_offset, buf.as_mut_slice());
+    protect(
+        header_key,
+        packet_key,
+        number,
+        header_len,
+        pn_offset,
+        buf.as_mut_slice(),
+    );
 }
 
 /// Fills a buffer up with zeros to `end` bytes.
@@ -77,7 +84,13 @@ fn fill(buf: &mut Vec<u8>, end: usize) -> Result<(), AllocError>
 
 /// Writes a header and frames into an empty buffer, and fills it up with PADDING to `end` bytes.
 #[tactic(auto, using(crate::proofs::Sealed::padded_bytes))]
-fn put_plain(header: &Header, length_field: u16, frames: &mut FrameList, end: usize, buf: &mut Vec<u8>) -> Result<(), AllocError>
+fn put_plain(
+    header: &Header,
+    length_field: u16,
+    frames: &mut FrameList,
+    end: usize,
+    buf: &mut Vec<u8>,
+) -> Result<(), AllocError>
     requires empty { buf.old.items ≡ [] }
     requires field { length_field < 2 ^ 14 }
     requires room { length (header_spelling header.now length_field) + length (frames_spelling frames.old) ≤ end }
@@ -115,7 +128,13 @@ pub fn seal_full<H: HeaderKey, P: PacketKey>(
     let header_len = header.encoded_len();
     let pn_len = header_pn_len(header);
     let pn_offset = header_len - pn_len;
-    put_plain(header, (size - pn_offset) as u16, frames, size - TAG_LEN, buf)?;
+    put_plain(
+        header,
+        (size - pn_offset) as u16,
+        frames,
+        size - TAG_LEN,
+        buf,
+    )?;
     fill(buf, size)?;
     protect_all(header_key, packet_key, number, header_len, pn_offset, buf);
     Ok(())

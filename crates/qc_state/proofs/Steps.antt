@@ -90,10 +90,10 @@ module _ {t : Types} where
       mid ≡ state_move (Clock time) s → b ≡ state_move (Ask Initial) mid → ds ≡ [] → answer ≡ Done → Calls m s (input.Ping time) (at b ds) answer
   unfolding began input_after called IsAllowed answer_of move_to deeds_move
   calls_ping m s mid time b ds answer is_mid is_b is_ds e = record {
-      leads = ap (λ (x : List Did). at b x) is_ds ∙ ap (λ (x : View t). at x []) (is_b ∙ ap (λ (x : View t). state_move (Ask Initial) x) is_mid);
-      allowed = tt;
-      answers = e;
-    }
+    leads = ap (λ (x : List Did). at b x) is_ds ∙ ap (λ (x : View t). at x []) (is_b ∙ ap (λ (x : View t). state_move (Ask Initial) x) is_mid);
+    allowed = tt;
+    answers = e;
+  }
 
   -- the report of the reason leaves that of the end as it was
   same_end : (s : View t) → drained_event (state_move ReportLost s).life ≡ drained_event s.life

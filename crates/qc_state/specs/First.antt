@@ -29,11 +29,13 @@ module _ {t : Types} {R : Type 0} where
     life = record { state = Handshake; reason = None; lost = None; drained = false };
     paths = record { remote = remote; remote_cid = first_cid; sent = 0 };
     timers = record { loss_detection = None; idle = None; sets_idle = true; greatest = time };
-    waiting = record { spaces = record {
-      initial = record { ping = false; crypto = from_start (m.writes session) };
-      handshake = record { ping = false; crypto = from_start [] };
-      application = record { ping = false; crypto = from_start [] };
-    } };
+    waiting = record {
+      spaces = record {
+        initial = record { ping = false; crypto = from_start (m.writes session) };
+        handshake = record { ping = false; crypto = from_start [] };
+        application = record { ping = false; crypto = from_start [] };
+      };
+    };
     setup = record { fixed = fixed; random = random };
     lower = record { session = m.after_write session };
   }

@@ -28,15 +28,15 @@ use Rattle.qc_state.specs.Waiting.{ping_asked, waiting_without}
 
 -- the moves
 pub data Move : Type 0 where
-  Clock : (time : ℕ) → Move                                              -- the connection is told a time
-  Ask : (id : SpaceId) → Move                                            -- a PING is asked for
-  Take : (id : SpaceId) → (frames : List FrameValue) → Move              -- frames leave what waits, to be sealed
-  Seal : (time : ℕ) → (id : SpaceId) → (number size : ℕ) → (frames : List FrameValue) → Move     -- a packet is sealed
-  Raise : (to : State) → Move                                            -- the life rises
-  Give : (why : ConnectionError) → Move                                  -- a reason for the end is given
-  Say : (quiet : Quiet) → Move                                           -- a transmit sends nothing, for this cause
-  ReportLost : Move                                                      -- the reason of the end is reported
-  ReportDrained : Move                                                   -- the end is reported
+  Clock : (time : ℕ) → Move  -- the connection is told a time
+  Ask : (id : SpaceId) → Move  -- a PING is asked for
+  Take : (id : SpaceId) → (frames : List FrameValue) → Move  -- frames leave what waits, to be sealed
+  Seal : (time : ℕ) → (id : SpaceId) → (number size : ℕ) → (frames : List FrameValue) → Move  -- a packet is sealed
+  Raise : (to : State) → Move  -- the life rises
+  Give : (why : ConnectionError) → Move  -- a reason for the end is given
+  Say : (quiet : Quiet) → Move  -- a transmit sends nothing, for this cause
+  ReportLost : Move  -- the reason of the end is reported
+  ReportDrained : Move  -- the end is reported
 
 -- the deeds, told one after another
 abbrev pub told : List Did → List Did → List Did

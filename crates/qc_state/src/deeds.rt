@@ -2,12 +2,11 @@
 
 ghost use Rattle.std.specs.Prelude.{◌≡◌, [], ◌∷◌, ◌++◌, false, OnOk, OnErr};
 
+use crate::life::ConnectionError;
 use qc_base::SpaceId;
 use qc_frame::FrameList;
 use std::alloc::{AllocError, Global};
 use std::marker::Model;
-
-use crate::life::ConnectionError;
 
 /// Why a transmit sent nothing.
 #[derive(Clone, Copy)]
@@ -73,7 +72,12 @@ impl Dids {
     }
 
     /// A packet was sealed. Want of memory is the only refusal, and then the list is as before.
-    pub fn push_sealed(&mut self, space: SpaceId, number: u64, frames: FrameList) -> Result<(), AllocError>
+    pub fn push_sealed(
+        &mut self,
+        space: SpaceId,
+        number: u64,
+        frames: FrameList,
+    ) -> Result<(), AllocError>
         ensures ok { OnOk result (self.new ≡ self.old ++ Did.Sealed space number 0 false frames ∷ []) }
         ensures err { OnErr result (self.new ≡ self.old) }
     {

@@ -2,10 +2,9 @@
 
 ghost use Rattle.std.specs.Prelude.{◌≡◌, [], ◌∷◌, ◌++◌, OnOk, OnErr};
 
+use crate::life::ConnectionError;
 use std::alloc::{AllocError, Global};
 use std::marker::Model;
-
-use crate::life::ConnectionError;
 
 /// What a connection reports to the application.
 #[derive(Drop)]

@@ -4,10 +4,9 @@ ghost use Rattle.std.specs.Prelude.{◌≡◌};
 ghost use Rattle.std.specs.Option.{option_copied};
 ghost use Rattle.qc_state.specs.Keys.{keys_of, key_used, count_one};
 
+use crate::spaces::Spaces;
 use qc_base::SpaceId;
 use qc_crypto::Keys;
-
-use crate::spaces::Spaces;
 
 /// The keys of one space, and how many packets its sealing key has sealed (RFC 9001, 6.6).
 #[derive(Drop)]

@@ -3,9 +3,8 @@
 ghost use Rattle.std.specs.Prelude.{◌≡◌};
 ghost use Rattle.qc_state.specs.Life.{rank_of, is_drained, reason_given, life_raised, lost_event, lost_reported, drained_event, drained_reported};
 
-use qc_base::TransportError;
-
 use crate::events::{EndpointEvent, Event};
+use qc_base::TransportError;
 
 /// Where a connection is in its life (RFC 9000, 10). A life never falls: the variants stand in the order in which a
 /// connection can pass through them.
@@ -116,6 +115,10 @@ impl Life {
     {
         let waits = self.drained;
         self.drained = false;
-        if waits { Some(EndpointEvent::Drained) } else { None }
+        if waits {
+            Some(EndpointEvent::Drained)
+        } else {
+            None
+        }
     }
 }

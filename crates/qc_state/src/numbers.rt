@@ -3,9 +3,8 @@
 ghost use Rattle.std.specs.Prelude.{◌≡◌, ◌<◌, ◌^◌};
 ghost use Rattle.qc_state.specs.Numbers.{next_number, number_used};
 
-use qc_base::SpaceId;
-
 use crate::spaces::Spaces;
+use qc_base::SpaceId;
 
 /// The packet numbers of one space (RFC 9000, 12.3).
 #[derive(Clone, Copy)]

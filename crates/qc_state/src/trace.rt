@@ -2,15 +2,14 @@
 
 ghost use Rattle.std.specs.Prelude.{◌≡◌, [], ◌∷◌, ◌++◌, length, OnOk, OnErr};
 
-use qc_base::{EcnCodepoint, Instant};
-use std::alloc::{AllocError, Global};
-use std::marker::Model;
-use std::net::SocketAddr;
-
 use crate::body::Body;
 use crate::deeds::Dids;
 use crate::events::{EndpointEvents, Events};
 use crate::input::Word;
+use qc_base::{EcnCodepoint, Instant};
+use std::alloc::{AllocError, Global};
+use std::marker::Model;
+use std::net::SocketAddr;
 
 /// What a call answered.
 #[derive(Drop)]

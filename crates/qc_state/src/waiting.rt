@@ -3,12 +3,11 @@
 ghost use Rattle.std.specs.Prelude.{◌≡◌, ◌++◌, OnOk, IfOk};
 ghost use Rattle.qc_state.specs.Waiting.{waits_in, ping_asked};
 
+use crate::crypto_queue::CryptoQueue;
+use crate::spaces::Spaces;
 use qc_base::SpaceId;
 use qc_frame::{FrameList, FrameOf};
 use std::alloc::{AllocError, Global};
-
-use crate::crypto_queue::CryptoQueue;
-use crate::spaces::Spaces;
 
 /// The greatest size of a CRYPTO frame's type, offset and length together, in bytes.
 pub const CRYPTO_HEAD: usize = 17;
@@ -52,7 +51,12 @@ fn take_ping(space: &mut SpaceWaiting, frames: &mut FrameList) -> Result<(), All
 
 /// Takes as many of the CRYPTO bytes that wait as fit.
 #[tactic(auto, unfolding(crate::specs::Waiting::crypto_part, crate::specs::Waiting::without_all, crate::specs::Waiting::without))]
-fn take_crypto(space: &mut SpaceWaiting, alloc: Global, room: usize, frames: &mut FrameList) -> Result<(), AllocError>
+fn take_crypto(
+    space: &mut SpaceWaiting,
+    alloc: Global,
+    room: usize,
+    frames: &mut FrameList,
+) -> Result<(), AllocError>
     ensures frames { OnOk result (frames.new ≡ frames.old ++ crypto_part space.old room) }
     ensures rest { OnOk result (space.new ≡ without_all space.old (crypto_part space.old room)) }
 {
@@ -101,7 +105,12 @@ impl Waiting {
     }
 
     /// Takes frames that wait in the space, for a packet with so much room for them.
-    pub fn take(&mut self, alloc: Global, space: SpaceId, room: usize) -> Result<FrameList, AllocError>
+    pub fn take(
+        &mut self,
+        alloc: Global,
+        space: SpaceId,
+        room: usize,
+    ) -> Result<FrameList, AllocError>
         ensures frames { IfOk result (λ frames. frames ≡ taken_part (space_of self.old.spaces space) room) }
         ensures rest { IfOk result (λ frames. self.new ≡ waiting_without self.old space frames) }
     {
