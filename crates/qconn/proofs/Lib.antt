@@ -1,3 +1,5 @@
+pub mod EndingLemmas
 pub mod NumberLemmas
 pub mod OutsideLemmas
+pub mod RunLemmas
 pub mod ScriptLemmas

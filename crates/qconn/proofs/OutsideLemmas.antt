@@ -58,3 +58,7 @@ gives_front xs copied others i n e size = record {
       let copy : take n (copied ++ others) ≡ take n (drop i xs) = take_at copied others n size ∙ e in
       (drop n (drop i xs), sym same ∙ sym (take-append-drop n (drop i xs)) ∙ ap (λ (front : List ℕ). front ++ drop n (drop i xs)) (sym copy), ap Some (sym (drop-drop n i xs)));
 }
+
+-- one write after another
+pub appends_more : (a b c : Option (List ℕ)) (xs ys zs : List ℕ) → zs ≡ xs ++ ys → Appends a b xs → Appends b c ys → Appends a c zs
+appends_more a b c xs ys zs e first next = record { told = λ all h. rw (e, ← append_assoc) (next.told _ (first.told all h)) }

@@ -5,9 +5,10 @@ use Rattle.std.specs.Fmt.{decimal}
 use Rattle.std.specs.List.{concat}
 use Rattle.std.proofs.lemmas.Bool.{ne_eqb, cases_lt}
 use Rattle.std.proofs.lemmas.Fmt.{decimal_injective}
-use Rattle.qconn.specs.Script.{Lacks, with_byte, lines_of, first_line, input_line, time_of, IsWithin, FollowFrom, IsTime, IsTransmit, IsNext, NextLine, IsScript, GoesOn, IsFirstBad}
-use Rattle.qconn.specs.declared.script.Input.{Input}
-use Rattle.qconn.specs.declared.script.Input.TheVariants.{Transmit, Ping}
+use Rattle.qconn.specs.Script.{Lacks, with_byte, lines_of, first_line, input_line, IsWithin, FollowFrom, IsTime, IsTransmit, IsNext, NextLine, IsScript, GoesOn, IsFirstBad}
+use Rattle.qc_state.specs.Run.{time_of, AreValid}
+use Rattle.qc_state.specs.declared.input.Input.{Input}
+use Rattle.qc_state.specs.declared.input.Input.TheVariants.{Transmit, Ping}
 use Rattle.qconn.specs.declared.script.ScriptError.TheVariants.{BadLine, OutOfMemory}
 use Rattle.qconn.proofs.NumberLemmas.{Lacks-append, Lacks-decimal, first_split, no_split}
 
@@ -284,3 +285,9 @@ next_shorter rest least input others h =
 
 pub script_or_bad : (lines : List (List ℕ)) (k : ℕ) → IsFirstBad lines k → (inputs : List Input) → IsScript lines inputs → BadLine k ≡ OutOfMemory
 script_or_bad lines k bad inputs script = absurd (script_not_bad lines inputs k script bad)
+
+-- the inputs of a script are valid ones
+pub script_valid : (least : ℕ) (inputs : List Input) → FollowFrom least inputs → AreValid least inputs
+script_valid least [] h = tt
+script_valid least (Transmit t n ∷ inputs) h = (h.0, h.1.2, script_valid t inputs h.2)
+script_valid least (Ping t ∷ inputs) h = (h.0, script_valid t inputs h.2)

@@ -7,8 +7,9 @@
 -- nanoseconds; none lies before the one of the line before it.
 use Rattle.std.specs.Prelude.{◌≡◌, ◌≢◌, ℕ, ◌+◌, ◌-◌, ◌^◌, ◌<◌, ◌≤◌, List, [], ◌∷◌, ◌++◌, length, take, map, codes, Bool, true, false, ◌==◌}
 use Rattle.std.specs.Fmt.{decimal}
-use Rattle.qconn.specs.declared.script.Input.{Input}
-use Rattle.qconn.specs.declared.script.Input.TheVariants.{Transmit, Ping}
+use Rattle.qc_state.specs.Run.{time_of}
+use Rattle.qc_state.specs.declared.input.Input.{Input}
+use Rattle.qc_state.specs.declared.input.Input.TheVariants.{Transmit, Ping}
 use Rattle.qconn.specs.declared.script.ScriptError.{ScriptError}
 use Rattle.qconn.specs.declared.script.ScriptError.TheVariants.{BadLine, OutOfMemory}
 
@@ -34,10 +35,6 @@ first_line = codes "set side client\n"
 unfoldable pub input_line : Input → List ℕ
 input_line (Transmit now max_datagrams) = codes "transmit " ++ (decimal now ++ 32 ∷ (decimal max_datagrams ++ 10 ∷ []))
 input_line (Ping now) = codes "ping " ++ (decimal now ++ 10 ∷ [])
-
-abbrev pub time_of : Input → ℕ
-time_of (Transmit now max_datagrams) = now
-time_of (Ping now) = now
 
 -- the input's numbers are below 2^64, and a transmit is of at least one datagram
 abbrev pub IsWithin : Input → Type 0

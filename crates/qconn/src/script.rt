@@ -6,26 +6,12 @@
 ghost use Rattle.std.specs.Prelude.{◌≡◌, ◌≢◌, ℕ, ◌+◌, ◌-◌, ◌*◌, ◌^◌, ◌<◌, ◌≤◌, List, [], ◌∷◌, ◌++◌, length, IfOk, IsOkAnd, IfErr, MatchResult, MatchOption, IfSome, IfNone};
 ghost use Rattle.std.specs.Fmt.{decimal};
 ghost use Rattle.std.specs.Int.{IsInRange};
-ghost use Rattle.qconn.specs.Script.{lines_of, first_line, input_line, time_of, IsWithin, IsTime, IsTransmit, IsNext, NextLine, IsScript, IsRefusal, Lacks};
+ghost use Rattle.qc_state.specs.Run.{time_of};
+ghost use Rattle.qconn.specs.Script.{lines_of, first_line, input_line, IsWithin, IsTime, IsTransmit, IsNext, NextLine, IsScript, IsRefusal, Lacks};
 
-use std::alloc::{AllocError, Global};
-
-#[derive(Clone, Copy, Debug, PartialEq, Eq)]
-pub enum Input {
-    Transmit { now: u64, max_datagrams: usize },
-    Ping { now: u64 },
-}
-
-impl Input {
-    fn time(&self) -> u64
-        ensures { result ≡ time_of self.now }
-    {
-        match *self {
-            Input::Transmit { now, .. } => now,
-            Input::Ping { now } => now,
-        }
-    }
-}
+use qc_base::Instant;
+use qc_state::Input;
+use std::alloc::Global;
 
 /// Why bytes are no script.
 #[derive(Clone, Copy, Debug, PartialEq, Eq)]
@@ -34,6 +20,16 @@ pub enum ScriptError {
     BadLine(u64),
     /// There was no memory for the inputs.
     OutOfMemory,
+}
+
+/// The time of an input, in nanoseconds.
+fn time_of(input: &Input) -> u64
+    ensures { result ≡ time_of input.now }
+{
+    match *input {
+        Input::Transmit { now, .. } => now.nanos(),
+        Input::Ping { now } => now.nanos(),
+    }
 }
 
 /// The number so far with this digit behind it.
@@ -119,13 +115,15 @@ fn read_line(text: &[u8], least: u64) -> Option<Input>
     if let Some(fields) = after_word(text, b"transmit ") {
         let (now, max_datagrams) = read_transmit(fields, least)?;
         return Some(Input::Transmit {
-            now,
+            now: Instant::from_nanos(now),
             max_datagrams: max_datagrams as usize,
         });
     }
     let digits = after_word(text, b"ping ")?;
     let now = read_time(digits, least)?;
-    Some(Input::Ping { now })
+    Some(Input::Ping {
+        now: Instant::from_nanos(now),
+    })
 }
 
 /// The input whose line the text begins with, if it may follow after this time, and the rest.
@@ -154,7 +152,7 @@ pub fn read_script(alloc: Global, bytes: &[u8]) -> Result<Vec<Input>, ScriptErro
         let Some((input, others)) = read_next(rest, least) else {
             return Err(ScriptError::BadLine(inputs.len() as u64 + 2));
         };
-        least = input.time();
+        least = time_of(&input);
         match inputs.push(input) {
             Ok(()) => {}
             Err(_) => return Err(ScriptError::OutOfMemory),

@@ -30,7 +30,7 @@ pub loop-rest-smaller : goal.loop-rest-smaller
 loop-rest-smaller c = next_shorter c.loop-rest.rest.now c.loop-rest.least c.in-Some-read_next.input c.in-Some-read_next.others.now c.in-Some-read_next.ensures
 
 pub loop-rest-preserved : goal.loop-rest-preserved
-loop-rest-preserved c = rw (c.in-Ok.ensures.items, c.time-least.ensures) (read_more c.args.bytes.now c.loop-rest.inputs.items c.loop-rest.least c.loop-rest.rest.now c.in-Some-read_next.input c.in-Some-read_next.others.now c.loop-rest.invariant c.in-Some-read_next.ensures)
+loop-rest-preserved c = rw (c.in-Ok.ensures.items, c.time_of-least.ensures) (read_more c.args.bytes.now c.loop-rest.inputs.items c.loop-rest.least c.loop-rest.rest.now c.in-Some-read_next.input c.in-Some-read_next.others.now c.loop-rest.invariant c.in-Some-read_next.ensures)
 
 pub returns-clause-script : goal.returns-clause-script
 returns-clause-script c =

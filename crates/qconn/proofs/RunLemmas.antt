@@ -1,0 +1,44 @@
+-- The run of the client that a script sets up.
+use Rattle.std.proofs.Common.{◌≡◌, ℕ, List, Option, None, ap, subst}
+use Rattle.qc_base.specs.declared.mask.HeaderMask.{Ghosts as HeaderMaskGhosts}
+use Rattle.qc_conn.specs.Seen.{Seen}
+use Rattle.qc_conn.specs.TraceText.{trace_text}
+use Rattle.qc_crypto.specs.declared.packet_key.PacketKey.{Ghosts as PacketKeyGhosts}
+use Rattle.qc_state.specs.First.{first_view, client_fixed}
+use Rattle.qc_state.specs.Run.{Run}
+use Rattle.qc_state.specs.Types.{Types, Meaning, meaning}
+use Rattle.qc_state.specs.View.{View, Held, ideal}
+use Rattle.qc_state.specs.declared.input.Input.{Input}
+use Rattle.qc_state.specs.declared.setup.Fixed.{Fixed}
+use Rattle.qc_state.specs.declared.trace.Step.{Step}
+use Rattle.qc_toy.specs.declared.header_key.ToyHeaderKey.{ToyHeaderKey}
+use Rattle.qc_toy.specs.declared.packet_key.ToyPacketKey.{ToyPacketKey}
+use Rattle.qc_toy.specs.declared.session.ToySession.{ToySession}
+use Rattle.qc_recovery.specs.TransportValues.{TransportValues, default_transport}
+use Rattle.std.specs.declared.net.ip_addr.IpAddr.{IpAddr}
+use Rattle.qc_toy.specs.declared.zero_random.ZeroRandom.{ZeroRandom}
+use Rattle.rand_core.specs.declared.Rng.{Ghosts as RngGhosts}
+use Rattle.std.specs.declared.net.socket_addr.SocketAddr.{SocketAddr}
+use Rattle.qconn.specs.RunText.{IsScriptAddress, IsScriptClient, IsToyRun, Sessions, first_cid, local_cid, script_session, toy}
+
+-- the greatest time of a first view is the one that it was made at
+pub first_time : {t : Types} {R : Type 0} (m : Meaning t) (session : t.S) (random : R) (fixed : Fixed) (remote : SocketAddr) (cid : List ℕ) (time : ℕ) (v : Held t R)
+    → v ≡ first_view m session random fixed remote cid time → v.timers.greatest ≡ time
+unfolding first_view
+first_time {t} {R} m session random fixed remote cid time v e = ap (λ (w : Held t R). w.timers.greatest) e
+
+-- its trace, as a text
+pub toy_run : (s : Sessions) (h : HeaderMaskGhosts ToyHeaderKey) (p : PacketKeyGhosts ToyPacketKey) (r : RngGhosts ZeroRandom) (client : Seen toy ZeroRandom) (inputs : List Input) (steps : List Step) (last : View toy) (text : List ℕ)
+    → IsScriptClient s h p client → Run (meaning s h p) 0 (ideal r.stream client.core) inputs steps last → text ≡ trace_text steps → IsToyRun s h p r inputs text
+toy_run s h p r client inputs steps last text c run spelled = record {
+  remote = c.remote;
+  address = c.address;
+  run = record { steps = steps; last = last; run = subst (λ (v : Held toy ZeroRandom). Run (meaning s h p) 0 (ideal r.stream v) inputs steps last) c.made run; spelled = spelled };
+}
+
+-- what the setup is made of makes the client that a script sets up
+pub script_made : (s : Sessions) (h : HeaderMaskGhosts ToyHeaderKey) (p : PacketKeyGhosts ToyPacketKey) (client : Seen toy ZeroRandom) (session : ToySession) (random : ZeroRandom) (version : ℕ) (local : List ℕ) (ip : Option IpAddr) (transport : TransportValues) (remote : SocketAddr) (first : List ℕ) (time : ℕ)
+    → IsScriptAddress remote → session ≡ script_session → version ≡ 1 → local ≡ local_cid → ip ≡ None → transport ≡ default_transport → first ≡ first_cid → time ≡ 0
+    → client.core ≡ first_view (meaning s h p) session random (client_fixed version local ip transport.max_idle_timeout) remote first time → IsScriptClient s h p client
+script_made s h p client session random version local ip transport remote first time address es ev el ei et ef en e =
+    record { remote = remote; address = address; made = rw (es, ev, el, ei, et, ef, en) at e }

@@ -1,0 +1,112 @@
+//! The run of a script's inputs, on the client that a script sets up.
+
+ghost use Rattle.std.specs.Prelude.{◌≡◌, None, IfOk};
+ghost use Rattle.qconn.specs.RunText.{IsScriptAddress, local_cid, first_cid, script_session, toy_client, IsScriptClient, IsToyRun};
+ghost use Rattle.qc_state.specs.Run.{AreValid};
+ghost use Rattle.qc_recovery.specs.TransportValues.{default_transport};
+
+use qc_base::{ConnectionId, HeaderMask, Instant};
+use qc_config::{NoneTokenStore, announced};
+use qc_conn::text::trace_text;
+use qc_conn::{ClientSetup, Connection, drive};
+use qc_crypto::{ClientConfig, PacketKey, Session};
+use qc_recovery::TransportConfig;
+use qc_state::{Input, Suite};
+use qc_toy::{ToyClient, ToyHeaderKey, ToyPacketKey, ToySession, ToySettings, ZeroRandom};
+use rand_core::Rng;
+use std::alloc::{AllocError, Global};
+use std::default::Default;
+use std::net::{IpAddr, Ipv6Addr, SocketAddr};
+
+/// The greatest UDP payload that a client takes, in bytes.
+const MAX_UDP_PAYLOAD: u16 = 1472;
+
+/// The types of the connection that a script drives: toy sessions, and zeros for random words.
+pub struct Toy;
+
+impl Suite for Toy {
+    type Session = ToySession;
+
+    type Random = ZeroRandom;
+}
+
+/// What the client of a script is made of where no line says otherwise.
+fn client_setup(alloc: Global) -> Result<ClientSetup<Toy>, AllocError>
+    ensures session { IfOk result (λ setup. setup.session ≡ script_session) }
+    ensures version { IfOk result (λ setup. setup.version ≡ 1) }
+    ensures local_cid { IfOk result (λ setup. setup.local_cid ≡ local_cid) }
+    ensures local_ip { IfOk result (λ setup. setup.local_ip ≡ None) }
+    ensures first_cid { IfOk result (λ setup. setup.first_cid ≡ first_cid) }
+    ensures transport { IfOk result (λ setup. setup.transport ≡ default_transport) }
+    ensures remote { IfOk result (λ setup. IsScriptAddress setup.remote) }
+{
+    let transport = TransportConfig::default();
+    let local_cid = ConnectionId::new(&[1; 8]);
+    let session = client_session(alloc, &transport, local_cid)?;
+    Ok(ClientSetup {
+        session,
+        random: ZeroRandom,
+        transport,
+        grease_quic_bit: true,
+        local_cid,
+        first_cid: ConnectionId::new(&[2; 8]),
+        cid_len: 8,
+        cid_lifetime: None,
+        remote: script_address(),
+        local_ip: None,
+        version: 1,
+        allow_mtud: true,
+        server_name: String::new(alloc),
+    })
+}
+
+/// A toy session that announces this transport.
+fn client_session(
+    alloc: Global,
+    transport: &TransportConfig,
+    local_cid: ConnectionId,
+) -> Result<ToySession, AllocError>
+    ensures { IfOk result (λ session. session ≡ toy_client transport.now local_cid) }
+{
+    let client = ToyClient {
+        settings: ToySettings::default(),
+    };
+    let params = announced(transport, MAX_UDP_PAYLOAD, local_cid, true);
+    match client.start_session(alloc, 1, "", &params) {
+        Ok(session) => Ok(session),
+        Err(_) => Err(AllocError),
+    }
+}
+
+/// `::1`, port 4433.
+fn script_address() -> SocketAddr
+    ensures { IsScriptAddress result }
+{
+    SocketAddr::new(IpAddr::V6(Ipv6Addr::new(0, 0, 0, 0, 0, 0, 0, 1)), 4433)
+}
+
+/// The client that a script sets up, made at time 0.
+fn script_client(alloc: Global) -> Result<Connection<Toy>, AllocError>
+    ensures client { IfOk result (IsScriptClient ⟦<ToySession as Session>⟧ ⟦<ToyHeaderKey as HeaderMask>⟧ ⟦<ToyPacketKey as PacketKey>⟧) }
+    ensures start { IfOk result (λ client. client.core.timers.greatest ≡ 0) }
+{
+    let setup = client_setup(alloc)?;
+    let start = Instant::from_nanos(0);
+    let client = Connection::new_client(alloc, setup, &mut NoneTokenStore, start)?;
+    Ok(client)
+}
+
+/// The text of the trace of that client, driven by these inputs. Want of memory is the only refusal.
+pub fn perform(alloc: Global, inputs: &[Input]) -> Result<Vec<u8>, AllocError>
+    requires { AreValid 0 inputs.now }
+    ensures { IfOk result (λ text. IsToyRun ⟦<ToySession as Session>⟧ ⟦<ToyHeaderKey as HeaderMask>⟧ ⟦<ToyPacketKey as PacketKey>⟧ ⟦<ZeroRandom as Rng>⟧ inputs.now text.items) }
+{
+    let mut client = script_client(alloc)?;
+    match drive(alloc, &mut client, inputs, &mut NoneTokenStore) {
+        Ok(trace) => {
+            let text = trace_text(alloc, &trace)?;
+            Ok(text)
+        }
+        Err(_) => Err(AllocError),
+    }
+}
