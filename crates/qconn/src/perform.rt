@@ -110,3 +110,34 @@ pub fn perform(alloc: Global, inputs: &[Input]) -> Result<Vec<u8>, AllocError>
         Err(_) => Err(AllocError),
     }
 }
+
+#[cfg(test)]
+mod tests {
+    use super::*;
+    use std::test::Fail;
+
+    // The hello goes out first; then nothing is owed until a PING is asked for.
+    #[test]
+    fn a_client_is_called_directly(rt: HostRuntime) -> Result<(), Fail> {
+        let mut client = script_client(rt.alloc())?;
+        let now = Instant::from_nanos(5);
+        assert!(rt; client.poll_timeout().is_none());
+        for asks in [false, true] {
+            if asks {
+                client.ping();
+            }
+            let mut buf = Vec::new(rt.alloc());
+            let sent = client.poll_transmit(rt.alloc(), now, 1, &mut buf)?;
+            assert!(rt; sent.is_some());
+            assert_eq!(rt; buf.len(), 1200);
+            let mut rest = Vec::new(rt.alloc());
+            let more = client.poll_transmit(rt.alloc(), now, 1, &mut rest)?;
+            assert!(rt; more.is_none());
+        }
+        assert!(rt; client.poll().is_none());
+        assert!(rt; client.poll_endpoint_events().is_none());
+        let timeout = client.poll_timeout().ok_or("no timer")?;
+        assert_eq!(rt; timeout.nanos(), 999_000_005);
+        Ok(())
+    }
+}
