@@ -167,3 +167,15 @@ impl<U: Suite> Connection<U> {
         self.failed = true;
     }
 }
+
+#[cfg(test)]
+impl<U: Suite> Connection<U> {
+    /// The connection, its next Initial packet having this number: for tests alone.
+    pub(crate) fn with_number(self, number: u64) -> Connection<U>
+        ensures { result.core.timers ≡ self.core.timers }
+    {
+        let mut connection = self;
+        connection.core.numbers.spaces.initial.next = number;
+        connection
+    }
+}

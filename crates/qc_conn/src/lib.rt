@@ -4,6 +4,8 @@
 mod connection;
 mod driving;
 mod steps;
+#[cfg(test)]
+mod tests;
 pub mod text;
 
 pub use connection::Connection;

@@ -7,17 +7,25 @@ use std::marker::Model;
 /// A connection without its mark of want of memory. Contracts see the eight groups of its view.
 #[derive(Drop)]
 pub struct Core<U: Suite> {
-    pub(crate) numbers: Numbers,
-    pub(crate) keys: KeyGroup<
+    /// The packet numbers of the three spaces.
+    pub numbers: Numbers,
+    /// The keys of the three spaces.
+    pub keys: KeyGroup<
         <U::Session as Session>::HeaderKey,
         <U::Session as Session>::PacketKey,
     >,
-    pub(crate) life: Life,
-    pub(crate) paths: Paths,
-    pub(crate) timers: Timers,
-    pub(crate) waiting: Waiting,
-    pub(crate) setup: Setup<U::Random>,
-    pub(crate) lower: Lower<U::Session>,
+    /// How far the connection has come, and why it ended.
+    pub life: Life,
+    /// The path that packets go by.
+    pub paths: Paths,
+    /// The timers, and the greatest time that was told.
+    pub timers: Timers,
+    /// What waits to be sent.
+    pub waiting: Waiting,
+    /// What the connection was made of.
+    pub setup: Setup<U::Random>,
+    /// The session.
+    pub lower: Lower<U::Session>,
 }
 
 impl<U: Suite> Model for Core<U> {

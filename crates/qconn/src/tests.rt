@@ -3,28 +3,48 @@
 use crate::run::{Status, run};
 use crate::sink::MemorySink;
 use crate::source::{MemorySource, SliceSource};
+use qc_base::ConnectionId;
+use qc_config::reset_token;
+use qc_toy::ToyHmacKey;
 use std::alloc::Global;
 use std::slice;
 use std::test::Fail;
+
+/// Which calls of the source and the sink fail, which writes take nothing, and how many bytes the sink takes.
+#[derive(Clone, Copy)]
+struct Faults<'a> {
+    reads: &'a [u64],
+    writes: &'a [u64],
+    idle: &'a [u64],
+    room: usize,
+}
+
+/// No faults.
+fn none<'a>() -> Faults<'a> {
+    Faults {
+        reads: &[],
+        writes: &[],
+        idle: &[],
+        room: 100_000,
+    }
+}
 
 /// The status of a run, and what it wrote.
 fn outcome(
     alloc: Global,
     words: &[&str],
     script: &str,
-    failing_reads: &[u64],
-    failing_writes: &[u64],
-    idle_writes: &[u64],
+    faults: &Faults<'_>,
 ) -> Result<(Status, String), Fail> {
     let mut list = Vec::new(alloc);
     for word in words {
         list.push(String::from_str(alloc, word)?)?;
     }
     let bytes = Vec::from_slice(alloc, script.as_bytes())?;
-    let mut source = MemorySource::new(bytes, Vec::from_slice(alloc, failing_reads)?);
-    let failing = Vec::from_slice(alloc, failing_writes)?;
-    let idle = Vec::from_slice(alloc, idle_writes)?;
-    let mut sink = MemorySink::new(alloc, 100_000, failing, idle)?;
+    let mut source = MemorySource::new(bytes, Vec::from_slice(alloc, faults.reads)?);
+    let failing = Vec::from_slice(alloc, faults.writes)?;
+    let idle = Vec::from_slice(alloc, faults.idle)?;
+    let mut sink = MemorySink::new(alloc, faults.room, failing, idle)?;
     let status = run(alloc, list.as_slice(), &mut source, &mut sink);
     Ok((
         status,
@@ -73,7 +93,7 @@ fn words_and_scripts_end_in_their_status(rt: HostRuntime) -> Result<(), Fail> {
         ),
     ];
     for (words, script, status, text) in cases {
-        let (was, wrote) = outcome(rt.alloc(), words, script, &[], &[], &[])?;
+        let (was, wrote) = outcome(rt.alloc(), words, script, &none())?;
         assert_eq!(rt; was, status, "{script:?}");
         assert_eq!(rt; wrote.as_str(), text);
     }
@@ -105,18 +125,68 @@ fn ping_follows_the_hello(rt: HostRuntime) -> Result<(), Fail> {
     Ok(())
 }
 
+const HELLO: &str = "set side client\ntransmit 0 1\n";
+
+// The run of the hello reads twice, the second time at the end, and writes once.
 #[test]
-fn faults_end_the_run(rt: HostRuntime) -> Result<(), Fail> {
-    let script = "set side client\nping 7\n";
-    for call in [0, 1] {
-        let (status, text) = outcome(rt.alloc(), &["run"], script, &[call], &[], &[])?;
-        assert_eq!(rt; status, Status::ReadFault, "read {call}");
-        assert_eq!(rt; text.as_str(), "read fault\n");
+fn each_read_fails_in_turn(rt: HostRuntime) -> Result<(), Fail> {
+    for call in 0..4 {
+        let reads = [call];
+        let faults = Faults {
+            reads: &reads,
+            ..none()
+        };
+        let (status, text) = outcome(rt.alloc(), &["run"], HELLO, &faults)?;
+        if call < 2 {
+            assert_eq!(rt; status, Status::ReadFault, "read {call}");
+            assert_eq!(rt; text.as_str(), "read fault\n");
+        } else {
+            assert_eq!(rt; status, Status::Done, "read {call}");
+        }
     }
-    for (failing, idle) in [(&[0][..], &[][..]), (&[][..], &[0][..])] {
-        let (status, text) = outcome(rt.alloc(), &["run"], script, &[], failing, idle)?;
-        assert_eq!(rt; status, Status::WriteFault);
-        assert_eq!(rt; text.as_str(), "");
+    Ok(())
+}
+
+/// Whether a run of the hello with these faults ends in this status, and writes a front of the whole text.
+fn ends_in(alloc: Global, faults: &Faults<'_>, status: Status) -> Result<bool, Fail> {
+    let (_, whole) = outcome(alloc, &["run"], HELLO, &none())?;
+    let (was, text) = outcome(alloc, &["run"], HELLO, faults)?;
+    Ok(was == status && whole.as_str().starts_with(text.as_str()))
+}
+
+#[test]
+fn each_write_fails_in_turn(rt: HostRuntime) -> Result<(), Fail> {
+    for call in 0..3 {
+        let calls = [call];
+        let failing = Faults {
+            writes: &calls,
+            ..none()
+        };
+        let idle = Faults {
+            idle: &calls,
+            ..none()
+        };
+        let status = if call == 0 {
+            Status::WriteFault
+        } else {
+            Status::Done
+        };
+        assert!(rt; ends_in(rt.alloc(), &failing, status)?, "write {call} fails");
+        assert!(rt; ends_in(rt.alloc(), &idle, status)?, "write {call} takes nothing");
     }
+    for room in [0, 1, 7, 8, 1000, 2000] {
+        let faults = Faults { room, ..none() };
+        assert!(rt; ends_in(rt.alloc(), &faults, Status::WriteFault)?, "room {room}");
+    }
+    Ok(())
+}
+
+// The token's expected value was computed by hand from the toy's rules: its checksum under a key of zeros.
+#[test]
+fn reset_token_is_the_front_of_the_signature(rt: HostRuntime) -> Result<(), Fail> {
+    let key = ToyHmacKey::new([0; 16]);
+    let token = reset_token(rt.alloc(), &key, ConnectionId::new(&[1; 8]))?;
+    let text = format!(in rt.alloc(); "{token}")?;
+    assert_eq!(rt; text.as_str(), "24486c90b4d8fc2044688cb0d4f81c40");
     Ok(())
 }

@@ -1,0 +1,189 @@
+//! Clients of toy sessions, at the start and near the limit of packet numbers.
+
+ghost use Rattle.std.specs.Prelude.{◌≡◌, IfSome};
+ghost use Rattle.qc_state.specs.Run.{AreValid};
+
+use crate::connection::Connection;
+use crate::driving::{DriveKind, drive};
+use crate::text::trace_text;
+use qc_base::{ConnectionId, Instant, TransportErrorCode};
+use qc_config::{NoneTokenStore, announced};
+use qc_core::ClientSetup;
+use qc_crypto::ClientConfig;
+use qc_recovery::TransportConfig;
+use qc_state::{ConnectionError, Event, Input, Suite};
+use qc_toy::{ToyClient, ToySession, ToySettings, ZeroRandom};
+use std::alloc::Global;
+use std::default::Default;
+use std::net::{IpAddr, Ipv4Addr, SocketAddr};
+use std::test::Fail;
+
+struct Toy;
+
+impl Suite for Toy {
+    type Session = ToySession;
+
+    type Random = ZeroRandom;
+}
+
+fn session(alloc: Global, transport: &TransportConfig, id: ConnectionId) -> Option<ToySession> {
+    let client = ToyClient {
+        settings: ToySettings::default(),
+    };
+    let params = announced(transport, 1472, id, true);
+    client.start_session(alloc, 1, "", &params).ok()
+}
+
+fn setup(alloc: Global) -> Option<ClientSetup<Toy>> {
+    let transport = TransportConfig::default();
+    let local_cid = ConnectionId::new(&[1; 8]);
+    let session = session(alloc, &transport, local_cid)?;
+    Some(ClientSetup {
+        session,
+        random: ZeroRandom,
+        transport,
+        grease_quic_bit: true,
+        local_cid,
+        first_cid: ConnectionId::new(&[2; 8]),
+        cid_len: 8,
+        cid_lifetime: None,
+        remote: SocketAddr::new(IpAddr::V4(Ipv4Addr::new(192, 0, 2, 1)), 4433),
+        local_ip: None,
+        version: 1,
+        allow_mtud: true,
+        server_name: String::new(alloc),
+    })
+}
+
+/// A client made at time 0 whose next Initial packet has this number.
+fn client_at(alloc: Global, number: u64) -> Option<Connection<Toy>>
+    ensures { IfSome result (λ client. client.core.timers.greatest ≡ 0) }
+{
+    let setup = setup(alloc)?;
+    let start = Instant::from_nanos(0);
+    let client = Connection::new_client(alloc, setup, &mut NoneTokenStore, start).ok()?;
+    Some(client.with_number(number))
+}
+
+/// How many bytes a transmit at this time seals; None where it seals nothing.
+fn sealed_len(alloc: Global, client: &mut Connection<Toy>, nanos: u64) -> Option<usize> {
+    let mut buf = Vec::new(alloc);
+    let now = Instant::from_nanos(nanos);
+    match client.poll_transmit(alloc, now, 1, &mut buf) {
+        Ok(Some(_)) => Some(buf.len()),
+        _ => None,
+    }
+}
+
+/// The code of a lost connection; None where no event waits.
+fn lost_code(client: &mut Connection<Toy>) -> Option<TransportErrorCode> {
+    match client.poll() {
+        Some(Event::ConnectionLost {
+            reason: ConnectionError::TransportError(error),
+        }) => Some(error.code),
+        None => None,
+    }
+}
+
+// The largest number that can be spelled while nothing was acknowledged is 2^31 - 1 (RFC 9000, A.2). The packet after
+// it ends the connection, with one reason and one report of each kind.
+#[test]
+fn the_last_number_ends_the_connection(rt: HostRuntime) -> Result<(), Fail> {
+    let mut client = client_at(rt.alloc(), 0x7fff_ffff).ok_or("no client")?;
+    assert_eq!(rt; sealed_len(rt.alloc(), &mut client, 1), Some(1200));
+    assert_eq!(rt; sealed_len(rt.alloc(), &mut client, 2), None);
+    assert!(rt; client.poll().is_none());
+    assert!(rt; client.poll_timeout().is_some());
+    client.ping();
+    assert_eq!(rt; sealed_len(rt.alloc(), &mut client, 3), None);
+    assert_eq!(rt; lost_code(&mut client), Some(TransportErrorCode::INTERNAL_ERROR));
+    assert!(rt; client.poll().is_none());
+    assert!(rt; client.poll_endpoint_events().is_some());
+    assert!(rt; client.poll_endpoint_events().is_none());
+    assert!(rt; client.poll_timeout().is_none());
+    client.ping();
+    assert_eq!(rt; sealed_len(rt.alloc(), &mut client, 4), None);
+    assert!(rt; client.poll().is_none());
+    Ok(())
+}
+
+/// A transmit, a PING and a transmit at time 1, and a transmit.
+fn inputs() -> [Input; 4]
+    ensures { AreValid 0 result }
+{
+    let start = Instant::from_nanos(0);
+    let then = Instant::from_nanos(1);
+    let last = Instant::from_nanos(2);
+    [
+        Input::Transmit {
+            now: start,
+            max_datagrams: 1,
+        },
+        Input::Ping { now: then },
+        Input::Transmit {
+            now: then,
+            max_datagrams: 1,
+        },
+        Input::Transmit {
+            now: last,
+            max_datagrams: 1,
+        },
+    ]
+}
+
+/// The text of these inputs' trace, on a client whose next packet has this number; None where something refused.
+fn text_from(alloc: Global, number: u64) -> Option<Vec<u8>> {
+    let mut client = client_at(alloc, number)?;
+    let inputs = inputs();
+    match drive(alloc, &mut client, &inputs, &mut NoneTokenStore) {
+        Ok(trace) => trace_text(alloc, &trace).ok(),
+        Err(_) => None,
+    }
+}
+
+// The lines are written by hand, by the rules of the trace's text.
+#[test]
+fn the_trace_tells_how_the_last_number_ended_it(rt: HostRuntime) -> Result<(), Fail> {
+    let bytes = text_from(rt.alloc(), 0x7fff_ffff).ok_or("no trace")?;
+    let text = String::from_utf8(bytes)?;
+    for part in [
+        "step 0 transmit 0\nseal initial 2147483647 0 CRYPTO/0600",
+        "step 1 ping 1\nanswer done\ntimer ",
+        "step 2 transmit 1\nlife 4\nlost TransportError 1 -\nquiet Killed\nevent lost TransportError 1 -\nendpoint drained\ntimer -\n",
+        "step 3 transmit 2\nquiet Silent\ntimer -\nend\n",
+    ] {
+        assert!(rt; text.as_str().contains(part), "{part}");
+    }
+    Ok(())
+}
+
+// One number before the limit nothing ends.
+#[test]
+fn numbers_below_the_limit_go_on(rt: HostRuntime) -> Result<(), Fail> {
+    let bytes = text_from(rt.alloc(), 0x7fff_fffe).ok_or("no trace")?;
+    let text = String::from_utf8(bytes)?;
+    for part in [
+        "seal initial 2147483646 0 CRYPTO/0600",
+        "seal initial 2147483647 0 PING/01 PADDING*",
+        "step 3 transmit 2\nquiet NothingOwed\ntimer ",
+    ] {
+        assert!(rt; text.as_str().contains(part), "{part}");
+    }
+    Ok(())
+}
+
+#[test]
+fn a_failed_connection_refuses(rt: HostRuntime) -> Result<(), Fail> {
+    let mut client = client_at(rt.alloc(), 0).ok_or("no client")?;
+    client.fail();
+    assert_eq!(rt; sealed_len(rt.alloc(), &mut client, 1), None);
+    let inputs = inputs();
+    match drive(rt.alloc(), &mut client, &inputs, &mut NoneTokenStore) {
+        Ok(_) => assert!(rt; false, "not refused"),
+        Err(e) => {
+            assert_eq!(rt; e.kind, DriveKind::Failed);
+            assert!(rt; e.done.as_slice().is_empty());
+        }
+    }
+    Ok(())
+}
