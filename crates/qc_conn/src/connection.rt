@@ -172,7 +172,7 @@ impl<U: Suite> Connection<U> {
 impl<U: Suite> Connection<U> {
     /// The connection, its next Initial packet having this number: for tests alone.
     pub(crate) fn with_number(self, number: u64) -> Connection<U>
-        ensures { result.core.timers ≡ self.core.timers }
+        ensures { result.core.timers.greatest ≡ self.core.timers.greatest }
     {
         let mut connection = self;
         connection.core.numbers.spaces.initial.next = number;

@@ -10,10 +10,7 @@ pub struct Core<U: Suite> {
     /// The packet numbers of the three spaces.
     pub numbers: Numbers,
     /// The keys of the three spaces.
-    pub keys: KeyGroup<
-        <U::Session as Session>::HeaderKey,
-        <U::Session as Session>::PacketKey,
-    >,
+    pub keys: KeyGroup<<U::Session as Session>::HeaderKey, <U::Session as Session>::PacketKey>,
     /// How far the connection has come, and why it ended.
     pub life: Life,
     /// The path that packets go by.

@@ -171,12 +171,21 @@ fn each_write_fails_in_turn(rt: HostRuntime) -> Result<(), Fail> {
         } else {
             Status::Done
         };
-        assert!(rt; ends_in(rt.alloc(), &failing, status)?, "write {call} fails");
-        assert!(rt; ends_in(rt.alloc(), &idle, status)?, "write {call} takes nothing");
+        assert!(rt;
+            ends_in(rt.alloc(), &failing, status)?,
+            "write {call} fails"
+        );
+        assert!(rt;
+            ends_in(rt.alloc(), &idle, status)?,
+            "write {call} takes nothing"
+        );
     }
     for room in [0, 1, 7, 8, 1000, 2000] {
         let faults = Faults { room, ..none() };
-        assert!(rt; ends_in(rt.alloc(), &faults, Status::WriteFault)?, "room {room}");
+        assert!(rt;
+            ends_in(rt.alloc(), &faults, Status::WriteFault)?,
+            "room {room}"
+        );
     }
     Ok(())
 }
