@@ -1,4 +1,5 @@
 pub mod Cuts
 pub mod ReadHeaders
+pub mod SetLengths
 pub mod WrittenHeaders
 pub mod WrittenNumbered
