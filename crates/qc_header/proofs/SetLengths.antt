@@ -1,11 +1,10 @@
 -- A Length field that is set is the spelling's own
-use Rattle.std.proofs.Common.{◌≡◌, ℕ, ◌+◌, ◌-◌, ◌≤◌, Bool, true, false, List, ◌∷◌, ◌++◌, length, take, drop, nat_lt, Option, Some, None, option_and_then, refl, ap, sym, ◌∙◌, arith, append_assoc, length-append}
+use Rattle.std.proofs.Common.{◌≡◌, ℕ, ◌+◌, ◌-◌, ◌≤◌, Bool, true, false, List, ◌∷◌, ◌++◌, length, drop, nat_lt, Option, Some, None, option_and_then, refl, ap, sym, ◌∙◌, arith, append_assoc, length-append}
 use Rattle.std.proofs.Math.Seq.{take-append_seam, drop-append_seam, drop-append-add}
 use Rattle.std.proofs.lemmas.Bool.Decides.{nat_tests}
 use Rattle.std.specs.Int.{w16, w32, to_be_bytes}
 use Rattle.std.specs.Option.{option_map}
 use Rattle.qc_base.specs.declared.packet_number.PacketNumber.{PacketNumber}
-use Rattle.qc_base.specs.declared.packet_number.PacketNumber.TheVariants.{U8, U16, U24, U32}
 use Rattle.qc_base.specs.declared.side.LongType.{LongType}
 use Rattle.qc_base.specs.declared.side.LongType.TheVariants.{Handshake, ZeroRtt}
 use Rattle.qc_base.specs.Mask.{first_byte}
@@ -58,7 +57,7 @@ sized p first was n before front number behind long start size pn_len =
     let seam : p.start + (p.header_len - length number - 2) ≡ length before_field = omega (arith, length-append before (first ∷ front)) in
     let apart : before ++ header ≡ before_field ++ (to_be_bytes w16 (0x4000 + was) ++ (number ++ behind)) = simp append_assoc in
     let joined : before_field ++ (to_be_bytes w16 (0x4000 + n) ++ (number ++ behind))
-        ≡ before ++ ((first ∷ (front ++ (to_be_bytes w16 (0x4000 + n) ++ number))) ++ behind) = simp append_assoc in
+    ≡ before ++ ((first ∷ (front ++ (to_be_bytes w16 (0x4000 + n) ++ number))) ++ behind) = simp append_assoc in
     rw (pn_len, here, place, apart, over n was (p.start + (p.header_len - length number - 2)) before_field (number ++ behind) seam) joined
 
 short_none : (p : PartialEncode) (header : List ℕ) (pn_len : Option ℕ) → nat_lt (first_byte header) 128 ≡ true

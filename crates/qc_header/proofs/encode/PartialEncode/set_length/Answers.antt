@@ -1,4 +1,4 @@
-use Rattle.std.proofs.Common.{◌≡◌, ◌∙◌, ap}
+use Rattle.std.proofs.Common.{◌∙◌, ap}
 use Rattle.qc_header.specs.SetLength.{with_length}
 use Rattle.qc_header.proofs.SetLengths.{length_is_set, begun_is_set}
 use Rattle.qc_header.proofs.encode.PartialEncode.set_length.Goals as goal
