@@ -19,4 +19,8 @@ pub use read_back::{
 };
 
 #[cfg(test)]
+mod boundary_tests;
+#[cfg(test)]
+mod prefix_tests;
+#[cfg(test)]
 mod tests;
