@@ -4,6 +4,7 @@ pub mod MaskLaws
 pub mod Masks
 pub mod RangeLaws
 pub mod Windows
+pub mod Numbers
 pub mod Front
 pub mod Exact
 pub mod Varints

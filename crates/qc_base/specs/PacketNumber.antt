@@ -57,3 +57,7 @@ IsNearest window low expected x =
     × ((y : ℕ) → IsCandidate window low y
     → (distance x expected < distance y expected)
     ⊎ ((distance x expected ≡ distance y expected) × (y ≤ x)))
+
+-- n lies in the window around the expected number: at most half a window above it, and less than half a window below
+abbrev pub IsInWindow : ℕ → ℕ → ℕ → Type 0
+IsInWindow window expected n = (2 * n ≤ 2 * expected + window) × (2 * expected < 2 * n + window)

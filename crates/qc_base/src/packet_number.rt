@@ -1,7 +1,7 @@
 //! Packet numbers as the wire carries them (RFC 9000, section 17.1).
 
-ghost use Rattle.std.specs.Prelude.{◌≡◌, ◌+◌, ◌-◌, ◌%◌, ◌^◌, ◌<◌, ◌≤◌, ◌++◌, length, OnOk, OnErr};
-ghost use Rattle.qc_base.specs.PacketNumber.{number_of, number_len, number_bytes, number_window, number_low, IsNearest};
+ghost use Rattle.std.specs.Prelude.{◌≡◌, ◌+◌, ◌-◌, ◌*◌, ◌%◌, ◌^◌, ◌<◌, ◌≤◌, ◌++◌, ℕ, length, OnOk, OnErr};
+ghost use Rattle.qc_base.specs.PacketNumber.{number_of, number_len, number_bytes, number_window, number_low, IsNearest, IsInWindow};
 
 /// The greatest packet number, 2^62 - 1 (RFC 9000, section 12.3).
 const GREATEST: u64 = 0x3fff_ffff_ffff_ffff;
@@ -29,7 +29,8 @@ impl PacketNumber {
     pub fn new(n: u64, largest_acked: u64) -> PacketNumber
         requires order { largest_acked ≤ n }
         requires near { n - largest_acked < 2 ^ 31 }
-        ensures { result ≡ number_of n largest_acked }
+        ensures number { result ≡ number_of n largest_acked }
+        ensures far { 2 * (n - largest_acked) < number_window result }
     {
         let span = 2 * (n - largest_acked);
         if span < 0x100 {
@@ -78,16 +79,26 @@ impl PacketNumber {
 
     /// The full packet number below 2^62 that has these low bytes and is nearest to `expected`, the
     /// number after the greatest received so far; the greater one where two are as near
-    /// (RFC 9000, appendix A.3).
+    /// (RFC 9000, appendix A.3). So a number that `new` cut comes back wherever it lies within half
+    /// a window of the expected one.
     pub fn expand(self, expected: u64) -> u64
-        ensures { IsNearest (number_window self) (number_low self) expected result }
+        ensures nearest { IsNearest (number_window self) (number_low self) expected result }
+        ensures comes_back { (n largest_acked : ℕ) → self ≡ number_of n largest_acked → n < 2 ^ 62
+            → IsInWindow (number_window self) expected n → result ≡ n }
     {
-        match self {
-            PacketNumber::U8(n) => nearest(0x100, n as u64, expected),
-            PacketNumber::U16(n) => nearest(0x1_0000, n as u64, expected),
-            PacketNumber::U24(n) => nearest(0x100_0000, n as u64 % 0x100_0000, expected),
-            PacketNumber::U32(n) => nearest(0x1_0000_0000, n as u64, expected),
-        }
+        nearest_of(self, expected)
+    }
+}
+
+/// The number that `expand` gives.
+fn nearest_of(number: PacketNumber, expected: u64) -> u64
+    ensures { IsNearest (number_window number) (number_low number) expected result }
+{
+    match number {
+        PacketNumber::U8(n) => nearest(0x100, n as u64, expected),
+        PacketNumber::U16(n) => nearest(0x1_0000, n as u64, expected),
+        PacketNumber::U24(n) => nearest(0x100_0000, n as u64 % 0x100_0000, expected),
+        PacketNumber::U32(n) => nearest(0x1_0000_0000, n as u64, expected),
     }
 }
 

@@ -53,6 +53,25 @@ fn packet_numbers(rt: HostRuntime) -> Result<(), Fail> {
     Ok(())
 }
 
+// By hand: of the numbers with this low byte the nearest to the expected one, the greater of two.
+#[test]
+fn expanded(rt: HostRuntime) -> Result<(), Fail> {
+    let table: [(u8, u64, u64); 7] = [
+        (0x00, 0x80, 0x100),
+        (0x01, 0x80, 0x01),
+        (0x80, 0x100, 0x180),
+        (0x81, 0x100, 0x81),
+        (0xff, 0, 0xff),
+        (0x00, 0x3fff_ffff_ffff_ffff, 0x3fff_ffff_ffff_ff00),
+        (0xff, 0xffff_ffff_ffff_ffff, 0x3fff_ffff_ffff_ffff),
+    ];
+    for (low, expected, want) in table {
+        let number = PacketNumber::U8(low);
+        assert_eq!(rt; number.expand(expected), want, "{low} {expected}");
+    }
+    Ok(())
+}
+
 struct FixedMask([u8; 5]);
 
 impl Drop for FixedMask {

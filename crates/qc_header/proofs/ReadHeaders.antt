@@ -1,5 +1,6 @@
 -- A header that was written is read, whatever mask is over it and whatever comes behind it
-use Rattle.std.proofs.Common.{◌≡◌, ℕ, ◌+◌, ◌-◌, ◌/◌, ◌%◌, ◌^◌, ◌<◌, ◌≤◌, ◌==◌, cond, Bool, true, false, List, ◌∷◌, ◌++◌, length, nat_lt, Some, Ok, refl, arith, lit≤}
+use Rattle.std.proofs.Common.{◌≡◌, ℕ, ◌+◌, ◌-◌, ◌/◌, ◌%◌, ◌^◌, ◌<◌, ◌≤◌, ◌==◌, ◌&&◌, ◌⊎◌, not, inl, inr, cond, Bool, true, false, List, ◌∷◌, ◌++◌, length, nat_lt, None, Some, Ok, refl, arith, lit≤, lit<}
+use Rattle.std.proofs.lemmas.Bool.{and_right}
 use Rattle.std.proofs.lemmas.Bool.Decides.{nat_tests}
 use Rattle.std.specs.List.{list_any}
 use Rattle.std.specs.Int.{w16, w32, to_be_bytes}
@@ -10,7 +11,7 @@ use Rattle.qc_base.specs.Reading.{word_of, varint_of}
 use Rattle.qc_base.proofs.Front.{bytes_again}
 use Rattle.qc_base.proofs.Words.{found_word, word_32}
 use Rattle.qc_base.proofs.Varints.{found_varint, varint_spelled}
-use Rattle.qc_header.specs.declared.protected.ProtectedHeader.TheVariants.{Initial, Long, Short}
+use Rattle.qc_header.specs.declared.protected.ProtectedHeader.TheVariants.{Initial, Long, Retry, Short, VersionNegotiate}
 use Rattle.qc_header.specs.HeaderReading.{id_of, initial_at, numbered_at, typed_at, long_at, short_at, header_at, piece_at}
 use Rattle.qc_header.specs.HeaderSpelling.{id_field}
 
@@ -67,7 +68,51 @@ long_first size k first kind versions z grease e low high =
     let fixed : first / 64 % 2 ≡ 1 = omega arith in
     rw (fixed, long) refl
 
+-- Version Negotiation, whose version is 0; its fixed bit may be unset where the reader lets it
+zero_reads : (size first : ℕ) (versions dst src z : List ℕ) → length dst ≤ 20 → length src ≤ 20
+    → long_at size versions first (to_be_bytes w32 0 ++ (id_field dst ++ (id_field src ++ z))) ≡ Ok ((VersionNegotiate (first % 128) src dst, None), z)
+unfolding long_at
+zero_reads size first versions dst src z dst_fits src_fits =
+    rw (version_reads 0 (id_field dst ++ (id_field src ++ z)) (lit< tt), id_reads dst (id_field src ++ z) dst_fits, id_reads src z src_fits) refl
+
+fixed_let : (first : ℕ) (grease : Bool) → (first / 64 % 2 ≡ 1) ⊎ (grease ≡ true) → (first / 64 % 2 == 0 && not grease) ≡ false
+fixed_let first grease (inl fixed) = rw fixed refl
+fixed_let first grease (inr greased) = rw greased (and_right (first / 64 % 2 == 0) false refl)
+
+zero_first : (size k first : ℕ) (versions z : List ℕ) (grease : Bool) → 128 ≤ first → (first / 64 % 2 ≡ 1) ⊎ (grease ≡ true)
+    → header_at size k versions grease (first ∷ z) ≡ long_at size versions first z
+unfolding header_at
+zero_first size k first versions z grease high fixed =
+    let long : nat_lt first 128 ≡ false = grind (arith, nat_tests) in
+    rw (fixed_let first grease fixed, long) refl
+
 -- ---- what comes of it
+
+pub retry_piece : (k first v : ℕ) (versions dst src w : List ℕ) (grease : Bool)
+    → first / 16 ≡ 15 → v < 2 ^ 32 → v == 0 ≡ false → list_any (λ u. u == v) versions ≡ true → length dst ≤ 20 → length src ≤ 20
+    → let datagram = first ∷ (to_be_bytes w32 v ++ (id_field dst ++ (id_field src ++ w))) in
+    piece_at k versions grease datagram ≡ Ok (record { header = Retry dst src v; place = length datagram - length w; end = length datagram })
+unfolding piece_at typed_at
+retry_piece k first v versions dst src w grease kind fits some known dst_fits src_fits =
+    let datagram = first ∷ (to_be_bytes w32 v ++ (id_field dst ++ (id_field src ++ w))) in
+    rw (
+      long_first (length datagram) k first 15 versions (to_be_bytes w32 v ++ (id_field dst ++ (id_field src ++ w))) grease kind (lit≤ tt) (lit≤ tt),
+      long_reads (length datagram) first v versions dst src w fits some known dst_fits src_fits,
+      kind,
+    ) refl
+
+pub negotiation_piece : (k first : ℕ) (versions dst src w : List ℕ) (grease : Bool)
+    → 128 ≤ first → (first / 64 % 2 ≡ 1) ⊎ (grease ≡ true) → length dst ≤ 20 → length src ≤ 20
+    → let datagram = first ∷ (to_be_bytes w32 0 ++ (id_field dst ++ (id_field src ++ w))) in
+    piece_at k versions grease datagram
+    ≡ Ok (record { header = VersionNegotiate (first % 128) src dst; place = length datagram - length w; end = length datagram })
+unfolding piece_at
+negotiation_piece k first versions dst src w grease high fixed dst_fits src_fits =
+    let datagram = first ∷ (to_be_bytes w32 0 ++ (id_field dst ++ (id_field src ++ w))) in
+    rw (
+      zero_first (length datagram) k first versions (to_be_bytes w32 0 ++ (id_field dst ++ (id_field src ++ w))) grease high fixed,
+      zero_reads (length datagram) first versions dst src w dst_fits src_fits,
+    ) refl
 
 pub initial_piece : (k first v n : ℕ) (versions dst src token w : List ℕ) (grease : Bool)
     → first / 16 ≡ 12 → v < 2 ^ 32 → v == 0 ≡ false → list_any (λ u. u == v) versions ≡ true → length dst ≤ 20 → length src ≤ 20

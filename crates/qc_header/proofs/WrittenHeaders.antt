@@ -68,7 +68,7 @@ length-number_bytes (U32 n) = refl
 abbrev pub initial_front : InitialHeader → ℕ → List ℕ
 initial_front h n = to_be_bytes w32 h.version ++ (id_field h.dst_cid ++ (id_field h.src_cid ++ (varint (length h.token) ++ (h.token ++ to_be_bytes w16 (0x4000 + n)))))
 
-initial_shape : (h : InitialHeader) (n : ℕ) → header_spelling (written.Initial h) n ≡ (0xc0 + number_tag h.number) ∷ (initial_front h n ++ number_bytes h.number)
+pub initial_shape : (h : InitialHeader) (n : ℕ) → header_spelling (written.Initial h) n ≡ (0xc0 + number_tag h.number) ∷ (initial_front h n ++ number_bytes h.number)
 unfolding header_spelling initial_spelling long_start length_and_number
 initial_shape h n = simp append_assoc
 
@@ -76,7 +76,7 @@ length-initial_spelling : (h : InitialHeader) (n : ℕ) → length (header_spell
 length-initial_spelling h n =
     omega (arith, ap length (initial_shape h n), length-append (initial_front h n) (number_bytes h.number), length-number_bytes h.number)
 
-initial_place : (h : InitialHeader) (n : ℕ) → number_place (written.Initial h) n ≡ suc (length (initial_front h n))
+pub initial_place : (h : InitialHeader) (n : ℕ) → number_place (written.Initial h) n ≡ suc (length (initial_front h n))
 initial_place h n = omega (arith, length-initial_spelling h n)
 
 initial_whole : (h : InitialHeader) (n : ℕ) (payload : List ℕ) → header_spelling (written.Initial h) n ++ payload

@@ -21,12 +21,12 @@ use Rattle.qc_header.proofs.WrittenHeaders.{long_kind, short_kind, mask_at, mask
 abbrev pub long_front : List ℕ → List ℕ → ℕ → ℕ → List ℕ
 long_front dst src v n = to_be_bytes w32 v ++ (id_field dst ++ (id_field src ++ to_be_bytes w16 (0x4000 + n)))
 
-long_shape : (ty : LongType) (dst src : List ℕ) (number : PacketNumber) (v n : ℕ)
+pub long_shape : (ty : LongType) (dst src : List ℕ) (number : PacketNumber) (v n : ℕ)
     → header_spelling (written.Long ty dst src number v) n ≡ (long_first ty + number_tag number) ∷ (long_front dst src v n ++ number_bytes number)
 unfolding header_spelling long_start length_and_number
 long_shape ty dst src number v n = simp append_assoc
 
-long_place : (ty : LongType) (dst src : List ℕ) (number : PacketNumber) (v n : ℕ)
+pub long_place : (ty : LongType) (dst src : List ℕ) (number : PacketNumber) (v n : ℕ)
     → number_place (written.Long ty dst src number v) n ≡ suc (length (long_front dst src v n))
 long_place ty dst src number v n =
     omega (arith, ap length (long_shape ty dst src number v n), length-append (long_front dst src v n) (number_bytes number), length-number_bytes number)
@@ -119,12 +119,12 @@ long_comes_back ty dst src number v n fits =
 abbrev pub short_byte : Bool → Bool → PacketNumber → ℕ
 short_byte spin key_phase number = 0x40 + bit spin 0x20 + bit key_phase 0x04 + number_tag number
 
-short_shape : (spin key_phase : Bool) (dst : List ℕ) (number : PacketNumber) (n : ℕ)
+pub short_shape : (spin key_phase : Bool) (dst : List ℕ) (number : PacketNumber) (n : ℕ)
     → header_spelling (written.Short spin key_phase dst number) n ≡ short_byte spin key_phase number ∷ (dst ++ number_bytes number)
 unfolding header_spelling short_spelling
 short_shape spin key_phase dst number n = refl
 
-short_place : (spin key_phase : Bool) (dst : List ℕ) (number : PacketNumber) (n : ℕ) → number_place (written.Short spin key_phase dst number) n ≡ suc (length dst)
+pub short_place : (spin key_phase : Bool) (dst : List ℕ) (number : PacketNumber) (n : ℕ) → number_place (written.Short spin key_phase dst number) n ≡ suc (length dst)
 short_place spin key_phase dst number n =
     omega (arith, ap length (short_shape spin key_phase dst number n), length-append dst (number_bytes number), length-number_bytes number)
 

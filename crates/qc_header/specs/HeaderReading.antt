@@ -1,6 +1,6 @@
 -- Reading the header of a datagram's first packet (RFC 9000, section 17), as far as header
 -- protection lets it. The first fault in reading order counts.
-use Rattle.std.specs.Prelude.{◌≡◌, MatchResult, ℕ, ◌+◌, ◌-◌, ◌/◌, ◌%◌, ◌==◌, ◌&&◌, not, Bool, List, length, nat_lt, if◌then◌else◌, Option, Some, None, Result, Ok, Err}
+use Rattle.std.specs.Prelude.{◌≡◌, MatchResult, ℕ, ◌+◌, ◌-◌, ◌<◌, ◌/◌, ◌%◌, ◌==◌, ◌&&◌, not, Bool, List, length, nat_lt, if◌then◌else◌, Option, Some, None, Result, Ok, Err}
 use Rattle.std.specs.List.{list_any}
 use Rattle.std.specs.Option.{option_and_then}
 use Rattle.std.specs.Int.{w32}
@@ -94,6 +94,11 @@ place_of size (Err e) = Err e
 unfoldable pub piece_at : ℕ → List ℕ → Bool → List ℕ → Result Place PacketDecodeError
 piece_at local_cid_len versions grease_quic_bit datagram =
     place_of (length datagram) (header_at (length datagram) local_cid_len versions grease_quic_bit datagram)
+
+-- a first packet is read, and bytes are behind it
+abbrev pub IsFollowed : ℕ → List ℕ → Bool → List ℕ → Type 0
+IsFollowed local_cid_len versions grease_quic_bit datagram =
+    (first : Place) × (piece_at local_cid_len versions grease_quic_bit datagram ≡ Ok first) × (first.end < length datagram)
 
 -- a reading, and how many bytes are behind it
 abbrev pub heading : Result ((ProtectedHeader × Option ℕ) × List ℕ) PacketDecodeError → Result ((ProtectedHeader × Option ℕ) × ℕ) PacketDecodeError

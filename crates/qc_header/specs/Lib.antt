@@ -3,3 +3,4 @@ pub mod HeaderSpelling
 pub mod Opened
 pub mod Piece
 pub mod ReadBack
+pub mod SetLength

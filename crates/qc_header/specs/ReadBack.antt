@@ -1,5 +1,5 @@
 -- Headers that can be written, and what is read of them
-use Rattle.std.specs.Prelude.{ℕ, ◌+◌, ◌-◌, ◌<◌, ◌≤◌, ◌^◌, ◌==◌, IsTrue, List, ◌++◌, length}
+use Rattle.std.specs.Prelude.{ℕ, ◌+◌, ◌-◌, ◌<◌, ◌≤◌, ◌^◌, ◌==◌, ◌≡◌, IsTrue, List, ◌++◌, length, take, drop}
 use Rattle.std.specs.List.{list_any}
 use Rattle.std.specs.Option.{option_map_or}
 use Rattle.qc_base.specs.declared.packet_number.PacketNumber.{PacketNumber}
@@ -10,6 +10,8 @@ use Rattle.qc_base.specs.Varint.{varint}
 use Rattle.qc_header.specs.declared.header.Header.{Header}
 use Rattle.qc_header.specs.declared.header.InitialHeader.{InitialHeader}
 use Rattle.qc_header.specs.HeaderSpelling.{header_spelling, header_number}
+use Rattle.qc_header.specs.Opened.{IsCut, opened, header_end, header_from}
+use Rattle.qc_header.specs.Piece.{Piece}
 
 -- the number's low bytes have as many bytes as its form says
 abbrev pub FitsItsForm : PacketNumber → Type 0
@@ -24,6 +26,11 @@ pub record IsWritable (dst_cid src_cid : List ℕ) (of_packet : PacketNumber) (o
   pub src : length src_cid ≤ 20
   pub number : FitsItsForm of_packet
   pub version : of_quic < 2 ^ 32
+
+-- ids that a long header can hold
+pub record AreIds (dst_cid src_cid : List ℕ) : Type 0 where
+  pub dst : length dst_cid ≤ 20
+  pub src : length src_cid ≤ 20
 
 -- the reader knows this version
 pub record IsKnown (version : ℕ) (versions : List ℕ) : Type 0 where
@@ -43,3 +50,10 @@ number_place header length_field =
 abbrev pub protected_packet : (List ℕ → List ℕ) → Header → ℕ → List ℕ → List ℕ
 protected_packet mask_of header length_field payload =
     masked mask_of (number_place header length_field) (header_spelling header length_field ++ payload)
+
+-- what is made of a packet once its header protection is off: this header, of these bytes, and what is behind them
+pub record Finishes (mask_of : List ℕ → List ℕ) (packet : Piece) (of_packet : Header) (spelling behind : List ℕ) : Type 0 where
+  pub whole : IsCut packet → ⊥
+  pub header_data : take (header_end packet (opened mask_of packet)) (opened mask_of packet) ≡ spelling
+  pub payload : drop (header_end packet (opened mask_of packet)) (opened mask_of packet) ≡ behind
+  pub header : header_from packet.header packet.place spelling ≡ of_packet

@@ -1,10 +1,13 @@
 //! Writing headers (RFC 9000, section 17).
 
-ghost use Rattle.std.specs.Prelude.{◌≡◌, ◌+◌, ◌^◌, ◌<◌, ◌≤◌, ℕ, ◌++◌, ◌∷◌, [], take, length, vec_len, OnOk, OnErr, IfOk, IfSome};
+ghost use Rattle.std.specs.Prelude.{◌≡◌, ◌+◌, ◌^◌, ◌<◌, ◌≤◌, ℕ, List, ◌++◌, ◌∷◌, [], nat_lt, take, length, vec_len, OnOk, OnErr, IfOk, IfSome};
 ghost use Rattle.std.specs.Option.{option_map};
+ghost use Rattle.qc_base.specs.Mask.{first_byte};
 ghost use Rattle.qc_base.specs.PacketNumber.{number_len};
 ghost use Rattle.qc_header.specs.HeaderSpelling.{header_spelling, header_number, header_most, initial_spelling, short_spelling, length_and_number, long_start, number_tag, bit};
+ghost use Rattle.qc_header.specs.SetLength.{length_place, with_length, begun_by, IsPlaceOf};
 
+use crate::finish::first_of;
 use crate::header::{Header, InitialHeader};
 use qc_base::{ConnectionId, LongType, PacketNumber, put_varint, varint_size};
 use std::alloc::AllocError;
@@ -18,6 +21,59 @@ pub struct PartialEncode {
     pub header_len: usize,
     /// How many bytes its packet number has; None where its form has no number.
     pub pn_len: Option<usize>,
+}
+
+impl PartialEncode {
+    /// Where the Length field begins in `bytes`, if the header's form has one.
+    #[tactic(auto, unfolding(crate::specs::SetLength::length_place))]
+    fn length_place(self, bytes: &[u8]) -> Option<usize>
+        ensures place { result ≡ length_place self bytes.now }
+        ensures within { IfSome result (λ place. place + 2 ≤ length bytes.now) }
+    {
+        let pn_len = self.pn_len?;
+        if bytes.len() < self.start {
+            return None;
+        }
+        let header = &bytes[self.start..];
+        if first_of(header) < 0x80 || header.len() < self.header_len {
+            return None;
+        }
+        if self.header_len < pn_len || self.header_len - pn_len < 3 {
+            return None;
+        }
+        Some(self.start + (self.header_len - pn_len - 2))
+    }
+
+    /// Writes the Length field over the one that is there.
+    #[tactic(auto, unfolding(crate::specs::SetLength::with_length))]
+    fn put_length(self, buf: &mut [u8], length_field: u16)
+        requires { length_field < 2 ^ 14 }
+        ensures { buf.new ≡ with_length self length_field buf.old }
+    {
+        if let Some(place) = self.length_place(buf) {
+            buf[place..place + 2].copy_from_slice(&(0x4000 + length_field).to_be_bytes());
+        }
+    }
+
+    /// Sets the Length field of the header that stands at its place in `buf`: how many bytes number,
+    /// payload and tag have (RFC 9000, section 17.2). All other bytes stay. Nothing is changed where
+    /// the form has no Length field (1-RTT, Retry, Version Negotiation), nor where `buf` ends before
+    /// the header does.
+    ///
+    /// The fixed bit may have been flipped since the header was written (RFC 9287).
+    pub fn set_length(self, buf: &mut [u8], length_field: u16)
+        requires { length_field < 2 ^ 14 }
+        ensures bytes { buf.new ≡ with_length self length_field buf.old }
+        ensures header { (h : Header) (was : ℕ) (before behind : List ℕ) → IsPlaceOf self before h
+            → buf.old ≡ before ++ header_spelling h was ++ behind
+            → buf.new ≡ before ++ header_spelling h length_field ++ behind }
+        ensures flipped { (h : Header) (was first : ℕ) (before behind : List ℕ) → IsPlaceOf self before h
+            → nat_lt first 128 ≡ nat_lt (first_byte (header_spelling h 0)) 128
+            → buf.old ≡ before ++ begun_by first (header_spelling h was) ++ behind
+            → buf.new ≡ before ++ begun_by first (header_spelling h length_field) ++ behind }
+    {
+        self.put_length(buf, length_field);
+    }
 }
 
 /// Appends what every long header begins with.

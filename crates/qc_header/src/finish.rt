@@ -50,7 +50,7 @@ fn read_number(bytes: &[u8]) -> PacketNumber
 }
 
 /// The first byte, or 0 where there is none.
-fn first_of(bytes: &[u8]) -> u8
+pub(crate) fn first_of(bytes: &[u8]) -> u8
     ensures { result ≡ first_byte bytes.now }
 {
     match bytes {

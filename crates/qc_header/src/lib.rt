@@ -14,7 +14,13 @@ pub use finish::{InitialPacket, Packet};
 pub use header::{Header, InitialHeader};
 pub use partial_decode::PartialDecode;
 pub use protected::{PacketDecodeError, ProtectedHeader};
-pub use read_back::{initial_is_read, long_is_read, short_is_read};
+pub use read_back::{
+    initial_is_read, long_is_read, retry_is_read, short_is_read, version_negotiation_is_read,
+};
 
+#[cfg(test)]
+mod boundary_tests;
+#[cfg(test)]
+mod prefix_tests;
 #[cfg(test)]
 mod tests;

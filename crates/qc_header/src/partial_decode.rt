@@ -1,7 +1,7 @@
 //! Packets whose headers are read as far as header protection lets it.
 
-ghost use Rattle.std.specs.Prelude.{◌≡◌, ◌<◌, ◌≤◌, ◌⊎◌, ℕ, length, take, drop, IfOk, IfErr, MatchOption, Ok, Err};
-ghost use Rattle.qc_header.specs.HeaderReading.{piece_at};
+ghost use Rattle.std.specs.Prelude.{◌≡◌, ◌<◌, ◌≤◌, ◌⊎◌, ℕ, length, take, drop, IfOk, IfErr, IsErrOf, MatchOption, Ok, Err};
+ghost use Rattle.qc_header.specs.HeaderReading.{piece_at, IsFollowed};
 ghost use Rattle.qc_header.specs.Piece.{space_of, is_0rtt_header};
 
 use crate::protected::{PacketDecodeError, ProtectedHeader};
@@ -35,7 +35,8 @@ impl PartialDecode {
     /// with a fixed bit of 0 where it told so (`grease_quic_bit`, RFC 9287).
     ///
     /// `InvalidHeader` and `UnsupportedVersion` come by RFC 9000, section 17, the first that holds
-    /// in reading order; `OutOfMemory` where the rest cannot be cut off.
+    /// in reading order; `OutOfMemory` only where the first packet was read and bytes are behind it,
+    /// which cannot be cut off.
     pub fn new(
         bytes: BytesMut,
         local_cid_len: usize,
@@ -52,6 +53,8 @@ impl PartialDecode {
             (λ rest. (end < length bytes.items) × (rest.items ≡ drop end bytes.items))) }
         ensures refused { IfErr result (λ e. (e ≡ PacketDecodeError.OutOfMemory)
             ⊎ (piece_at local_cid_len versions.now grease_quic_bit bytes.items ≡ Err e)) }
+        ensures memory { IsErrOf result PacketDecodeError.OutOfMemory
+            → IsFollowed local_cid_len versions.now grease_quic_bit bytes.items }
     {
         let place = read_place(bytes.as_slice(), local_cid_len, versions, grease_quic_bit)?;
         let mut bytes = bytes;

@@ -1,6 +1,6 @@
 //! Reading a header as far as header protection lets it (RFC 9000, section 17).
 
-ghost use Rattle.std.specs.Prelude.{◌≡◌, ◌+◌, ◌-◌, ◌<◌, ◌≤◌, ◌^◌, length, IfOk, MatchResult, Ok, Err, List, ℕ};
+ghost use Rattle.std.specs.Prelude.{◌≡◌, ◌≢◌, ◌+◌, ◌-◌, ◌<◌, ◌≤◌, ◌^◌, length, IfOk, IfErr, MatchResult, Ok, Err, List, ℕ};
 ghost use Rattle.qc_base.specs.Reading.{Finds};
 ghost use Rattle.qc_header.specs.Piece.{token_end};
 ghost use Rattle.qc_header.specs.HeaderReading.{id_of, initial_at, numbered_at, typed_at, long_at, short_at, header_at, piece_at, GivesHead};
@@ -41,6 +41,7 @@ fn read_initial(
 ) -> Result<Head, PacketDecodeError>
     requires { length bytes.now ≤ size }
     ensures exact { GivesHead result (initial_at size dst_cid src_cid version bytes.now) }
+    ensures fault { IfErr result (λ e. e ≢ PacketDecodeError.OutOfMemory) }
     ensures left { IfOk result (λ h. h.left ≤ length bytes.now) }
     ensures token { IfOk result (λ h. token_end h.header ≤ size - h.left) }
 {
@@ -71,6 +72,7 @@ fn read_numbered(
     bytes: &[u8],
 ) -> Result<Head, PacketDecodeError>
     ensures exact { GivesHead result (numbered_at ty dst_cid src_cid version bytes.now) }
+    ensures fault { IfErr result (λ e. e ≢ PacketDecodeError.OutOfMemory) }
     ensures left { IfOk result (λ h. h.left ≤ length bytes.now) }
     ensures no_token { IfOk result (λ h. token_end h.header ≡ 0) }
 {
@@ -99,6 +101,7 @@ fn read_typed(
 ) -> Result<Head, PacketDecodeError>
     requires { length bytes.now ≤ size }
     ensures exact { GivesHead result (typed_at size first dst_cid src_cid version bytes.now) }
+    ensures fault { IfErr result (λ e. e ≢ PacketDecodeError.OutOfMemory) }
     ensures left { IfOk result (λ h. h.left ≤ length bytes.now) }
     ensures token { IfOk result (λ h. token_end h.header ≤ size - h.left) }
 {
@@ -128,6 +131,7 @@ fn read_long(
 ) -> Result<Head, PacketDecodeError>
     requires { length bytes.now ≤ size }
     ensures exact { GivesHead result (long_at size versions.now first bytes.now) }
+    ensures fault { IfErr result (λ e. e ≢ PacketDecodeError.OutOfMemory) }
     ensures left { IfOk result (λ h. h.left ≤ length bytes.now) }
     ensures token { IfOk result (λ h. token_end h.header ≤ size - h.left) }
 {
@@ -162,6 +166,7 @@ fn read_long(
 fn read_short(local_cid_len: usize, first: u8, bytes: &[u8]) -> Result<Head, PacketDecodeError>
     requires { local_cid_len ≤ 20 }
     ensures exact { GivesHead result (short_at local_cid_len first bytes.now) }
+    ensures fault { IfErr result (λ e. e ≢ PacketDecodeError.OutOfMemory) }
     ensures left { IfOk result (λ h. h.left ≤ length bytes.now) }
     ensures no_token { IfOk result (λ h. token_end h.header ≡ 0) }
 {
@@ -186,6 +191,7 @@ fn read_head(
 ) -> Result<Head, PacketDecodeError>
     requires { local_cid_len ≤ 20 }
     ensures exact { GivesHead result (header_at (length bytes.now) local_cid_len versions.now grease_quic_bit bytes.now) }
+    ensures fault { IfErr result (λ e. e ≢ PacketDecodeError.OutOfMemory) }
     ensures left { IfOk result (λ h. h.left ≤ length bytes.now) }
     ensures token { IfOk result (λ h. token_end h.header ≤ length bytes.now - h.left) }
 {
@@ -224,6 +230,7 @@ pub(crate) fn read_place(
         (λ p. piece_at local_cid_len versions.now grease_quic_bit bytes.now
         ≡ Ok (record { header = p.header; place = p.place; end = p.end }))
         (λ e. piece_at local_cid_len versions.now grease_quic_bit bytes.now ≡ Err e) }
+    ensures fault { IfErr result (λ e. e ≢ PacketDecodeError.OutOfMemory) }
     ensures order { IfOk result (λ p. p.place ≤ p.end) }
     ensures end { IfOk result (λ p. p.end ≤ length bytes.now) }
     ensures token { IfOk result (λ p. token_end p.header ≤ p.place) }

@@ -5,7 +5,7 @@
 //! header protection mask. `PartialDecode::new` reads what is readable of its header, `finish` takes
 //! the mask off (`qc_base::mask_comes_off`) and makes the header of the unprotected bytes.
 
-ghost use Rattle.std.specs.Prelude.{◌≡◌, ◌+◌, ◌^◌, ◌<◌, ℕ, Bool, List, ◌++◌, length, Ok};
+ghost use Rattle.std.specs.Prelude.{◌≡◌, ◌+◌, ◌^◌, ◌<◌, ◌≤◌, ◌⊎◌, ℕ, Bool, true, List, ◌++◌, length, Ok};
 ghost use Rattle.qc_base.specs.declared.packet_number.PacketNumber.{PacketNumber};
 ghost use Rattle.qc_base.specs.declared.side.LongType.{LongType};
 ghost use Rattle.qc_base.specs.PacketNumber.{number_len};
@@ -15,7 +15,7 @@ ghost use Rattle.qc_header.specs.declared.protected.ProtectedHeader.TheVariants 
 ghost use Rattle.qc_header.specs.HeaderReading.{piece_at};
 ghost use Rattle.qc_header.specs.HeaderSpelling.{header_spelling};
 ghost use Rattle.qc_header.specs.Opened.{header_from};
-ghost use Rattle.qc_header.specs.ReadBack.{FitsItsForm, IsWritable, IsKnown, token_place, number_place, protected_packet};
+ghost use Rattle.qc_header.specs.ReadBack.{FitsItsForm, IsWritable, AreIds, IsKnown, Finishes, token_place, number_place, protected_packet};
 
 /// An Initial packet is read, whatever its mask and whatever comes behind it, and its header comes
 /// back.
@@ -34,6 +34,13 @@ pub fn initial_is_read()
         → header_from (readable.Initial h.dst_cid h.src_cid (token_place h) (length h.token) h.version)
         (number_place (written.Initial h) n) (header_spelling (written.Initial h) n)
         ≡ written.Initial h }
+    ensures finishes { (mask_of : List ℕ → List ℕ) (h : InitialHeader) (n : ℕ) (payload : List ℕ)
+        → FitsItsForm h.number → 20 ≤ number_len h.number + length payload
+        → Finishes mask_of (record {
+          header = readable.Initial h.dst_cid h.src_cid (token_place h) (length h.token) h.version;
+          place = number_place (written.Initial h) n;
+          bytes = protected_packet mask_of (written.Initial h) n payload;
+        }) (written.Initial h) (header_spelling (written.Initial h) n) payload }
 {}
 
 /// So is a 0-RTT or Handshake packet.
@@ -54,6 +61,15 @@ pub fn long_is_read()
         → header_from (readable.Long ty dst src v) (number_place (written.Long ty dst src number v) n)
         (header_spelling (written.Long ty dst src number v) n)
         ≡ written.Long ty dst src number v }
+    ensures finishes { (mask_of : List ℕ → List ℕ) (ty : LongType) (dst src : List ℕ)
+        (number : PacketNumber) (v n : ℕ) (payload : List ℕ)
+        → FitsItsForm number → 20 ≤ number_len number + length payload
+        → Finishes mask_of (record {
+          header = readable.Long ty dst src v;
+          place = number_place (written.Long ty dst src number v) n;
+          bytes = protected_packet mask_of (written.Long ty dst src number v) n payload;
+        }) (written.Long ty dst src number v)
+        (header_spelling (written.Long ty dst src number v) n) payload }
 {}
 
 /// So is a 1-RTT packet, which ends with its datagram, where its id has the length that the reader
@@ -74,4 +90,51 @@ pub fn short_is_read()
         (number_place (written.Short spin key_phase dst number) n)
         (header_spelling (written.Short spin key_phase dst number) n)
         ≡ written.Short spin key_phase dst number }
+    ensures finishes { (mask_of : List ℕ → List ℕ) (spin key_phase : Bool) (dst : List ℕ)
+        (number : PacketNumber) (n : ℕ) (payload : List ℕ)
+        → FitsItsForm number → 20 ≤ number_len number + length payload
+        → Finishes mask_of (record {
+          header = readable.Short spin dst;
+          place = number_place (written.Short spin key_phase dst number) n;
+          bytes = protected_packet mask_of (written.Short spin key_phase dst number) n payload;
+        }) (written.Short spin key_phase dst number)
+        (header_spelling (written.Short spin key_phase dst number) n) payload }
+{}
+
+/// A Retry packet is read, whatever its token and tag, and its header comes back.
+pub fn retry_is_read()
+    ensures read { (k n v : ℕ) (versions dst src : List ℕ) (grease : Bool) (behind : List ℕ)
+        → AreIds dst src → v < 2 ^ 32 → IsKnown v versions
+        → piece_at k versions grease (header_spelling (written.Retry dst src v) n ++ behind)
+        ≡ Ok (record {
+          header = readable.Retry dst src v;
+          place = number_place (written.Retry dst src v) n;
+          end = length (header_spelling (written.Retry dst src v) n ++ behind);
+        }) }
+    ensures finishes { (mask_of : List ℕ → List ℕ) (n v : ℕ) (dst src behind : List ℕ)
+        → Finishes mask_of (record {
+          header = readable.Retry dst src v;
+          place = number_place (written.Retry dst src v) n;
+          bytes = header_spelling (written.Retry dst src v) n ++ behind;
+        }) (written.Retry dst src v) (header_spelling (written.Retry dst src v) n) behind }
+{}
+
+/// So is a Version Negotiation packet, whatever its list, where its fixed bit is set or the reader
+/// takes packets without it.
+pub fn version_negotiation_is_read()
+    ensures read { (k n random : ℕ) (versions dst src : List ℕ) (grease : Bool) (behind : List ℕ)
+        → AreIds dst src → random < 128 → (64 ≤ random) ⊎ (grease ≡ true)
+        → piece_at k versions grease (header_spelling (written.VersionNegotiate random src dst) n ++ behind)
+        ≡ Ok (record {
+          header = readable.VersionNegotiate random src dst;
+          place = number_place (written.VersionNegotiate random src dst) n;
+          end = length (header_spelling (written.VersionNegotiate random src dst) n ++ behind);
+        }) }
+    ensures finishes { (mask_of : List ℕ → List ℕ) (n random : ℕ) (dst src behind : List ℕ)
+        → Finishes mask_of (record {
+          header = readable.VersionNegotiate random src dst;
+          place = number_place (written.VersionNegotiate random src dst) n;
+          bytes = header_spelling (written.VersionNegotiate random src dst) n ++ behind;
+        }) (written.VersionNegotiate random src dst)
+        (header_spelling (written.VersionNegotiate random src dst) n) behind }
 {}

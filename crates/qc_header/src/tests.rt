@@ -7,7 +7,7 @@ use bytes::{Bytes, BytesMut};
 use qc_base::{ConnectionId, HeaderMask, LongType, PacketNumber, SpaceId};
 use std::test::Fail;
 
-struct FixedMask([u8; 5]);
+pub(crate) struct FixedMask(pub(crate) [u8; 5]);
 
 impl Drop for FixedMask {
     fn drop(self) {
@@ -67,6 +67,54 @@ fn encoded(rt: HostRuntime) -> Result<(), Fail> {
         b"\xf0\x00\x00\x00\x01\x00\x08\xf0\x67\xa5\x50\x2a\x42\x62\xb5".as_slice()
     );
     assert_eq!(rt; place.pn_len, None);
+    Ok(())
+}
+
+// The header of RFC 9001, appendix A.2, behind 2 bytes and before 3.
+#[test]
+fn length_set(rt: HostRuntime) -> Result<(), Fail> {
+    let initial = Header::Initial(InitialHeader {
+        dst_cid: ConnectionId::new(b"\x83\x94\xc8\xf0\x3e\x51\x57\x08"),
+        src_cid: ConnectionId::new(b""),
+        token: Bytes::new(),
+        number: PacketNumber::U32(2),
+        version: 1,
+    });
+    let mut out = b"ab".to_vec(rt.alloc())?;
+    let place = initial.encode(&mut out)?;
+    out.extend_from_slice(b"cde")?;
+    let zero =
+        b"ab\xc3\x00\x00\x00\x01\x08\x83\x94\xc8\xf0\x3e\x51\x57\x08\x00\x00\x40\x00\x00\x00\x00\x02cde";
+    assert_eq!(rt; out.as_slice(), zero.as_slice());
+    place.set_length(out.as_mut_slice(), 0x49e);
+    let want =
+        b"ab\xc3\x00\x00\x00\x01\x08\x83\x94\xc8\xf0\x3e\x51\x57\x08\x00\x00\x44\x9e\x00\x00\x00\x02cde";
+    assert_eq!(rt; out.as_slice(), want.as_slice());
+    out[2] = 0x83;
+    place.set_length(out.as_mut_slice(), 0x3fff);
+    let greased =
+        b"ab\x83\x00\x00\x00\x01\x08\x83\x94\xc8\xf0\x3e\x51\x57\x08\x00\x00\x7f\xff\x00\x00\x00\x02cde";
+    assert_eq!(rt; out.as_slice(), greased.as_slice());
+    out.truncate(20);
+    place.set_length(out.as_mut_slice(), 1);
+    let cut = b"ab\x83\x00\x00\x00\x01\x08\x83\x94\xc8\xf0\x3e\x51\x57\x08\x00\x00\x7f\xff";
+    assert_eq!(rt; out.as_slice(), cut.as_slice());
+    Ok(())
+}
+
+// A short header has no Length field.
+#[test]
+fn no_length_set(rt: HostRuntime) -> Result<(), Fail> {
+    let short = Header::Short {
+        spin: false,
+        key_phase: false,
+        dst_cid: ConnectionId::new(b""),
+        number: PacketNumber::U24(0xbff4),
+    };
+    let mut out = Vec::new(rt.alloc());
+    let place = short.encode(&mut out)?;
+    place.set_length(out.as_mut_slice(), 5);
+    assert_eq!(rt; out.as_slice(), b"\x42\x00\xbf\xf4".as_slice());
     Ok(())
 }
 
