@@ -1,70 +1,113 @@
 use crate::{
-    FrameFault, FrameList, Iter, first_frame, fit_application_reason, fit_close_reason, put_frame,
-    put_frames, put_last_frame,
+    FrameFault, FrameList, FrameOf, InvalidFrame, Iter, first_frame, fit_application_reason,
+    fit_close_reason, put_frame, put_frames, put_last_frame,
 };
 use qc_base::{TransportErrorCode, VarInt};
+use std::alloc::{AllocError, Global};
 use std::process::Abort;
 use std::test::Fail;
 
-// A frame as it comes, its name, and its spelling.
-type Row = (&'static [u8], &'static str, &'static [u8]);
+// A frame as it comes, its type and its name, and its spelling.
+type Row = (&'static [u8], u64, &'static str, &'static [u8]);
 
+// Each type of frame but those that go on to the payload's end.
 const FRAMES: [Row; 28] = [
-    (b"\x00", "PADDING", b"\x00"),
-    (b"\x40\x01", "PING", b"\x01"),
+    (b"\x00", 0x00, "PADDING", b"\x00"),
+    (b"\x40\x01", 0x01, "PING", b"\x01"),
     (
         b"\x02\x40\x40\x05\x01\x40\x03\x02\x01",
+        0x02,
         "ACK",
         b"\x02\x40\x40\x05\x01\x03\x02\x01",
     ),
     (
         b"\x03\x0a\x00\x00\x0a\x01\x02\x03",
+        0x03,
         "ACK",
         b"\x03\x0a\x00\x00\x0a\x01\x02\x03",
     ),
     (
         b"\x04\x04\x07\x41\x00",
+        0x04,
         "RESET_STREAM",
         b"\x04\x04\x07\x41\x00",
     ),
-    (b"\x05\x04\x07", "STOP_SENDING", b"\x05\x04\x07"),
-    (b"\x06\x00\x03abc", "CRYPTO", b"\x06\x00\x03abc"),
-    (b"\x07\x02\xaa\xbb", "NEW_TOKEN", b"\x07\x02\xaa\xbb"),
-    (b"\x0f\x04\x05\x02hi", "STREAM", b"\x0f\x04\x05\x02hi"),
-    (b"\x08\x04hi", "STREAM", b"\x0a\x04\x02hi"),
-    (b"\x0e\x04\x00\x02hi", "STREAM", b"\x0a\x04\x02hi"),
-    (b"\x10\x80\x01\x00\x00", "MAX_DATA", b"\x10\x80\x01\x00\x00"),
-    (b"\x11\x04\x41\x00", "MAX_STREAM_DATA", b"\x11\x04\x41\x00"),
-    (b"\x12\x05", "MAX_STREAMS", b"\x12\x05"),
-    (b"\x13\x05", "MAX_STREAMS", b"\x13\x05"),
-    (b"\x14\x00", "DATA_BLOCKED", b"\x14\x00"),
-    (b"\x15\x04\x01", "STREAM_DATA_BLOCKED", b"\x15\x04\x01"),
-    (b"\x16\x01", "STREAMS_BLOCKED", b"\x16\x01"),
-    (b"\x17\x01", "STREAMS_BLOCKED", b"\x17\x01"),
+    (b"\x05\x04\x07", 0x05, "STOP_SENDING", b"\x05\x04\x07"),
+    (b"\x06\x00\x03abc", 0x06, "CRYPTO", b"\x06\x00\x03abc"),
+    (b"\x07\x02\xaa\xbb", 0x07, "NEW_TOKEN", b"\x07\x02\xaa\xbb"),
+    (b"\x0a\x04\x02hi", 0x0a, "STREAM", b"\x0a\x04\x02hi"),
+    (b"\x0b\x04\x00", 0x0b, "STREAM", b"\x0b\x04\x00"),
+    (b"\x0e\x04\x00\x02hi", 0x0e, "STREAM", b"\x0a\x04\x02hi"),
+    (b"\x0f\x04\x05\x02hi", 0x0f, "STREAM", b"\x0f\x04\x05\x02hi"),
+    (
+        b"\x10\x80\x01\x00\x00",
+        0x10,
+        "MAX_DATA",
+        b"\x10\x80\x01\x00\x00",
+    ),
+    (
+        b"\x11\x04\x41\x00",
+        0x11,
+        "MAX_STREAM_DATA",
+        b"\x11\x04\x41\x00",
+    ),
+    (b"\x12\x05", 0x12, "MAX_STREAMS", b"\x12\x05"),
+    (b"\x13\x05", 0x13, "MAX_STREAMS", b"\x13\x05"),
+    (b"\x14\x00", 0x14, "DATA_BLOCKED", b"\x14\x00"),
+    (
+        b"\x15\x04\x01",
+        0x15,
+        "STREAM_DATA_BLOCKED",
+        b"\x15\x04\x01",
+    ),
+    (b"\x16\x01", 0x16, "STREAMS_BLOCKED", b"\x16\x01"),
+    (b"\x17\x01", 0x17, "STREAMS_BLOCKED", b"\x17\x01"),
     (
         b"\x18\x02\x01\x04abcd0123456789ABCDEF",
+        0x18,
         "NEW_CONNECTION_ID",
         b"\x18\x02\x01\x04abcd0123456789ABCDEF",
     ),
-    (b"\x19\x02", "RETIRE_CONNECTION_ID", b"\x19\x02"),
-    (b"\x1aABCDEFGH", "PATH_CHALLENGE", b"\x1aABCDEFGH"),
-    (b"\x1bABCDEFGH", "PATH_RESPONSE", b"\x1bABCDEFGH"),
+    (b"\x19\x02", 0x19, "RETIRE_CONNECTION_ID", b"\x19\x02"),
+    (b"\x1aABCDEFGH", 0x1a, "PATH_CHALLENGE", b"\x1aABCDEFGH"),
+    (b"\x1bABCDEFGH", 0x1b, "PATH_RESPONSE", b"\x1bABCDEFGH"),
     (
         b"\x1c\x0a\x06\x02no",
+        0x1c,
         "CONNECTION_CLOSE",
         b"\x1c\x0a\x06\x02no",
     ),
-    (b"\x1d\x07\x02no", "APPLICATION_CLOSE", b"\x1d\x07\x02no"),
-    (b"\x1e", "HANDSHAKE_DONE", b"\x1e"),
-    (b"\x30hi", "DATAGRAM", b"\x31\x02hi"),
-    (b"\x31\x02hi", "DATAGRAM", b"\x31\x02hi"),
+    (
+        b"\x1d\x07\x02no",
+        0x1d,
+        "APPLICATION_CLOSE",
+        b"\x1d\x07\x02no",
+    ),
+    (b"\x1e", 0x1e, "HANDSHAKE_DONE", b"\x1e"),
+    (b"\x31\x02hi", 0x31, "DATAGRAM", b"\x31\x02hi"),
+];
+
+// The types that go on to the payload's end, each with the number of bytes after which it may end.
+const LAST_FRAMES: [(Row, usize); 5] = [
+    ((b"\x08\x04hi", 0x08, "STREAM", b"\x0a\x04\x02hi"), 2),
+    ((b"\x09\x04hi", 0x09, "STREAM", b"\x0b\x04\x02hi"), 2),
+    (
+        (b"\x0c\x04\x40\x05hi", 0x0c, "STREAM", b"\x0e\x04\x05\x02hi"),
+        4,
+    ),
+    (
+        (b"\x0d\x04\x05hi", 0x0d, "STREAM", b"\x0f\x04\x05\x02hi"),
+        3,
+    ),
+    ((b"\x30hi", 0x30, "DATAGRAM", b"\x31\x02hi"), 1),
 ];
 
 fn check(rt: &(impl Abort + AllocGlobal), row: &Row) -> Result<(), Fail> {
-    let (wire, name, spelled) = *row;
+    let (wire, _, name, spelled) = *row;
     let mut out = Vec::new(rt.alloc());
     match first_frame(wire) {
-        Ok((frame, _)) => {
+        Ok((frame, rest)) => {
+            assert!(rt; rest.is_empty());
             assert_eq!(rt; frame.name(), name);
             put_frame(&mut out, &frame)?;
         }
@@ -79,25 +122,304 @@ fn each_kind_is_read_and_written(rt: HostRuntime) -> Result<(), Fail> {
     for row in &FRAMES {
         check(&rt, row)?;
     }
+    for (row, _) in &LAST_FRAMES {
+        check(&rt, row)?;
+    }
+    Ok(())
+}
+
+// How many frames a payload has, and the fault that ends it.
+fn walk(payload: &[u8]) -> (usize, Option<InvalidFrame>) {
+    let mut count = 0usize;
+    let mut fault = None;
+    if let Ok(frames) = Iter::new(payload) {
+        for item in frames {
+            match item {
+                Ok(_) => count = count.wrapping_add(1),
+                Err(invalid) => fault = Some(invalid),
+            }
+        }
+    }
+    (count, fault)
+}
+
+// Adds a frame to `whole` others, a byte at a time. Before its type and its first `least` bytes are
+// there the payload ends in a fault.
+fn grow(
+    rt: &(impl Abort + AllocGlobal),
+    payload: &mut Vec<u8>,
+    whole: usize,
+    row: &Row,
+    least: usize,
+) -> Result<(), Fail> {
+    let (wire, number, _, _) = *row;
+    for (at, byte) in wire.iter().enumerate() {
+        payload.push(*byte)?;
+        let (count, fault) = walk(payload.as_slice());
+        if at + 1 < least {
+            let has_type = at > 0 || *byte < 64;
+            let ty = if has_type { Some(number) } else { None };
+            assert_eq!(rt; count, whole, "{count}");
+            assert_eq!(rt;
+                fault,
+                Some(InvalidFrame {
+                    ty,
+                    why: FrameFault::UnexpectedEnd
+                })
+            );
+        } else {
+            assert_eq!(rt; count, whole.wrapping_add(1));
+            assert_eq!(rt; fault, None);
+        }
+    }
+    Ok(())
+}
+
+// Each front of a payload that has every kind of frame.
+#[test]
+fn each_prefix_is_read(rt: HostRuntime) -> Result<(), Fail> {
+    let mut payload = Vec::new(rt.alloc());
+    for (whole, row) in FRAMES.iter().enumerate() {
+        grow(&rt, &mut payload, whole, row, row.0.len())?;
+    }
+    let len = payload.len();
+    for (row, least) in &LAST_FRAMES {
+        grow(&rt, &mut payload, FRAMES.len(), row, *least)?;
+        payload.truncate(len);
+    }
+    Ok(())
+}
+
+// The least and the greatest fields.
+const BOUNDS: [Row; 16] = [
+    // a type in its longest form
+    (
+        b"\xc0\x00\x00\x00\x00\x00\x00\x10\x05",
+        0x10,
+        "MAX_DATA",
+        b"\x10\x05",
+    ),
+    // the only range, the second range and the second range's gap go down to 0
+    (
+        b"\x02\x05\x00\x00\x05",
+        0x02,
+        "ACK",
+        b"\x02\x05\x00\x00\x05",
+    ),
+    (
+        b"\x02\x05\x00\x01\x02\x00\x01",
+        0x02,
+        "ACK",
+        b"\x02\x05\x00\x01\x02\x00\x01",
+    ),
+    (
+        b"\x02\x05\x00\x01\x03\x00\x00",
+        0x02,
+        "ACK",
+        b"\x02\x05\x00\x01\x03\x00\x00",
+    ),
+    (
+        b"\x02\x05\x00\x01\x00\x03\x00",
+        0x02,
+        "ACK",
+        b"\x02\x05\x00\x01\x00\x03\x00",
+    ),
+    // bodies of no bytes
+    (b"\x06\x00\x00", 0x06, "CRYPTO", b"\x06\x00\x00"),
+    (b"\x08\x00", 0x08, "STREAM", b"\x0a\x00\x00"),
+    (b"\x30", 0x30, "DATAGRAM", b"\x31\x00"),
+    (b"\x31\x00", 0x31, "DATAGRAM", b"\x31\x00"),
+    // a code and a frame type of 0, and of 2^62 - 1
+    (
+        b"\x1c\x00\x00\x00",
+        0x1c,
+        "CONNECTION_CLOSE",
+        b"\x1c\x00\x00\x00",
+    ),
+    (
+        b"\x1c\xff\xff\xff\xff\xff\xff\xff\xff\xff\xff\xff\xff\xff\xff\xff\xff\x00",
+        0x1c,
+        "CONNECTION_CLOSE",
+        b"\x1c\xff\xff\xff\xff\xff\xff\xff\xff\xff\xff\xff\xff\xff\xff\xff\xff\x00",
+    ),
+    (b"\x1d\x00\x00", 0x1d, "APPLICATION_CLOSE", b"\x1d\x00\x00"),
+    // ids of 1 byte and of 20, and the highest number that retires no id of its own
+    (
+        b"\x18\x05\x00\x01a0123456789ABCDEF",
+        0x18,
+        "NEW_CONNECTION_ID",
+        b"\x18\x05\x00\x01a0123456789ABCDEF",
+    ),
+    (
+        b"\x18\x05\x00\x14abcdefghijklmnopqrst0123456789ABCDEF",
+        0x18,
+        "NEW_CONNECTION_ID",
+        b"\x18\x05\x00\x14abcdefghijklmnopqrst0123456789ABCDEF",
+    ),
+    (
+        b"\x18\x05\x05\x01a0123456789ABCDEF",
+        0x18,
+        "NEW_CONNECTION_ID",
+        b"\x18\x05\x05\x01a0123456789ABCDEF",
+    ),
+    // the greatest stream
+    (
+        b"\x05\xff\xff\xff\xff\xff\xff\xff\xff\x00",
+        0x05,
+        "STOP_SENDING",
+        b"\x05\xff\xff\xff\xff\xff\xff\xff\xff\x00",
+    ),
+];
+
+#[test]
+fn bounds_are_read_and_written(rt: HostRuntime) -> Result<(), Fail> {
+    for row in &BOUNDS {
+        check(&rt, row)?;
+    }
+    Ok(())
+}
+
+// MAX_DATA frames: the first and the last number of each length, and small ones in longer forms.
+const NUMBERS: [(u64, &[u8]); 11] = [
+    (0, b"\x10\x00"),
+    (63, b"\x10\x3f"),
+    (64, b"\x10\x40\x40"),
+    (16_383, b"\x10\x7f\xff"),
+    (16_384, b"\x10\x80\x00\x40\x00"),
+    (1_073_741_823, b"\x10\xbf\xff\xff\xff"),
+    (1_073_741_824, b"\x10\xc0\x00\x00\x00\x40\x00\x00\x00"),
+    (
+        4_611_686_018_427_387_903,
+        b"\x10\xff\xff\xff\xff\xff\xff\xff\xff",
+    ),
+    (5, b"\x10\x40\x05"),
+    (5, b"\x10\x80\x00\x00\x05"),
+    (5, b"\x10\xc0\x00\x00\x00\x00\x00\x00\x05"),
+];
+
+#[test]
+fn numbers_of_each_length_are_read(rt: HostRuntime) {
+    for (number, wire) in &NUMBERS {
+        match first_frame(wire) {
+            Ok((FrameOf::MaxData(limit), _)) => assert_eq!(rt; limit, *number),
+            _ => assert!(rt; false, "{number}"),
+        }
+    }
+}
+
+// The frame at the front of the bytes, written again.
+fn written(alloc: Global, wire: &[u8]) -> Result<Vec<u8>, AllocError> {
+    let mut out = Vec::new(alloc);
+    if let Ok((frame, _)) = first_frame(wire) {
+        put_frame(&mut out, &frame)?;
+    }
+    Ok(out)
+}
+
+// CRYPTO frames with bodies at whose length the length's own form grows.
+#[test]
+fn bodies_of_each_length_are_written(rt: HostRuntime) -> Result<(), Fail> {
+    let table: [(&[u8], usize); 4] = [
+        (b"\x06\x00\x3f", 63),
+        (b"\x06\x00\x40\x40", 64),
+        (b"\x06\x00\x7f\xff", 16_383),
+        (b"\x06\x00\x80\x00\x40\x00", 16_384),
+    ];
+    for (head, len) in table {
+        let body = vec![in rt.alloc(); 7; len]?;
+        let mut wire = Vec::from_slice(rt.alloc(), head)?;
+        wire.extend_from_slice(body.as_slice())?;
+        let again = written(rt.alloc(), wire.as_slice())?;
+        assert!(rt; again.as_slice() == wire.as_slice());
+    }
     Ok(())
 }
 
 // Bytes that are no frame, the type that was read, and what is wrong.
 type Refused = (&'static [u8], Option<u64>, FrameFault);
 
-const REFUSED: [Refused; 8] = [
+const REFUSED: [Refused; 26] = [
+    // the type is cut
+    (b"", None, FrameFault::UnexpectedEnd),
     (b"\x40", None, FrameFault::UnexpectedEnd),
-    (b"\x06\x00\x05a", Some(0x06), FrameFault::UnexpectedEnd),
-    (b"\x1f", Some(0x1f), FrameFault::InvalidFrameId),
-    (b"\x02\x02\x00\x00\x03", Some(0x02), FrameFault::Malformed),
     (
-        b"\x02\x05\x00\x01\x00\x05",
+        b"\xc0\x00\x00\x00\x00\x00\x00",
+        None,
+        FrameFault::UnexpectedEnd,
+    ),
+    // there is no such type
+    (b"\x1f", Some(0x1f), FrameFault::InvalidFrameId),
+    (b"\x20", Some(0x20), FrameFault::InvalidFrameId),
+    (b"\x2f", Some(0x2f), FrameFault::InvalidFrameId),
+    (b"\x32", Some(0x32), FrameFault::InvalidFrameId),
+    (b"\x40\x40", Some(0x40), FrameFault::InvalidFrameId),
+    (
+        b"\xff\xff\xff\xff\xff\xff\xff\xff",
+        Some(0x3fff_ffff_ffff_ffff),
+        FrameFault::InvalidFrameId,
+    ),
+    // a body that is cut
+    (b"\x06\x00\x05a", Some(0x06), FrameFault::UnexpectedEnd),
+    (
+        b"\x06\x00\xff\xff\xff\xff\xff\xff\xff\xff",
+        Some(0x06),
+        FrameFault::UnexpectedEnd,
+    ),
+    // the first range falls below 0
+    (b"\x02\x02\x00\x00\x03", Some(0x02), FrameFault::Malformed),
+    // so does the second, at its gap and at its length
+    (
+        b"\x02\x05\x00\x01\x04\x00\x00",
         Some(0x02),
         FrameFault::Malformed,
     ),
+    (
+        b"\x02\x05\x00\x01\x00\x04\x00",
+        Some(0x02),
+        FrameFault::Malformed,
+    ),
+    (
+        b"\x02\x05\x00\x01\x02\x00\x02",
+        Some(0x02),
+        FrameFault::Malformed,
+    ),
+    (
+        b"\x02\x05\x00\x01\x02\xff\xff\xff\xff\xff\xff\xff\xff\x00",
+        Some(0x02),
+        FrameFault::Malformed,
+    ),
+    // what comes first is told: a range below 0 before a cut, and a cut before the next range
+    (b"\x02\x05\x00\x01\x06", Some(0x02), FrameFault::Malformed),
+    (
+        b"\x02\x05\x00\x01\x05",
+        Some(0x02),
+        FrameFault::UnexpectedEnd,
+    ),
+    (
+        b"\x02\x05\x00\x01\x04\x00",
+        Some(0x02),
+        FrameFault::Malformed,
+    ),
+    (
+        b"\x02\x05\x00\x01\x03\x00",
+        Some(0x02),
+        FrameFault::UnexpectedEnd,
+    ),
+    // ids that retire themselves, of no bytes, of 21 and of 255; an id and a token that are cut
     (b"\x18\x01\x02", Some(0x18), FrameFault::Malformed),
     (b"\x18\x01\x00\x00", Some(0x18), FrameFault::Malformed),
     (b"\x18\x01\x00\x15", Some(0x18), FrameFault::Malformed),
+    (b"\x18\x01\x00\xff", Some(0x18), FrameFault::Malformed),
+    (
+        b"\x18\x01\x01\x14abcdefghijklmnopqrs",
+        Some(0x18),
+        FrameFault::UnexpectedEnd,
+    ),
+    (
+        b"\x18\x01\x01\x01a0123456789ABCDE",
+        Some(0x18),
+        FrameFault::UnexpectedEnd,
+    ),
 ];
 
 #[test]
