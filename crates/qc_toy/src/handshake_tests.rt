@@ -1,6 +1,9 @@
 use crate::{ToyClient, ToyHeaderKey, ToyPacketKey, ToyServer, ToySession, ToySettings};
-use qc_base::{ConnectionId, TransportErrorCode, VarInt};
-use qc_crypto::{ClientConfig, ConnectError, Keys, ServerConfig, Session, SessionError};
+use bytes::BytesMut;
+use qc_base::{ConnectionId, Side, TransportErrorCode, VarInt};
+use qc_crypto::{
+    ClientConfig, ConnectError, HeaderKey, Keys, PacketKey, ServerConfig, Session, SessionError,
+};
 use qc_params::TransportParameters;
 use std::alloc::Global;
 use std::default::Default;
@@ -61,19 +64,96 @@ fn pass(
     Ok(keys)
 }
 
-fn are_mates(
-    client: &Option<Keys<ToyHeaderKey, ToyPacketKey>>,
-    server: &Option<Keys<ToyHeaderKey, ToyPacketKey>>,
-) -> bool {
-    match (client, server) {
-        (Some(one), Some(other)) => {
-            one.packet.local == other.packet.remote && one.header.remote == other.header.local
-        }
-        _ => false,
+// A packet: its header, which ends in its number, the plain bytes, and room for the tag.
+const PACKET: [u8; 24] = *b"\x40\x07\x01\x06\x00\x02\xaa\xbb\0\0\0\0\0\0\0\0\0\0\0\0\0\0\0\0";
+
+// Whether the packet that one key seals comes back with the other.
+fn opens(alloc: Global, sealer: &ToyPacketKey, opener: &ToyPacketKey) -> Result<bool, Fail> {
+    let mut packet = PACKET;
+    sealer.encrypt(7, &mut packet, 2);
+    let (header, sealed) = packet.split_at(2);
+    let mut payload = BytesMut::copy_from_slice(alloc, sealed)?;
+    let opened = opener.decrypt(7, header, &mut payload).is_ok();
+    Ok(opened && payload.as_slice() == b"\x01\x06\x00\x02\xaa\xbb".as_slice())
+}
+
+// Whether the other key takes the mask off that the one puts on.
+fn unmasks(masker: &ToyHeaderKey, unmasker: &ToyHeaderKey) -> bool {
+    let mut packet = PACKET;
+    masker.encrypt(1, &mut packet);
+    let masked = packet != PACKET;
+    unmasker.decrypt(1, &mut packet);
+    masked && packet == PACKET
+}
+
+// Whether each end's keys open and unmask what the other's seal and mask.
+fn keys_match(
+    alloc: Global,
+    one: &Keys<ToyHeaderKey, ToyPacketKey>,
+    other: &Keys<ToyHeaderKey, ToyPacketKey>,
+) -> Result<bool, Fail> {
+    let forth = opens(alloc, &one.packet.local, &other.packet.remote)?;
+    let back = opens(alloc, &other.packet.local, &one.packet.remote)?;
+    let masks_forth = unmasks(&one.header.local, &other.header.remote);
+    let masks_back = unmasks(&other.header.local, &one.header.remote);
+    Ok(forth && back && masks_forth && masks_back)
+}
+
+// The next message of each end, and whether the keys that go with the two match.
+fn next_keys_match(
+    alloc: Global,
+    one: &mut ToySession,
+    other: &mut ToySession,
+    cut: usize,
+) -> Result<bool, Fail> {
+    let Some(keys) = pass(alloc, one, other, cut)? else {
+        return Ok(false);
+    };
+    match pass(alloc, other, one, cut)? {
+        Some(others) => keys_match(alloc, &keys, &others),
+        None => Ok(false),
     }
 }
 
-// The whole handshake, each flight cut at this byte: whether both ends have the same 1-RTT keys.
+// Whether the keys of the Initial space match, which the destination id alone makes.
+fn initial_keys_match(
+    alloc: Global,
+    one: &ToySession,
+    other: &ToySession,
+    server: &ToyServer,
+) -> Result<bool, Fail> {
+    let id = ConnectionId::new(&[2; 8]);
+    let keys = one.initial_keys(&id, Side::Client);
+    let session = keys_match(alloc, &keys, &other.initial_keys(&id, Side::Server))?;
+    Ok(session && keys_match(alloc, &keys, &server.initial_keys(1, &id)?)?)
+}
+
+// Whether the server opens what the client seals with its early keys.
+fn early_keys_match(alloc: Global, one: &ToySession, other: &ToySession) -> Result<bool, Fail> {
+    match (one.early_crypto(), other.early_crypto()) {
+        (Some((masker, sealer)), Some((unmasker, opener))) => {
+            Ok(opens(alloc, &sealer, &opener)? && unmasks(&masker, &unmasker))
+        }
+        _ => Ok(false),
+    }
+}
+
+// Whether the 1-RTT keys of the next epoch match.
+fn updated_keys_match(
+    alloc: Global,
+    one: &mut ToySession,
+    other: &mut ToySession,
+) -> Result<bool, Fail> {
+    match (one.next_1rtt_keys(), other.next_1rtt_keys()) {
+        (Some(keys), Some(others)) => {
+            let forth = opens(alloc, &keys.local, &others.remote)?;
+            Ok(forth && opens(alloc, &others.local, &keys.remote)?)
+        }
+        _ => Ok(false),
+    }
+}
+
+// The whole handshake, each message cut at this byte: whether the keys of each level match.
 fn shake_hands(alloc: Global, cut: usize) -> Result<bool, Fail> {
     let client = ToyClient {
         settings: settings(true),
@@ -83,22 +163,22 @@ fn shake_hands(alloc: Global, cut: usize) -> Result<bool, Fail> {
     };
     let mut one = client.start_session(alloc, 1, "localhost", &client_parameters())?;
     let mut other = server.start_session(alloc, 1, &TransportParameters::default())?;
+    let initial = initial_keys_match(alloc, &one, &other, &server)?;
     let _ = pass(alloc, &mut one, &mut other, cut)?;
-    let _ = pass(alloc, &mut other, &mut one, cut)?;
-    let server_keys = pass(alloc, &mut other, &mut one, cut)?;
-    let _ = pass(alloc, &mut one, &mut other, cut)?;
-    let client_keys = pass(alloc, &mut one, &mut other, cut)?;
+    let early = early_keys_match(alloc, &one, &other)?;
+    let handshake = next_keys_match(alloc, &mut other, &mut one, cut)?;
+    let data = next_keys_match(alloc, &mut other, &mut one, cut)?;
     let over = !one.is_handshaking() && !other.is_handshaking();
-    Ok(over && are_mates(&client_keys, &server_keys) && knows_all(&one, &other)?)
+    let updated = updated_keys_match(alloc, &mut one, &mut other)?;
+    Ok(initial && early && handshake && data && over && updated && knows_all(&one, &other)?)
 }
 
 // Whether the ends know each other's parameters, and took the early keys.
 fn knows_all(one: &ToySession, other: &ToySession) -> Result<bool, Fail> {
     let theirs = one.transport_parameters()? == Some(TransportParameters::default());
     let ours = other.transport_parameters()? == Some(client_parameters());
-    let early = one.early_crypto() == other.early_crypto();
     let taken = one.early_data_accepted() == Some(true);
-    Ok(theirs && ours && early && taken && other.early_data_accepted() == Some(true))
+    Ok(theirs && ours && taken && other.early_data_accepted() == Some(true))
 }
 
 #[test]

@@ -1,0 +1,26 @@
+-- What the words ask for.
+use Rattle.std.specs.Prelude.{◌≡◌, ℕ, ◌<◌, ◌^◌, List, [], ◌∷◌, codes}
+use Rattle.std.specs.Str.Parse.{IsNumeral, digits_value, without_leading_plus}
+use Rattle.qc_bench.specs.declared.job.Job.{Job}
+use Rattle.qc_bench.specs.declared.job.Job.TheVariants.{Frames, Keys}
+
+-- the word spells this number in decimal digits, perhaps behind a plus
+pub record IsCount (word : List ℕ) (n : ℕ) : Type 0 where
+  pub numeral : IsNumeral 10 (without_leading_plus word)
+  pub value : digits_value 10 (without_leading_plus word) ≡ n
+  pub small : n < 2 ^ 32
+
+pub record AsksFrames (what first second : List ℕ) (count times : ℕ) : Type 0 where
+  pub word : what ≡ codes "frames"
+  pub frames : IsCount first count
+  pub readings : IsCount second times
+
+pub record AsksKeys (what first : List ℕ) (count : ℕ) : Type 0 where
+  pub word : what ≡ codes "keys"
+  pub packets : IsCount first count
+
+-- the words are `frames COUNT TIMES` or `keys COUNT`
+abbrev pub Asks : List (List ℕ) → Job → Type 0
+Asks (word ∷ count ∷ times ∷ []) (Frames n m) = AsksFrames word count times n m
+Asks (word ∷ count ∷ []) (Keys n) = AsksKeys word count n
+Asks _ _ = ⊥
