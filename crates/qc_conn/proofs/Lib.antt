@@ -1,1 +1,6 @@
 pub mod TextLemmas
+pub mod Tokens
+pub mod FramesBack
+pub mod DeedsBack
+pub mod AnswersBack
+pub mod TraceBack
