@@ -4,3 +4,4 @@ pub mod FramesBack
 pub mod DeedsBack
 pub mod AnswersBack
 pub mod TraceBack
+pub mod RunsPlain

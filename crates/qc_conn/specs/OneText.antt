@@ -1,6 +1,6 @@
 -- Traces that no other trace shares its text with: their values are such as their types hold, and they have nothing that
 -- a text leaves out.
-use Rattle.std.specs.Prelude.{◌≡◌, ℕ, ◌<◌, ◌^◌, List, length, Bool, true, Option, IfSome}
+use Rattle.std.specs.Prelude.{◌≡◌, ℕ, ◌+◌, ◌<◌, ◌^◌, List, length, Bool, true, Option, IfSome}
 use Rattle.std.specs.List.{All}
 use Rattle.std.specs.Net.Socket.{IsSocketAddr, socket_flowinfo, socket_scope_id}
 use Rattle.std.specs.declared.net.socket_addr.SocketAddr.{SocketAddr}
@@ -17,6 +17,8 @@ use Rattle.qc_state.specs.declared.life.ConnectionError.TheVariants.{TransportEr
 use Rattle.qc_state.specs.declared.trace.Answer.{Answer}
 use Rattle.qc_state.specs.declared.trace.Answer.TheVariants as answer
 use Rattle.qc_state.specs.declared.trace.Step.{Step}
+use Rattle.qc_state.specs.declared.paths.Paths.{Paths}
+use Rattle.qc_state.specs.declared.waiting.Waiting.{Waiting}
 
 -- ---- values that their types hold
 
@@ -69,3 +71,12 @@ IsAnswerPlain _ = Unit {0}
 pub record IsPlain (step : Step) : Type 0 where
   pub did : All IsDeedPlain step.did
   pub answer : IsAnswerPlain step.answer
+
+-- ---- where such traces come from
+
+-- the CRYPTO bytes that wait lie below 2^62 in their stream (RFC 9000, section 19.6), and the address that packets go to
+-- has neither flow label nor scope
+pub record IsPlainStart (waiting : Waiting) (paths : Paths) : Type 0 where
+  pub crypto : waiting.spaces.initial.crypto.offset + length waiting.spaces.initial.crypto.bytes < 2 ^ 62
+  pub flow : socket_flowinfo paths.remote ≡ 0
+  pub scope : socket_scope_id paths.remote ≡ 0
