@@ -3,7 +3,7 @@ use Rattle.std.proofs.Common.{◌≡◌, ℕ, zero, suc, ◌+◌, ◌*◌, ◌/�
 use Rattle.std.specs.Prelude.{decimal, codes, IfSome, ◌||◌}
 use Rattle.std.proofs.lemmas.Bool.Decides.{nat_tests}
 use Rattle.std.specs.Net.Addr.{ipv4_octets, ipv6_octets, octets_of}
-use Rattle.std.specs.Net.Socket.{IsSocketAddr, socket_ip, socket_port, socket_flowinfo, socket_scope_id}
+use Rattle.std.specs.Net.Socket.{socket_ip, socket_port, socket_flowinfo, socket_scope_id}
 use Rattle.std.specs.declared.net.ip_addr.IpAddr.{IpAddr}
 use Rattle.std.specs.declared.net.ip_addr.IpAddr.TheVariants as ip
 use Rattle.std.specs.declared.net.socket_addr.SocketAddr.{SocketAddr}
@@ -18,21 +18,11 @@ use Rattle.qc_state.specs.declared.input.Word.TheVariants as word
 use Rattle.qc_state.specs.declared.trace.Answer.{Answer}
 use Rattle.qc_state.specs.declared.trace.Answer.TheVariants as answer
 use Rattle.qc_conn.specs.TraceText.{number_or_dash, ip_text, address_text, ecn_text, target_text, marks_text, out_text, answer_text}
-use Rattle.qc_conn.specs.OneText.{IsOptionInRange, IsAnswerInRange, IsAnswerPlain}
+use Rattle.qc_conn.specs.OneText.{IsOptionInRange, IsAddressInRange, IsAnswerInRange, IsAnswerPlain}
 use Rattle.qc_conn.proofs.Tokens.{is_mark, is_token, token_back, number_back, bytes_back, decimal_is_token, first_digit, decimal_injective_wide}
 use Rattle.qc_conn.proofs.DeedsBack.{option_back}
 
 -- ---- addresses
-
-length-octets_of : (segments : List ℕ) → length (octets_of segments) ≡ 2 * length segments
-length-octets_of [] = refl
-length-octets_of (s ∷ segments) = omega (arith, length-octets_of segments)
-
-octets_are_bytes : (segments : List ℕ) → ((k : ℕ) → slice_index segments k < 2 ^ 16) → IsBytes (octets_of segments)
-octets_are_bytes [] h k = omega arith
-octets_are_bytes (s ∷ segments) h zero = let small = h 0 in omega arith
-octets_are_bytes (s ∷ segments) h (suc zero) = omega arith
-octets_are_bytes (s ∷ segments) h (suc (suc k)) = octets_are_bytes segments (λ k. h (suc k)) k
 
 octets_injective : (a b : List ℕ) → octets_of a ≡ octets_of b → a ≡ b
 octets_injective [] [] e = refl
@@ -57,10 +47,10 @@ octets : SocketAddr → List ℕ
 octets (V4 a) = ipv4_octets a.ip
 octets (V6 a) = ipv6_octets a.ip
 
-octets_in_range : (a : SocketAddr) → IsSocketAddr a → IsBytes (octets a)
+octets_in_range : (a : SocketAddr) → IsAddressInRange a → IsBytes (octets a)
 unfolding octets
 octets_in_range (V4 a) h = h.0.1
-octets_in_range (V6 a) h = octets_are_bytes a.ip.segments h.0.1
+octets_in_range (V6 a) h = h.0.1
 
 ip_is_octets : (a : SocketAddr) → ip_text (socket_ip a) ≡ encode_lower (octets a)
 unfolding octets ip_text
@@ -68,30 +58,24 @@ ip_is_octets (V4 a) = refl
 ip_is_octets (V6 a) = refl
 
 -- an address is told by its octets and its port
-address_injective : (a b : SocketAddr) → IsSocketAddr a → IsSocketAddr b → IsPlainAddress a → IsPlainAddress b → octets a ≡ octets b → socket_port a ≡ socket_port b → a ≡ b
+address_injective : (a b : SocketAddr) → IsAddressInRange a → IsAddressInRange b → IsPlainAddress a → IsPlainAddress b → octets a ≡ octets b → socket_port a ≡ socket_port b → a ≡ b
 unfolding octets
 address_injective (V4 a) (V4 b) p q k l o n = λ i. V4 (record { ip = record { octets = o i }; port = n i })
-address_injective (V4 a) (V6 b) p q k l o n = absurd (omega (arith, p.0.0, q.0.0, length-octets_of b.ip.segments, ap length o))
-address_injective (V6 a) (V4 b) p q k l o n = absurd (omega (arith, p.0.0, q.0.0, length-octets_of a.ip.segments, ap length o))
+address_injective (V4 a) (V6 b) p q k l o n = absurd (omega (arith, p.0.0, q.0.0, ap length o))
+address_injective (V6 a) (V4 b) p q k l o n = absurd (omega (arith, p.0.0, q.0.0, ap length o))
 address_injective (V6 a) (V6 b) p q k l o n =
     let segments = octets_injective a.ip.segments b.ip.segments o in
     let flow : a.flowinfo ≡ b.flowinfo = k.0 ∙ sym l.0 in
     let scope : a.scope_id ≡ b.scope_id = k.1 ∙ sym l.1 in
     λ i. V6 (record { ip = record { segments = segments i }; port = n i; flowinfo = flow i; scope_id = scope i })
 
-small_port : (a : SocketAddr) → IsSocketAddr a → socket_port a < 2 ^ 16
-small_port (V4 a) h = h.1
-small_port (V6 a) h = h.1
-
-address_back : (a b : SocketAddr) (r s : List ℕ) → IsSocketAddr a → IsSocketAddr b → IsPlainAddress a → IsPlainAddress b
+address_back : (a b : SocketAddr) (r s : List ℕ) → IsAddressInRange a → IsAddressInRange b → IsPlainAddress a → IsPlainAddress b
     → address_text a ++ 32 ∷ r ≡ address_text b ++ 32 ∷ s → (a ≡ b) × (r ≡ s)
 address_back a b r s p q k l e =
     let parts = sym (address_parts a r) ∙ e ∙ address_parts b s in
     let named : encode_lower (octets a) ++ 47 ∷ (decimal (socket_port a) ++ 32 ∷ r) ≡ encode_lower (octets b) ++ 47 ∷ (decimal (socket_port b) ++ 32 ∷ s)
     = rw (← ip_is_octets a, ← ip_is_octets b) parts in
     let ips = bytes_back (octets a) (octets b) 47 47 _ _ (octets_in_range a p) (octets_in_range b q) refl refl named in
-    let left = small_port a p in
-    let right = small_port b q in
     let port = number_back (socket_port a) (socket_port b) 32 32 r s (omega arith) (omega arith) refl refl (ap (drop 1) ips.1) in
     (address_injective a b p q k l ips.0 port.0, ap (drop 1) port.1)
 

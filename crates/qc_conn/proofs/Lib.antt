@@ -5,3 +5,4 @@ pub mod DeedsBack
 pub mod AnswersBack
 pub mod TraceBack
 pub mod RunsPlain
+pub mod InRange

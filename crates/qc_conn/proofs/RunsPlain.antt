@@ -111,8 +111,7 @@ module _ {t : Types} where
   unfolding called began step_after reported move_to state_move waiting_move paths_move
   step_plain m k s i x s' e h =
       let clock : View t = state_move (Clock (time_of i)) s in
-      let there = input_plain i x.did clock e.allowed e.deeds h in
-      (
+      let there = input_plain i x.did clock e.allowed e.deeds h in (
         record { did = there.0; answer = subst IsAnswerPlain (sym e.answer) (answer_plain m i x.did clock h) },
         subst (λ (w : Waiting). IsPlainStart w s'.paths) (sym e.waiting) (subst (λ (p : Paths). IsPlainStart (input_after i x.did (at clock [])).state.waiting p) (sym e.paths) there.1),
       )

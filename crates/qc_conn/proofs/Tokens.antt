@@ -117,7 +117,7 @@ lines_back f P begins each back (x ∷ xs) [] r s p q k l e =
     absurd (false≢true (sym l ∙ ap begins (sym e ∙ append_assoc (f x) (flat_map f xs) r) ∙ each x (flat_map f xs ++ r)))
 lines_back f P begins each back (x ∷ xs) (y ∷ ys) r s p q k l e =
     let first = back x y (flat_map f xs ++ r) (flat_map f ys ++ s) (All-head P x xs p) (All-head P y ys q)
-        (sym (append_assoc (f x) (flat_map f xs) r) ∙ e ∙ append_assoc (f y) (flat_map f ys) s) in
+    (sym (append_assoc (f x) (flat_map f xs) r) ∙ e ∙ append_assoc (f y) (flat_map f ys) s) in
     let others = lines_back f P begins each back xs ys r s (All-tail P x xs p) (All-tail P y ys q) k l first.1 in
     (cons_both first.0 others.0, others.1)
 

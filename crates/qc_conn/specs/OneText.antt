@@ -2,7 +2,10 @@
 -- a text leaves out.
 use Rattle.std.specs.Prelude.{◌≡◌, ℕ, ◌+◌, ◌<◌, ◌^◌, List, length, Bool, true, Option, IfSome}
 use Rattle.std.specs.List.{All}
-use Rattle.std.specs.Net.Socket.{IsSocketAddr, socket_flowinfo, socket_scope_id}
+use Rattle.std.specs.Net.Addr.{ipv4_octets, ipv6_octets}
+use Rattle.std.specs.Net.Socket.{socket_ip, socket_port, socket_flowinfo, socket_scope_id}
+use Rattle.std.specs.declared.net.ip_addr.IpAddr.{IpAddr}
+use Rattle.std.specs.declared.net.ip_addr.IpAddr.TheVariants.{V4, V6}
 use Rattle.std.specs.declared.net.socket_addr.SocketAddr.{SocketAddr}
 use Rattle.qc_base.specs.Grammar.{IsBytes}
 use Rattle.qc_frame.specs.Frame.{FrameValue}
@@ -35,15 +38,23 @@ IsDeedInRange (deed.Rose life) = life < 2 ^ 8
 IsDeedInRange (deed.Lost reason) = IsReasonInRange reason
 IsDeedInRange (deed.Quiet quiet) = Unit {0}
 
+-- the four or sixteen octets of an address
+abbrev pub IsIpInRange : IpAddr → Type 0
+IsIpInRange (V4 ip) = (length (ipv4_octets ip) ≡ 4) × IsBytes (ipv4_octets ip)
+IsIpInRange (V6 ip) = (length (ipv6_octets ip) ≡ 16) × IsBytes (ipv6_octets ip)
+
+abbrev pub IsAddressInRange : SocketAddr → Type 0
+IsAddressInRange address = IsIpInRange (socket_ip address) × (socket_port address < 2 ^ 16)
+
 abbrev pub IsAnswerInRange : Answer → Type 0
 IsAnswerInRange answer.Done = Unit {0}
 IsAnswerInRange answer.Nothing = Unit {0}
-IsAnswerInRange (answer.Out destination segment ecn bytes) = IsSocketAddr destination × IsOptionInRange segment × (length bytes < 2 ^ 64) × IsBytes bytes
+IsAnswerInRange (answer.Out destination segment ecn bytes) = IsAddressInRange destination × IsOptionInRange segment × (length bytes < 2 ^ 64) × IsBytes bytes
 
 abbrev pub IsEventInRange : Event → Type 0
 IsEventInRange (ConnectionLost reason) = IsReasonInRange reason
 
--- each number of a step is one of 64 bits, each byte is a byte, and an address is one
+-- each number of a step is one of 64 bits, each byte is a byte, and an address has its octets and a port of 16 bits
 pub record IsInRange (step : Step) : Type 0 where
   pub at : step.at < 2 ^ 64
   pub now : step.now < 2 ^ 64

@@ -22,7 +22,8 @@ use steps::put_step;
 #[tactic(auto, unfolding(crate::specs::TraceText::trace_text))]
 pub fn trace_text(alloc: Global, trace: &Trace) -> Result<Vec<u8>, AllocError>
     ensures text { IfOk result (λ text. text.items ≡ trace_text trace.now) }
-    ensures one { IfOk result (λ text. All IsInRange trace.now → All IsPlain trace.now → (other : List Step) → All IsInRange other → All IsPlain other → text.items ≡ trace_text other → other ≡ trace.now) }
+    ensures in_range { OnOk result (All IsInRange trace.now) }
+    ensures one { IfOk result (λ text. All IsPlain trace.now → (other : List Step) → All IsInRange other → All IsPlain other → text.items ≡ trace_text other → other ≡ trace.now) }
 {
     let mut out = Vec::from_slice(alloc, b"qconn 1\n")?;
     put_steps(&mut out, trace.as_slice())?;
@@ -31,7 +32,8 @@ pub fn trace_text(alloc: Global, trace: &Trace) -> Result<Vec<u8>, AllocError>
 }
 
 fn put_steps(out: &mut Vec<u8>, steps: &[Step]) -> Result<(), AllocError>
-    ensures { OnOk result (out.new.items ≡ out.old.items ++ flat_map step_text steps.now) }
+    ensures text { OnOk result (out.new.items ≡ out.old.items ++ flat_map step_text steps.now) }
+    ensures in_range { OnOk result (All IsInRange steps.now) }
 {
     for step in steps {
         put_step(out, step)?;
