@@ -1,2 +1,3 @@
+pub mod OneText
 pub mod Seen
 pub mod TraceText

@@ -4,8 +4,9 @@
 //! events, its endpoint events and its timer, and last the line `end`. Each line is ended by LF,
 //! fields are separated by one space, numbers are decimal, bytes are lower-case hex.
 
-ghost use Rattle.std.specs.Prelude.{◌≡◌, ◌++◌, IfOk, OnOk};
-ghost use Rattle.std.specs.List.{flat_map};
+ghost use Rattle.std.specs.Prelude.{◌≡◌, List, ◌++◌, IfOk, OnOk};
+ghost use Rattle.std.specs.List.{All, flat_map};
+ghost use Rattle.qc_conn.specs.OneText.{IsInRange, IsPlain};
 ghost use Rattle.qc_conn.specs.TraceText.{step_text, trace_text};
 
 mod digits;
@@ -20,7 +21,9 @@ use steps::put_step;
 /// The text of a trace.
 #[tactic(auto, unfolding(crate::specs::TraceText::trace_text))]
 pub fn trace_text(alloc: Global, trace: &Trace) -> Result<Vec<u8>, AllocError>
-    ensures { IfOk result (λ text. text.items ≡ trace_text trace.now) }
+    ensures text { IfOk result (λ text. text.items ≡ trace_text trace.now) }
+    ensures in_range { OnOk result (All IsInRange trace.now) }
+    ensures one { IfOk result (λ text. All IsPlain trace.now → (other : List Step) → All IsInRange other → All IsPlain other → text.items ≡ trace_text other → other ≡ trace.now) }
 {
     let mut out = Vec::from_slice(alloc, b"qconn 1\n")?;
     put_steps(&mut out, trace.as_slice())?;
@@ -29,7 +32,8 @@ pub fn trace_text(alloc: Global, trace: &Trace) -> Result<Vec<u8>, AllocError>
 }
 
 fn put_steps(out: &mut Vec<u8>, steps: &[Step]) -> Result<(), AllocError>
-    ensures { OnOk result (out.new.items ≡ out.old.items ++ flat_map step_text steps.now) }
+    ensures text { OnOk result (out.new.items ≡ out.old.items ++ flat_map step_text steps.now) }
+    ensures in_range { OnOk result (All IsInRange steps.now) }
 {
     for step in steps {
         put_step(out, step)?;

@@ -1,7 +1,9 @@
 //! The frames of a sealed packet, each with its name and the hex of its spelling; a run of PADDING
 //! frames as `PADDING*` and how many they are.
 
-ghost use Rattle.std.specs.Prelude.{◌≡◌, ◌+◌, ◌<◌, ◌^◌, [], ◌++◌, if◌then◌else◌, map, replicate, decimal, IfOk, OnOk};
+ghost use Rattle.std.specs.Prelude.{◌≡◌, ◌+◌, ◌<◌, ◌^◌, [], ◌++◌, length, if◌then◌else◌, map, replicate, decimal, IfOk, OnOk};
+ghost use Rattle.std.specs.List.{All};
+ghost use Rattle.qc_base.specs.Grammar.{IsBytes};
 ghost use Rattle.qc_frame.specs.Frame.{owned};
 ghost use Rattle.qc_frame.specs.FrameSpelling.{frame_name, spelling};
 ghost use Rattle.qc_frame.specs.declared.frames.FrameOf.TheVariants.{Padding};
@@ -17,7 +19,9 @@ use std::slice;
 /// Appends the frames.
 #[tactic(auto, unfolding(crate::specs::TraceText::frames_text))]
 pub fn put_frames(out: &mut Vec<u8>, frames: &FrameList) -> Result<(), AllocError>
-    ensures { OnOk result (out.new.items ≡ out.old.items ++ frames_text frames.now) }
+    ensures text { OnOk result (out.new.items ≡ out.old.items ++ frames_text frames.now) }
+    ensures count { length frames.now < 2 ^ 128 }
+    ensures in_range { OnOk result (All (λ frame. IsBytes (spelling frame)) frames.now) }
 {
     let (listed, padding) = frames.parts();
     put_padded(out, listed, padding)
@@ -25,7 +29,9 @@ pub fn put_frames(out: &mut Vec<u8>, frames: &FrameList) -> Result<(), AllocErro
 
 /// Appends frames and then so many PADDING frames.
 fn put_padded(out: &mut Vec<u8>, frames: &[OwnedFrame], padding: u64) -> Result<(), AllocError>
-    ensures { OnOk result (out.new.items ≡ out.old.items ++ padded_text 0 (map owned frames.now ++ replicate padding Padding)) }
+    ensures text { OnOk result (out.new.items ≡ out.old.items ++ padded_text 0 (map owned frames.now ++ replicate padding Padding)) }
+    ensures count { length (map owned frames.now ++ replicate padding Padding) < 2 ^ 128 }
+    ensures in_range { OnOk result (All (λ frame. IsBytes (spelling frame)) (map owned frames.now ++ replicate padding Padding)) }
 {
     let mut run = 0;
     for frame in frames {
@@ -37,10 +43,12 @@ fn put_padded(out: &mut Vec<u8>, frames: &[OwnedFrame], padding: u64) -> Result<
 
 /// Appends a frame after a run of so many PADDING frames that isn't written yet. Says how many of
 /// them aren't written then.
+#[tactic(auto, using(crate::proofs::InRange::padding_in_range))]
 fn put_next(out: &mut Vec<u8>, run: u64, frame: &OwnedFrame) -> Result<u64, AllocError>
     requires { run + 1 < 2 ^ 64 }
     ensures run { IfOk result (λ next. next ≡ (if is_padding (owned frame.now) then run + 1 else 0)) }
     ensures text { OnOk result (out.new.items ≡ out.old.items ++ (if is_padding (owned frame.now) then [] else padding_text run ++ frame_text (owned frame.now))) }
+    ensures in_range { OnOk result (IsBytes (spelling (owned frame.now))) }
 {
     if is_padding_frame(frame) {
         return Ok(run + 1);
@@ -75,7 +83,8 @@ fn put_padding(out: &mut Vec<u8>, count: u128) -> Result<(), AllocError>
 /// Appends a frame's name and its spelling.
 #[tactic(auto, unfolding(crate::specs::TraceText::frame_text))]
 fn put_named(out: &mut Vec<u8>, frame: &OwnedFrame) -> Result<(), AllocError>
-    ensures { OnOk result (out.new.items ≡ out.old.items ++ frame_text (owned frame.now)) }
+    ensures text { OnOk result (out.new.items ≡ out.old.items ++ frame_text (owned frame.now)) }
+    ensures in_range { OnOk result (IsBytes (spelling (owned frame.now))) }
 {
     out.extend_from_slice(b" ")?;
     out.extend_from_slice(name_of(frame))?;

@@ -1,7 +1,8 @@
 //! The lines of a step: its deeds, its answer, its events and its timer.
 
-ghost use Rattle.std.specs.Prelude.{◌≡◌, ◌++◌, codes, decimal, OnOk};
-ghost use Rattle.std.specs.List.{flat_map};
+ghost use Rattle.std.specs.Prelude.{◌≡◌, ◌<◌, ◌^◌, ◌++◌, codes, decimal, OnOk};
+ghost use Rattle.std.specs.List.{All, flat_map};
+ghost use Rattle.qc_conn.specs.OneText.{IsAddressInRange, IsAnswerInRange, IsDeedInRange, IsEventInRange, IsInRange, IsOptionInRange, IsReasonInRange};
 ghost use Rattle.qc_conn.specs.TraceText.{answer_text, did_text, ecn_text, endpoint_text, epoch_text, event_text, marks_text, nothing_text, out_text, packet_text, quiet_name, reason_text, sealed_text, space_name, step_head, step_text, target_text, timer_text, word_name};
 
 use crate::text::digits::put_hex;
@@ -16,7 +17,8 @@ use std::net::SocketAddr;
 /// Appends the lines of a step.
 #[tactic(auto, unfolding(crate::specs::TraceText::step_text))]
 pub fn put_step(out: &mut Vec<u8>, step: &Step) -> Result<(), AllocError>
-    ensures { OnOk result (out.new.items ≡ out.old.items ++ step_text step.entry.now) }
+    ensures text { OnOk result (out.new.items ≡ out.old.items ++ step_text step.entry.now) }
+    ensures in_range { OnOk result (IsInRange step.entry.now) }
 {
     put_head(out, step.at, step.word, step.now)?;
     put_dids(out, step.did.as_slice())?;
@@ -28,7 +30,8 @@ pub fn put_step(out: &mut Vec<u8>, step: &Step) -> Result<(), AllocError>
 
 #[tactic(auto, unfolding(crate::specs::TraceText::step_head))]
 fn put_head(out: &mut Vec<u8>, at: u64, word: Word, now: Instant) -> Result<(), AllocError>
-    ensures { OnOk result (out.new.items ≡ out.old.items ++ step_head at word now) }
+    ensures text { OnOk result (out.new.items ≡ out.old.items ++ step_head at word now) }
+    ensures in_range { OnOk result ((at < 2 ^ 64) × (now < 2 ^ 64)) }
 {
     out.extend_from_slice(b"step ")?;
     put_number(out, at)?;
@@ -50,7 +53,8 @@ fn word_of(word: Word) -> &'static [u8]
 }
 
 fn put_dids(out: &mut Vec<u8>, dids: &[Did]) -> Result<(), AllocError>
-    ensures { OnOk result (out.new.items ≡ out.old.items ++ flat_map did_text dids.now) }
+    ensures text { OnOk result (out.new.items ≡ out.old.items ++ flat_map did_text dids.now) }
+    ensures in_range { OnOk result (All IsDeedInRange dids.now) }
 {
     for did in dids {
         put_did(out, did)?;
@@ -60,7 +64,8 @@ fn put_dids(out: &mut Vec<u8>, dids: &[Did]) -> Result<(), AllocError>
 
 #[tactic(auto, unfolding(crate::specs::TraceText::did_text))]
 fn put_did(out: &mut Vec<u8>, did: &Did) -> Result<(), AllocError>
-    ensures { OnOk result (out.new.items ≡ out.old.items ++ did_text did.now) }
+    ensures text { OnOk result (out.new.items ≡ out.old.items ++ did_text did.now) }
+    ensures in_range { OnOk result (IsDeedInRange did.now) }
 {
     match did {
         Did::Sealed {
@@ -85,7 +90,8 @@ fn put_sealed(
     early: bool,
     frames: &FrameList,
 ) -> Result<(), AllocError>
-    ensures { OnOk result (out.new.items ≡ out.old.items ++ sealed_text space number epoch early frames.now) }
+    ensures text { OnOk result (out.new.items ≡ out.old.items ++ sealed_text space number epoch early frames.now) }
+    ensures in_range { OnOk result (IsDeedInRange (Did.Sealed space number epoch early frames.now)) }
 {
     out.extend_from_slice(b"seal ")?;
     put_packet(out, space, number)?;
@@ -136,7 +142,8 @@ fn put_rose(out: &mut Vec<u8>, life: u8) -> Result<(), AllocError>
 /// Appends the line of a reason for the end, after these words.
 #[tactic(auto, unfolding(crate::specs::TraceText::reason_text))]
 fn put_reason(out: &mut Vec<u8>, words: &[u8], reason: &ConnectionError) -> Result<(), AllocError>
-    ensures { OnOk result (out.new.items ≡ out.old.items ++ (words.now ++ reason_text reason.now ++ codes "\n")) }
+    ensures text { OnOk result (out.new.items ≡ out.old.items ++ (words.now ++ reason_text reason.now ++ codes "\n")) }
+    ensures in_range { OnOk result (IsReasonInRange reason.now) }
 {
     out.extend_from_slice(words)?;
     match reason {
@@ -171,7 +178,8 @@ fn quiet_of(quiet: Quiet) -> &'static [u8]
 
 #[tactic(auto, unfolding(crate::specs::TraceText::answer_text))]
 fn put_answer(out: &mut Vec<u8>, word: Word, answer: &Answer) -> Result<(), AllocError>
-    ensures { OnOk result (out.new.items ≡ out.old.items ++ answer_text word answer.now) }
+    ensures text { OnOk result (out.new.items ≡ out.old.items ++ answer_text word answer.now) }
+    ensures in_range { OnOk result (IsAnswerInRange answer.now) }
 {
     match answer {
         Answer::Done => out.extend_from_slice(b"answer done\n"),
@@ -203,7 +211,8 @@ fn put_out(
     ecn: Option<EcnCodepoint>,
     bytes: &[u8],
 ) -> Result<(), AllocError>
-    ensures { OnOk result (out.new.items ≡ out.old.items ++ out_text destination segment ecn bytes.now) }
+    ensures text { OnOk result (out.new.items ≡ out.old.items ++ out_text destination segment ecn bytes.now) }
+    ensures in_range { OnOk result (IsAnswerInRange (Answer.Out destination segment ecn bytes.now)) }
 {
     put_target(out, destination, bytes.len() as u64)?;
     put_marks(out, segment, ecn)?;
@@ -213,7 +222,8 @@ fn put_out(
 
 #[tactic(auto, unfolding(crate::specs::TraceText::target_text))]
 fn put_target(out: &mut Vec<u8>, destination: SocketAddr, size: u64) -> Result<(), AllocError>
-    ensures { OnOk result (out.new.items ≡ out.old.items ++ target_text destination size) }
+    ensures text { OnOk result (out.new.items ≡ out.old.items ++ target_text destination size) }
+    ensures in_range { OnOk result (IsAddressInRange destination) }
 {
     out.extend_from_slice(b"out ")?;
     put_address(out, destination)?;
@@ -228,7 +238,8 @@ fn put_marks(
     segment: Option<u64>,
     ecn: Option<EcnCodepoint>,
 ) -> Result<(), AllocError>
-    ensures { OnOk result (out.new.items ≡ out.old.items ++ marks_text segment ecn) }
+    ensures text { OnOk result (out.new.items ≡ out.old.items ++ marks_text segment ecn) }
+    ensures in_range { OnOk result (IsOptionInRange segment) }
 {
     put_optional(out, segment)?;
     out.extend_from_slice(b" ")?;
@@ -249,7 +260,8 @@ fn put_ecn(out: &mut Vec<u8>, ecn: Option<EcnCodepoint>) -> Result<(), AllocErro
 }
 
 fn put_events(out: &mut Vec<u8>, events: &[Event]) -> Result<(), AllocError>
-    ensures { OnOk result (out.new.items ≡ out.old.items ++ flat_map event_text events.now) }
+    ensures text { OnOk result (out.new.items ≡ out.old.items ++ flat_map event_text events.now) }
+    ensures in_range { OnOk result (All IsEventInRange events.now) }
 {
     for event in events {
         put_event(out, event)?;
@@ -259,7 +271,8 @@ fn put_events(out: &mut Vec<u8>, events: &[Event]) -> Result<(), AllocError>
 
 #[tactic(auto, unfolding(crate::specs::TraceText::event_text))]
 fn put_event(out: &mut Vec<u8>, event: &Event) -> Result<(), AllocError>
-    ensures { OnOk result (out.new.items ≡ out.old.items ++ event_text event.now) }
+    ensures text { OnOk result (out.new.items ≡ out.old.items ++ event_text event.now) }
+    ensures in_range { OnOk result (IsEventInRange event.now) }
 {
     match event {
         Event::ConnectionLost { reason } => put_reason(out, b"event lost ", reason),
@@ -286,7 +299,8 @@ fn put_endpoint_event(out: &mut Vec<u8>, event: EndpointEvent) -> Result<(), All
 
 #[tactic(auto, unfolding(crate::specs::TraceText::timer_text))]
 fn put_timer(out: &mut Vec<u8>, timeout: Option<Instant>) -> Result<(), AllocError>
-    ensures { OnOk result (out.new.items ≡ out.old.items ++ timer_text timeout) }
+    ensures text { OnOk result (out.new.items ≡ out.old.items ++ timer_text timeout) }
+    ensures in_range { OnOk result (IsOptionInRange timeout) }
 {
     out.extend_from_slice(b"timer ")?;
     put_optional(out, nanos_of(timeout))?;

@@ -1,7 +1,11 @@
-use Rattle.std.proofs.Common.{◌≡◌, ◌++◌, drop}
-use Rattle.std.specs.List.{flat_map}
+use Rattle.std.proofs.Common.{◌≡◌, ◌++◌, take, drop}
+use Rattle.std.specs.List.{All, flat_map}
+use Rattle.qc_conn.specs.OneText.{IsInRange}
 use Rattle.qc_conn.specs.TraceText.{step_text}
 use Rattle.qc_conn.proofs.text.put_steps.Given as goal
 
 abbrev pub invariant-loop-step : goal.invariant-loop-step
-invariant-loop-step l = l.out.items ++ flat_map step_text (drop l.step-index l.steps) ≡ l.fn.out.items ++ flat_map step_text l.steps
+invariant-loop-step l = record {
+  text : l.out.items ++ flat_map step_text (drop l.step-index l.steps) ≡ l.fn.out.items ++ flat_map step_text l.steps;
+  in_range : All IsInRange (take l.step-index l.steps);
+}

@@ -1,0 +1,129 @@
+-- The steps of a run leave nothing out of their text.
+use Rattle.std.proofs.Common.{◌≡◌, ℕ, zero, suc, ◌+◌, ◌-◌, ◌<◌, ◌≤◌, ◌^◌, Bool, true, false, if◌then◌else◌, List, [], ◌∷◌, ◌++◌, length, take, drop, Option, Some, None, refl, sym, ap, ◌∙◌, subst, arith}
+use Rattle.std.specs.List.{All}
+use Rattle.std.specs.Net.Socket.{socket_flowinfo, socket_scope_id}
+use Rattle.std.specs.declared.net.socket_addr.SocketAddr.{SocketAddr}
+use Rattle.std.proofs.lemmas.List.{length-drop}
+use Rattle.std.proofs.lemmas.List.Elements.{All-nil, All-cons}
+use Rattle.qc_base.specs.declared.side.SpaceId.TheVariants.{Initial}
+use Rattle.qc_frame.specs.Frame.{FrameValue}
+use Rattle.qc_frame.specs.FrameFits.{Fits}
+use Rattle.qc_frame.specs.declared.frames.FrameOf.TheVariants as frames
+use Rattle.qc_state.specs.declared.deeds.Did.{Did}
+use Rattle.qc_state.specs.declared.deeds.Did.TheVariants as deed
+use Rattle.qc_state.specs.declared.deeds.Quiet.TheVariants.{NothingOwed, Silent, Killed}
+use Rattle.qc_state.specs.declared.input.Input.{Input}
+use Rattle.qc_state.specs.declared.input.Input.TheVariants as input
+use Rattle.qc_state.specs.declared.life.State.TheVariants.{Drained}
+use Rattle.qc_state.specs.declared.paths.Paths.{Paths}
+use Rattle.qc_state.specs.declared.trace.Answer.{Answer}
+use Rattle.qc_state.specs.declared.trace.Step.{Step}
+use Rattle.qc_state.specs.declared.waiting.SpaceWaiting.{SpaceWaiting}
+use Rattle.qc_state.specs.declared.waiting.Waiting.{Waiting}
+use Rattle.qc_state.specs.Moves.{Clock, Ask, Take, Seal, Raise, Give, Say, ReportLost, ReportDrained, state_move, move_to, deeds_move, paths_move, waiting_move}
+use Rattle.qc_state.specs.Numbers.{next_number}
+use Rattle.qc_state.specs.Paths.{path_sent}
+use Rattle.qc_state.specs.Run.{time_of, packets_of, began, input_after, called, reported, step_after, IsAllowed, out_of, answer_of, IsStep, Run, Ran}
+use Rattle.qc_state.specs.Sending.{internal_error, given_after, killed_after, quiet_after, packet_after, transmit_after, MayTransmit, transmit_bytes, transmit_of}
+use Rattle.qc_state.specs.Types.{Types, Meaning}
+use Rattle.qc_state.specs.View.{View, At, at}
+use Rattle.qc_state.specs.Waiting.{ping_asked, waiting_without, without, Waits, without_all, WaitAll}
+use Rattle.qc_conn.specs.OneText.{IsSpelled, IsDeedPlain, IsAnswerPlain, IsPlain, IsPlainStart}
+
+-- ---- frames that waited
+
+abbrev end_of : SpaceWaiting → ℕ
+end_of w = w.crypto.offset + length w.crypto.bytes
+
+frame_spelled : (w : SpaceWaiting) (f : FrameValue) → Waits w f → end_of w < 2 ^ 62 → IsSpelled f × (end_of (without w f) < 2 ^ 62)
+unfolding Waits without Fits
+frame_spelled w frames.Padding h b = ((tt, refl), b)
+frame_spelled w frames.Ping h b = ((tt, refl), b)
+frame_spelled w (frames.Crypto offset body) h b =
+    let place = h.0 in
+    let few = h.1 in
+    (((omega arith, omega arith), refl), omega (arith, length-drop (length body) w.crypto.bytes))
+frame_spelled w _ h b = absurd h
+
+frames_spelled : (w : SpaceWaiting) (fs : List FrameValue) → WaitAll w fs → end_of w < 2 ^ 62 → All IsSpelled fs × (end_of (without_all w fs) < 2 ^ 62)
+unfolding WaitAll without_all
+frames_spelled w [] h b = (All-nil IsSpelled, b)
+frames_spelled w (f ∷ fs) h b =
+    let first = frame_spelled w f h.0 b in
+    let others = frames_spelled (without w f) fs h.1 first.1 in
+    (All-cons IsSpelled f fs first.0 others.0, others.1)
+
+-- deeds that seal nothing
+unsealed_plain : (ds : List Did) → packets_of ds ≡ [] → All IsDeedPlain ds
+unsealed_plain [] e = All-nil IsDeedPlain
+unsealed_plain (deed.Sealed space number epoch early fs ∷ ds) e = cc e
+unsealed_plain (deed.Rose life ∷ ds) e = All-cons IsDeedPlain (deed.Rose life) ds tt (unsealed_plain ds e)
+unsealed_plain (deed.Lost reason ∷ ds) e = All-cons IsDeedPlain (deed.Lost reason) ds tt (unsealed_plain ds e)
+unsealed_plain (deed.Quiet quiet ∷ ds) e = All-cons IsDeedPlain (deed.Quiet quiet) ds tt (unsealed_plain ds e)
+
+module _ {t : Types} where
+  quiet_by : (a : At t) (x y z : Bool) → let b : At t = move_to (Raise Drained) a in
+      let q : At t = if x then move_to (Say Silent) a else if y then move_to (Say Killed) (if z then move_to (Give internal_error) b else b) else move_to (Say NothingOwed) a in
+      (q.state.waiting ≡ a.state.waiting) × (q.state.paths ≡ a.state.paths)
+  unfolding move_to state_move waiting_move paths_move
+  quiet_by a true y z = (refl, refl)
+  quiet_by a false true true = (refl, refl)
+  quiet_by a false true false = (refl, refl)
+  quiet_by a false false z = (refl, refl)
+
+  quiet_stays : (a : At t) → ((quiet_after a).state.waiting ≡ a.state.waiting) × ((quiet_after a).state.paths ≡ a.state.paths)
+  unfolding quiet_after killed_after given_after
+  quiet_stays a = quiet_by a _ _ _
+
+  -- what a transmit does
+  transmit_plain : (time : ℕ) (ds : List Did) (ps : List (List FrameValue)) (s : View t) → packets_of ds ≡ ps → MayTransmit s ps → ds ≡ (transmit_after time ps (at s [])).did
+      → IsPlainStart s.waiting s.paths → All IsDeedPlain ds × IsPlainStart (transmit_after time ps (at s [])).state.waiting (transmit_after time ps (at s [])).state.paths
+  unfolding MayTransmit transmit_after packet_after move_to state_move deeds_move waiting_move paths_move waiting_without path_sent
+  transmit_plain time ds [] s names may told h =
+      let stays = quiet_stays (at s []) in
+      (unsealed_plain ds names, subst (λ (w : Waiting). IsPlainStart w (quiet_after (at s [])).state.paths) (sym stays.0) (subst (λ (p : Paths). IsPlainStart s.waiting p) (sym stays.1) h))
+  transmit_plain time ds (fs ∷ []) s names may told h =
+      let frames = frames_spelled s.waiting.spaces.initial fs may.wait h.crypto in
+      let one : Did = deed.Sealed Initial (next_number s.numbers Initial) 0 false fs in
+      let sealed : All IsDeedPlain (one ∷ []) = All-cons IsDeedPlain one [] ((λ e. refl), frames.0) (All-nil IsDeedPlain) in
+      (subst (All IsDeedPlain) (sym told) sealed, record { crypto = frames.1; flow = h.flow; scope = h.scope })
+  transmit_plain time ds (fs ∷ gs ∷ rest) s names may told h = absurd may
+
+  -- what an input does
+  input_plain : (i : Input) (ds : List Did) (s : View t) → IsAllowed i ds s → ds ≡ (input_after i ds (at s [])).did
+      → IsPlainStart s.waiting s.paths → All IsDeedPlain ds × IsPlainStart (input_after i ds (at s [])).state.waiting (input_after i ds (at s [])).state.paths
+  unfolding IsAllowed input_after move_to state_move deeds_move waiting_move paths_move ping_asked
+  input_plain (input.Transmit time max) ds s may told h = transmit_plain time ds (packets_of ds) s refl may told h
+  input_plain (input.Ping time) ds s may told h = (subst (All IsDeedPlain) (sym told) (All-nil IsDeedPlain), record { crypto = h.crypto; flow = h.flow; scope = h.scope })
+
+  -- what it answers
+  out_plain : (m : Meaning t) (ps : List (List FrameValue)) (s : View t) → IsPlainStart s.waiting s.paths → IsAnswerPlain (out_of (transmit_of ps s) (transmit_bytes m ps s))
+  unfolding transmit_of
+  out_plain m [] s h = tt
+  out_plain m (fs ∷ _) s h = (h.flow, h.scope)
+
+  answer_plain : (m : Meaning t) (i : Input) (ds : List Did) (s : View t) → IsPlainStart s.waiting s.paths → IsAnswerPlain (answer_of m i ds s)
+  unfolding answer_of
+  answer_plain m (input.Transmit time max) ds s h = out_plain m (packets_of ds) s h
+  answer_plain m (input.Ping time) ds s h = tt
+
+  step_plain : (m : Meaning t) (k : ℕ) (s : View t) (i : Input) (x : Step) (s' : View t) → IsStep m k s i x s' → IsPlainStart s.waiting s.paths → IsPlain x × IsPlainStart s'.waiting s'.paths
+  unfolding called began step_after reported move_to state_move waiting_move paths_move
+  step_plain m k s i x s' e h =
+      let clock : View t = state_move (Clock (time_of i)) s in
+      let there = input_plain i x.did clock e.allowed e.deeds h in (
+        record { did = there.0; answer = subst IsAnswerPlain (sym e.answer) (answer_plain m i x.did clock h) },
+        subst (λ (w : Waiting). IsPlainStart w s'.paths) (sym e.waiting) (subst (λ (p : Paths). IsPlainStart (input_after i x.did (at clock [])).state.waiting p) (sym e.paths) there.1),
+      )
+
+  pub run_plain : (m : Meaning t) (k : ℕ) (s : View t) (is : List Input) (xs : List Step) (s' : View t) → Run m k s is xs s' → IsPlainStart s.waiting s.paths → All IsPlain xs
+  unfolding Run
+  run_plain m k s [] [] s' r h = All-nil IsPlain
+  run_plain m k s (i ∷ is) (x ∷ xs) s' r h =
+      let first = step_plain m k s i x r.0 r.1 h in
+      All-cons IsPlain x xs first.0 (run_plain m (k + 1) r.0 is xs s' r.2 first.1)
+  run_plain m k s [] (x ∷ xs) s' r h = absurd r
+  run_plain m k s (i ∷ is) [] s' r h = absurd r
+
+  pub ran_plain : (m : Meaning t) (k : ℕ) (s : View t) (is : List Input) (xs : List Step) → Ran m k s is xs → IsPlainStart s.waiting s.paths → All IsPlain xs
+  ran_plain m k s is xs r h = run_plain m k s (take (length xs) is) xs r.last r.run h
