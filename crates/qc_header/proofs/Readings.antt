@@ -1,5 +1,5 @@
 -- What a reader lets through
-use Rattle.std.proofs.Common.{◌≡◌, ℕ, ◌+◌, ◌-◌, ◌/◌, ◌%◌, ◌<◌, ◌≤◌, ◌^◌, ◌==◌, ◌&&◌, ◌⊎◌, inl, inr, not, cond, Bool, true, false, List, [], ◌∷◌, ◌++◌, length, take, drop, nat_lt, Option, None, Some, Result, Ok, Err, option_and_then, refl, ap, sym, subst, ◌∙◌, arith}
+use Rattle.std.proofs.Common.{◌≡◌, ℕ, ◌+◌, ◌-◌, ◌/◌, ◌%◌, ◌<◌, ◌≤◌, ◌^◌, ◌==◌, ◌&&◌, ◌⊎◌, inl, inr, not, cond, Bool, true, false, List, ◌∷◌, length, nat_lt, Option, None, Some, Result, Ok, Err, option_and_then, refl, ap, subst, arith}
 use Rattle.std.proofs.lemmas.Bool.Decides.{nat_tests}
 use Rattle.std.proofs.lemmas.Grind.{common_steps}
 use Rattle.std.specs.Option.{ok_or}
@@ -7,11 +7,11 @@ use Rattle.std.specs.List.{list_any}
 use Rattle.std.specs.Int.{w32}
 use Rattle.qc_base.specs.declared.side.LongType.{LongType}
 use Rattle.qc_base.specs.declared.side.LongType.TheVariants.{Handshake, ZeroRtt}
-use Rattle.qc_base.specs.Varint.{Form, one, two, four, eight, limit, spelled}
-use Rattle.qc_base.specs.Grammar.{Spelling, IsBytes, Varint, Word, Byte, Bytes}
+use Rattle.qc_base.specs.Varint.{one, two, four, eight}
+use Rattle.qc_base.specs.Grammar.{Spelling, IsBytes, Varint}
 use Rattle.qc_base.specs.Reading.{Reader, read_on, give, left_at, or_fault, byte_of, bytes_of, word_of, varint_of}
-use Rattle.qc_base.proofs.Front.{bytes_take, same_first, same_second}
-use Rattle.qc_base.proofs.Exact.{Exact, Found, Ends, ends_bytes, ends_both, two_steps, exact_or, exact_left, found_bytes, found_byte, same_value, same_rest}
+use Rattle.qc_base.proofs.Front.{bytes_take}
+use Rattle.qc_base.proofs.Exact.{Exact, ends_bytes, ends_both, two_steps, exact_or, exact_left, found_bytes, found_byte, same_value, same_rest}
 use Rattle.qc_base.proofs.Varints.{found_varint}
 use Rattle.qc_base.proofs.Words.{found_word, word_32}
 use Rattle.qc_header.specs.declared.protected.PacketDecodeError.{PacketDecodeError}

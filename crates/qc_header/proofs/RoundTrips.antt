@@ -1,18 +1,15 @@
 -- A header that was read comes back once it is written and read again
-use Rattle.std.proofs.Common.{◌≡◌, ℕ, ◌+◌, ◌*◌, ◌<◌, ◌≤◌, ◌^◌, ◌⊎◌, Bool, true, false, List, [], ◌∷◌, ◌++◌, length, take, drop, refl, ap, sym, subst, ◌∙◌, arith, append-nil, min}
+use Rattle.std.proofs.Common.{◌≡◌, ℕ, ◌<◌, ◌≤◌, ◌^◌, ◌⊎◌, Bool, true, List, [], ◌∷◌, length, take, drop, sym, subst, arith, append-nil}
 use Rattle.std.proofs.lemmas.List.{take-append-drop, length-take}
 use Rattle.qc_base.specs.Grammar.{IsBytes}
 use Rattle.qc_base.specs.declared.packet_number.PacketNumber.{PacketNumber}
-use Rattle.qc_base.specs.PacketNumber.{number_len}
 use Rattle.qc_base.proofs.Front.{behind_bytes}
 use Rattle.qc_header.specs.declared.header.Header.{Header}
 use Rattle.qc_header.specs.declared.header.Header.TheVariants.{Initial, Long, Retry, Short, VersionNegotiate}
 use Rattle.qc_header.specs.declared.protected.ProtectedHeader.{ProtectedHeader}
 use Rattle.qc_header.specs.declared.protected.ProtectedHeader.TheVariants as readable
-use Rattle.qc_header.specs.HeaderReading.{Place, piece_at}
-use Rattle.qc_header.specs.HeaderSpelling.{header_spelling}
 use Rattle.qc_header.specs.Opened.{header_from, number_from}
-use Rattle.qc_header.specs.ReadBack.{FitsItsForm, IsWritable, AreIds, IsKnown, number_place}
+use Rattle.qc_header.specs.ReadBack.{FitsItsForm, IsWritable, AreIds, IsKnown}
 use Rattle.qc_header.specs.RoundTrip.{IsReading, IsCounted, ComesBack, packet_of}
 use Rattle.qc_header.proofs.Readings.{IsOf, piece_lets}
 use Rattle.qc_header.proofs.WrittenFinishes.{initial_finishes, long_finishes, short_finishes}
