@@ -1,6 +1,8 @@
 pub mod Cuts
 pub mod Finished
 pub mod ReadHeaders
+pub mod Readings
+pub mod RoundTrips
 pub mod SetLengths
 pub mod WrittenFinishes
 pub mod WrittenHeaders

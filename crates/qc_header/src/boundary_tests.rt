@@ -1,5 +1,7 @@
 //! The least and greatest lengths that a header may have, by hand from RFC 9000, sections 16 and 17.
 
+ghost use Rattle.std.specs.Prelude.{◌<◌, ◌^◌};
+
 use crate::{PacketDecodeError, PartialDecode, ProtectedHeader};
 use bytes::BytesMut;
 use qc_base::ConnectionId;
@@ -50,7 +52,9 @@ fn id_lengths(rt: HostRuntime) -> Result<(), Fail> {
 }
 
 /// A Handshake packet without ids: its Length field, and so many bytes behind it.
-fn handshake(alloc: Global, length_field: &[u8], behind: usize) -> Result<BytesMut, AllocError> {
+fn handshake(alloc: Global, length_field: &[u8], behind: usize) -> Result<BytesMut, AllocError>
+    requires { behind < 2 ^ 33 }
+{
     let mut packet = b"\xe0\x00\x00\x00\x01\x00\x00".to_vec(alloc)?;
     packet.extend_from_slice(length_field)?;
     let end = packet.len() + behind;
@@ -67,7 +71,7 @@ fn sizes(datagram: BytesMut) -> Option<(usize, usize)> {
 }
 
 // A Length field, of what value it is, and how many bytes packets with it have.
-const LENGTHS: [(&[u8], usize, usize); 7] = [
+const LENGTHS: [(&[u8], u32, usize); 7] = [
     (b"\x00", 0, 8),
     (b"\x3f", 63, 71),
     (b"\x40\x40", 64, 73),
@@ -80,6 +84,7 @@ const LENGTHS: [(&[u8], usize, usize); 7] = [
 #[test]
 fn lengths(rt: HostRuntime) -> Result<(), Fail> {
     for (length_field, value, size) in LENGTHS {
+        let value = value as usize;
         let whole = handshake(rt.alloc(), length_field, value)?;
         assert_eq!(rt; sizes(whole), Some((size, 0)), "{value}");
         let more = handshake(rt.alloc(), length_field, value + 2)?;
@@ -100,7 +105,9 @@ fn initial(
     token_len: &[u8],
     token: usize,
     behind: &[u8],
-) -> Result<BytesMut, AllocError> {
+) -> Result<BytesMut, AllocError>
+    requires { token < 2 ^ 33 }
+{
     let mut packet = b"\xc0\x00\x00\x00\x01\x00\x00".to_vec(alloc)?;
     packet.extend_from_slice(token_len)?;
     let end = packet.len() + token;
@@ -124,7 +131,7 @@ fn token_of(packet: BytesMut) -> Option<(usize, usize)> {
 }
 
 // A token's length, of what value it is, and where the token begins.
-const TOKENS: [(&[u8], usize, usize); 6] = [
+const TOKENS: [(&[u8], u32, usize); 6] = [
     (b"\x00", 0, 8),
     (b"\x3f", 63, 8),
     (b"\x40\x40", 64, 9),
@@ -136,6 +143,7 @@ const TOKENS: [(&[u8], usize, usize); 6] = [
 #[test]
 fn tokens(rt: HostRuntime) -> Result<(), Fail> {
     for (token_len, value, start) in TOKENS {
+        let value = value as usize;
         let whole = initial(rt.alloc(), token_len, value, b"\x02\x00\x00")?;
         assert_eq!(rt; token_of(whole), Some((start, value)), "{value}");
         let no_length = initial(rt.alloc(), token_len, value, b"")?;

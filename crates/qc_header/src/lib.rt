@@ -8,6 +8,7 @@ mod partial_decode;
 mod protected;
 mod read;
 mod read_back;
+mod round_trip;
 
 pub use encode::PartialEncode;
 pub use finish::{InitialPacket, Packet};
@@ -17,6 +18,7 @@ pub use protected::{PacketDecodeError, ProtectedHeader};
 pub use read_back::{
     initial_is_read, long_is_read, retry_is_read, short_is_read, version_negotiation_is_read,
 };
+pub use round_trip::header_comes_back;
 
 #[cfg(test)]
 mod boundary_tests;

@@ -2,7 +2,7 @@
 //! known. Where each prefix begins to be read was computed by a reader written apart from this one,
 //! by the tables of RFC 9000, section 17.
 
-ghost use Rattle.std.specs.Prelude.{◌≤◌, length};
+ghost use Rattle.std.specs.Prelude.{◌≤◌, ◌+◌, length};
 
 use crate::tests::FixedMask;
 use crate::{Header, InitialHeader, Packet, PacketDecodeError, PartialDecode, ProtectedHeader};

@@ -1,0 +1,63 @@
+-- Headers that were read, written and read again
+use Rattle.std.specs.Prelude.{◌≡◌, ◌≤◌, ◌<◌, ◌^◌, ◌+◌, ℕ, Bool, List, [], ◌++◌, length, is_some, if◌then◌else◌, Ok}
+use Rattle.qc_base.specs.Grammar.{IsBytes}
+use Rattle.qc_base.specs.PacketNumber.{number_len}
+use Rattle.qc_header.specs.declared.header.Header.{Header}
+use Rattle.qc_header.specs.declared.header.Header.TheVariants.{Initial, Long, Retry, Short, VersionNegotiate}
+use Rattle.qc_header.specs.declared.protected.ProtectedHeader.{ProtectedHeader}
+use Rattle.qc_header.specs.declared.protected.ProtectedHeader.TheVariants as readable
+use Rattle.qc_header.specs.HeaderReading.{Place, piece_at}
+use Rattle.qc_header.specs.HeaderSpelling.{header_spelling, header_number}
+use Rattle.qc_header.specs.Opened.{header_from}
+use Rattle.qc_header.specs.ReadBack.{Finishes, token_place, number_place, protected_packet}
+
+-- a header that a reader with these arguments made of some bytes: of a datagram what is readable under header
+-- protection, and the rest of the bytes that came out when it was taken off
+pub record IsReading (local_cid_len : ℕ) (versions : List ℕ) (grease_quic_bit : Bool) (header : Header) : Type 0 where
+  pub datagram : List ℕ
+  pub opened : List ℕ
+  pub first : Place
+  pub bytes : IsBytes datagram
+  pub opened_bytes : IsBytes opened
+  pub read : piece_at local_cid_len versions grease_quic_bit datagram ≡ Ok first
+  pub made : header ≡ header_from first.header first.place opened
+
+-- what is readable of a header under header protection
+abbrev pub readable_of : Header → ProtectedHeader
+readable_of (Initial h) = readable.Initial h.dst_cid h.src_cid (token_place h) (length h.token) h.version
+readable_of (Long ty dst_cid src_cid number version) = readable.Long ty dst_cid src_cid version
+readable_of (Retry dst_cid src_cid version) = readable.Retry dst_cid src_cid version
+readable_of (Short spin key_phase dst_cid number) = readable.Short spin dst_cid
+readable_of (VersionNegotiate random src_cid dst_cid) = readable.VersionNegotiate random src_cid dst_cid
+
+-- a packet of this header, its Length field set to this value, and these bytes behind it, protected where its form is
+abbrev pub packet_of : (List ℕ → List ℕ) → Header → ℕ → List ℕ → List ℕ
+packet_of mask_of header length_field payload =
+    if is_some (header_number header) then protected_packet mask_of header length_field payload
+    else header_spelling header length_field ++ payload
+
+-- the Length field counts number and payload, which have enough bytes for a sample; a packet of a form without one
+-- is the last of its datagram
+abbrev pub IsCounted : Header → ℕ → List ℕ → List ℕ → Type 0
+IsCounted (Initial h) length_field payload rest =
+    (length_field ≡ number_len h.number + length payload) × (20 ≤ length_field) × (length_field < 2 ^ 14)
+IsCounted (Long ty dst_cid src_cid number version) length_field payload rest =
+    (length_field ≡ number_len number + length payload) × (20 ≤ length_field) × (length_field < 2 ^ 14)
+IsCounted (Retry dst_cid src_cid version) length_field payload rest = rest ≡ []
+IsCounted (Short spin key_phase dst_cid number) length_field payload rest = (20 ≤ number_len number + length payload) × (rest ≡ [])
+IsCounted (VersionNegotiate random src_cid dst_cid) length_field payload rest = rest ≡ []
+
+-- the packet is read at the front of its datagram, and header and payload come back
+pub record ComesBack (mask_of : List ℕ → List ℕ) (local_cid_len length_field : ℕ) (versions : List ℕ) (grease_quic_bit : Bool)
+    (header : Header) (payload rest : List ℕ) : Type 0 where
+  pub read : piece_at local_cid_len versions grease_quic_bit (packet_of mask_of header length_field payload ++ rest)
+      ≡ Ok (record {
+        header = readable_of header;
+        place = number_place header length_field;
+        end = length (packet_of mask_of header length_field payload);
+      })
+  pub finishes : Finishes mask_of (record {
+    header = readable_of header;
+    place = number_place header length_field;
+    bytes = packet_of mask_of header length_field payload;
+  }) header (header_spelling header length_field) payload
