@@ -1,6 +1,6 @@
 //! Worked examples of RFC 9000 and RFC 9001, and one call of each kind.
 
-ghost use Rattle.std.specs.Prelude.{ℕ, List, ◌∷◌, []};
+ghost use Rattle.std.specs.Prelude.{ℕ, List, ◌∷◌, [], take};
 
 use crate::{
     ArrayRangeSet, ConnectionId, Dir, Duration, EcnCodepoint, HeaderMask, Instant, PacketNumber,
@@ -157,19 +157,15 @@ fn packet_numbers_are_expanded(rt: HostRuntime) {
     }
 }
 
-struct FixedMask([u8; 5]);
+// Its mask is the first bytes of the sample.
+#[derive(Clone, Copy)]
+struct SampleMask;
 
-impl Drop for FixedMask {
-    fn drop(self) {
-        let FixedMask(_) = self;
-    }
-}
+impl HeaderMask for SampleMask {
+    ghost mask_of = { λ key sample. take 5 sample };
 
-impl HeaderMask for FixedMask {
-    ghost mask_of = { λ key sample. key.0 };
-
-    fn mask(&self, _sample: &[u8]) -> [u8; 5] {
-        self.0
+    fn mask(&self, sample: &[u8]) -> [u8; 5] {
+        [sample[0], sample[1], sample[2], sample[3], sample[4]]
     }
 }
 
@@ -185,19 +181,20 @@ fn long_header_masked(rt: HostRuntime) {
     assert_eq!(rt; packet.as_slice(), plain.as_slice());
 }
 
-// RFC 9001, appendix A.5: a short header. The key gives this mask for each sample.
+// RFC 9001, appendix A.5: the first byte and the number of a short header, and their mask, which here
+// the sample begins with.
 #[test]
 fn short_header_masked(rt: HostRuntime) {
-    let plain = b"\x42\x00\xbf\xf4\x650123456789abcdef";
-    let key = FixedMask([0xae, 0xfe, 0xfe, 0x7d, 0x03]);
+    let plain = b"\x42\x00\xbf\xf4\x65\xae\xfe\xfe\x7d\x03abcdefghijk";
+    let masked = b"\x4c\xfe\x41\x89\x65\xae\xfe\xfe\x7d\x03abcdefghijk";
     let mut packet = *plain;
-    assert_eq!(rt; sample(&packet, 1), b"0123456789abcdef".as_slice());
-    mask_packet(&key, 1, &mut packet);
     assert_eq!(rt;
-        packet.as_slice(),
-        b"\x4c\xfe\x41\x89\x650123456789abcdef".as_slice()
+        sample(&packet, 1),
+        b"\xae\xfe\xfe\x7d\x03abcdefghijk".as_slice()
     );
-    unmask_packet(&key, 1, &mut packet);
+    mask_packet(&SampleMask, 1, &mut packet);
+    assert_eq!(rt; packet.as_slice(), masked.as_slice());
+    unmask_packet(&SampleMask, 1, &mut packet);
     assert_eq!(rt; packet.as_slice(), plain.as_slice());
 }
 

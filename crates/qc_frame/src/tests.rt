@@ -243,7 +243,7 @@ const BOUNDS: [Row; 16] = [
         b"\x1c\xff\xff\xff\xff\xff\xff\xff\xff\xff\xff\xff\xff\xff\xff\xff\xff\x00",
     ),
     (b"\x1d\x00\x00", 0x1d, "APPLICATION_CLOSE", b"\x1d\x00\x00"),
-    // ids of 1 byte and of 20, and the highest number that retires no id of its own
+    // ids of 1 byte and of 20, and one that retires all before it
     (
         b"\x18\x05\x00\x01a0123456789ABCDEF",
         0x18,
