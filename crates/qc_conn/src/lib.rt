@@ -3,9 +3,11 @@
 
 mod connection;
 mod driving;
+mod laws;
 mod steps;
 pub mod text;
 
 pub use connection::Connection;
 pub use driving::{DriveError, DriveKind, drive};
+pub use laws::text_tells_run;
 pub use qc_core::ClientSetup;
