@@ -26,9 +26,13 @@ use Rattle.qc_state.specs.Paths.{path_sent}
 use Rattle.qc_state.specs.Run.{time_of, packets_of, began, input_after, called, reported, step_after, IsAllowed, out_of, answer_of, IsStep, Run, Ran}
 use Rattle.qc_state.specs.Sending.{internal_error, given_after, killed_after, quiet_after, packet_after, transmit_after, MayTransmit, transmit_bytes, transmit_of}
 use Rattle.qc_state.specs.Types.{Types, Meaning}
-use Rattle.qc_state.specs.View.{View, At, at}
+use Rattle.qc_state.specs.View.{Held, View, At, at}
+use Rattle.qc_state.specs.First.{first_view}
+use Rattle.qc_state.specs.declared.setup.Fixed.{Fixed}
 use Rattle.qc_state.specs.Waiting.{ping_asked, waiting_without, without, Waits, without_all, WaitAll}
-use Rattle.qc_conn.specs.OneText.{IsSpelled, IsDeedPlain, IsAnswerPlain, IsPlain, IsPlainStart}
+use Rattle.qc_conn.specs.OneText.{IsSpelled, IsDeedPlain, IsAnswerPlain, IsPlain, IsPlainStart, IsTellingRun}
+use Rattle.qc_conn.specs.TraceText.{trace_text}
+use Rattle.qc_conn.proofs.TraceBack.{trace_back}
 
 -- ---- frames that waited
 
@@ -116,14 +120,41 @@ module _ {t : Types} where
         subst (λ (w : Waiting). IsPlainStart w s'.paths) (sym e.waiting) (subst (λ (p : Paths). IsPlainStart (input_after i x.did (at clock [])).state.waiting p) (sym e.paths) there.1),
       )
 
-  pub run_plain : (m : Meaning t) (k : ℕ) (s : View t) (is : List Input) (xs : List Step) (s' : View t) → Run m k s is xs s' → IsPlainStart s.waiting s.paths → All IsPlain xs
+  run_both : (m : Meaning t) (k : ℕ) (s : View t) (is : List Input) (xs : List Step) (s' : View t) → Run m k s is xs s' → IsPlainStart s.waiting s.paths → All IsPlain xs × IsPlainStart s'.waiting s'.paths
   unfolding Run
-  run_plain m k s [] [] s' r h = All-nil IsPlain
-  run_plain m k s (i ∷ is) (x ∷ xs) s' r h =
+  run_both m k s [] [] s' r h = (All-nil IsPlain, subst (λ (v : View t). IsPlainStart v.waiting v.paths) (sym r) h)
+  run_both m k s (i ∷ is) (x ∷ xs) s' r h =
       let first = step_plain m k s i x r.0 r.1 h in
-      All-cons IsPlain x xs first.0 (run_plain m (k + 1) r.0 is xs s' r.2 first.1)
-  run_plain m k s [] (x ∷ xs) s' r h = absurd r
-  run_plain m k s (i ∷ is) [] s' r h = absurd r
+      let others = run_both m (k + 1) r.0 is xs s' r.2 first.1 in
+      (All-cons IsPlain x xs first.0 others.0, others.1)
+  run_both m k s [] (x ∷ xs) s' r h = absurd r
+  run_both m k s (i ∷ is) [] s' r h = absurd r
 
+  -- the steps of a run from a plain start leave nothing out
+  pub run_plain : (m : Meaning t) (k : ℕ) (s : View t) (is : List Input) (xs : List Step) (s' : View t) → Run m k s is xs s' → IsPlainStart s.waiting s.paths → All IsPlain xs
+  run_plain m k s is xs s' r h = (run_both m k s is xs s' r h).0
+
+  -- and where it ends is a plain start again
+  pub run_stays : (m : Meaning t) (k : ℕ) (s : View t) (is : List Input) (xs : List Step) (s' : View t) → Run m k s is xs s' → IsPlainStart s.waiting s.paths → IsPlainStart s'.waiting s'.paths
+  run_stays m k s is xs s' r h = (run_both m k s is xs s' r h).1
+
+  -- the same of a run over the first inputs
   pub ran_plain : (m : Meaning t) (k : ℕ) (s : View t) (is : List Input) (xs : List Step) → Ran m k s is xs → IsPlainStart s.waiting s.paths → All IsPlain xs
   ran_plain m k s is xs r h = run_plain m k s (take (length xs) is) xs r.last r.run h
+
+module _ {t : Types} {R : Type 0} where
+  -- a client that was just made, and its hello
+  pub first_plain : (m : Meaning t) (session : t.S) (random : R) (fixed : Fixed) (remote : SocketAddr) (first_cid : List ℕ) (time : ℕ) (v : Held t R) → v ≡ first_view m session random fixed remote first_cid time
+      → length v.waiting.spaces.initial.crypto.bytes < 2 ^ 62 → socket_flowinfo remote ≡ 0 → socket_scope_id remote ≡ 0 → IsPlainStart v.waiting v.paths
+  unfolding first_view
+  first_plain m session random fixed remote first_cid time v made hello flow scope =
+      let start : v.waiting.spaces.initial.crypto.offset ≡ 0 = ap (λ (v : Held t R). v.waiting.spaces.initial.crypto.offset) made in
+      let path : v.paths.remote ≡ remote = ap (λ (v : Held t R). v.paths.remote) made in
+      record { crypto = omega arith; flow = ap socket_flowinfo path ∙ flow; scope = ap socket_scope_id path ∙ scope }
+
+-- ---- two runs
+
+module _ {t u : Types} where
+  pub runs_differ : (m : Meaning t) (n : Meaning u) (xs ys : List Step) → IsTellingRun m xs → IsTellingRun n ys → trace_text xs ≡ trace_text ys → xs ≡ ys
+  runs_differ m n xs ys p q e =
+      trace_back xs ys p.in_range q.in_range (run_plain m p.place p.first p.inputs xs p.last p.run p.start) (run_plain n q.place q.first q.inputs ys q.last q.run q.start) e

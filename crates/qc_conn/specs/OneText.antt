@@ -20,6 +20,10 @@ use Rattle.qc_state.specs.declared.life.ConnectionError.TheVariants.{TransportEr
 use Rattle.qc_state.specs.declared.trace.Answer.{Answer}
 use Rattle.qc_state.specs.declared.trace.Answer.TheVariants as answer
 use Rattle.qc_state.specs.declared.trace.Step.{Step}
+use Rattle.qc_state.specs.Run.{Run}
+use Rattle.qc_state.specs.Types.{Types, Meaning}
+use Rattle.qc_state.specs.View.{View}
+use Rattle.qc_state.specs.declared.input.Input.{Input}
 use Rattle.qc_state.specs.declared.paths.Paths.{Paths}
 use Rattle.qc_state.specs.declared.waiting.Waiting.{Waiting}
 
@@ -91,3 +95,14 @@ pub record IsPlainStart (waiting : Waiting) (paths : Paths) : Type 0 where
   pub crypto : waiting.spaces.initial.crypto.offset + length waiting.spaces.initial.crypto.bytes < 2 ^ 62
   pub flow : socket_flowinfo paths.remote ≡ 0
   pub scope : socket_scope_id paths.remote ≡ 0
+
+module _ {t : Types} where
+  -- the steps of a run from a plain start, with values that their types hold
+  pub record IsTellingRun (m : Meaning t) (steps : List Step) : Type 0 where
+    pub place : ℕ
+    pub first : View t
+    pub inputs : List Input
+    pub last : View t
+    pub run : Run m place first inputs steps last
+    pub start : IsPlainStart first.waiting first.paths
+    pub in_range : All IsInRange steps

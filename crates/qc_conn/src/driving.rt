@@ -100,7 +100,7 @@ fn drive_all<U: Suite>(
 ///
 /// `Failed` exactly where the connection had met want of memory before; then nothing changes. `OutOfMemory` for want of
 /// memory; the steps of the inputs before are carried, and the connection is marked as failed.
-#[tactic(auto, using(qc_state::proofs::Told::run_rises, qc_state::proofs::Told::run_loses_once, qc_state::proofs::Told::ran_rises, qc_state::proofs::Told::ran_loses_once, crate::proofs::RunsPlain::run_plain, crate::proofs::RunsPlain::ran_plain))]
+#[tactic(auto, using(qc_state::proofs::Told::run_rises, qc_state::proofs::Told::run_loses_once, qc_state::proofs::Told::ran_rises, qc_state::proofs::Told::ran_loses_once, crate::proofs::RunsPlain::run_plain, crate::proofs::RunsPlain::run_stays, crate::proofs::RunsPlain::ran_plain))]
 pub fn drive<U: Suite, G: TokenStore>(
     alloc: Global,
     connection: &mut Connection<U>,
@@ -119,9 +119,10 @@ pub fn drive<U: Suite, G: TokenStore>(
     ensures reason { IfOk result (λ trace. LosesOnce (ideal U.Random.stream connection.old.core) trace) }
     ensures reason_part { IfErr result (λ e. LosesOnce (ideal U.Random.stream connection.old.core) e.done) }
 
-    // Where no address has a flow label or a scope, its text leaves nothing out.
+    // Where the path's address has neither flow label nor scope, the trace's text leaves nothing out.
     ensures plain { IsPlainStart connection.old.core.waiting connection.old.core.paths → IfOk result (λ trace. All IsPlain trace) }
     ensures plain_part { IsPlainStart connection.old.core.waiting connection.old.core.paths → IfErr result (λ e. All IsPlain e.done) }
+    ensures plain_end { IsPlainStart connection.old.core.waiting connection.old.core.paths → OnOk result (IsPlainStart connection.new.core.waiting connection.new.core.paths) }
 
     ensures alive { OnOk result (connection.new.failed ≡ false) }
     ensures failed { connection.old.failed ≡ true → IfErr result (λ e. (e.kind ≡ DriveKind.Failed) × (e.done ≡ [])) × (connection.new ≡ connection.old) }

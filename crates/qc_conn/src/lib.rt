@@ -3,6 +3,7 @@
 
 mod connection;
 mod driving;
+mod laws;
 mod steps;
 #[cfg(test)]
 mod tests;
@@ -10,4 +11,5 @@ pub mod text;
 
 pub use connection::Connection;
 pub use driving::{DriveError, DriveKind, drive};
+pub use laws::text_tells_run;
 pub use qc_core::ClientSetup;

@@ -72,7 +72,7 @@ fn nothing_waits(alloc: Global) -> SpaceWaiting
     }
 }
 
-ghost use Rattle.std.specs.Prelude.{[], false};
+ghost use Rattle.std.specs.Prelude.{[], false, length, ◌<◌, ◌^◌};
 ghost use Rattle.qc_state.specs.Unsent.{from_start};
 
 impl<U: Suite> Core<U> {
@@ -83,7 +83,8 @@ impl<U: Suite> Core<U> {
         setup: ClientSetup<U>,
         now: Instant,
     ) -> Result<Core<U>, AllocError>
-        ensures { IfOk result (λ core. core ≡ first_view (meaning U.Session.Session U.Session.HeaderKey.HeaderMask U.Session.PacketKey.PacketKey) setup.session setup.random (client_fixed setup.version setup.local_cid setup.local_ip setup.transport.max_idle_timeout) setup.remote setup.first_cid now) }
+        ensures made { IfOk result (λ core. core ≡ first_view (meaning U.Session.Session U.Session.HeaderKey.HeaderMask U.Session.PacketKey.PacketKey) setup.session setup.random (client_fixed setup.version setup.local_cid setup.local_ip setup.transport.max_idle_timeout) setup.remote setup.first_cid now) }
+        ensures hello { IfOk result (λ core. length core.waiting.spaces.initial.crypto.bytes < 2 ^ 62) }
     {
         let mut session = setup.session;
         let keys = session.initial_keys(&setup.first_cid, Side::Client);
