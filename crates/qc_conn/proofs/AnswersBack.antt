@@ -1,11 +1,9 @@
 -- The text of an answer tells the answer, where the call is known.
-use Rattle.std.proofs.Common.{◌≡◌, ℕ, zero, suc, ◌+◌, ◌*◌, ◌/◌, ◌%◌, ◌<◌, ◌^◌, Bool, true, false, cond, ◌==◌, List, [], ◌∷◌, ◌++◌, length, drop, get_or, slice_index, Option, Some, None, refl, sym, ap, ◌∙◌, subst, append_assoc, arith}
-use Rattle.std.specs.Prelude.{decimal, codes, IfSome, ◌||◌}
+use Rattle.std.proofs.Common.{◌≡◌, ℕ, ◌/◌, ◌%◌, ◌<◌, Bool, true, ◌==◌, List, [], ◌∷◌, ◌++◌, length, drop, get_or, Option, Some, None, refl, sym, ap, ◌∙◌, append_assoc, arith}
+use Rattle.std.specs.Prelude.{decimal, codes, ◌||◌}
 use Rattle.std.proofs.lemmas.Bool.Decides.{nat_tests}
 use Rattle.std.specs.Net.Addr.{ipv4_octets, ipv6_octets, octets_of}
-use Rattle.std.specs.Net.Socket.{socket_ip, socket_port, socket_flowinfo, socket_scope_id}
-use Rattle.std.specs.declared.net.ip_addr.IpAddr.{IpAddr}
-use Rattle.std.specs.declared.net.ip_addr.IpAddr.TheVariants as ip
+use Rattle.std.specs.Net.Socket.{socket_ip, socket_port}
 use Rattle.std.specs.declared.net.socket_addr.SocketAddr.{SocketAddr}
 use Rattle.std.specs.declared.net.socket_addr.SocketAddr.TheVariants.{V4, V6}
 use Rattle.hex.specs.Hex.{encode_lower}
@@ -18,8 +16,8 @@ use Rattle.qc_state.specs.declared.input.Word.TheVariants as word
 use Rattle.qc_state.specs.declared.trace.Answer.{Answer}
 use Rattle.qc_state.specs.declared.trace.Answer.TheVariants as answer
 use Rattle.qc_conn.specs.TraceText.{number_or_dash, ip_text, address_text, ecn_text, target_text, marks_text, out_text, answer_text}
-use Rattle.qc_conn.specs.OneText.{IsOptionInRange, IsAddressInRange, IsAnswerInRange, IsAnswerPlain}
-use Rattle.qc_conn.proofs.Tokens.{is_mark, is_token, token_back, number_back, bytes_back, decimal_is_token, first_digit, decimal_injective_wide}
+use Rattle.qc_conn.specs.OneText.{IsOptionInRange, IsAddressInRange, IsPlainAddress, IsAnswerInRange, IsAnswerPlain}
+use Rattle.qc_conn.proofs.Tokens.{number_back, bytes_back}
 use Rattle.qc_conn.proofs.DeedsBack.{option_back}
 
 -- ---- addresses
@@ -34,9 +32,6 @@ octets_injective (x ∷ a) (y ∷ b) e =
     let first : x ≡ y = omega arith in
     let others = octets_injective a b (ap (drop 2) e) in
     cc
-
-abbrev IsPlainAddress : SocketAddr → Type 0
-IsPlainAddress a = (socket_flowinfo a ≡ 0) × (socket_scope_id a ≡ 0)
 
 address_parts : (a : SocketAddr) (r : List ℕ) → address_text a ++ 32 ∷ r ≡ ip_text (socket_ip a) ++ 47 ∷ (decimal (socket_port a) ++ 32 ∷ r)
 unfolding address_text

@@ -1,7 +1,6 @@
 -- The steps of a run leave nothing out of their text.
-use Rattle.std.proofs.Common.{◌≡◌, ℕ, zero, suc, ◌+◌, ◌-◌, ◌<◌, ◌≤◌, ◌^◌, Bool, true, false, if◌then◌else◌, List, [], ◌∷◌, ◌++◌, length, take, drop, Option, Some, None, refl, sym, ap, ◌∙◌, subst, arith}
+use Rattle.std.proofs.Common.{◌≡◌, ℕ, ◌+◌, ◌<◌, ◌^◌, Bool, true, false, if◌then◌else◌, List, [], ◌∷◌, length, take, refl, sym, ap, ◌∙◌, subst, arith}
 use Rattle.std.specs.List.{All}
-use Rattle.std.specs.Net.Socket.{socket_flowinfo, socket_scope_id}
 use Rattle.std.specs.declared.net.socket_addr.SocketAddr.{SocketAddr}
 use Rattle.std.proofs.lemmas.List.{length-drop}
 use Rattle.std.proofs.lemmas.List.Elements.{All-nil, All-cons}
@@ -16,11 +15,9 @@ use Rattle.qc_state.specs.declared.input.Input.{Input}
 use Rattle.qc_state.specs.declared.input.Input.TheVariants as input
 use Rattle.qc_state.specs.declared.life.State.TheVariants.{Drained}
 use Rattle.qc_state.specs.declared.paths.Paths.{Paths}
-use Rattle.qc_state.specs.declared.trace.Answer.{Answer}
 use Rattle.qc_state.specs.declared.trace.Step.{Step}
 use Rattle.qc_state.specs.declared.waiting.SpaceWaiting.{SpaceWaiting}
-use Rattle.qc_state.specs.declared.waiting.Waiting.{Waiting}
-use Rattle.qc_state.specs.Moves.{Clock, Ask, Take, Seal, Raise, Give, Say, ReportLost, ReportDrained, state_move, move_to, deeds_move, paths_move, waiting_move}
+use Rattle.qc_state.specs.Moves.{Clock, Raise, Give, Say, state_move, move_to, deeds_move, paths_move, waiting_move}
 use Rattle.qc_state.specs.Numbers.{next_number}
 use Rattle.qc_state.specs.Paths.{path_sent}
 use Rattle.qc_state.specs.Run.{time_of, packets_of, began, input_after, called, reported, step_after, IsAllowed, out_of, answer_of, IsStep, Run, Ran}
@@ -30,7 +27,7 @@ use Rattle.qc_state.specs.View.{Held, View, At, at}
 use Rattle.qc_state.specs.First.{first_view}
 use Rattle.qc_state.specs.declared.setup.Fixed.{Fixed}
 use Rattle.qc_state.specs.Waiting.{ping_asked, waiting_without, without, Waits, without_all, WaitAll}
-use Rattle.qc_conn.specs.OneText.{IsSpelled, IsDeedPlain, IsAnswerPlain, IsPlain, IsPlainStart, IsTellingRun}
+use Rattle.qc_conn.specs.OneText.{IsSpelled, IsDeedPlain, IsPlainAddress, IsAnswerPlain, IsPlain, IsBelowLimit, IsPlainStart, IsTellingRun}
 use Rattle.qc_conn.specs.TraceText.{trace_text}
 use Rattle.qc_conn.proofs.TraceBack.{trace_back}
 
@@ -81,62 +78,91 @@ module _ {t : Types} where
 
   -- what a transmit does
   transmit_plain : (time : ℕ) (ds : List Did) (ps : List (List FrameValue)) (s : View t) → packets_of ds ≡ ps → MayTransmit s ps → ds ≡ (transmit_after time ps (at s [])).did
-      → IsPlainStart s.waiting s.paths → All IsDeedPlain ds × IsPlainStart (transmit_after time ps (at s [])).state.waiting (transmit_after time ps (at s [])).state.paths
-  unfolding MayTransmit transmit_after packet_after move_to state_move deeds_move waiting_move paths_move waiting_without path_sent
-  transmit_plain time ds [] s names may told h =
-      let stays = quiet_stays (at s []) in
-      (unsealed_plain ds names, subst (λ (w : Waiting). IsPlainStart w (quiet_after (at s [])).state.paths) (sym stays.0) (subst (λ (p : Paths). IsPlainStart s.waiting p) (sym stays.1) h))
+      → IsBelowLimit s.waiting → All IsDeedPlain ds × IsBelowLimit (transmit_after time ps (at s [])).state.waiting
+  unfolding MayTransmit transmit_after packet_after move_to state_move deeds_move waiting_move waiting_without
+  transmit_plain time ds [] s names may told h = (unsealed_plain ds names, subst IsBelowLimit (sym (quiet_stays (at s [])).0) h)
   transmit_plain time ds (fs ∷ []) s names may told h =
-      let frames = frames_spelled s.waiting.spaces.initial fs may.wait h.crypto in
+      let frames = frames_spelled s.waiting.spaces.initial fs may.wait h in
       let one : Did = deed.Sealed Initial (next_number s.numbers Initial) 0 false fs in
       let sealed : All IsDeedPlain (one ∷ []) = All-cons IsDeedPlain one [] ((λ e. refl), frames.0) (All-nil IsDeedPlain) in
-      (subst (All IsDeedPlain) (sym told) sealed, record { crypto = frames.1; flow = h.flow; scope = h.scope })
+      (subst (All IsDeedPlain) (sym told) sealed, frames.1)
   transmit_plain time ds (fs ∷ gs ∷ rest) s names may told h = absurd may
+
+  transmit_path : (time : ℕ) (ps : List (List FrameValue)) (a : At t) → (transmit_after time ps a).state.paths.remote ≡ a.state.paths.remote
+  unfolding transmit_after packet_after move_to state_move paths_move path_sent
+  transmit_path time [] a = ap (λ (p : Paths). p.remote) (quiet_stays a).1
+  transmit_path time (fs ∷ _) a = refl
 
   -- what an input does
   input_plain : (i : Input) (ds : List Did) (s : View t) → IsAllowed i ds s → ds ≡ (input_after i ds (at s [])).did
-      → IsPlainStart s.waiting s.paths → All IsDeedPlain ds × IsPlainStart (input_after i ds (at s [])).state.waiting (input_after i ds (at s [])).state.paths
-  unfolding IsAllowed input_after move_to state_move deeds_move waiting_move paths_move ping_asked
+      → IsBelowLimit s.waiting → All IsDeedPlain ds × IsBelowLimit (input_after i ds (at s [])).state.waiting
+  unfolding IsAllowed input_after move_to state_move deeds_move waiting_move ping_asked
   input_plain (input.Transmit time max) ds s may told h = transmit_plain time ds (packets_of ds) s refl may told h
-  input_plain (input.Ping time) ds s may told h = (subst (All IsDeedPlain) (sym told) (All-nil IsDeedPlain), record { crypto = h.crypto; flow = h.flow; scope = h.scope })
+  input_plain (input.Ping time) ds s may told h = (subst (All IsDeedPlain) (sym told) (All-nil IsDeedPlain), h)
+
+  input_path : (i : Input) (ds : List Did) (a : At t) → (input_after i ds a).state.paths.remote ≡ a.state.paths.remote
+  unfolding input_after move_to state_move paths_move
+  input_path (input.Transmit time max) ds a = transmit_path time (packets_of ds) a
+  input_path (input.Ping time) ds a = refl
 
   -- what it answers
-  out_plain : (m : Meaning t) (ps : List (List FrameValue)) (s : View t) → IsPlainStart s.waiting s.paths → IsAnswerPlain (out_of (transmit_of ps s) (transmit_bytes m ps s))
+  out_plain : (m : Meaning t) (ps : List (List FrameValue)) (s : View t) → IsPlainAddress s.paths.remote → IsAnswerPlain (out_of (transmit_of ps s) (transmit_bytes m ps s))
   unfolding transmit_of
   out_plain m [] s h = tt
-  out_plain m (fs ∷ _) s h = (h.flow, h.scope)
+  out_plain m (fs ∷ _) s h = h
 
-  answer_plain : (m : Meaning t) (i : Input) (ds : List Did) (s : View t) → IsPlainStart s.waiting s.paths → IsAnswerPlain (answer_of m i ds s)
+  answer_plain : (m : Meaning t) (i : Input) (ds : List Did) (s : View t) → IsPlainAddress s.paths.remote → IsAnswerPlain (answer_of m i ds s)
   unfolding answer_of
   answer_plain m (input.Transmit time max) ds s h = out_plain m (packets_of ds) s h
   answer_plain m (input.Ping time) ds s h = tt
 
-  step_plain : (m : Meaning t) (k : ℕ) (s : View t) (i : Input) (x : Step) (s' : View t) → IsStep m k s i x s' → IsPlainStart s.waiting s.paths → IsPlain x × IsPlainStart s'.waiting s'.paths
-  unfolding called began step_after reported move_to state_move waiting_move paths_move
-  step_plain m k s i x s' e h =
-      let clock : View t = state_move (Clock (time_of i)) s in
-      let there = input_plain i x.did clock e.allowed e.deeds h in (
-        record { did = there.0; answer = subst IsAnswerPlain (sym e.answer) (answer_plain m i x.did clock h) },
-        subst (λ (w : Waiting). IsPlainStart w s'.paths) (sym e.waiting) (subst (λ (p : Paths). IsPlainStart (input_after i x.did (at clock [])).state.waiting p) (sym e.paths) there.1),
-      )
+  -- the deeds of a step
+  step_deeds : (m : Meaning t) (k : ℕ) (s : View t) (i : Input) (x : Step) (s' : View t) → IsStep m k s i x s' → IsBelowLimit s.waiting → All IsDeedPlain x.did × IsBelowLimit s'.waiting
+  unfolding called began step_after reported move_to state_move waiting_move
+  step_deeds m k s i x s' e h =
+      let there = input_plain i x.did (state_move (Clock (time_of i)) s) e.allowed e.deeds h in
+      (there.0, subst IsBelowLimit (sym e.waiting) there.1)
 
-  run_both : (m : Meaning t) (k : ℕ) (s : View t) (is : List Input) (xs : List Step) (s' : View t) → Run m k s is xs s' → IsPlainStart s.waiting s.paths → All IsPlain xs × IsPlainStart s'.waiting s'.paths
+  -- its answer
+  step_answer : (m : Meaning t) (k : ℕ) (s : View t) (i : Input) (x : Step) (s' : View t) → IsStep m k s i x s' → IsPlainAddress s.paths.remote → IsAnswerPlain x.answer × IsPlainAddress s'.paths.remote
+  unfolding called began step_after reported move_to state_move paths_move
+  step_answer m k s i x s' e h =
+      let clock : View t = state_move (Clock (time_of i)) s in
+      let same : s'.paths.remote ≡ s.paths.remote = ap (λ (p : Paths). p.remote) e.paths ∙ input_path i x.did (at clock []) in
+      (subst IsAnswerPlain (sym e.answer) (answer_plain m i x.did clock h), subst IsPlainAddress (sym same) h)
+
+  -- ---- runs
+
+  run_deeds : (m : Meaning t) (k : ℕ) (s : View t) (is : List Input) (xs : List Step) (s' : View t) → Run m k s is xs s' → IsBelowLimit s.waiting → All (λ x. All IsDeedPlain x.did) xs × IsBelowLimit s'.waiting
   unfolding Run
-  run_both m k s [] [] s' r h = (All-nil IsPlain, subst (λ (v : View t). IsPlainStart v.waiting v.paths) (sym r) h)
-  run_both m k s (i ∷ is) (x ∷ xs) s' r h =
-      let first = step_plain m k s i x r.0 r.1 h in
-      let others = run_both m (k + 1) r.0 is xs s' r.2 first.1 in
-      (All-cons IsPlain x xs first.0 others.0, others.1)
-  run_both m k s [] (x ∷ xs) s' r h = absurd r
-  run_both m k s (i ∷ is) [] s' r h = absurd r
+  run_deeds m k s [] [] s' r h = (All-nil (λ (x : Step). All IsDeedPlain x.did), subst (λ (v : View t). IsBelowLimit v.waiting) (sym r) h)
+  run_deeds m k s (i ∷ is) (x ∷ xs) s' r h =
+      let first = step_deeds m k s i x r.0 r.1 h in
+      let others = run_deeds m (k + 1) r.0 is xs s' r.2 first.1 in
+      (All-cons (λ (x : Step). All IsDeedPlain x.did) x xs first.0 others.0, others.1)
+  run_deeds m k s [] (x ∷ xs) s' r h = absurd r
+  run_deeds m k s (i ∷ is) [] s' r h = absurd r
+
+  run_answers : (m : Meaning t) (k : ℕ) (s : View t) (is : List Input) (xs : List Step) (s' : View t) → Run m k s is xs s' → IsPlainAddress s.paths.remote → All (λ x. IsAnswerPlain x.answer) xs × IsPlainAddress s'.paths.remote
+  unfolding Run
+  run_answers m k s [] [] s' r h = (All-nil (λ (x : Step). IsAnswerPlain x.answer), subst (λ (v : View t). IsPlainAddress v.paths.remote) (sym r) h)
+  run_answers m k s (i ∷ is) (x ∷ xs) s' r h =
+      let first = step_answer m k s i x r.0 r.1 h in
+      let others = run_answers m (k + 1) r.0 is xs s' r.2 first.1 in
+      (All-cons (λ (x : Step). IsAnswerPlain x.answer) x xs first.0 others.0, others.1)
+  run_answers m k s [] (x ∷ xs) s' r h = absurd r
+  run_answers m k s (i ∷ is) [] s' r h = absurd r
 
   -- the steps of a run from a plain start leave nothing out
   pub run_plain : (m : Meaning t) (k : ℕ) (s : View t) (is : List Input) (xs : List Step) (s' : View t) → Run m k s is xs s' → IsPlainStart s.waiting s.paths → All IsPlain xs
-  run_plain m k s is xs s' r h = (run_both m k s is xs s' r h).0
+  run_plain m k s is xs s' r h =
+      let deeds = run_deeds m k s is xs s' r h.crypto in
+      let answers = run_answers m k s is xs s' r h.address in
+      λ n d l. record { did = deeds.0 n d l; answer = answers.0 n d l }
 
   -- and where it ends is a plain start again
   pub run_stays : (m : Meaning t) (k : ℕ) (s : View t) (is : List Input) (xs : List Step) (s' : View t) → Run m k s is xs s' → IsPlainStart s.waiting s.paths → IsPlainStart s'.waiting s'.paths
-  run_stays m k s is xs s' r h = (run_both m k s is xs s' r h).1
+  run_stays m k s is xs s' r h = record { crypto = (run_deeds m k s is xs s' r h.crypto).1; address = (run_answers m k s is xs s' r h.address).1 }
 
   -- the same of a run over the first inputs
   pub ran_plain : (m : Meaning t) (k : ℕ) (s : View t) (is : List Input) (xs : List Step) → Ran m k s is xs → IsPlainStart s.waiting s.paths → All IsPlain xs
@@ -145,16 +171,18 @@ module _ {t : Types} where
 module _ {t : Types} {R : Type 0} where
   -- a client that was just made, and its hello
   pub first_plain : (m : Meaning t) (session : t.S) (random : R) (fixed : Fixed) (remote : SocketAddr) (first_cid : List ℕ) (time : ℕ) (v : Held t R) → v ≡ first_view m session random fixed remote first_cid time
-      → length v.waiting.spaces.initial.crypto.bytes < 2 ^ 62 → socket_flowinfo remote ≡ 0 → socket_scope_id remote ≡ 0 → IsPlainStart v.waiting v.paths
+      → length v.waiting.spaces.initial.crypto.bytes < 2 ^ 62 → IsPlainAddress remote → IsPlainStart v.waiting v.paths
   unfolding first_view
-  first_plain m session random fixed remote first_cid time v made hello flow scope =
+  first_plain m session random fixed remote first_cid time v made hello plain =
       let start : v.waiting.spaces.initial.crypto.offset ≡ 0 = ap (λ (v : Held t R). v.waiting.spaces.initial.crypto.offset) made in
       let path : v.paths.remote ≡ remote = ap (λ (v : Held t R). v.paths.remote) made in
-      record { crypto = omega arith; flow = ap socket_flowinfo path ∙ flow; scope = ap socket_scope_id path ∙ scope }
+      record { crypto = omega arith; address = subst IsPlainAddress (sym path) plain }
 
 -- ---- two runs
 
 module _ {t u : Types} where
   pub runs_differ : (m : Meaning t) (n : Meaning u) (xs ys : List Step) → IsTellingRun m xs → IsTellingRun n ys → trace_text xs ≡ trace_text ys → xs ≡ ys
   runs_differ m n xs ys p q e =
-      trace_back xs ys p.in_range q.in_range (run_plain m p.place p.first p.inputs xs p.last p.run p.start) (run_plain n q.place q.first q.inputs ys q.last q.run q.start) e
+      let left = run_deeds m p.place p.first p.inputs xs p.last p.run p.crypto in
+      let right = run_deeds n q.place q.first q.inputs ys q.last q.run q.crypto in
+      trace_back xs ys p.in_range q.in_range (λ k d l. record { did = left.0 k d l; answer = p.addresses k d l }) (λ k d l. record { did = right.0 k d l; answer = q.addresses k d l }) e

@@ -1,6 +1,6 @@
 -- The text of a trace tells the trace.
-use Rattle.std.proofs.Common.{◌≡◌, ℕ, zero, suc, ◌+◌, ◌<◌, ◌^◌, Bool, true, false, cond, ◌==◌, List, [], ◌∷◌, ◌++◌, length, drop, get_or, Option, Some, None, refl, sym, ap, ◌∙◌, subst, append_assoc, arith}
-use Rattle.std.specs.Prelude.{decimal, codes, IfSome, ◌||◌}
+use Rattle.std.proofs.Common.{◌≡◌, ℕ, ◌<◌, ◌^◌, Bool, true, false, ◌==◌, List, ◌∷◌, ◌++◌, drop, get_or, Option, refl, sym, ap, ◌∙◌, append_assoc, arith}
+use Rattle.std.specs.Prelude.{decimal, codes, ◌||◌}
 use Rattle.std.specs.List.{All, flat_map}
 use Rattle.std.proofs.lemmas.Bool.Decides.{nat_tests}
 use Rattle.qc_state.specs.declared.deeds.Did.{Did}
@@ -11,13 +11,12 @@ use Rattle.qc_state.specs.declared.events.Event.{Event}
 use Rattle.qc_state.specs.declared.events.Event.TheVariants.{ConnectionLost}
 use Rattle.qc_state.specs.declared.input.Word.{Word}
 use Rattle.qc_state.specs.declared.input.Word.TheVariants as word
-use Rattle.qc_state.specs.declared.life.ConnectionError.{ConnectionError}
 use Rattle.qc_state.specs.declared.trace.Answer.{Answer}
 use Rattle.qc_state.specs.declared.trace.Answer.TheVariants as answer
 use Rattle.qc_state.specs.declared.trace.Step.{Step}
-use Rattle.qc_conn.specs.TraceText.{number_or_dash, reason_text, sealed_text, did_text, target_text, out_text, answer_text, event_text, endpoint_text, timer_text, word_name, step_head, step_text, trace_text}
-use Rattle.qc_conn.specs.OneText.{IsOptionInRange, IsReasonInRange, IsDeedInRange, IsDeedPlain, IsEventInRange, IsInRange, IsPlain}
-use Rattle.qc_conn.proofs.Tokens.{is_mark, is_token, token_back, number_back, lines_back, lines_begin}
+use Rattle.qc_conn.specs.TraceText.{sealed_text, did_text, target_text, out_text, answer_text, event_text, endpoint_text, timer_text, word_name, step_head, step_text, trace_text}
+use Rattle.qc_conn.specs.OneText.{IsOptionInRange, IsDeedInRange, IsDeedPlain, IsEventInRange, IsInRange, IsPlain}
+use Rattle.qc_conn.proofs.Tokens.{is_token, token_back, number_back, lines_back, lines_begin}
 use Rattle.qc_conn.proofs.DeedsBack.{option_back, reason_back, did_back}
 use Rattle.qc_conn.proofs.AnswersBack.{is_after_answer, answer_back}
 

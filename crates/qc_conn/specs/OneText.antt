@@ -1,6 +1,6 @@
 -- Traces that no other trace shares its text with: their values are such as their types hold, and they have nothing that
 -- a text leaves out.
-use Rattle.std.specs.Prelude.{◌≡◌, ℕ, ◌+◌, ◌<◌, ◌^◌, List, length, Bool, true, Option, IfSome}
+use Rattle.std.specs.Prelude.{◌≡◌, ℕ, ◌+◌, ◌<◌, ◌^◌, List, length, true, Option, IfSome}
 use Rattle.std.specs.List.{All}
 use Rattle.std.specs.Net.Addr.{ipv4_octets, ipv6_octets}
 use Rattle.std.specs.Net.Socket.{socket_ip, socket_port, socket_flowinfo, socket_scope_id}
@@ -78,9 +78,12 @@ abbrev pub IsDeedPlain : Did → Type 0
 IsDeedPlain (deed.Sealed space number epoch early frames) = (early ≡ true → epoch ≡ 0) × All IsSpelled frames
 IsDeedPlain _ = Unit {0}
 
--- an IPv6 address has neither flow label nor scope
+-- an address with neither flow label nor scope, as each IPv4 address is
+abbrev pub IsPlainAddress : SocketAddr → Type 0
+IsPlainAddress address = (socket_flowinfo address ≡ 0) × (socket_scope_id address ≡ 0)
+
 abbrev pub IsAnswerPlain : Answer → Type 0
-IsAnswerPlain (answer.Out destination segment ecn bytes) = (socket_flowinfo destination ≡ 0) × (socket_scope_id destination ≡ 0)
+IsAnswerPlain (answer.Out destination segment ecn bytes) = IsPlainAddress destination
 IsAnswerPlain _ = Unit {0}
 
 pub record IsPlain (step : Step) : Type 0 where
@@ -89,20 +92,23 @@ pub record IsPlain (step : Step) : Type 0 where
 
 -- ---- where such traces come from
 
--- the CRYPTO bytes that wait lie below 2^62 in their stream (RFC 9000, section 19.6), and the address that packets go to
--- has neither flow label nor scope
+-- the CRYPTO bytes that wait lie below 2^62 in their stream (RFC 9000, section 19.6)
+abbrev pub IsBelowLimit : Waiting → Type 0
+IsBelowLimit waiting = waiting.spaces.initial.crypto.offset + length waiting.spaces.initial.crypto.bytes < 2 ^ 62
+
+-- a state whose traces leave nothing out of their text
 pub record IsPlainStart (waiting : Waiting) (paths : Paths) : Type 0 where
-  pub crypto : waiting.spaces.initial.crypto.offset + length waiting.spaces.initial.crypto.bytes < 2 ^ 62
-  pub flow : socket_flowinfo paths.remote ≡ 0
-  pub scope : socket_scope_id paths.remote ≡ 0
+  pub crypto : IsBelowLimit waiting
+  pub address : IsPlainAddress paths.remote
 
 module _ {t : Types} where
-  -- the steps of a run from a plain start, with values that their types hold
+  -- the steps of a run, with values that their types hold and with addresses that have neither flow label nor scope
   pub record IsTellingRun (m : Meaning t) (steps : List Step) : Type 0 where
     pub place : ℕ
     pub first : View t
     pub inputs : List Input
     pub last : View t
     pub run : Run m place first inputs steps last
-    pub start : IsPlainStart first.waiting first.paths
+    pub crypto : IsBelowLimit first.waiting
     pub in_range : All IsInRange steps
+    pub addresses : All (λ step. IsAnswerPlain step.answer) steps

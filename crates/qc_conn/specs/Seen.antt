@@ -1,5 +1,5 @@
 -- What contracts see of a connection, and what its calls do.
-use Rattle.std.specs.Prelude.{◌≡◌, ℕ, Bool, List, [], Option}
+use Rattle.std.specs.Prelude.{ℕ, Bool, List, Option}
 use Rattle.qc_state.specs.declared.deeds.Did.{Did}
 use Rattle.qc_state.specs.declared.transmit.Transmit.{Transmit}
 use Rattle.qc_state.specs.Run.{began}

@@ -1,8 +1,7 @@
 //! A connection and its calls.
 
 ghost use Rattle.std.specs.Prelude.{◌≡◌, ◌≤◌, [], true, false, Err, OnOk, OnErr, IfOk};
-ghost use Rattle.std.specs.Net.Socket.{socket_flowinfo, socket_scope_id};
-ghost use Rattle.qc_conn.specs.OneText.{IsPlainStart};
+ghost use Rattle.qc_conn.specs.OneText.{IsPlainAddress, IsPlainStart};
 ghost use Rattle.qc_conn.specs.Seen.{Sends};
 ghost use Rattle.qc_state.specs.First.{first_view, client_fixed};
 ghost use Rattle.qc_state.specs.Life.{lost_event, drained_event};
@@ -52,7 +51,7 @@ impl<U: Suite> Connection<U> {
         now: Instant,
     ) -> Result<Connection<U>, AllocError>
         ensures made { IfOk result (λ c. c.core ≡ first_view (meaning U.Session.Session U.Session.HeaderKey.HeaderMask U.Session.PacketKey.PacketKey) setup.session setup.random (client_fixed setup.version setup.local_cid setup.local_ip setup.transport.max_idle_timeout) setup.remote setup.first_cid now) }
-        ensures plain { socket_flowinfo setup.remote ≡ 0 → socket_scope_id setup.remote ≡ 0 → IfOk result (λ c. IsPlainStart c.core.waiting c.core.paths) }
+        ensures plain { IsPlainAddress setup.remote → IfOk result (λ c. IsPlainStart c.core.waiting c.core.paths) }
         ensures alive { IfOk result (λ c. c.failed ≡ false) }
         ensures store { store.new ≡ store.old }
     {

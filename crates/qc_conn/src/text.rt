@@ -18,7 +18,9 @@ use qc_state::{Step, Trace};
 use std::alloc::{AllocError, Global};
 use steps::put_step;
 
-/// The text of a trace.
+/// The text of a trace. It tells the trace: no other trace has it, as long as both leave nothing
+/// out, which the traces of `drive` never do where the peer's address has neither flow label nor
+/// scope. Each value of a trace in memory is in the range of its type.
 #[tactic(auto, unfolding(crate::specs::TraceText::trace_text))]
 pub fn trace_text(alloc: Global, trace: &Trace) -> Result<Vec<u8>, AllocError>
     ensures text { IfOk result (λ text. text.items ≡ trace_text trace.now) }
