@@ -1,6 +1,8 @@
 -- The run of the client that a script sets up.
 use Rattle.std.proofs.Common.{◌≡◌, ℕ, List, Option, None, ap, subst}
+use Rattle.std.specs.List.{All}
 use Rattle.qc_base.specs.declared.mask.HeaderMask.{Ghosts as HeaderMaskGhosts}
+use Rattle.qc_conn.specs.OneText.{IsInRange, IsPlain, IsPlainAddress}
 use Rattle.qc_conn.specs.Seen.{Seen}
 use Rattle.qc_conn.specs.TraceText.{trace_text}
 use Rattle.qc_crypto.specs.declared.packet_key.PacketKey.{Ghosts as PacketKeyGhosts}
@@ -29,12 +31,17 @@ first_time {t} {R} m session random fixed remote cid time v e = ap (λ (w : Held
 
 -- its trace, as a text
 pub toy_run : (s : Sessions) (h : HeaderMaskGhosts ToyHeaderKey) (p : PacketKeyGhosts ToyPacketKey) (r : RngGhosts ZeroRandom) (client : Seen toy ZeroRandom) (inputs : List Input) (steps : List Step) (last : View toy) (text : List ℕ)
-    → IsScriptClient s h p client → Run (meaning s h p) 0 (ideal r.stream client.core) inputs steps last → text ≡ trace_text steps → IsToyRun s h p r inputs text
-toy_run s h p r client inputs steps last text c run spelled = record {
+    → IsScriptClient s h p client → Run (meaning s h p) 0 (ideal r.stream client.core) inputs steps last → text ≡ trace_text steps
+    → ((other : List Step) → All IsInRange other → All IsPlain other → text ≡ trace_text other → other ≡ steps) → IsToyRun s h p r inputs text
+toy_run s h p r client inputs steps last text c run spelled only = record {
   remote = c.remote;
   address = c.address;
-  run = record { steps = steps; last = last; run = subst (λ (v : Held toy ZeroRandom). Run (meaning s h p) 0 (ideal r.stream v) inputs steps last) c.made run; spelled = spelled };
+  run = record { steps = steps; last = last; run = subst (λ (v : Held toy ZeroRandom). Run (meaning s h p) 0 (ideal r.stream v) inputs steps last) c.made run; spelled = spelled; only = only };
 }
+
+-- the address that its packets go to has neither flow label nor scope
+pub script_plain : (address : SocketAddr) → IsScriptAddress address → IsPlainAddress address
+script_plain address h = (h.plain.1, h.plain.2)
 
 -- what the setup is made of makes the client that a script sets up
 pub script_made : (s : Sessions) (h : HeaderMaskGhosts ToyHeaderKey) (p : PacketKeyGhosts ToyPacketKey) (client : Seen toy ZeroRandom) (session : ToySession) (random : ZeroRandom) (version : ℕ) (local : List ℕ) (ip : Option IpAddr) (transport : TransportValues) (remote : SocketAddr) (first : List ℕ) (time : ℕ)

@@ -1,5 +1,6 @@
 -- The run of a script's inputs on the connection that a script sets up, and its text.
 use Rattle.std.specs.Prelude.{◌≡◌, ℕ, List, [], ◌∷◌, None, Some, true, replicate}
+use Rattle.std.specs.List.{All}
 use Rattle.std.specs.Net.Addr.{ipv6_segments}
 use Rattle.std.specs.Net.Socket.{socket_ip, IsPlainSocket}
 use Rattle.std.specs.declared.net.ip_addr.IpAddr.TheVariants.{V6}
@@ -8,6 +9,7 @@ use Rattle.std.specs.declared.net.socket_addr.SocketAddr.{SocketAddr}
 use Rattle.qc_base.specs.declared.mask.HeaderMask.{Ghosts as HeaderMaskGhosts}
 use Rattle.qc_base.specs.declared.side.Side.TheVariants.{Client}
 use Rattle.qc_config.specs.Announcement.{announced_parameters}
+use Rattle.qc_conn.specs.OneText.{IsInRange, IsPlain}
 use Rattle.qc_conn.specs.Seen.{Seen}
 use Rattle.qc_conn.specs.TraceText.{trace_text}
 use Rattle.qc_crypto.specs.declared.packet_key.PacketKey.{Ghosts as PacketKeyGhosts}
@@ -52,12 +54,14 @@ toy_client transport local = session_of default_settings Client (announced_param
 abbrev pub script_session : ToySession
 script_session = toy_client default_transport local_cid
 
--- the text is that of a trace which is a run of these inputs from the first view of this script's client, made at time 0
+-- the text is that of a trace which is a run of these inputs from the first view of this script's client, made at time 0,
+-- and of no other trace that has its values in range and leaves nothing out
 pub record IsRunText {t : Types} (m : Meaning t) (first : View t) (inputs : List Input) (text : List ℕ) : Type 0 where
   pub steps : List Step
   pub last : View t
   pub run : Run m 0 first inputs steps last
   pub spelled : text ≡ trace_text steps
+  pub only : (other : List Step) → All IsInRange other → All IsPlain other → text ≡ trace_text other → other ≡ steps
 
 -- the first view of the client that a script sets up: a toy client made at time 0, with random words that are zeros. s, h
 -- and p are what its session and its keys mean

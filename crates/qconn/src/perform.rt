@@ -1,6 +1,7 @@
 //! The run of a script's inputs, on the client that a script sets up.
 
 ghost use Rattle.std.specs.Prelude.{◌≡◌, None, IfOk};
+ghost use Rattle.qc_conn.specs.OneText.{IsPlainStart};
 ghost use Rattle.qconn.specs.RunText.{IsScriptAddress, local_cid, first_cid, script_session, toy_client, IsScriptClient, IsToyRun};
 ghost use Rattle.qc_state.specs.Run.{AreValid};
 ghost use Rattle.qc_recovery.specs.TransportValues.{default_transport};
@@ -89,6 +90,7 @@ fn script_address() -> SocketAddr
 fn script_client(alloc: Global) -> Result<Connection<Toy>, AllocError>
     ensures client { IfOk result (IsScriptClient ⟦<ToySession as Session>⟧ ⟦<ToyHeaderKey as HeaderMask>⟧ ⟦<ToyPacketKey as PacketKey>⟧) }
     ensures start { IfOk result (λ client. client.core.timers.greatest ≡ 0) }
+    ensures plain { IfOk result (λ client. IsPlainStart client.core.waiting client.core.paths) }
 {
     let setup = client_setup(alloc)?;
     let start = Instant::from_nanos(0);
