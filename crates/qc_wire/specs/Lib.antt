@@ -22,6 +22,8 @@ pub use Rattle.qc_header.specs.HeaderSpelling
 pub use Rattle.qc_header.specs.Opened
 pub use Rattle.qc_header.specs.Piece
 pub use Rattle.qc_header.specs.ReadBack
+pub use Rattle.qc_header.specs.RoundTrip
+pub use Rattle.qc_header.specs.SetLength
 pub use Rattle.qc_params.specs.ParametersFit
 pub use Rattle.qc_params.specs.ParametersGrammar
 pub use Rattle.qc_params.specs.ParametersReading

@@ -11,7 +11,8 @@ pub use qc_base::{
 pub use qc_frame as frame;
 pub use qc_header::{
     Header, InitialHeader, InitialPacket, Packet, PacketDecodeError, PartialDecode, PartialEncode,
-    ProtectedHeader,
+    ProtectedHeader, header_comes_back, initial_is_read, long_is_read, retry_is_read,
+    short_is_read, version_negotiation_is_read,
 };
 pub use qc_params::{
     ParamError, PreferredAddress, TransportParameters, entries_are_read, written_is_read,
