@@ -10,11 +10,13 @@ pub record IsCount (word : List ℕ) (n : ℕ) : Type 0 where
   pub value : digits_value 10 (without_leading_plus word) ≡ n
   pub small : n < 2 ^ 32
 
+-- the three words ask that `count` frames be written, and read `times` times
 pub record AsksFrames (what first second : List ℕ) (count times : ℕ) : Type 0 where
   pub word : what ≡ codes "frames"
   pub frames : IsCount first count
   pub readings : IsCount second times
 
+-- the two words ask that `count` packets be sealed and opened
 pub record AsksKeys (what first : List ℕ) (count : ℕ) : Type 0 where
   pub word : what ≡ codes "keys"
   pub packets : IsCount first count

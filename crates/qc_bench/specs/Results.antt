@@ -15,6 +15,7 @@ pub data IsOutcome (words : List (List ℕ)) : Outcome → Type 0 where
   usage : ((job : Job) → ¬ Asks words job) → IsOutcome words outcome.Usage
   no_memory : (job : Job) → Asks words job → IsOutcome words outcome.NoMemory
 
+-- the exit status: 0 where the work was done, 2 where the words ask for no job, 6 without memory
 abbrev pub status_of : Outcome → ℕ
 status_of (outcome.Read tally) = 0
 status_of (outcome.Sealed opened) = 0

@@ -33,9 +33,11 @@ use Rattle.qc_state.specs.declared.waiting.Waiting.{Waiting}
 abbrev pub IsOptionInRange : Option ℕ → Type 0
 IsOptionInRange o = IfSome o (λ n. n < 2 ^ 64)
 
+-- a transport error's code, and the type of the frame at fault if it names one, have 64 bits
 abbrev pub IsReasonInRange : ConnectionError → Type 0
 IsReasonInRange (TransportError error) = (error.code < 2 ^ 64) × IsOptionInRange error.frame
 
+-- packet numbers and epochs have 64 bits, the rank of a life has 8, and frames are spelled by bytes
 abbrev pub IsDeedInRange : Did → Type 0
 IsDeedInRange (deed.Sealed space number epoch early frames) = (number < 2 ^ 64) × (epoch < 2 ^ 64) × (length frames < 2 ^ 128) × All (λ frame. IsBytes (spelling frame)) frames
 IsDeedInRange (deed.Rose life) = life < 2 ^ 8
@@ -47,14 +49,17 @@ abbrev pub IsIpInRange : IpAddr → Type 0
 IsIpInRange (V4 ip) = (length (ipv4_octets ip) ≡ 4) × IsBytes (ipv4_octets ip)
 IsIpInRange (V6 ip) = (length (ipv6_octets ip) ≡ 16) × IsBytes (ipv6_octets ip)
 
+-- an IP address that has its octets, and a UDP port of 16 bits
 abbrev pub IsAddressInRange : SocketAddr → Type 0
 IsAddressInRange address = IsIpInRange (socket_ip address) × (socket_port address < 2 ^ 16)
 
+-- datagrams to be sent are bytes, with sizes of 64 bits and an address in range; other answers hold nothing
 abbrev pub IsAnswerInRange : Answer → Type 0
 IsAnswerInRange answer.Done = Unit {0}
 IsAnswerInRange answer.Nothing = Unit {0}
 IsAnswerInRange (answer.Out destination segment ecn bytes) = IsAddressInRange destination × IsOptionInRange segment × (length bytes < 2 ^ 64) × IsBytes bytes
 
+-- a report that the connection was lost, with a reason in range
 abbrev pub IsEventInRange : Event → Type 0
 IsEventInRange (ConnectionLost reason) = IsReasonInRange reason
 
@@ -82,10 +87,12 @@ IsDeedPlain _ = Unit {0}
 abbrev pub IsPlainAddress : SocketAddr → Type 0
 IsPlainAddress address = (socket_flowinfo address ≡ 0) × (socket_scope_id address ≡ 0)
 
+-- datagrams go to an address whose flow label and scope are 0, as a text doesn't tell these
 abbrev pub IsAnswerPlain : Answer → Type 0
 IsAnswerPlain (answer.Out destination segment ecn bytes) = IsPlainAddress destination
 IsAnswerPlain _ = Unit {0}
 
+-- a step of which the text leaves nothing out: neither of its packets nor of where its datagrams go
 pub record IsPlain (step : Step) : Type 0 where
   pub did : All IsDeedPlain step.did
   pub answer : IsAnswerPlain step.answer

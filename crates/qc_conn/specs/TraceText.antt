@@ -35,15 +35,18 @@ unfoldable pub number_or_dash : Option ℕ → List ℕ
 number_or_dash None = codes "-"
 number_or_dash (Some number) = decimal number
 
+-- the octets of an IP address in hex: 8 digits for IPv4 and 32 for IPv6
 unfoldable pub ip_text : IpAddr → List ℕ
 ip_text (V4 ip) = encode_lower (ipv4_octets ip)
 ip_text (V6 ip) = encode_lower (ipv6_octets ip)
 
+-- an IP address and its UDP port; a flow label and a scope are left out
 unfoldable pub address_text : SocketAddr → List ℕ
 address_text address = ip_text (socket_ip address) ++ codes "/" ++ decimal (socket_port address)
 
 -- ---- frames
 
+-- whether the frame is PADDING, which a text counts instead of spelling it (RFC 9000, section 19.1)
 abbrev pub is_padding : FrameValue → Bool
 is_padding frames.Padding = true
 is_padding _ = false
@@ -69,6 +72,7 @@ frames_text frames = padded_text 0 frames
 
 -- ---- deeds
 
+-- a packet number space; 0-RTT and 1-RTT packets share the one named `data` (RFC 9000, section 12.3)
 unfoldable pub space_name : SpaceId → List ℕ
 space_name Initial = codes "initial"
 space_name Handshake = codes "handshake"
@@ -78,9 +82,11 @@ space_name Data = codes "data"
 unfoldable pub epoch_text : ℕ → Bool → List ℕ
 epoch_text epoch early = if early then codes "early" else decimal epoch
 
+-- which packet it is: its number space, and its number there
 unfoldable pub packet_text : SpaceId → ℕ → List ℕ
 packet_text space number = space_name space ++ codes " " ++ decimal number ++ codes " "
 
+-- the line of a packet that was sealed: which one, under which key, and its frames in order
 unfoldable pub sealed_text : SpaceId → ℕ → ℕ → Bool → List FrameValue → List ℕ
 sealed_text space number epoch early frames =
     codes "seal " ++ packet_text space number ++ epoch_text epoch early ++ frames_text frames ++ codes "\n"
@@ -89,11 +95,13 @@ sealed_text space number epoch early frames =
 unfoldable pub reason_text : ConnectionError → List ℕ
 reason_text (TransportError error) = codes "TransportError " ++ decimal error.code ++ codes " " ++ number_or_dash error.frame
 
+-- why a transmit sent nothing: nothing was owed, the end had come before, or this call ended the connection
 unfoldable pub quiet_name : Quiet → List ℕ
 quiet_name NothingOwed = codes "NothingOwed"
 quiet_name Silent = codes "Silent"
 quiet_name Killed = codes "Killed"
 
+-- the line of a deed: a packet, a rise in the life, a reason for the end, or a transmit that sent nothing
 unfoldable pub did_text : Did → List ℕ
 did_text (deed.Sealed space number epoch early frames) = sealed_text space number epoch early frames
 did_text (deed.Rose life) = codes "life " ++ decimal life ++ codes "\n"
@@ -111,9 +119,11 @@ ecn_text (Some mark) = decimal (ecn_bits mark)
 unfoldable pub target_text : SocketAddr → ℕ → List ℕ
 target_text destination size = codes "out " ++ address_text destination ++ codes " " ++ decimal size ++ codes " "
 
+-- the size of each datagram but the last, if there are several, and their mark of congestion
 unfoldable pub marks_text : Option ℕ → Option EcnCodepoint → List ℕ
 marks_text segment ecn = number_or_dash segment ++ codes " " ++ ecn_text ecn ++ codes " "
 
+-- the line of datagrams to be sent: where to, how many bytes, the marks, and the bytes in hex
 unfoldable pub out_text : SocketAddr → Option ℕ → Option EcnCodepoint → List ℕ → List ℕ
 out_text destination segment ecn bytes =
     target_text destination (length bytes) ++ marks_text segment ecn ++ encode_lower bytes ++ codes "\n"
@@ -123,6 +133,7 @@ abbrev pub nothing_text : Word → List ℕ
 nothing_text word.Transmit = []
 nothing_text _ = codes "answer none\n"
 
+-- the line of what a call answered to an input of this kind
 unfoldable pub answer_text : Word → Answer → List ℕ
 answer_text w answer.Done = codes "answer done\n"
 answer_text w answer.Nothing = nothing_text w
@@ -130,19 +141,24 @@ answer_text w (answer.Out destination segment ecn bytes) = out_text destination 
 
 -- ---- steps
 
+-- the line of what the application is told: that the connection was lost, and why
 unfoldable pub event_text : Event → List ℕ
 event_text (ConnectionLost reason) = codes "event lost " ++ reason_text reason ++ codes "\n"
 
+-- the line of what the endpoint is told: that the connection's state can be dropped
 unfoldable pub endpoint_text : EndpointEvent → List ℕ
 endpoint_text Drained = codes "endpoint drained\n"
 
+-- the line of the time at which the connection wants to be called again if no input comes before
 unfoldable pub timer_text : Option ℕ → List ℕ
 timer_text timeout = codes "timer " ++ number_or_dash timeout ++ codes "\n"
 
+-- an input's kind, by the word that a script has for it
 unfoldable pub word_name : Word → List ℕ
 word_name word.Transmit = codes "transmit"
 word_name word.Ping = codes "ping"
 
+-- the first line of a step: the place of its input in the list of inputs, and the input's kind and time
 unfoldable pub step_head : ℕ → Word → ℕ → List ℕ
 step_head at word now = codes "step " ++ decimal at ++ codes " " ++ word_name word ++ codes " " ++ decimal now ++ codes "\n"
 
@@ -154,6 +170,7 @@ step_text step =
 
 -- ---- traces
 
+-- a trace's first line and its steps, without the line that ends it
 abbrev pub steps_text : List Step → List ℕ
 steps_text steps = codes "qconn 1\n" ++ flat_map step_text steps
 

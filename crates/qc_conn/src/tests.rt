@@ -5,6 +5,7 @@ ghost use Rattle.qc_state.specs.Run.{AreValid};
 
 use crate::connection::Connection;
 use crate::driving::{DriveKind, drive};
+use crate::laws::text_tells_run;
 use crate::text::trace_text;
 use qc_base::{ConnectionId, Instant, TransportErrorCode};
 use qc_config::{NoneTokenStore, announced};
@@ -170,6 +171,7 @@ fn the_trace_tells_how_the_last_number_ended_it(rt: HostRuntime) -> Result<(), F
     ] {
         assert!(rt; text.as_str().contains(part), "{part}");
     }
+    text_tells_run::<Toy, Toy>();
     Ok(())
 }
 

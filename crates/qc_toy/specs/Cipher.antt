@@ -30,6 +30,7 @@ tabulated f at (suc count) = f at ∷ tabulated f (at + 1) count
 abbrev pub tag_byte : List ℕ → ℕ → ℕ → ℕ → ℕ
 tag_byte key t number i = (slice_index key i + t * (i + 1) + slice_index (number_bytes number) i) % 256
 
+-- the 16 bytes behind sealed bytes, of the key, the checksum t and the packet number
 unfoldable pub tag : List ℕ → ℕ → ℕ → List ℕ
 tag key t number = tabulated (tag_byte key t number) 0 16
 
@@ -41,6 +42,7 @@ toy_seal key number header plain = xored key 0 plain ++ tag key (checksum number
 abbrev pub plain_of : List ℕ → List ℕ → List ℕ
 plain_of key sealed = xored key 0 (take (length sealed - 16) sealed)
 
+-- whether the last 16 of some sealed bytes are the tag of the number, the header and the plain bytes
 abbrev pub tag_fits : List ℕ → ℕ → List ℕ → List ℕ → Bool
 tag_fits key number header sealed =
     bytes_eq (drop (length sealed - 16) sealed) (tag key (checksum number header (plain_of key sealed)) number)

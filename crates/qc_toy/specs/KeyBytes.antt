@@ -8,16 +8,19 @@ use Rattle.qc_toy.specs.declared.key_bytes.Level.TheVariants.{Initial, Handshake
 use Rattle.qc_toy.specs.declared.key_bytes.Usage.{Usage}
 use Rattle.qc_toy.specs.declared.key_bytes.Usage.TheVariants.{Packet, Header}
 
+-- the sixth byte of a key, which tells the levels apart
 abbrev pub level_byte : Level → ℕ
 level_byte Initial = 0
 level_byte Handshake = 1
 level_byte Data = 2
 level_byte Early = 3
 
+-- the seventh byte of a key, which tells what a client sends from what a server sends
 abbrev pub sender_byte : Side → ℕ
 sender_byte Client = 0
 sender_byte Server = 1
 
+-- the eighth byte of a key, which tells keys that seal packets from keys that mask headers
 abbrev pub usage_byte : Usage → ℕ
 usage_byte Packet = 0
 usage_byte Header = 1

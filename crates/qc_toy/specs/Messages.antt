@@ -6,6 +6,7 @@ use Rattle.qc_base.specs.declared.side.Side.TheVariants.{Client, Server}
 use Rattle.qc_toy.specs.declared.messages.Kind.{Kind}
 use Rattle.qc_toy.specs.declared.messages.Kind.TheVariants.{Hello, Reply, ServerEnd, ClientEnd}
 
+-- the first byte of a message, which tells its type
 abbrev pub kind_byte : Kind → ℕ
 kind_byte Hello = 1
 kind_byte Reply = 2
@@ -20,11 +21,13 @@ message kind body = kind_byte kind ∷ to_be_bytes w16 (length (take 65535 body)
 abbrev pub message_by_parts : Kind → List ℕ → List ℕ → List ℕ
 message_by_parts kind first rest = kind_byte kind ∷ to_be_bytes w16 (length first + length rest) ++ first ++ rest
 
+-- a message cut off the front of some bytes: its type byte, its body, and the bytes that follow it
 pub record Message : Type 0 where
   pub kind : ℕ
   pub body : List ℕ
   pub rest : List ℕ
 
+-- a message with n bytes of body, or none where the bytes behind the length are fewer
 abbrev pub message_by_length : ℕ → ℕ → List ℕ → Option Message
 message_by_length kind n bytes =
     if nat_lt (length bytes) n then None else Some (record { kind = kind; body = take n bytes; rest = drop n bytes })
@@ -63,6 +66,7 @@ peer_messages Server = Hello ∷ ClientEnd ∷ []
 abbrev pub unexpected_message : ℕ
 unexpected_message = 0x0a
 
+-- the alert of a message that comes in turn but has a body of wrong form
 abbrev pub decode_error : ℕ
 decode_error = 0x32
 
@@ -89,12 +93,15 @@ abbrev pub body_of : Option Message → Option (List ℕ)
 body_of None = None
 body_of (Some m) = Some m.body
 
+-- the body of the message that follows a first one, where both are whole
 abbrev pub second_of : Option Message → Option (List ℕ)
 second_of None = None
 second_of (Some m) = body_of (first_message m.rest)
 
+-- the body of the first message that some bytes hold, if they hold the whole of it
 abbrev pub first_body : List ℕ → Option (List ℕ)
 first_body bytes = body_of (first_message bytes)
 
+-- the body of the second message that some bytes hold, if they hold the whole of it
 abbrev pub second_body : List ℕ → Option (List ℕ)
 second_body bytes = second_of (first_message bytes)

@@ -337,12 +337,15 @@ toy_given_keys s keys e = given_of s s.side s.progress (is_some (first_body s.he
 
 -- ---- mates
 
+-- the mask that a header key gives for a sample
 abbrev pub mask_by : ToyHeaderKey → List ℕ → List ℕ
 mask_by key = toy_mask key.bytes
 
+-- how a packet key seals: by its bytes alone, whatever its limits are
 abbrev pub seal_by : ToyPacketKey → ℕ → List ℕ → List ℕ → List ℕ
 seal_by key = toy_seal key.bytes
 
+-- how a packet key opens: by its bytes alone, whatever its limits are
 abbrev pub open_by : ToyPacketKey → ℕ → List ℕ → List ℕ → Option (List ℕ)
 open_by key = toy_opening key.bytes
 

@@ -4,6 +4,7 @@ use Rattle.qc_toy.specs.declared.settings.ToySettings.{ToySettings}
 use Rattle.qc_toy.specs.declared.key_bytes.Level.{Level}
 use Rattle.qc_toy.specs.declared.key_bytes.Level.TheVariants.{Initial, Handshake, Data, Early}
 
+-- a secret of zeros, 2^23 packets a key, 2^52 failures to open, and no early keys
 abbrev pub default_settings : ToySettings
 default_settings =
     record {

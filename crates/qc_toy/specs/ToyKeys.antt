@@ -12,14 +12,17 @@ use Rattle.qc_toy.specs.declared.key_bytes.Usage.TheVariants.{Packet, Header}
 use Rattle.qc_toy.specs.declared.packet_key.ToyPacketKey.{ToyPacketKey}
 use Rattle.qc_toy.specs.declared.header_key.ToyHeaderKey.{ToyHeaderKey}
 
+-- the side of an end's peer
 abbrev pub other_side : Side → Side
 other_side Client = Server
 other_side Server = Client
 
+-- the key of the packets that the end `from` sends in an epoch, with the limits that the settings give
 abbrev pub packet_key : ToySettings → List ℕ → Level → Side → ℕ → ToyPacketKey
 packet_key settings secret level from epoch =
     record { bytes = key_bytes secret level from Packet epoch; seals = limit_of settings level; failures = settings.limit_failures }
 
+-- the key that masks the headers of what the end `from` sends; it is the same in every epoch
 abbrev pub header_key : List ℕ → Level → Side → ToyHeaderKey
 header_key secret level from = record { bytes = key_bytes secret level from Header 0 }
 

@@ -14,9 +14,11 @@ use Rattle.qconn.specs.declared.script.ScriptError.TheVariants.{BadLine, OutOfMe
 abbrev pub AsksRun : List (String Global) → Type 0
 AsksRun words = map string_bytes words ≡ codes "run" ∷ []
 
+-- what is written where the words after the program's name are none that it knows
 abbrev pub usage_line : List ℕ
 usage_line = codes "usage: qconn run | qconn gen N\n"
 
+-- what is written where bytes are no script: the first bad line, or 0 where there are too many bytes
 abbrev pub script_line : ℕ → List ℕ
 script_line k = codes "script line " ++ (decimal k ++ codes "\n")
 
@@ -30,6 +32,7 @@ abbrev pub status_of : ScriptError → Status
 status_of (BadLine k) = BadScript
 status_of OutOfMemory = NoMemory
 
+-- what is written for the error: which line is bad, or that memory ran out
 abbrev pub line_of : ScriptError → List ℕ
 line_of (BadLine k) = script_line k
 line_of OutOfMemory = codes "no memory\n"

@@ -40,6 +40,7 @@ pub record IsScriptAddress (address : SocketAddr) : Type 0 where
 abbrev pub local_cid : List ℕ
 local_cid = replicate 8 1
 
+-- the destination id of the client's first packets, of which its Initial keys are made (RFC 9001, section 5.2)
 abbrev pub first_cid : List ℕ
 first_cid = replicate 8 2
 
@@ -51,6 +52,7 @@ toy = record { S = ToySession; H = ToyHeaderKey; P = ToyPacketKey; D = Unit {0};
 abbrev pub toy_client : TransportValues → List ℕ → ToySession
 toy_client transport local = session_of default_settings Client (announced_parameters transport 1472 local true)
 
+-- the session of a script's client: it announces the default transport
 abbrev pub script_session : ToySession
 script_session = toy_client default_transport local_cid
 
@@ -68,6 +70,7 @@ pub record IsRunText {t : Types} (m : Meaning t) (first : View t) (inputs : List
 abbrev pub Sessions : Type 1
 Sessions = SessionGhosts ToySession ToyHeaderKey ToyPacketKey (Unit {0}) (Unit {0})
 
+-- that client as it was made at time 0: QUIC version 1, a limit on idle time of 30 seconds, and no address to send from
 abbrev pub script_view : Sessions → HeaderMaskGhosts ToyHeaderKey → PacketKeyGhosts ToyPacketKey → SocketAddr → Held toy ZeroRandom
 script_view s h p remote = first_view (meaning s h p) script_session (record {}) (client_fixed 1 local_cid None (Some 30000)) remote first_cid 0
 

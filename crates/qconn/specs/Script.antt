@@ -29,9 +29,11 @@ unfoldable pub lines_of : List ℕ → List (List ℕ)
 lines_of [] = []
 lines_of (b ∷ bytes) = with_byte (b == 10) b (lines_of bytes)
 
+-- the line that every script begins with: this end is the client
 abbrev pub first_line : List ℕ
 first_line = codes "set side client\n"
 
+-- the line of an input: its word, its time, and for a transmit how many datagrams it may send
 unfoldable pub input_line : Input → List ℕ
 input_line (Transmit now max_datagrams) = codes "transmit " ++ (decimal now ++ 32 ∷ (decimal max_datagrams ++ 10 ∷ []))
 input_line (Ping now) = codes "ping " ++ (decimal now ++ 10 ∷ [])
