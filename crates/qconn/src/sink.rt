@@ -52,6 +52,10 @@ impl MemorySink {
     ) -> Result<Self, AllocError>
         ensures held { IfOk result (λ s. ⟦<MemorySink as Sink>⟧.held s ≡ Some []) }
         ensures faults { IfOk result (λ s. ⟦<MemorySink as Sink>⟧.faults s ≡ 0) }
+        ensures room { IfOk result (λ s. s.room ≡ room) }
+        ensures calls { IfOk result (λ s. s.calls ≡ 0) }
+        ensures failing { IfOk result (λ s. s.failing ≡ failing) }
+        ensures idle { IfOk result (λ s. s.idle ≡ idle) }
     {
         let held = Vec::with_capacity(alloc, room)?;
         Ok(MemorySink {
@@ -71,8 +75,13 @@ impl MemorySink {
         self.held.as_slice()
     }
 
+    /// One fault more.
     fn fault(&mut self)
         ensures held { self.new.held ≡ self.old.held }
+        ensures room { self.new.room ≡ self.old.room }
+        ensures calls { self.new.calls ≡ self.old.calls }
+        ensures failing { self.new.failing ≡ self.old.failing }
+        ensures idle { self.new.idle ≡ self.old.idle }
         ensures rose { Rose self.old.faults self.new.faults }
         ensures never_falls { self.old.faults ≤ self.new.faults }
     {

@@ -45,6 +45,8 @@ impl MemorySource {
     pub fn new(bytes: Vec<u8>, failing: Vec<u64>) -> Self
         ensures left { ⟦<MemorySource as Source>⟧.left result ≡ Some bytes.items }
         ensures faults { ⟦<MemorySource as Source>⟧.faults result ≡ 0 }
+        ensures calls { result.calls ≡ 0 }
+        ensures failing { result.failing ≡ failing }
     {
         MemorySource {
             bytes,
