@@ -1,8 +1,9 @@
+pub mod AnswersBack
+pub mod DeedsBack
+pub mod FramesBack
+pub mod InRange
+pub mod Refusals
+pub mod RunsPlain
 pub mod TextLemmas
 pub mod Tokens
-pub mod FramesBack
-pub mod DeedsBack
-pub mod AnswersBack
 pub mod TraceBack
-pub mod RunsPlain
-pub mod InRange

@@ -1,5 +1,5 @@
 -- The steps of a run leave nothing out of their text.
-use Rattle.std.proofs.Common.{◌≡◌, ℕ, ◌+◌, ◌<◌, ◌^◌, Bool, true, false, if◌then◌else◌, List, [], ◌∷◌, length, take, refl, sym, ap, ◌∙◌, subst, arith}
+use Rattle.std.proofs.Common.{◌≡◌, ℕ, ◌+◌, ◌<◌, ◌^◌, Bool, true, false, if◌then◌else◌, List, [], ◌∷◌, length, replicate, take, zero, suc, refl, sym, ap, ◌∙◌, subst, arith}
 use Rattle.std.specs.List.{All}
 use Rattle.std.specs.declared.net.socket_addr.SocketAddr.{SocketAddr}
 use Rattle.std.proofs.lemmas.List.{length-drop}
@@ -17,16 +17,18 @@ use Rattle.qc_state.specs.declared.life.State.TheVariants.{Drained}
 use Rattle.qc_state.specs.declared.paths.Paths.{Paths}
 use Rattle.qc_state.specs.declared.trace.Step.{Step}
 use Rattle.qc_state.specs.declared.waiting.SpaceWaiting.{SpaceWaiting}
-use Rattle.qc_state.specs.Moves.{Clock, Raise, Give, Say, state_move, move_to, deeds_move, paths_move, waiting_move}
+use Rattle.qc_state.specs.declared.waiting.Waiting.{Waiting}
+use Rattle.qc_state.specs.declared.life.ApplicationClose.{ApplicationClose}
+use Rattle.qc_state.specs.Moves.{Clock, Shut, Raise, Give, Say, state_move, move_to, deeds_move, paths_move, waiting_move}
 use Rattle.qc_state.specs.Numbers.{next_number}
 use Rattle.qc_state.specs.Paths.{path_sent}
-use Rattle.qc_state.specs.Run.{time_of, packets_of, began, input_after, called, reported, step_after, IsAllowed, out_of, answer_of, IsStep, Run, Ran}
-use Rattle.qc_state.specs.Sending.{internal_error, given_after, killed_after, quiet_after, packet_after, transmit_after, MayTransmit, transmit_bytes, transmit_of}
+use Rattle.qc_state.specs.Run.{time_of, packets_of, began, close_after, input_after, called, reported, step_after, IsAllowed, out_of, answer_of, IsStep, Run, Ran}
+use Rattle.qc_state.specs.Sending.{closing_frame, Carries, internal_error, given_after, killed_after, quiet_after, packet_after, transmit_after, MayTransmit, transmit_bytes, transmit_of}
 use Rattle.qc_state.specs.Types.{Types, Meaning}
 use Rattle.qc_state.specs.View.{Held, View, At, at}
 use Rattle.qc_state.specs.First.{first_view}
 use Rattle.qc_state.specs.declared.setup.Fixed.{Fixed}
-use Rattle.qc_state.specs.Waiting.{ping_asked, waiting_without, without, Waits, without_all, WaitAll}
+use Rattle.qc_state.specs.Waiting.{ping_asked, waiting_without, close_begun, close_ended, without, Waits, without_all, WaitAll}
 use Rattle.qc_conn.specs.OneText.{IsSpelled, IsDeedPlain, IsPlainAddress, IsAnswerPlain, IsPlain, IsBelowLimit, IsPlainStart, IsTellingRun}
 use Rattle.qc_conn.specs.TraceText.{trace_text}
 use Rattle.qc_conn.proofs.TraceBack.{trace_back}
@@ -54,6 +56,25 @@ frames_spelled w (f ∷ fs) h b =
     let others = frames_spelled (without w f) fs h.1 first.1 in
     (All-cons IsSpelled f fs first.0 others.0, others.1)
 
+-- a close, and PADDING behind it
+padding_spelled : (n : ℕ) → All IsSpelled (replicate n frames.Padding)
+unfolding Fits
+padding_spelled zero = All-nil IsSpelled
+padding_spelled (suc n) = All-cons IsSpelled frames.Padding (replicate n frames.Padding) (tt, refl) (padding_spelled n)
+
+close_spelled : IsSpelled closing_frame
+unfolding Fits
+close_spelled = search arith
+
+close_stays : (w : SpaceWaiting) (n : ℕ) → without_all w (replicate n frames.Padding) ≡ w
+unfolding without_all without
+close_stays w zero = refl
+close_stays w (suc n) = close_stays w n
+
+closing_stays : (w : SpaceWaiting) (n : ℕ) → without_all w (closing_frame ∷ replicate n frames.Padding) ≡ w
+unfolding without_all without
+closing_stays w n = close_stays w n
+
 -- deeds that seal nothing
 unsealed_plain : (ds : List Did) → packets_of ds ≡ [] → All IsDeedPlain ds
 unsealed_plain [] e = All-nil IsDeedPlain
@@ -76,13 +97,20 @@ module _ {t : Types} where
   unfolding quiet_after killed_after given_after
   quiet_stays a = quiet_by a _ _ _
 
+  carried_spelled : (s : View t) (fs : List FrameValue) → Carries s fs → IsBelowLimit s.waiting → All IsSpelled fs × (end_of (without_all s.waiting.spaces.initial fs) < 2 ^ 62)
+  carried_spelled s fs (Carries.a_close owed n is) h =
+      let w : SpaceWaiting = s.waiting.spaces.initial in
+      (subst (All IsSpelled) (sym is) (All-cons IsSpelled closing_frame (replicate n frames.Padding) close_spelled (padding_spelled n)),
+       subst (λ (x : List FrameValue). end_of (without_all w x) < 2 ^ 62) (sym is) (subst (λ (v : SpaceWaiting). end_of v < 2 ^ 62) (sym (closing_stays w n)) h))
+  carried_spelled s fs (Carries.what_waits free wait holds) h = frames_spelled s.waiting.spaces.initial fs wait h
+
   -- what a transmit does
   transmit_plain : (time : ℕ) (ds : List Did) (ps : List (List FrameValue)) (s : View t) → packets_of ds ≡ ps → MayTransmit s ps → ds ≡ (transmit_after time ps (at s [])).did
       → IsBelowLimit s.waiting → All IsDeedPlain ds × IsBelowLimit (transmit_after time ps (at s [])).state.waiting
-  unfolding MayTransmit transmit_after packet_after move_to state_move deeds_move waiting_move waiting_without
+  unfolding MayTransmit transmit_after packet_after move_to state_move deeds_move waiting_move waiting_without close_ended
   transmit_plain time ds [] s names may told h = (unsealed_plain ds names, subst IsBelowLimit (sym (quiet_stays (at s [])).0) h)
   transmit_plain time ds (fs ∷ []) s names may told h =
-      let frames = frames_spelled s.waiting.spaces.initial fs may.wait h in
+      let frames = carried_spelled s fs may.carries h in
       let one : Did = deed.Sealed Initial (next_number s.numbers Initial) 0 false fs in
       let sealed : All IsDeedPlain (one ∷ []) = All-cons IsDeedPlain one [] ((λ e. refl), frames.0) (All-nil IsDeedPlain) in
       (subst (All IsDeedPlain) (sym told) sealed, frames.1)
@@ -93,16 +121,29 @@ module _ {t : Types} where
   transmit_path time [] a = ap (λ (p : Paths). p.remote) (quiet_stays a).1
   transmit_path time (fs ∷ _) a = refl
 
+  close_plain : (time : ℕ) (close : ApplicationClose) (ds : List Did) (s : View t) (b : Bool) → ds ≡ (if b then move_to (Shut time close) (at s []) else at s []).did
+      → IsBelowLimit s.waiting → All IsDeedPlain ds × IsBelowLimit (if b then move_to (Shut time close) (at s []) else at s []).state.waiting
+  unfolding move_to state_move deeds_move waiting_move close_begun
+  close_plain time close ds s true told h = (subst (All IsDeedPlain) (sym told) (All-cons IsDeedPlain (deed.Rose 2) [] tt (All-nil IsDeedPlain)), h)
+  close_plain time close ds s false told h = (subst (All IsDeedPlain) (sym told) (All-nil IsDeedPlain), h)
+
+  close_path : (time : ℕ) (close : ApplicationClose) (a : At t) (b : Bool) → (if b then move_to (Shut time close) a else a).state.paths.remote ≡ a.state.paths.remote
+  unfolding move_to state_move paths_move
+  close_path time close a true = refl
+  close_path time close a false = refl
+
   -- what an input does
   input_plain : (i : Input) (ds : List Did) (s : View t) → IsAllowed i ds s → ds ≡ (input_after i ds (at s [])).did
       → IsBelowLimit s.waiting → All IsDeedPlain ds × IsBelowLimit (input_after i ds (at s [])).state.waiting
-  unfolding IsAllowed input_after move_to state_move deeds_move waiting_move ping_asked
+  unfolding IsAllowed input_after close_after move_to state_move deeds_move waiting_move ping_asked
   input_plain (input.Transmit time max) ds s may told h = transmit_plain time ds (packets_of ds) s refl may told h
+  input_plain (input.Close time code reason) ds s may told h = close_plain time _ ds s _ told h
   input_plain (input.Ping time) ds s may told h = (subst (All IsDeedPlain) (sym told) (All-nil IsDeedPlain), h)
 
   input_path : (i : Input) (ds : List Did) (a : At t) → (input_after i ds a).state.paths.remote ≡ a.state.paths.remote
-  unfolding input_after move_to state_move paths_move
+  unfolding input_after close_after move_to state_move paths_move
   input_path (input.Transmit time max) ds a = transmit_path time (packets_of ds) a
+  input_path (input.Close time code reason) ds a = close_path time _ a _
   input_path (input.Ping time) ds a = refl
 
   -- what it answers
@@ -114,6 +155,7 @@ module _ {t : Types} where
   answer_plain : (m : Meaning t) (i : Input) (ds : List Did) (s : View t) → IsPlainAddress s.paths.remote → IsAnswerPlain (answer_of m i ds s)
   unfolding answer_of
   answer_plain m (input.Transmit time max) ds s h = out_plain m (packets_of ds) s h
+  answer_plain m (input.Close time code reason) ds s h = tt
   answer_plain m (input.Ping time) ds s h = tt
 
   -- the deeds of a step

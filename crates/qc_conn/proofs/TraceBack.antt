@@ -25,11 +25,13 @@ use Rattle.qc_conn.proofs.AnswersBack.{is_after_answer, answer_back}
 word_is_token : (w : Word) → is_token (word_name w) ≡ true
 unfolding word_name
 word_is_token word.Transmit = refl
+word_is_token word.Close = refl
 word_is_token word.Ping = refl
 
 word_injective : (v w : Word) → word_name v ≡ word_name w → v ≡ w
 unfolding word_name
 word_injective word.Transmit word.Transmit e = refl
+word_injective word.Close word.Close e = refl
 word_injective word.Ping word.Ping e = refl
 word_injective _ _ e = absurd (omega (arith, ap (λ (a : List ℕ). get_or a 0 0) e))
 
@@ -95,6 +97,7 @@ answer_is_no_deed : (w : Word) (a : Answer) (r : List ℕ) → is_after_answer r
 unfolding is_deed answer_text out_text target_text
 answer_is_no_deed w answer.Done r h = refl
 answer_is_no_deed word.Transmit answer.Nothing r h = no_deed_after r h
+answer_is_no_deed word.Close answer.Nothing r h = refl
 answer_is_no_deed word.Ping answer.Nothing r h = refl
 answer_is_no_deed w (answer.Out destination segment ecn bytes) r h = refl
 

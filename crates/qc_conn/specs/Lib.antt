@@ -1,3 +1,4 @@
 pub mod OneText
+pub mod Refusal
 pub mod Seen
 pub mod TraceText

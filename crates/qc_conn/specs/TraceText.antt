@@ -14,6 +14,10 @@ use Rattle.qc_base.specs.declared.side.SpaceId.TheVariants.{Initial, Handshake, 
 use Rattle.qc_frame.specs.Frame.{FrameValue}
 use Rattle.qc_frame.specs.FrameSpelling.{frame_name, spelling}
 use Rattle.qc_frame.specs.declared.frames.FrameOf.TheVariants as frames
+use Rattle.qc_conn.specs.declared.driving.BadWhy.{BadWhy}
+use Rattle.qc_conn.specs.declared.driving.BadWhy.TheVariants.{ZeroDatagrams}
+use Rattle.qc_conn.specs.declared.driving.DriveKind.{DriveKind}
+use Rattle.qc_conn.specs.declared.driving.DriveKind.TheVariants as drive
 use Rattle.qc_state.specs.declared.deeds.Did.{Did}
 use Rattle.qc_state.specs.declared.deeds.Did.TheVariants as deed
 use Rattle.qc_state.specs.declared.deeds.Quiet.{Quiet}
@@ -156,6 +160,7 @@ timer_text timeout = codes "timer " ++ number_or_dash timeout ++ codes "\n"
 -- an input's kind, by the word that a script has for it
 unfoldable pub word_name : Word → List ℕ
 word_name word.Transmit = codes "transmit"
+word_name word.Close = codes "close"
 word_name word.Ping = codes "ping"
 
 -- the first line of a step: the place of its input in the list of inputs, and the input's kind and time
@@ -173,6 +178,21 @@ step_text step =
 -- a trace's first line and its steps, without the line that ends it
 abbrev pub steps_text : List Step → List ℕ
 steps_text steps = codes "qconn 1\n" ++ flat_map step_text steps
+
+-- what is wrong with a call: a transmit may send no datagram
+unfoldable pub why_text : BadWhy → List ℕ
+why_text ZeroDatagrams = codes "zero datagrams"
+
+-- the line that names the input that was refused, and why; no line where an error names none
+unfoldable pub refusal_line : DriveKind → List ℕ
+refusal_line drive.OutOfMemory = []
+refusal_line (drive.TimeBack at given greatest) = codes "input " ++ decimal at ++ codes " time back " ++ decimal given ++ codes " " ++ decimal greatest ++ codes "\n"
+refusal_line (drive.BadCall at why) = codes "input " ++ decimal at ++ codes " bad call " ++ why_text why ++ codes "\n"
+refusal_line drive.Failed = []
+
+-- the text of the steps before an input that was refused, and of the refusal
+unfoldable pub refused_text : List Step → DriveKind → List ℕ
+refused_text steps kind = steps_text steps ++ refusal_line kind
 
 -- the text of a whole trace
 unfoldable pub trace_text : List Step → List ℕ

@@ -6,13 +6,14 @@ ghost use Rattle.qc_conn.specs.Seen.{Sends};
 ghost use Rattle.qc_state.specs.First.{first_view, client_fixed};
 ghost use Rattle.qc_state.specs.Life.{lost_event, drained_event};
 ghost use Rattle.qc_state.specs.Moves.{Ask, ReportLost, ReportDrained, state_move};
-ghost use Rattle.qc_state.specs.Run.{time_of, IsStep};
+ghost use Rattle.qc_state.specs.Run.{time_of, close_after, IsStep};
 ghost use Rattle.qc_state.specs.Timers.{next_timeout};
 ghost use Rattle.qc_state.specs.Types.{meaning};
-ghost use Rattle.qc_state.specs.View.{ideal};
+ghost use Rattle.qc_state.specs.View.{at, ideal};
 
 use crate::steps::{core_send, core_step};
-use qc_base::{Fault, Instant, SpaceId};
+use bytes::Bytes;
+use qc_base::{Fault, Instant, SpaceId, VarInt};
 use qc_config::TokenStore;
 use qc_core::{ClientSetup, Core};
 use qc_state::{EndpointEvent, Event, Input, Step, Suite, Transmit};
@@ -101,6 +102,16 @@ impl<U: Suite> Connection<U> {
         }
     }
 
+    /// The application closes the connection at `now` (RFC 9000, 10.2): from now on all that is sent is the close, which
+    /// tells the peer the code and the reason once the handshake is over, and before only that this end closed. A later
+    /// close changes nothing, and takes no memory.
+    pub fn close(&mut self, now: Instant, error_code: VarInt, reason: Bytes)
+        ensures leads { (ideal U.Random.stream self.new.core) ≡ (close_after now error_code reason (at (ideal U.Random.stream self.old.core) [])).state }
+        ensures mark { self.new.failed ≡ self.old.failed }
+    {
+        let _raised = self.core.close(now, error_code, reason);
+    }
+
     /// A PING is owed from now on in the highest space (RFC 9000, 19.2).
     pub fn ping(&mut self)
         ensures leads { (ideal U.Random.stream self.new.core) ≡ state_move (Ask SpaceId.Initial) (ideal U.Random.stream self.old.core) }
@@ -153,6 +164,13 @@ impl<U: Suite> Connection<U> {
                 Err(Fault::OutOfMemory)
             }
         }
+    }
+
+    /// The greatest time that the connection was told, its creation included.
+    pub(crate) fn greatest(&self) -> Instant
+        ensures { result ≡ self.now.core.timers.greatest }
+    {
+        self.core.greatest()
     }
 
     /// Whether a call met want of memory.

@@ -1,23 +1,49 @@
 //! Driving a connection: inputs in, the trace out.
 
-ghost use Rattle.std.specs.Prelude.{◌≡◌, ◌≤◌, [], true, false, OnOk, OnErr, IfOk, IfErr, IsErr};
+ghost use Rattle.std.specs.Prelude.{◌≡◌, ◌≢◌, ◌≤◌, [], true, false, None, OnOk, OnErr, IfOk, IfErr, IsErr};
 ghost use Rattle.std.specs.List.{All};
 ghost use Rattle.qc_conn.specs.OneText.{IsPlain, IsPlainStart};
-ghost use Rattle.qc_state.specs.Headline.{EachRises, LosesOnce};
-ghost use Rattle.qc_state.specs.Run.{time_of, AreValid, Adds, Run, Ran};
+ghost use Rattle.qc_conn.specs.Refusal.{bad_call, refusal_of, first_refusal, NamesInput, RefusedAt};
+ghost use Rattle.qc_state.specs.Headline.{EachRises, LifeRises, OnlyCloses, LosesOnce};
+ghost use Rattle.qc_state.specs.Run.{time_of, Adds, Run, Ran};
 ghost use Rattle.qc_state.specs.Types.{meaning};
 ghost use Rattle.qc_state.specs.View.{ideal};
 
 use crate::connection::Connection;
+use crate::steps::time;
+use qc_base::Instant;
 use qc_config::TokenStore;
 use qc_state::{Input, Suite, Trace};
 use std::alloc::{AllocError, Global};
+
+/// What is wrong with a call that its input asks for.
+#[derive(Clone, Copy, Debug, PartialEq, Eq)]
+pub enum BadWhy {
+    /// A transmit that may send no datagram.
+    ZeroDatagrams,
+}
 
 /// Why `drive` stopped.
 #[derive(Clone, Copy, Debug, PartialEq, Eq)]
 pub enum DriveKind {
     /// There was no memory. The connection is then marked as failed.
     OutOfMemory,
+    /// The time of an input lies before the greatest time so far, the connection's creation included.
+    TimeBack {
+        /// The input's place in the list of inputs.
+        at: u64,
+        /// The input's time.
+        given: Instant,
+        /// The greatest time so far.
+        greatest: Instant,
+    },
+    /// An input asks for a call that can't be made.
+    BadCall {
+        /// The input's place in the list of inputs.
+        at: u64,
+        /// What is wrong with the call.
+        why: BadWhy,
+    },
     /// The connection had met want of memory before this call.
     Failed,
 }
@@ -60,6 +86,39 @@ fn add_step<U: Suite>(
     }
 }
 
+/// What is wrong with the call that the input asks for, if anything is.
+fn bad_call(input: &Input) -> Option<BadWhy>
+    ensures { result ≡ bad_call input.now }
+{
+    match input {
+        Input::Transmit { max_datagrams, .. } => {
+            if *max_datagrams == 0 {
+                return Some(BadWhy::ZeroDatagrams);
+            }
+            None
+        }
+        Input::Close { .. } | Input::Ping { .. } => None,
+    }
+}
+
+/// Why the input at this place is refused after this greatest time, if it is.
+fn refusal(at: u64, greatest: Instant, input: &Input) -> Option<DriveKind>
+    ensures { result ≡ refusal_of at greatest input.now }
+{
+    let given = time(input);
+    if given.nanos() < greatest.nanos() {
+        return Some(DriveKind::TimeBack {
+            at,
+            given,
+            greatest,
+        });
+    }
+    match bad_call(input) {
+        Some(why) => Some(DriveKind::BadCall { at, why }),
+        None => None,
+    }
+}
+
 /// Hands the inputs to a connection that hasn't failed.
 fn drive_all<U: Suite>(
     connection: &mut Connection<U>,
@@ -67,16 +126,20 @@ fn drive_all<U: Suite>(
     inputs: &[Input],
 ) -> Result<Trace, DriveError>
     requires alive { connection.old.failed ≡ false }
-    requires valid { AreValid connection.old.core.timers.greatest inputs.now }
     ensures run { IfOk result (λ trace. Run (meaning U.Session.Session U.Session.HeaderKey.HeaderMask U.Session.PacketKey.PacketKey) 0 (ideal U.Random.stream connection.old.core) inputs.now trace (ideal U.Random.stream connection.new.core)) }
+    ensures valid { OnOk result (first_refusal 0 connection.old.core.timers.greatest inputs.now ≡ None) }
     ensures part { IfErr result (λ e. Ran (meaning U.Session.Session U.Session.HeaderKey.HeaderMask U.Session.PacketKey.PacketKey) 0 (ideal U.Random.stream connection.old.core) inputs.now e.done) }
     ensures alive { OnOk result (connection.new.failed ≡ false) }
-    ensures memory { IfErr result (λ e. e.kind ≡ DriveKind.OutOfMemory) }
-    ensures mark { OnErr result (connection.new.failed ≡ true) }
+    ensures memory { IfErr result (λ e. e.kind ≡ DriveKind.OutOfMemory → connection.new.failed ≡ true) }
+    ensures refused { IfErr result (λ e. NamesInput e.kind → RefusedAt (meaning U.Session.Session U.Session.HeaderKey.HeaderMask U.Session.PacketKey.PacketKey) (ideal U.Random.stream connection.old.core) inputs.now e.kind e.done (ideal U.Random.stream connection.new.core) connection.new.failed) }
+    ensures failed { IfErr result (λ e. e.kind ≢ DriveKind.Failed) }
 {
     let mut trace = Trace::new(alloc);
     let mut at = 0;
     for input in inputs {
+        if let Some(kind) = refusal(at, connection.greatest(), input) {
+            return Err(DriveError { done: trace, kind });
+        }
         match add_step(connection, alloc, at, input, &mut trace) {
             Ok(()) => {}
             Err(_) => {
@@ -94,28 +157,31 @@ fn drive_all<U: Suite>(
 /// Hands inputs to a connection, one after another: for each the one call, then the reports to the application and to
 /// the endpoint until none is left, then the time of the next timeout. The trace has one step an input.
 ///
-/// So far the inputs have to be valid: their times never fall, and a transmit may send at least one datagram.
-///
 /// # Errors
 ///
-/// `Failed` exactly where the connection had met want of memory before; then nothing changes. `OutOfMemory` for want of
-/// memory; the steps of the inputs before are carried, and the connection is marked as failed.
-#[tactic(auto, using(qc_state::proofs::Told::run_rises, qc_state::proofs::Told::run_loses_once, qc_state::proofs::Told::ran_rises, qc_state::proofs::Told::ran_loses_once, crate::proofs::RunsPlain::run_plain, crate::proofs::RunsPlain::run_stays, crate::proofs::RunsPlain::ran_plain))]
+/// `Failed` exactly where the connection had met want of memory before; then nothing changes. `TimeBack` and `BadCall`
+/// name the first input whose time lies before the greatest so far, or which asks for a call that can't be made; the
+/// connection is as the inputs before left it, and their steps are carried. `OutOfMemory` for want of memory; the steps
+/// of the inputs before are carried, and the connection is marked as failed.
+#[tactic(auto, using(qc_state::proofs::Told::run_rises, qc_state::proofs::Told::run_life_rises, qc_state::proofs::Told::run_closes, qc_state::proofs::Told::run_loses_once, qc_state::proofs::Told::ran_rises, qc_state::proofs::Told::ran_life_rises, qc_state::proofs::Told::ran_closes, qc_state::proofs::Told::ran_loses_once, crate::proofs::RunsPlain::run_plain, crate::proofs::RunsPlain::run_stays, crate::proofs::RunsPlain::ran_plain))]
 pub fn drive<U: Suite, G: TokenStore>(
     alloc: Global,
     connection: &mut Connection<U>,
     inputs: &[Input],
     store: &mut G,
 ) -> Result<Trace, DriveError>
-    requires { AreValid connection.old.core.timers.greatest inputs.now }
-
     // The trace is a run from the connection's view at entry to its view at exit.
     ensures run { IfOk result (λ trace. Run (meaning U.Session.Session U.Session.HeaderKey.HeaderMask U.Session.PacketKey.PacketKey) 0 (ideal U.Random.stream connection.old.core) inputs.now trace (ideal U.Random.stream connection.new.core)) }
     ensures part { IfErr result (λ e. Ran (meaning U.Session.Session U.Session.HeaderKey.HeaderMask U.Session.PacketKey.PacketKey) 0 (ideal U.Random.stream connection.old.core) inputs.now e.done) }
 
-    // No packet number is used twice, and at most one reason for the end is given.
+    // No packet number is used twice, the life never falls, all that is sent after a close is the close, and at most one
+    // reason for the end is given.
     ensures rising { IfOk result (λ trace. EachRises (ideal U.Random.stream connection.old.core) trace) }
     ensures rising_part { IfErr result (λ e. EachRises (ideal U.Random.stream connection.old.core) e.done) }
+    ensures life { IfOk result (λ trace. LifeRises (ideal U.Random.stream connection.old.core) trace) }
+    ensures life_part { IfErr result (λ e. LifeRises (ideal U.Random.stream connection.old.core) e.done) }
+    ensures closing { IfOk result (λ trace. OnlyCloses (ideal U.Random.stream connection.old.core) trace) }
+    ensures closing_part { IfErr result (λ e. OnlyCloses (ideal U.Random.stream connection.old.core) e.done) }
     ensures reason { IfOk result (λ trace. LosesOnce (ideal U.Random.stream connection.old.core) trace) }
     ensures reason_part { IfErr result (λ e. LosesOnce (ideal U.Random.stream connection.old.core) e.done) }
 
@@ -124,11 +190,15 @@ pub fn drive<U: Suite, G: TokenStore>(
     ensures plain_part { IsPlainStart connection.old.core.waiting connection.old.core.paths → IfErr result (λ e. All IsPlain e.done) }
     ensures plain_end { IsPlainStart connection.old.core.waiting connection.old.core.paths → OnOk result (IsPlainStart connection.new.core.waiting connection.new.core.paths) }
 
+    // The first input that is to be refused is named, with the values that don't fit, and changes nothing.
+    ensures valid { OnOk result (first_refusal 0 connection.old.core.timers.greatest inputs.now ≡ None) }
+    ensures refused { IfErr result (λ e. NamesInput e.kind → RefusedAt (meaning U.Session.Session U.Session.HeaderKey.HeaderMask U.Session.PacketKey.PacketKey) (ideal U.Random.stream connection.old.core) inputs.now e.kind e.done (ideal U.Random.stream connection.new.core) connection.new.failed) }
+
     ensures alive { OnOk result (connection.new.failed ≡ false) }
     ensures failed { connection.old.failed ≡ true → IfErr result (λ e. (e.kind ≡ DriveKind.Failed) × (e.done ≡ [])) × (connection.new ≡ connection.old) }
-    ensures refused { connection.old.failed ≡ true → IsErr result }
+    ensures ended { connection.old.failed ≡ true → IsErr result }
     ensures cause { IfErr result (λ e. e.kind ≡ DriveKind.Failed → connection.old.failed ≡ true) }
-    ensures memory { OnErr result (connection.new.failed ≡ true) }
+    ensures memory { IfErr result (λ e. e.kind ≡ DriveKind.OutOfMemory → connection.new.failed ≡ true) }
     ensures store { store.new ≡ store.old }
 {
     let _store = store;

@@ -4,11 +4,12 @@ ghost use Rattle.std.specs.Prelude.{◌≡◌, ◌≤◌, ◌++◌, [], OnOk, If
 ghost use Rattle.qc_conn.specs.Seen.{Sends};
 ghost use Rattle.qc_state.specs.Life.{lost_event, drained_event};
 ghost use Rattle.qc_state.specs.Moves.{ReportLost, ReportDrained, state_move};
-ghost use Rattle.qc_state.specs.Run.{time_of, word_of, out_of, Calls, IsStep};
+ghost use Rattle.qc_state.specs.Run.{time_of, word_of, out_of, close_after, Calls, IsStep};
 ghost use Rattle.qc_state.specs.Types.{meaning};
 ghost use Rattle.qc_state.specs.View.{ideal, held};
 
-use qc_base::Instant;
+use bytes::Bytes;
+use qc_base::{Instant, VarInt};
 use qc_core::Core;
 use qc_send::transmit;
 use qc_state::{
@@ -65,6 +66,42 @@ fn transmit_call<U: Suite>(
     Ok(sent_answer(sent, buf))
 }
 
+/// The application closes at `now`: the rise of the life is told where this made it.
+#[tactic(auto, unfolding(qc_state::specs::Run::close_after, qc_state::specs::Moves::move_to, qc_state::specs::Moves::deeds_move))]
+fn close_told<U: Suite>(
+    core: &mut Core<U>,
+    now: Instant,
+    code: VarInt,
+    reason: Bytes,
+    did: &mut Dids,
+) -> Result<(), AllocError>
+    ensures { OnOk result ((held U.Random.stream core.new did.new) ≡ close_after now code reason (held U.Random.stream core.old did.old)) }
+{
+    if core.close(now, code, reason) {
+        return did.push_rose(2);
+    }
+    Ok(())
+}
+
+/// A close of the application at `now`.
+#[tactic(auto, using(qc_state::proofs::Steps::calls_close))]
+fn close_call<U: Suite>(
+    core: &mut Core<U>,
+    alloc: Global,
+    now: Instant,
+    code: VarInt,
+    reason: &Body,
+    did: &mut Dids,
+) -> Result<Answer, AllocError>
+    requires { did.old ≡ [] }
+    ensures { IfOk result (λ answer. Calls (meaning U.Session.Session U.Session.HeaderKey.HeaderMask U.Session.PacketKey.PacketKey) (ideal U.Random.stream core.old) (Input.Close now code reason.now) (held U.Random.stream core.new did.new) answer) }
+{
+    let reason = Bytes::copy_from_slice(alloc, reason.as_slice())?;
+    core.clock(now);
+    close_told(core, now, code, reason, did)?;
+    Ok(Answer::Done)
+}
+
 /// A PING is asked for at `now`.
 #[tactic(auto, using(qc_state::proofs::Steps::calls_ping))]
 fn ping_call<U: Suite>(core: &mut Core<U>, now: Instant, did: &Dids) -> Answer
@@ -86,15 +123,16 @@ fn call<U: Suite>(
     requires { did.old ≡ [] }
     ensures { IfOk result (λ answer. Calls (meaning U.Session.Session U.Session.HeaderKey.HeaderMask U.Session.PacketKey.PacketKey) (ideal U.Random.stream core.old) input.now (held U.Random.stream core.new did.new) answer) }
 {
-    match *input {
+    match input {
         Input::Transmit { now, max_datagrams } => transmit_call(
             core,
             alloc,
-            now,
-            max_datagrams,
+            *now,
+            *max_datagrams,
             did,
         ),
-        Input::Ping { now } => Ok(ping_call(core, now, did)),
+        Input::Close { now, code, reason } => close_call(core, alloc, *now, *code, reason, did),
+        Input::Ping { now } => Ok(ping_call(core, *now, did)),
     }
 }
 
@@ -130,19 +168,21 @@ fn report_end<U: Suite>(core: &mut Core<U>, alloc: Global) -> Result<EndpointEve
 fn word(input: &Input) -> Word
     ensures { result ≡ word_of input.now }
 {
-    match *input {
+    match input {
         Input::Transmit { .. } => Word::Transmit,
+        Input::Close { .. } => Word::Close,
         Input::Ping { .. } => Word::Ping,
     }
 }
 
 /// The time of an input.
-fn time(input: &Input) -> Instant
+pub(crate) fn time(input: &Input) -> Instant
     ensures { result ≡ time_of input.now }
 {
-    match *input {
-        Input::Transmit { now, .. } => now,
-        Input::Ping { now } => now,
+    match input {
+        Input::Transmit { now, .. } => *now,
+        Input::Close { now, .. } => *now,
+        Input::Ping { now } => *now,
     }
 }
 

@@ -7,13 +7,16 @@
 ghost use Rattle.std.specs.Prelude.{◌≡◌, List, ◌++◌, IfOk, OnOk};
 ghost use Rattle.std.specs.List.{All, flat_map};
 ghost use Rattle.qc_conn.specs.OneText.{IsInRange, IsPlain};
-ghost use Rattle.qc_conn.specs.TraceText.{step_text, trace_text};
+ghost use Rattle.qc_conn.specs.TraceText.{step_text, trace_text, why_text, refusal_line, refused_text};
 
 mod digits;
 mod frames;
 mod pieces;
 mod steps;
 
+use crate::driving::{BadWhy, DriveError, DriveKind};
+use pieces::put_number;
+use qc_base::Instant;
 use qc_state::{Step, Trace};
 use std::alloc::{AllocError, Global};
 use steps::put_step;
@@ -31,6 +34,71 @@ pub fn trace_text(alloc: Global, trace: &Trace) -> Result<Vec<u8>, AllocError>
     put_steps(&mut out, trace.as_slice())?;
     out.extend_from_slice(b"end\n")?;
     Ok(out)
+}
+
+/// The text of the steps before an input that was refused, and, in place of the line `end`, the line that names the input
+/// and says why: its time and the greatest time so far, or what is wrong with the call.
+#[tactic(auto, unfolding(crate::specs::TraceText::refused_text))]
+pub fn refused_text(alloc: Global, error: &DriveError) -> Result<Vec<u8>, AllocError>
+    ensures text { IfOk result (λ text. text.items ≡ refused_text error.now.done error.now.kind) }
+{
+    let mut out = Vec::from_slice(alloc, b"qconn 1\n")?;
+    put_steps(&mut out, error.done.as_slice())?;
+    put_refusal(&mut out, error.kind)?;
+    Ok(out)
+}
+
+#[tactic(auto, unfolding(crate::specs::TraceText::refusal_line))]
+fn put_refusal(out: &mut Vec<u8>, kind: DriveKind) -> Result<(), AllocError>
+    ensures { OnOk result (out.new.items ≡ out.old.items ++ refusal_line kind) }
+{
+    match kind {
+        DriveKind::TimeBack {
+            at,
+            given,
+            greatest,
+        } => put_time_back(out, at, given, greatest),
+        DriveKind::BadCall { at, why } => put_bad_call(out, at, why),
+        DriveKind::OutOfMemory | DriveKind::Failed => Ok(()),
+    }
+}
+
+#[tactic(auto, unfolding(crate::specs::TraceText::refusal_line))]
+fn put_time_back(
+    out: &mut Vec<u8>,
+    at: u64,
+    given: Instant,
+    greatest: Instant,
+) -> Result<(), AllocError>
+    ensures { OnOk result (out.new.items ≡ out.old.items ++ refusal_line (DriveKind.TimeBack at given greatest)) }
+{
+    out.extend_from_slice(b"input ")?;
+    put_number(out, at)?;
+    out.extend_from_slice(b" time back ")?;
+    put_number(out, given.nanos())?;
+    out.extend_from_slice(b" ")?;
+    put_number(out, greatest.nanos())?;
+    out.extend_from_slice(b"\n")
+}
+
+#[tactic(auto, unfolding(crate::specs::TraceText::refusal_line))]
+fn put_bad_call(out: &mut Vec<u8>, at: u64, why: BadWhy) -> Result<(), AllocError>
+    ensures { OnOk result (out.new.items ≡ out.old.items ++ refusal_line (DriveKind.BadCall at why)) }
+{
+    out.extend_from_slice(b"input ")?;
+    put_number(out, at)?;
+    out.extend_from_slice(b" bad call ")?;
+    out.extend_from_slice(why_of(why))?;
+    out.extend_from_slice(b"\n")
+}
+
+#[tactic(auto, unfolding(crate::specs::TraceText::why_text))]
+fn why_of(why: BadWhy) -> &'static [u8]
+    ensures { result.now ≡ why_text why }
+{
+    match why {
+        BadWhy::ZeroDatagrams => b"zero datagrams",
+    }
 }
 
 fn put_steps(out: &mut Vec<u8>, steps: &[Step]) -> Result<(), AllocError>

@@ -1,14 +1,16 @@
 //! The calls of a connection.
 
-ghost use Rattle.std.specs.Prelude.{◌≡◌, ◌<◌, ◌^◌, ◌≤◌, length, OnOk, IfOk};
-ghost use Rattle.qc_state.specs.Life.{lost_event, drained_event};
+ghost use Rattle.std.specs.Prelude.{◌≡◌, ◌<◌, ◌^◌, ◌≤◌, [], length, OnOk, IfOk};
+ghost use Rattle.qc_state.specs.Life.{is_open, lost_event, drained_event};
 ghost use Rattle.qc_state.specs.Moves.{Clock, Ask, ReportLost, ReportDrained, move_to, state_move};
+ghost use Rattle.qc_state.specs.Run.{close_after};
 ghost use Rattle.qc_state.specs.Timers.{next_timeout};
-ghost use Rattle.qc_state.specs.View.{ideal, held};
+ghost use Rattle.qc_state.specs.View.{at, ideal, held};
 
 use crate::state::Core;
-use qc_base::{Instant, SpaceId};
-use qc_state::{EndpointEvent, Event, Suite};
+use bytes::Bytes;
+use qc_base::{Instant, SpaceId, VarInt};
+use qc_state::{ApplicationClose, EndpointEvent, Event, Suite};
 
 impl<U: Suite> Core<U> {
     /// A PING waits from now on in the highest space (RFC 9000, section 19.2).
@@ -16,6 +18,20 @@ impl<U: Suite> Core<U> {
         ensures { (ideal U.Random.stream self.new) ≡ state_move (Ask SpaceId.Initial) (ideal U.Random.stream self.old) }
     {
         self.do_ask(SpaceId::Initial);
+    }
+
+    /// The application closes the connection at `now` (RFC 9000, 10.2). True exactly where this raised the life; a later
+    /// close changes nothing.
+    #[tactic(auto, unfolding(qc_state::specs::Run::close_after, qc_state::specs::Moves::move_to, qc_state::specs::Moves::deeds_move))]
+    pub fn close(&mut self, now: Instant, error_code: VarInt, reason: Bytes) -> bool
+        ensures raised { result ≡ is_open self.old.life.state }
+        ensures leads { (ideal U.Random.stream self.new) ≡ (close_after now error_code reason (at (ideal U.Random.stream self.old) [])).state }
+    {
+        if self.life.is_open() {
+            self.do_shut(now, ApplicationClose { error_code, reason });
+            return true;
+        }
+        false
     }
 
     /// The connection is told a time.
@@ -39,6 +55,13 @@ impl<U: Suite> Core<U> {
         ensures leads { (ideal U.Random.stream self.new) ≡ state_move ReportDrained (ideal U.Random.stream self.old) }
     {
         self.do_report_drained()
+    }
+
+    /// The greatest time that the connection was told, its creation included.
+    pub fn greatest(&self) -> Instant
+        ensures { result ≡ self.now.timers.greatest }
+    {
+        self.timers.greatest
     }
 
     /// The time at which the connection wants to be called. None exactly where no timer is set.

@@ -110,6 +110,7 @@ impl<U: Suite> Core<U> {
                 reason: None,
                 lost: None,
                 drained: false,
+                close: None,
             },
             paths: Paths {
                 remote: setup.remote,
@@ -119,6 +120,7 @@ impl<U: Suite> Core<U> {
             timers: Timers {
                 loss_detection: None,
                 idle: None,
+                close: None,
                 sets_idle: true,
                 greatest: now,
             },
@@ -131,6 +133,7 @@ impl<U: Suite> Core<U> {
                     handshake: nothing_waits(alloc),
                     application: nothing_waits(alloc),
                 },
+                close_owed: false,
             },
             setup: Setup {
                 fixed: Fixed {

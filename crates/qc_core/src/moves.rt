@@ -2,7 +2,7 @@
 
 ghost use Rattle.std.specs.Prelude.{◌≡◌, ◌<◌, ◌^◌, OnOk, IfOk};
 ghost use Rattle.qc_state.specs.Life.{lost_event, drained_event};
-ghost use Rattle.qc_state.specs.Moves.{Clock, Ask, Take, Seal, Raise, Give, Say, ReportLost, ReportDrained, move_to, state_move};
+ghost use Rattle.qc_state.specs.Moves.{Clock, Ask, Take, Seal, Shut, Raise, Give, Say, ReportLost, ReportDrained, move_to, state_move};
 ghost use Rattle.qc_state.specs.Spaces.{space_of};
 ghost use Rattle.qc_state.specs.View.{ideal, held};
 ghost use Rattle.qc_state.specs.Waiting.{taken_part};
@@ -10,7 +10,7 @@ ghost use Rattle.qc_state.specs.Waiting.{taken_part};
 use crate::state::Core;
 use qc_base::{Instant, SpaceId};
 use qc_frame::FrameList;
-use qc_state::{ConnectionError, Dids, EndpointEvent, Event, Quiet, State, Suite};
+use qc_state::{ApplicationClose, ConnectionError, Dids, EndpointEvent, Event, Quiet, State, Suite};
 use std::alloc::{AllocError, Global};
 
 #[tactic(auto, unfolding(qc_state::specs::Moves::move_to, qc_state::specs::Moves::state_move, qc_state::specs::Moves::numbers_move, qc_state::specs::Moves::keys_move, qc_state::specs::Moves::life_move, qc_state::specs::Moves::paths_move, qc_state::specs::Moves::timers_move, qc_state::specs::Moves::waiting_move, qc_state::specs::Moves::deeds_move, qc_state::specs::Setup::ideal_setup))]
@@ -58,10 +58,20 @@ impl<U: Suite> Core<U> {
         self.numbers.used(space, number);
         self.keys.used(space);
         self.paths.sent(size);
+        self.waiting.end_close();
         if frames.elicits() {
             self.timers.sealed(self.setup.fixed.idle_limit, now);
         }
         did.push_sealed(space, number, frames)
+    }
+
+    /// The application closes.
+    pub(crate) fn do_shut(&mut self, now: Instant, close: ApplicationClose)
+        ensures { (ideal U.Random.stream self.new) ≡ state_move (Shut now close) (ideal U.Random.stream self.old) }
+    {
+        self.life.shut(close);
+        self.timers.closing(now);
+        self.waiting.owe_close();
     }
 
     /// The life rises.

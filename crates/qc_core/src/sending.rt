@@ -8,7 +8,7 @@ ghost use Rattle.qc_header.specs.HeaderSpelling.{header_spelling, header_number}
 ghost use Rattle.qc_state.specs.Keys.{keys_of};
 ghost use Rattle.qc_state.specs.Moves.{Take, Seal, move_to, state_move};
 ghost use Rattle.qc_state.specs.Numbers.{next_number};
-ghost use Rattle.qc_state.specs.Sending.{internal_error, is_silent, owes, is_used_up, may_be_quiet, given_after, killed_after, quiet_after, header_of, sealed_with, transmit_of};
+ghost use Rattle.qc_state.specs.Sending.{internal_error, closing_frame, taken_now, is_silent, owes, is_used_up, may_be_quiet, given_after, killed_after, quiet_after, header_of, sealed_with, transmit_of};
 ghost use Rattle.qc_state.specs.Spaces.{space_of};
 ghost use Rattle.qc_state.specs.Types.{meaning};
 ghost use Rattle.qc_state.specs.View.{ideal, held};
@@ -17,7 +17,7 @@ ghost use Rattle.qc_state.specs.Waiting.{taken_part};
 use crate::state::Core;
 use bytes::Bytes;
 use qc_base::{EcnCodepoint, Instant, PacketNumber, SpaceId, TransportError, TransportErrorCode};
-use qc_frame::FrameList;
+use qc_frame::{FrameList, FrameOf};
 use qc_header::{Header, InitialHeader};
 use qc_packet::{NUMBER_LIMIT, seal_full};
 use qc_state::{ConnectionError, DATAGRAM_SIZE, Dids, Quiet, State, Suite, Transmit};
@@ -29,15 +29,21 @@ impl<U: Suite> Core<U> {
     pub fn is_silent(&self) -> bool
         ensures { result ≡ is_silent (ideal U.Random.stream self.now) }
     {
-        self.life.is_drained()
+        if self.life.is_drained() {
+            return true;
+        }
+        !self.life.is_open() && !self.waiting.close_owed
     }
 
-    /// Whether something waits in a space with keys.
+    /// Whether something waits in a space with keys, or a close is owed.
     #[tactic(auto, unfolding(qc_state::specs::Sending::owes))]
     pub fn owes(&self) -> bool
         ensures { result ≡ owes (ideal U.Random.stream self.now) }
     {
-        self.keys.get(SpaceId::Initial).is_some() && self.waiting.waits(SpaceId::Initial)
+        if self.keys.get(SpaceId::Initial).is_none() {
+            return false;
+        }
+        self.waiting.close_owed || self.waiting.waits(SpaceId::Initial)
     }
 
     /// Whether no packet can spell the next number: it lies too far above every acknowledged one (RFC 9000, 17.1).
@@ -118,11 +124,30 @@ impl<U: Suite> Core<U> {
         })
     }
 
-    /// Takes frames that wait, for a packet with so much room for them.
+    /// The close that is owed, in a list of its own.
+    #[tactic(auto, using(qc_state::proofs::Seals::close_taken))]
+    fn take_close(&mut self, alloc: Global) -> Result<FrameList, AllocError>
+        ensures frames { IfOk result (λ frames. frames ≡ closing_frame ∷ []) }
+        ensures rest { OnOk result (self.new ≡ self.old) }
+    {
+        let mut frames = FrameList::new(alloc);
+        frames.push(FrameOf::ConnectionClose {
+            error_code: TransportErrorCode::APPLICATION_ERROR,
+            frame_type: None,
+            reason: Vec::new(alloc),
+        })?;
+        Ok(frames)
+    }
+
+    /// Takes frames for a packet with so much room for them: the close where one is owed, else frames that wait.
+    #[tactic(auto, unfolding(qc_state::specs::Sending::taken_now), using(qc_state::proofs::Seals::close_taken))]
     pub fn take(&mut self, alloc: Global, room: usize) -> Result<FrameList, AllocError>
-        ensures frames { IfOk result (λ frames. frames ≡ taken_part (space_of self.old.waiting.spaces SpaceId.Initial) room) }
+        ensures frames { IfOk result (λ frames. frames ≡ taken_now (ideal U.Random.stream self.old) room) }
         ensures leads { IfOk result (λ frames. (ideal U.Random.stream self.new) ≡ state_move (Take SpaceId.Initial frames) (ideal U.Random.stream self.old)) }
     {
+        if self.waiting.close_owed {
+            return self.take_close(alloc);
+        }
         self.do_take(alloc, SpaceId::Initial, room)
     }
 

@@ -5,8 +5,9 @@ use Rattle.std.specs.List.{list_any}
 use Rattle.qc_base.specs.declared.side.SpaceId.{SpaceId}
 use Rattle.qc_base.specs.declared.side.SpaceId.TheVariants.{Initial}
 use Rattle.qc_frame.specs.Frame.{FrameValue}
-use Rattle.qc_frame.specs.FrameSpelling.{elicits, frames_spelling}
+use Rattle.qc_frame.specs.FrameSpelling.{elicits, spelling, frames_spelling}
 use Rattle.qc_frame.specs.declared.frames.FrameOf.TheVariants.{Padding}
+use Rattle.qc_base.specs.Varint.{varint}
 use Rattle.qc_frame.proofs.BeforePadding.{any_before_padding}
 use Rattle.qc_header.specs.declared.header.Header.{Header}
 use Rattle.qc_header.specs.HeaderSpelling.{header_spelling, header_number, header_most}
@@ -16,11 +17,11 @@ use Rattle.qc_state.specs.declared.waiting.SpaceWaiting.{SpaceWaiting}
 use Rattle.qc_state.specs.Keys.{keys_of}
 use Rattle.qc_state.specs.Moves.{Take, Seal, state_move, move_to, numbers_move, keys_move, life_move, paths_move, timers_move, waiting_move, deeds_move}
 use Rattle.qc_state.specs.Numbers.{next_number}
-use Rattle.qc_state.specs.Sending.{is_silent, owes, is_used_up, may_be_quiet, header_of, sealed_with, packet_bytes, MaySeal, packet_after, quiet_after, transmit_after, MayTransmit, transmit_bytes, transmit_of, SealsOne, Transmits}
+use Rattle.qc_state.specs.Sending.{closing_frame, Carries, taken_now, is_silent, owes, is_used_up, may_be_quiet, header_of, sealed_with, packet_bytes, MaySeal, packet_after, quiet_after, transmit_after, MayTransmit, transmit_bytes, transmit_of, SealsOne, Transmits}
 use Rattle.qc_state.specs.Spaces.{space_of, with_space}
 use Rattle.qc_state.specs.Types.{Types, Meaning}
 use Rattle.qc_state.specs.View.{View, At, at}
-use Rattle.qc_state.specs.Waiting.{waits_in, waits_here, waiting_without, taken_part, WaitAll}
+use Rattle.qc_state.specs.Waiting.{waits_in, waits_here, waiting_without, without, without_all, taken_part, WaitAll}
 use Rattle.qc_state.proofs.WaitingLemmas.{taken_waits, taken_elicits, taken_fits, waits_padded, without_padded}
 
 and_right : (a b : Bool) → (a && b) ≡ true → b ≡ true
@@ -42,6 +43,10 @@ not_quiet_3 true b c h = cc
 not_quiet_3 false true c h = h
 not_quiet_3 false false c h = cc
 
+or_right : (a b : Bool) → a ≡ false → (a || b) ≡ true → b ≡ true
+or_right true b h k = cc
+or_right false b h k = k
+
 and_left : (a b : Bool) → (a && b) ≡ true → a ≡ true
 and_left true b h = refl
 and_left false b h = cc
@@ -52,10 +57,29 @@ module _ {t : Types} where
   unfolding state_move numbers_move keys_move life_move paths_move timers_move waiting_move waiting_without
   take_padded id fs n s = ap (λ (w : SpaceWaiting). record s { waiting = record s.waiting { spaces = with_space s.waiting.spaces id w } }) (without_padded (space_of s.waiting.spaces id) fs n)
 
-  -- what is owed waits
-  owed_waits : (s : View t) → owes s ≡ true → waits_here (space_of s.waiting.spaces Initial) ≡ true
+  -- taking a close changes nothing
+  pub close_taken : (s : View t) → state_move (Take Initial (closing_frame ∷ [])) s ≡ s
+  unfolding state_move numbers_move keys_move life_move paths_move timers_move waiting_move waiting_without without_all without
+  close_taken s = refl
+
+  -- what is owed waits, where it is no close
+  owed_waits : (s : View t) → s.waiting.close_owed ≡ false → owes s ≡ true → waits_here (space_of s.waiting.spaces Initial) ≡ true
   unfolding owes waits_in
-  owed_waits s h = and_right _ _ h
+  owed_waits s e h = or_right _ _ e (and_right _ _ h)
+
+  -- the frames that are taken, with PADDING behind them, are what a packet may carry
+  carries_by : (s : View t) (room n : ℕ) (gs : List FrameValue) (b : Bool) → s.waiting.close_owed ≡ b → owes s ≡ true → 19 ≤ room →
+      gs ≡ (if b then closing_frame ∷ [] else taken_part (space_of s.waiting.spaces Initial) room) ++ replicate n Padding → Carries s gs
+  carries_by s room n gs true e owed wide is_gs = Carries.a_close e n is_gs
+  carries_by s room n gs false e owed wide is_gs =
+      let w : SpaceWaiting = space_of s.waiting.spaces Initial in
+      Carries.what_waits e
+        (subst (λ (x : List FrameValue). WaitAll w x) (sym is_gs) (waits_padded w (taken_part w room) n (taken_waits w room)))
+        (ap (list_any elicits) is_gs ∙ any_before_padding (taken_part w room) n ∙ taken_elicits w room (owed_waits s e owed) wide)
+
+  carries : (s : View t) (room n : ℕ) (fs gs : List FrameValue) → owes s ≡ true → 19 ≤ room → fs ≡ taken_now s room → gs ≡ fs ++ replicate n Padding → Carries s gs
+  unfolding taken_now
+  carries s room n fs gs owed wide is_fs is_gs = carries_by s room n gs s.waiting.close_owed refl owed wide (is_gs ∙ ap (λ (x : List FrameValue). x ++ replicate n Padding) is_fs)
 
   same_keys : (fs : List FrameValue) (s : View t) → (state_move (Take Initial fs) s).keys ≡ s.keys
   unfolding state_move keys_move
@@ -64,7 +88,7 @@ module _ {t : Types} where
   -- frames are taken, filled up with PADDING, sealed, and counted
   pub seals_one : (m : Meaning t) (time room number n : ℕ) (a : At t) (mid : View t) (b : At t) (buffer : List ℕ) (fs gs : List FrameValue) (h : Header) →
       may_be_quiet a.state ≡ false → 19 ≤ room →
-      fs ≡ taken_part (space_of a.state.waiting.spaces Initial) room → gs ≡ fs ++ replicate n Padding →
+      fs ≡ taken_now a.state room → gs ≡ fs ++ replicate n Padding →
       mid ≡ state_move (Take Initial fs) a.state → number ≡ next_number a.state.numbers Initial →
       b ≡ move_to (Seal time Initial number DATAGRAM_SIZE gs) (at mid a.did) →
       h ≡ header_of a.state → buffer ≡ sealed_with m (keys_of mid.keys Initial) h number (frames_spelling gs) →
@@ -72,13 +96,10 @@ module _ {t : Types} where
   unfolding may_be_quiet packet_after packet_bytes move_to deeds_move state_move keys_of keys_move
   seals_one m time room number n a mid b buffer fs gs h loud wide is_fs is_gs is_mid is_number is_b is_h is_buffer full =
       let owed : owes a.state ≡ true = not_quiet_2 _ _ _ loud in
-      let w : SpaceWaiting = space_of a.state.waiting.spaces Initial in
-      let waits : WaitAll w gs = subst (λ (x : List FrameValue). WaitAll w x) (sym (is_gs ∙ ap (λ (x : List FrameValue). x ++ replicate n Padding) is_fs)) (waits_padded w (taken_part w room) n (taken_waits w room)) in
-      let asks : list_any elicits gs ≡ true = ap (list_any elicits) (is_gs ∙ ap (λ (x : List FrameValue). x ++ replicate n Padding) is_fs) ∙ any_before_padding (taken_part w room) n ∙ taken_elicits w room (owed_waits a.state owed) wide in
       let same : mid ≡ state_move (Take Initial gs) a.state = is_mid ∙ sym (ap (λ (x : List FrameValue). state_move (Take Initial x) a.state) is_gs ∙ take_padded Initial fs n a.state) in
       record {
         frames = gs;
-        may = record { alive = not_quiet_1 _ _ _ loud; owed = owed; spelled = not_quiet_3 _ _ _ loud; wait = waits; holds = asks };
+        may = record { alive = not_quiet_1 _ _ _ loud; owed = owed; spelled = not_quiet_3 _ _ _ loud; carries = carries a.state room n fs gs owed wide is_fs is_gs };
         leads = is_b ∙ ap (λ (x : View t). move_to (Seal time Initial number DATAGRAM_SIZE gs) (at x a.did)) same ∙ ap (λ (x : ℕ). move_to (Seal time Initial x DATAGRAM_SIZE gs) (move_to (Take Initial gs) a)) is_number;
         bytes = is_buffer ∙ ap (λ (x : Header). sealed_with m (keys_of mid.keys Initial) x number (frames_spelling gs)) is_h ∙ ap (λ (x : View t). sealed_with m (keys_of x.keys Initial) (header_of a.state) number (frames_spelling gs)) same ∙ ap (λ (x : ℕ). sealed_with m (keys_of a.state.keys Initial) (header_of a.state) x (frames_spelling gs)) is_number;
         full = full;
@@ -112,10 +133,20 @@ module _ {t : Types} where
   unfolding header_of
   header_has_number s h e = ap (λ (x : Header). is_some (header_number x)) e
 
+-- a close in an Initial packet is short
+close_len : length (frames_spelling (closing_frame ∷ [])) ≡ 4
+unfolding spelling varint
+close_len = refl
+
+now_fits_by : (w : SpaceWaiting) (room : ℕ) (b : Bool) → 18 ≤ room → length (frames_spelling (if b then closing_frame ∷ [] else taken_part w room)) ≤ room
+now_fits_by w room true r = omega (arith, close_len)
+now_fits_by w room false r = taken_fits w room r
+
 -- the frames that are taken fit behind it
-pub taken_room : (w : SpaceWaiting) (h : Header) (fs : List FrameValue) (n room : ℕ) → n ≡ length (header_spelling h 0) → n ≤ 61 → room ≡ 1180 - n → fs ≡ taken_part w room →
+pub taken_room : {t : Types} (s : View t) (h : Header) (fs : List FrameValue) (n room : ℕ) → n ≡ length (header_spelling h 0) → n ≤ 61 → room ≡ 1180 - n → fs ≡ taken_now s room →
     length (header_spelling h 0) + length (frames_spelling fs) + 20 ≤ DATAGRAM_SIZE
-taken_room w h fs n room is_n most is_room is_fs =
-    let fits : length (frames_spelling (taken_part w room)) ≤ room = taken_fits w room (omega arith) in
-    let same : length (frames_spelling fs) ≡ length (frames_spelling (taken_part w room)) = ap (λ (x : List FrameValue). length (frames_spelling x)) is_fs in
+unfolding taken_now
+taken_room s h fs n room is_n most is_room is_fs =
+    let fits : length (frames_spelling (taken_now s room)) ≤ room = now_fits_by (space_of s.waiting.spaces Initial) room s.waiting.close_owed (omega arith) in
+    let same : length (frames_spelling fs) ≡ length (frames_spelling (taken_now s room)) = ap (λ (x : List FrameValue). length (frames_spelling x)) is_fs in
     omega arith

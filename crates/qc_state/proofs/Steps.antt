@@ -14,16 +14,17 @@ use Rattle.qc_state.specs.declared.life.State.TheVariants.{Drained}
 use Rattle.qc_base.specs.declared.side.SpaceId.TheVariants.{Initial}
 use Rattle.qc_state.specs.declared.input.Input.{Input}
 use Rattle.qc_state.specs.declared.input.Input.TheVariants as input
+use Rattle.qc_state.specs.declared.life.ApplicationClose.{ApplicationClose}
 use Rattle.qc_state.specs.declared.life.ConnectionError.{ConnectionError}
 use Rattle.qc_state.specs.declared.trace.Answer.{Answer}
 use Rattle.qc_state.specs.declared.trace.Answer.TheVariants.{Done}
 use Rattle.qc_state.specs.declared.trace.Step.{Step}
 use Rattle.qc_state.specs.declared.transmit.Transmit.{Transmit}
-use Rattle.qc_state.specs.Life.{lost_event, lost_reported, drained_event}
-use Rattle.qc_state.specs.Moves.{Ask, Clock, Raise, Give, Say, ReportLost, ReportDrained, state_move, move_to, deeds_move, life_move, timers_move}
-use Rattle.qc_state.specs.Run.{time_of, word_of, packets_of, began, input_after, called, reported, step_after, IsAllowed, out_of, answer_of, IsStep, Run, Calls, Ran, AreValid, Adds}
+use Rattle.qc_state.specs.Life.{is_open, lost_event, lost_reported, drained_event}
+use Rattle.qc_state.specs.Moves.{Ask, Clock, Shut, Raise, Give, Say, ReportLost, ReportDrained, state_move, move_to, deeds_move, life_move, timers_move}
+use Rattle.qc_state.specs.Run.{time_of, word_of, packets_of, began, close_after, input_after, called, reported, step_after, IsAllowed, out_of, answer_of, IsStep, Run, Calls, Ran, Adds}
 use Rattle.qc_state.specs.Sending.{is_silent, owes, internal_error, given_after, killed_after, quiet_after, packet_after, transmit_after, MayTransmit, transmit_bytes, transmit_of, Transmits}
-use Rattle.qc_state.specs.Timers.{next_timeout, timers_sealed, timers_stopped, clock_set}
+use Rattle.qc_state.specs.Timers.{next_timeout, timers_sealed, timers_stopped, timers_closing, clock_set}
 use Rattle.qc_state.specs.Types.{Types, Meaning}
 use Rattle.qc_state.specs.View.{View, At, at}
 
@@ -32,29 +33,6 @@ sealed_time : (timers : Timers) (limit : Option ℕ) (time : ℕ) (b : Bool) →
 unfolding timers_sealed
 sealed_time timers limit time true = refl
 sealed_time timers limit time false = refl
-
--- the next input of valid ones, and those after it
-pub valid_first : (greatest : ℕ) (i : Input) (is : List Input) → AreValid greatest (i ∷ is) → greatest ≤ time_of i
-valid_first greatest (input.Transmit time max) is h = h.0
-valid_first greatest (input.Ping time) is h = h.0
-
-pub valid_rest : (greatest : ℕ) (i : Input) (is : List Input) → AreValid greatest (i ∷ is) → AreValid (time_of i) is
-valid_rest greatest (input.Transmit time max) is h = h.2
-valid_rest greatest (input.Ping time) is h = h.1
-
--- the next of valid inputs
-valid_item : (greatest : ℕ) (is : List Input) (i : ℕ) (x : Input) → i < length is → x ≡ get_or is i x → AreValid greatest (drop i is) → AreValid greatest (x ∷ drop (i + 1) is)
-valid_item greatest is i x h e v =
-    let cut : drop i is ≡ get_or is i x ∷ drop (suc i) is = drop-cons is i x h in
-    let one : suc i ≡ i + 1 = omega arith in
-    let next : drop (suc i) is ≡ drop (i + 1) is = ap (λ (n : ℕ). drop n is) one in
-    subst (λ (js : List Input). AreValid greatest js) (cut ∙ ap (λ (y : Input). y ∷ drop (suc i) is) (sym e) ∙ ap (λ (js : List Input). x ∷ js) next) v
-
-pub valid_forward : (greatest : ℕ) (is : List Input) (i : ℕ) (x : Input) → i < length is → x ≡ get_or is i x → AreValid greatest (drop i is) → greatest ≤ time_of x
-valid_forward greatest is i x h e v = valid_first greatest x (drop (i + 1) is) (valid_item greatest is i x h e v)
-
-pub valid_next : (greatest later : ℕ) (is : List Input) (i : ℕ) (x : Input) → i < length is → x ≡ get_or is i x → later ≡ time_of x → AreValid greatest (drop i is) → AreValid later (drop (i + 1) is)
-valid_next greatest later is i x h e l v = subst (λ (n : ℕ). AreValid n (drop (i + 1) is)) (sym l) (valid_rest greatest x (drop (i + 1) is) (valid_item greatest is i x h e v))
 
 module _ {t : Types} where
   -- deeds that seal nothing name no packets, whichever they are
@@ -91,6 +69,15 @@ module _ {t : Types} where
   unfolding began input_after called IsAllowed answer_of move_to deeds_move
   calls_ping m s mid time b ds answer is_mid is_b is_ds e = record {
     leads = ap (λ (x : List Did). at b x) is_ds ∙ ap (λ (x : View t). at x []) (is_b ∙ ap (λ (x : View t). state_move (Ask Initial) x) is_mid);
+    allowed = tt;
+    answers = e;
+  }
+
+  pub calls_close : (m : Meaning t) (s mid : View t) (time code : ℕ) (reason copy : List ℕ) (ds : List Did) (b : At t) (answer : Answer) →
+      mid ≡ state_move (Clock time) s → ds ≡ [] → copy ≡ reason → b ≡ close_after time code copy (at mid ds) → answer ≡ Done → Calls m s (input.Close time code reason) b answer
+  unfolding began input_after called IsAllowed answer_of
+  calls_close m s mid time code reason copy ds b answer is_mid is_ds is_copy is_b e = record {
+    leads = is_b ∙ ap (λ (x : List ℕ). close_after time code x (at mid ds)) is_copy ∙ ap (λ (x : List Did). close_after time code reason (at mid x)) is_ds ∙ ap (λ (x : View t). close_after time code reason (at x [])) is_mid;
     allowed = tt;
     answers = e;
   }
@@ -179,9 +166,15 @@ module _ {t : Types} where
   transmit_time time [] a = quiet_time a internal_error _ _ _
   transmit_time time (fs ∷ rest) a = sealed_time a.state.timers a.state.setup.fixed.idle_limit time (list_any elicits fs)
 
+  close_time : (time : ℕ) (close : ApplicationClose) (a : At t) (b : Bool) → (if b then move_to (Shut time close) a else a).state.timers.greatest ≡ a.state.timers.greatest
+  unfolding move_to state_move timers_move timers_closing
+  close_time time close a true = refl
+  close_time time close a false = refl
+
   input_time : (i : Input) (ds : List Did) (a : At t) → (input_after i ds a).state.timers.greatest ≡ a.state.timers.greatest
-  unfolding input_after move_to state_move timers_move
+  unfolding input_after close_after move_to state_move timers_move
   input_time (input.Transmit time max) ds a = transmit_time time (packets_of ds) a
+  input_time (input.Close time code reason) ds a = close_time time _ a _
   input_time (input.Ping time) ds a = refl
 
   pub step_time : (m : Meaning t) (k : ℕ) (s : View t) (i : Input) (x : Step) (s' : View t) → IsStep m k s i x s' → s'.timers.greatest ≡ time_of i

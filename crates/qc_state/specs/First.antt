@@ -26,15 +26,16 @@ module _ {t : Types} {R : Type 0} where
   first_view m session random fixed remote first_cid time = record {
     numbers = record { spaces = record { initial = record { next = 0 }; handshake = record { next = 0 }; application = record { next = 0 } } };
     keys = record { spaces = record { initial = Some (record { keys = m.initial session first_cid Client; sealed = 0 }); handshake = None; application = None } };
-    life = record { state = Handshake; reason = None; lost = None; drained = false };
+    life = record { state = Handshake; reason = None; lost = None; drained = false; close = None };
     paths = record { remote = remote; remote_cid = first_cid; sent = 0 };
-    timers = record { loss_detection = None; idle = None; sets_idle = true; greatest = time };
+    timers = record { loss_detection = None; idle = None; close = None; sets_idle = true; greatest = time };
     waiting = record {
       spaces = record {
         initial = record { ping = false; crypto = from_start (m.writes session) };
         handshake = record { ping = false; crypto = from_start [] };
         application = record { ping = false; crypto = from_start [] };
       };
+      close_owed = false;
     };
     setup = record { fixed = fixed; random = random };
     lower = record { session = m.after_write session };

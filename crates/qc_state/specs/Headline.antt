@@ -9,6 +9,7 @@ use Rattle.qc_state.specs.declared.life.Life.{Life}
 use Rattle.qc_state.specs.declared.numbers.Numbers.{Numbers}
 use Rattle.qc_state.specs.declared.trace.Step.{Step}
 use Rattle.qc_state.specs.Life.{rank_of}
+use Rattle.qc_state.specs.Moves.{ClosesOnly}
 use Rattle.qc_state.specs.Numbers.{next_number}
 use Rattle.qc_state.specs.Types.{Types}
 use Rattle.qc_state.specs.View.{View}
@@ -40,6 +41,22 @@ reasons_in (Rose life ∷ ds) = reasons_in ds
 reasons_in (Lost why ∷ ds) = why ∷ reasons_in ds
 reasons_in (Quiet why ∷ ds) = reasons_in ds
 
+-- the ranks that the life rose to, in order
+abbrev pub lives_in : List Did → List ℕ
+lives_in [] = []
+lives_in (Sealed space number epoch early frames ∷ ds) = lives_in ds
+lives_in (Rose life ∷ ds) = life ∷ lives_in ds
+lives_in (Lost why ∷ ds) = lives_in ds
+lives_in (Quiet why ∷ ds) = lives_in ds
+
+-- from this rank of the life on, each packet that is sealed once the life has risen to Closed holds a close
+abbrev pub CloseFrom : ℕ → List Did → Type 0
+CloseFrom rank [] = Unit {0}
+CloseFrom rank (Sealed space number epoch early frames ∷ ds) = ClosesOnly rank frames × CloseFrom rank ds
+CloseFrom rank (Rose life ∷ ds) = CloseFrom life ds
+CloseFrom rank (Lost why ∷ ds) = CloseFrom rank ds
+CloseFrom rank (Quiet why ∷ ds) = CloseFrom rank ds
+
 -- numbers rise strictly, from a least one on
 abbrev pub RisesFrom : ℕ → List ℕ → Type 0
 RisesFrom least [] = Unit {0}
@@ -61,9 +78,10 @@ kernel_after id k (Rose life) = record k { rank = life }
 kernel_after id k (Lost why) = record k { reason = Some why }
 kernel_after id k (Quiet why) = k
 
--- where a deed may come: a packet with the space's next number, a rise of the life that rises, a reason after none
+-- where a deed may come: a packet with the space's next number, which holds a close from the rise to Closed on; a rise of
+-- the life that rises; a reason after none
 abbrev pub IsRight : SpaceId → Kernel → Did → Type 0
-IsRight id k (Sealed space number epoch early frames) = is_space id space ≡ true → number ≡ k.next
+IsRight id k (Sealed space number epoch early frames) = (is_space id space ≡ true → number ≡ k.next) × ClosesOnly k.rank frames
 IsRight id k (Rose life) = k.rank < life
 IsRight id k (Lost why) = k.reason ≡ None
 IsRight id k (Quiet why) = Unit {0}
@@ -77,6 +95,14 @@ module _ {t : Types} where
   -- in each space, no packet number is used twice: the sealed numbers rise strictly from the space's next number on
   unfoldable pub EachRises : View t → List Step → Type 0
   EachRises s xs = (id : SpaceId) → RisesFrom (next_number s.numbers id) (sealed_in id (deeds_of xs))
+
+  -- the life never falls, and no rank is risen to twice
+  unfoldable pub LifeRises : View t → List Step → Type 0
+  LifeRises s xs = RisesFrom (rank_of s.life.state + 1) (lives_in (deeds_of xs))
+
+  -- once this end or its peer has closed, each packet that is sealed holds a close
+  unfoldable pub OnlyCloses : View t → List Step → Type 0
+  OnlyCloses s xs = CloseFrom (rank_of s.life.state) (deeds_of xs)
 
   -- at most one reason for the end is ever given
   unfoldable pub LosesOnce : View t → List Step → Type 0

@@ -3,6 +3,7 @@ use Rattle.std.specs.Prelude.{ℕ, Bool, true, false, ◌||◌, ◌==◌, if◌t
 use Rattle.qc_state.specs.declared.life.State.{State}
 use Rattle.qc_state.specs.declared.life.State.TheVariants.{Handshake, Established, Closed, Draining, Drained}
 use Rattle.qc_state.specs.declared.life.ConnectionError.{ConnectionError}
+use Rattle.qc_state.specs.declared.life.ApplicationClose.{ApplicationClose}
 use Rattle.qc_state.specs.declared.life.Life.{Life}
 use Rattle.qc_state.specs.declared.events.Event.{Event}
 use Rattle.qc_state.specs.declared.events.Event.TheVariants.{ConnectionLost}
@@ -17,6 +18,13 @@ rank_of Closed = 2
 rank_of Draining = 3
 rank_of Drained = 4
 
+-- neither end has closed
+abbrev pub is_open : State → Bool
+is_open Handshake = true
+is_open Established = true
+is_open _ = false
+
+-- the life has come to its end
 abbrev pub is_drained : State → Bool
 is_drained Drained = true
 is_drained _ = false
@@ -28,6 +36,10 @@ reason_given v why = if is_none v.reason then record v { reason = Some why; lost
 -- the life rises; at its end, that waits to be reported
 unfoldable pub life_raised : Life → State → Life
 life_raised v to = record v { state = to; drained = v.drained || (rank_of to == 4) }
+
+-- the application of this end closes
+unfoldable pub life_closed : Life → ApplicationClose → Life
+life_closed v close = record v { state = Closed; close = Some close }
 
 -- the reason, while its report waits
 unfoldable pub lost_event : Life → Option Event

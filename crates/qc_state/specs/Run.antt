@@ -1,20 +1,20 @@
 -- The steps of a driven connection, and its runs: lists of steps, each beginning where the one before ended.
-use Rattle.std.specs.Prelude.{◌≡◌, ℕ, ◌+◌, ◌≤◌, List, [], ◌∷◌, ◌++◌, length, take, Option, Some, None, option_to_list}
+use Rattle.std.specs.Prelude.{◌≡◌, ℕ, ◌+◌, ◌≤◌, List, [], ◌∷◌, ◌++◌, length, take, if◌then◌else◌, Option, Some, None, option_to_list}
 use Rattle.qc_base.specs.declared.side.SpaceId.{SpaceId}
 use Rattle.qc_base.specs.declared.side.SpaceId.TheVariants.{Initial}
 use Rattle.qc_frame.specs.Frame.{FrameValue}
 use Rattle.qc_state.specs.declared.deeds.Did.{Did}
 use Rattle.qc_state.specs.declared.deeds.Did.TheVariants as did
 use Rattle.qc_state.specs.declared.input.Input.{Input}
-use Rattle.qc_state.specs.declared.input.Input.TheVariants.{Transmit, Ping}
+use Rattle.qc_state.specs.declared.input.Input.TheVariants.{Transmit, Close, Ping}
 use Rattle.qc_state.specs.declared.input.Word.{Word}
 use Rattle.qc_state.specs.declared.input.Word.TheVariants as word
 use Rattle.qc_state.specs.declared.trace.Answer.{Answer}
 use Rattle.qc_state.specs.declared.trace.Answer.TheVariants.{Done, Nothing, Out}
 use Rattle.qc_state.specs.declared.trace.Step.{Step}
 use Rattle.qc_state.specs.declared.transmit.Transmit as transmit
-use Rattle.qc_state.specs.Life.{lost_event, drained_event}
-use Rattle.qc_state.specs.Moves.{Clock, Ask, ReportLost, ReportDrained, move_to, state_move}
+use Rattle.qc_state.specs.Life.{is_open, lost_event, drained_event}
+use Rattle.qc_state.specs.Moves.{Clock, Ask, Shut, ReportLost, ReportDrained, move_to, state_move}
 use Rattle.qc_state.specs.Sending.{MayTransmit, transmit_after, transmit_bytes, transmit_of}
 use Rattle.qc_state.specs.Timers.{next_timeout}
 use Rattle.qc_state.specs.Types.{Types, Meaning}
@@ -23,11 +23,13 @@ use Rattle.qc_state.specs.View.{View, At, at}
 -- the time of an input
 abbrev pub time_of : Input → ℕ
 time_of (Transmit time max) = time
+time_of (Close time code reason) = time
 time_of (Ping time) = time
 
 -- its kind
 abbrev pub word_of : Input → Word
 word_of (Transmit time max) = word.Transmit
+word_of (Close time code reason) = word.Close
 word_of (Ping time) = word.Ping
 
 -- the frames of the packets that the deeds name
@@ -46,10 +48,15 @@ module _ {t : Types} where
   unfoldable pub began : View t → ℕ → At t
   began s time = at (state_move (Clock time) s) []
 
+  -- the application closes, where the connection is open; a later close changes nothing (RFC 9000, section 10.2)
+  unfoldable pub close_after : ℕ → ℕ → List ℕ → At t → At t
+  close_after time code reason a = if is_open a.state.life.state then move_to (Shut time (record { error_code = code; reason = reason })) a else a
+
   -- what an input leaves before anything is reported: a function of the view and, for a transmit, of the packets that
   -- the deeds name
   unfoldable pub input_after : Input → List Did → At t → At t
   input_after (Transmit time max) ds a = transmit_after time (packets_of ds) a
+  input_after (Close time code reason) ds a = close_after time code reason a
   input_after (Ping time) ds a = move_to (Ask Initial) a
 
   unfoldable pub called : View t → Input → List Did → At t
@@ -66,11 +73,13 @@ module _ {t : Types} where
   -- what an input may do
   unfoldable pub IsAllowed : Input → List Did → View t → Type 0
   IsAllowed (Transmit time max) ds s = MayTransmit s (packets_of ds)
+  IsAllowed (Close time code reason) ds s = Unit {0}
   IsAllowed (Ping time) ds s = Unit {0}
 
   -- what an input answers
   unfoldable pub answer_of : Meaning t → Input → List Did → View t → Answer
   answer_of m (Transmit time max) ds s = out_of (transmit_of (packets_of ds) s) (transmit_bytes m (packets_of ds) s)
+  answer_of m (Close time code reason) ds s = Done
   answer_of m (Ping time) ds s = Done
 
   -- one step: how each group of the view changes, and what is told
@@ -99,12 +108,6 @@ module _ {t : Types} where
   Run m k s [] [] s' = s' ≡ s
   Run m k s (i ∷ is) (x ∷ xs) s' = (mid : View t) × IsStep m k s i x mid × Run m (k + 1) mid is xs s'
   Run m k s _ _ s' = ⊥
-
--- inputs in their order: times never fall, and a transmit may send at least one datagram
-abbrev pub AreValid : ℕ → List Input → Type 0
-AreValid greatest [] = Unit {0}
-AreValid greatest (Transmit time max ∷ is) = (greatest ≤ time) × (1 ≤ max) × AreValid time is
-AreValid greatest (Ping time ∷ is) = (greatest ≤ time) × AreValid time is
 
 module _ {t : Types} where
   -- what a call makes of an input, before anything is reported, and its answer

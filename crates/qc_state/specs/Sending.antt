@@ -1,6 +1,6 @@
--- What a transmit may send, and what it leaves. Which of the waiting frames a packet carries is free; all else is a
--- function of that choice. So far a transmit seals at most one packet, an Initial in a datagram of its own.
-use Rattle.std.specs.Prelude.{◌≡◌, ℕ, ◌^◌, Bool, true, false, ◌||◌, ◌&&◌, not, nat_le, if◌then◌else◌, List, [], ◌∷◌, length, Option, Some, None, is_some, is_none}
+-- What a transmit may send, and what it leaves. Which of the waiting frames a packet carries is free, where no close is
+-- owed; all else is a function of that choice. So far a transmit seals at most one packet, an Initial in a datagram of its own.
+use Rattle.std.specs.Prelude.{◌≡◌, ℕ, ◌^◌, Bool, true, false, ◌||◌, ◌&&◌, not, nat_le, if◌then◌else◌, List, [], ◌∷◌, ◌++◌, length, replicate, Option, Some, None, is_some, is_none}
 use Rattle.std.specs.List.{list_any}
 use Rattle.qc_base.specs.declared.ecn.EcnCodepoint.TheVariants.{Ect0}
 use Rattle.qc_base.specs.declared.side.SpaceId.TheVariants.{Initial}
@@ -8,6 +8,7 @@ use Rattle.qc_base.specs.declared.transport_error.TransportError.{TransportError
 use Rattle.qc_base.specs.PacketNumber.{number_of}
 use Rattle.qc_frame.specs.Frame.{FrameValue}
 use Rattle.qc_frame.specs.FrameSpelling.{frames_spelling, elicits}
+use Rattle.qc_frame.specs.declared.frames.FrameOf.TheVariants as frames
 use Rattle.qc_header.specs.declared.header.Header.{Header}
 use Rattle.qc_header.specs.declared.header.Header.TheVariants as header
 use Rattle.qc_packet.specs.PacketSpelling.{packet_spelling}
@@ -21,17 +22,22 @@ use Rattle.qc_state.specs.declared.transmit.Transmit.{Transmit}
 use Rattle.qc_state.specs.declared.transmit.TheConstants.{DATAGRAM_SIZE}
 use Rattle.qc_state.specs.declared.keys.SpaceKeys.{SpaceKeys}
 use Rattle.qc_state.specs.Keys.{keys_of}
-use Rattle.qc_state.specs.Life.{is_drained}
+use Rattle.qc_state.specs.Life.{is_open, is_drained}
 use Rattle.qc_state.specs.Moves.{Move, Seal, Take, Raise, Give, Say, move_to}
 use Rattle.qc_state.specs.Numbers.{next_number}
 use Rattle.qc_state.specs.Spaces.{space_of}
 use Rattle.qc_state.specs.Types.{Types, Meaning}
 use Rattle.qc_state.specs.View.{View, At, at}
-use Rattle.qc_state.specs.Waiting.{waits_in, WaitAll}
+use Rattle.qc_state.specs.Waiting.{waits_in, taken_part, WaitAll}
 
 -- INTERNAL_ERROR (RFC 9000, section 20.1), without the type of a frame
 abbrev pub internal_error : ConnectionError
 internal_error = lost.TransportError (record { code = 1; frame = None })
+
+-- the close in an Initial packet: before the handshake is over the peer isn't told what the application's code and reason
+-- are, only that it closed (APPLICATION_ERROR; RFC 9000, section 10.2.3)
+abbrev pub closing_frame : FrameValue
+closing_frame = frames.ConnectionClose 0x0c None []
 
 -- a packet number lies so far above every acknowledged one, 0 before the first, that no packet can spell it
 -- (RFC 9000, section 17.1): the connection ends
@@ -39,13 +45,13 @@ abbrev pub is_past_limit : ℕ → Bool
 is_past_limit number = nat_le (2 ^ 31) number
 
 module _ {t : Types} where
-  -- nothing is sent any more
+  -- nothing is sent: the connection has ended, or has closed and owes no close
   unfoldable pub is_silent : View t → Bool
-  is_silent s = is_drained s.life.state
+  is_silent s = is_drained s.life.state || (not (is_open s.life.state) && not s.waiting.close_owed)
 
-  -- a space with keys owes what waits there
+  -- a space with keys owes what waits there, and a close that is owed
   unfoldable pub owes : View t → Bool
-  owes s = is_some (keys_of s.keys Initial) && waits_in s.waiting Initial
+  owes s = is_some (keys_of s.keys Initial) && (s.waiting.close_owed || waits_in s.waiting Initial)
 
   -- the next packet's number is past the limit
   unfoldable pub is_used_up : View t → Bool
@@ -74,14 +80,22 @@ module _ {t : Types} where
   unfoldable pub packet_bytes : Meaning t → View t → List FrameValue → List ℕ
   packet_bytes m s fs = sealed_with m (keys_of s.keys Initial) (header_of s) (next_number s.numbers Initial) (frames_spelling fs)
 
-  -- a packet with these frames may be sealed: something is owed, each frame waits as its turn comes or is PADDING, and
-  -- not all are PADDING
+  -- the frames of a packet: where a close is owed, the close and PADDING behind it; else each waits as its turn comes or is
+  -- PADDING, and not all are PADDING
+  pub data Carries (s : View t) (fs : List FrameValue) : Type 0 where
+    a_close : s.waiting.close_owed ≡ true → (padding : ℕ) → fs ≡ closing_frame ∷ replicate padding frames.Padding → Carries s fs
+    what_waits : s.waiting.close_owed ≡ false → WaitAll (space_of s.waiting.spaces Initial) fs → list_any elicits fs ≡ true → Carries s fs
+
+  -- a packet with these frames may be sealed: something is owed, and it carries what it may
   pub record MaySeal (s : View t) (fs : List FrameValue) : Type 0 where
     pub alive : is_silent s ≡ false
     pub owed : owes s ≡ true
     pub spelled : is_used_up s ≡ false
-    pub wait : WaitAll (space_of s.waiting.spaces Initial) fs
-    pub holds : list_any elicits fs ≡ true
+    pub carries : Carries s fs
+
+  -- the frames that this end takes for a packet with so much room
+  unfoldable pub taken_now : View t → ℕ → List FrameValue
+  taken_now s room = if s.waiting.close_owed then closing_frame ∷ [] else taken_part (space_of s.waiting.spaces Initial) room
 
   -- a packet is sealed: its frames wait no longer, and its number is used
   unfoldable pub packet_after : ℕ → List FrameValue → At t → At t

@@ -26,7 +26,12 @@ timers_sealed v limit time = record v {
 
 -- every timer is stopped
 unfoldable pub timers_stopped : Timers → Timers
-timers_stopped v = record v { loss_detection = None; idle = None }
+timers_stopped v = record v { loss_detection = None; idle = None; close = None }
+
+-- the connection closes at this time: every timer is stopped, and the close lasts for three probe timeouts (RFC 9000,
+-- section 10.2)
+unfoldable pub timers_closing : Timers → ℕ → Timers
+timers_closing v time = record v { loss_detection = None; idle = None; close = Some (plus time (3 * PROBE_TIMEOUT)) }
 
 -- the connection is told a time
 unfoldable pub clock_set : Timers → ℕ → Timers
@@ -34,4 +39,4 @@ clock_set v time = record v { greatest = time }
 
 -- the least time that is set
 unfoldable pub next_timeout : Timers → Option ℕ
-next_timeout v = least v.loss_detection v.idle
+next_timeout v = least (least v.loss_detection v.idle) v.close

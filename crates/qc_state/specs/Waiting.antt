@@ -20,6 +20,14 @@ waits_in v id = waits_here (space_of v.spaces id)
 unfoldable pub ping_asked : Waiting → SpaceId → Waiting
 ping_asked v id = record v { spaces = with_space v.spaces id (record (space_of v.spaces id) { ping = true }) }
 
+-- a close is owed from now on (RFC 9000, section 10.2)
+unfoldable pub close_begun : Waiting → Waiting
+close_begun v = record v { close_owed = true }
+
+-- a packet of the highest space was sealed, which told it: a close is owed no longer
+unfoldable pub close_ended : Waiting → Waiting
+close_ended v = record v { close_owed = false }
+
 -- a frame that is sealed waits no longer
 unfoldable pub without : SpaceWaiting → FrameValue → SpaceWaiting
 without w frames.Ping = record w { ping = false }

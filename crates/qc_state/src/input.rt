@@ -1,9 +1,10 @@
 //! The inputs of a connection that is driven.
 
-use qc_base::Instant;
+use crate::body::Body;
+use qc_base::{Instant, VarInt};
 
 /// What a driver tells a connection. Each input has its time.
-#[derive(Clone, Copy)]
+#[derive(Drop)]
 pub enum Input {
     /// What waits may be sent.
     Transmit {
@@ -11,6 +12,15 @@ pub enum Input {
         now: Instant,
         /// At most so many datagrams.
         max_datagrams: usize,
+    },
+    /// The application closes the connection (RFC 9000, 10.2).
+    Close {
+        /// The time.
+        now: Instant,
+        /// The application's error code.
+        code: VarInt,
+        /// The application's reason.
+        reason: Body,
     },
     /// The application asks for a PING.
     Ping {
@@ -24,6 +34,8 @@ pub enum Input {
 pub enum Word {
     /// An `Input::Transmit`.
     Transmit,
+    /// An `Input::Close`.
+    Close,
     /// An `Input::Ping`.
     Ping,
 }

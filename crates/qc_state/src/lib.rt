@@ -27,7 +27,7 @@ pub use deeds::{Did, Dids, Quiet};
 pub use events::{EndpointEvent, EndpointEvents, Event, Events};
 pub use input::{Input, Word};
 pub use keys::{KeyGroup, SpaceKeys};
-pub use life::{ConnectionError, Life, State};
+pub use life::{ApplicationClose, ConnectionError, Life, State};
 pub use lower::Lower;
 pub use numbers::{Numbers, SpaceNumbers};
 pub use paths::Paths;

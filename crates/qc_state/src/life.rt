@@ -1,10 +1,11 @@
 //! The life of a connection, the reason of its end, and what of both waits to be reported.
 
 ghost use Rattle.std.specs.Prelude.{◌≡◌};
-ghost use Rattle.qc_state.specs.Life.{rank_of, is_drained, reason_given, life_raised, lost_event, lost_reported, drained_event, drained_reported};
+ghost use Rattle.qc_state.specs.Life.{rank_of, is_open, is_drained, life_closed, reason_given, life_raised, lost_event, lost_reported, drained_event, drained_reported};
 
 use crate::events::{EndpointEvent, Event};
-use qc_base::TransportError;
+use bytes::Bytes;
+use qc_base::{TransportError, VarInt};
 
 /// Where a connection is in its life (RFC 9000, 10). A life never falls: the variants stand in the order in which a
 /// connection can pass through them.
@@ -29,6 +30,15 @@ pub enum ConnectionError {
     TransportError(TransportError),
 }
 
+/// A close of the application (RFC 9000, 10.2).
+#[derive(Drop)]
+pub struct ApplicationClose {
+    /// The application's error code (RFC 9000, 20.2).
+    pub error_code: VarInt,
+    /// The application's reason.
+    pub reason: Bytes,
+}
+
 /// The life, the first reason for its end, and what waits to be reported.
 #[derive(Drop)]
 pub struct Life {
@@ -40,6 +50,8 @@ pub struct Life {
     pub lost: Option<ConnectionError>,
     /// Whether `Drained` waits to be given.
     pub drained: bool,
+    /// The close with which the application of this end raised the life to `Closed`, if it did.
+    pub close: Option<ApplicationClose>,
 }
 
 impl ConnectionError {
@@ -66,8 +78,26 @@ pub fn rank(state: State) -> u8
     }
 }
 
-#[tactic(auto, unfolding(crate::specs::Life::life_raised, crate::specs::Life::reason_given, crate::specs::Life::lost_event, crate::specs::Life::lost_reported, crate::specs::Life::drained_event, crate::specs::Life::drained_reported))]
+#[tactic(auto, unfolding(crate::specs::Life::life_raised, crate::specs::Life::life_closed, crate::specs::Life::reason_given, crate::specs::Life::lost_event, crate::specs::Life::lost_reported, crate::specs::Life::drained_event, crate::specs::Life::drained_reported))]
 impl Life {
+    /// Whether this end hasn't closed, and nothing has ended the connection.
+    pub fn is_open(&self) -> bool
+        ensures { result ≡ is_open self.now.state }
+    {
+        match self.state {
+            State::Handshake | State::Established => true,
+            State::Closed | State::Draining | State::Drained => false,
+        }
+    }
+
+    /// The application closes: the life rises to `Closed`.
+    pub fn shut(&mut self, close: ApplicationClose)
+        ensures { self.new ≡ life_closed self.old close }
+    {
+        self.state = State::Closed;
+        self.close = Some(close);
+    }
+
     /// Whether the life has ended.
     pub fn is_drained(&self) -> bool
         ensures { result ≡ is_drained self.now.state }

@@ -1,7 +1,7 @@
 //! The timers, and the greatest time so far.
 
 ghost use Rattle.std.specs.Prelude.{◌≡◌};
-ghost use Rattle.qc_state.specs.Timers.{timers_sealed, timers_stopped, clock_set, next_timeout, least, idle_from};
+ghost use Rattle.qc_state.specs.Timers.{timers_sealed, timers_stopped, timers_closing, clock_set, next_timeout, least, idle_from};
 
 use qc_base::{Duration, Instant};
 
@@ -16,6 +16,8 @@ pub struct Timers {
     pub loss_detection: Option<Instant>,
     /// When the connection ends for want of a sign from the peer (RFC 9000, 10.1).
     pub idle: Option<Instant>,
+    /// When a connection that closed has waited long enough for its peer (RFC 9000, 10.2).
+    pub close: Option<Instant>,
     /// Whether the next packet that is sealed and elicits an acknowledgement sets `idle`.
     pub sets_idle: bool,
     /// The greatest time so far, creation included.
@@ -52,7 +54,7 @@ fn idle_at(limit: Option<Duration>, before: Option<Instant>, now: Instant) -> Op
     }
 }
 
-#[tactic(auto, unfolding(crate::specs::Timers::timers_sealed, crate::specs::Timers::timers_stopped, crate::specs::Timers::clock_set, crate::specs::Timers::next_timeout))]
+#[tactic(auto, unfolding(crate::specs::Timers::timers_sealed, crate::specs::Timers::timers_stopped, crate::specs::Timers::timers_closing, crate::specs::Timers::clock_set, crate::specs::Timers::next_timeout))]
 impl Timers {
     /// A packet that elicits an acknowledgement was sealed at `now`.
     pub fn sealed(&mut self, limit: Option<Duration>, now: Instant)
@@ -71,6 +73,16 @@ impl Timers {
     {
         self.loss_detection = None;
         self.idle = None;
+        self.close = None;
+    }
+
+    /// The connection closes at `now`: every timer is stopped, and the close lasts for three probe timeouts.
+    pub fn closing(&mut self, now: Instant)
+        ensures { self.new ≡ timers_closing self.old now }
+    {
+        self.loss_detection = None;
+        self.idle = None;
+        self.close = Some(now.plus(Duration::from_nanos(3 * PROBE_TIMEOUT)));
     }
 
     /// The connection is told a time.
@@ -84,6 +96,6 @@ impl Timers {
     pub fn next(&self) -> Option<Instant>
         ensures { result ≡ next_timeout self.now }
     {
-        earlier(self.loss_detection, self.idle)
+        earlier(earlier(self.loss_detection, self.idle), self.close)
     }
 }

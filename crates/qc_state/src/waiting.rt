@@ -1,7 +1,7 @@
 //! The frames that wait to be sealed.
 
 ghost use Rattle.std.specs.Prelude.{◌≡◌, ◌++◌, OnOk, IfOk};
-ghost use Rattle.qc_state.specs.Waiting.{waits_in, ping_asked};
+ghost use Rattle.qc_state.specs.Waiting.{waits_in, ping_asked, close_begun, close_ended};
 
 use crate::crypto_queue::CryptoQueue;
 use crate::spaces::Spaces;
@@ -26,6 +26,8 @@ pub struct SpaceWaiting {
 pub struct Waiting {
     /// One record a space.
     pub spaces: Spaces<SpaceWaiting>,
+    /// Whether a close is owed: the connection closed, and no packet of the highest space has told so (RFC 9000, 10.2).
+    pub close_owed: bool,
 }
 
 /// Whether something waits.
@@ -84,13 +86,27 @@ fn take(space: &mut SpaceWaiting, alloc: Global, room: usize) -> Result<FrameLis
 ghost use Rattle.qc_state.specs.Waiting.{waits_here, without_all, ping_part, crypto_part, taken_part, waiting_without};
 ghost use Rattle.qc_state.specs.Spaces.{space_of};
 
-#[tactic(auto, unfolding(crate::specs::Waiting::waits_in, crate::specs::Waiting::ping_asked, crate::specs::Waiting::waiting_without))]
+#[tactic(auto, unfolding(crate::specs::Waiting::close_begun, crate::specs::Waiting::close_ended, crate::specs::Waiting::waits_in, crate::specs::Waiting::ping_asked, crate::specs::Waiting::waiting_without))]
 impl Waiting {
     /// Whether something waits in the space.
     pub fn waits(&self, space: SpaceId) -> bool
         ensures { result ≡ waits_in self.now space }
     {
         waits(self.spaces.get(space))
+    }
+
+    /// A close is owed from now on.
+    pub fn owe_close(&mut self)
+        ensures { self.new ≡ close_begun self.old }
+    {
+        self.close_owed = true;
+    }
+
+    /// A packet of the highest space was sealed: a close is owed no longer.
+    pub fn end_close(&mut self)
+        ensures { self.new ≡ close_ended self.old }
+    {
+        self.close_owed = false;
     }
 
     /// A PING waits from now on in the space.

@@ -48,6 +48,7 @@ fn word_of(word: Word) -> &'static [u8]
 {
     match word {
         Word::Transmit => b"transmit",
+        Word::Close => b"close",
         Word::Ping => b"ping",
     }
 }

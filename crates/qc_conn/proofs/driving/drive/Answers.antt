@@ -1,5 +1,5 @@
 use Rattle.qc_state.proofs.Steps.{ran_none}
-use Rattle.qc_state.proofs.Told.{none_rises, none_loses_once}
+use Rattle.qc_state.proofs.Told.{none_rises, none_life_rises, none_closes, none_loses_once}
 use Rattle.qc_conn.proofs.driving.drive.Goals as goal
 
 -- the empty trace is a run over no inputs
@@ -11,3 +11,9 @@ returns-then-is_failed-clause-rising_part g c = none_rises _ _ c.new.ensures
 
 pub returns-then-is_failed-clause-reason_part : goal.returns-then-is_failed-clause-reason_part
 returns-then-is_failed-clause-reason_part g c = none_loses_once _ _ c.new.ensures
+
+pub returns-then-is_failed-clause-life_part : goal.returns-then-is_failed-clause-life_part
+returns-then-is_failed-clause-life_part g c = none_life_rises _ _ c.new.ensures
+
+pub returns-then-is_failed-clause-closing_part : goal.returns-then-is_failed-clause-closing_part
+returns-then-is_failed-clause-closing_part g c = none_closes _ _ c.new.ensures

@@ -1,5 +1,7 @@
-use Rattle.std.proofs.Common.{ap, length, arith, refl, ◌∙◌}
-use Rattle.qc_state.proofs.Steps.{run_empty, ran_kept, run_next, valid_next, added_length}
+use Rattle.std.proofs.Common.{ℕ, ap, length, arith, refl, sym, ◌∙◌}
+use Rattle.qc_conn.specs.Refusal.{refusal_of}
+use Rattle.qc_conn.proofs.Refusals.{refusal_past, refusal_done, refused_at}
+use Rattle.qc_state.proofs.Steps.{run_empty, ran_kept, run_next, added_length, ran}
 use Rattle.qc_conn.proofs.driving.drive_all.Goals as goal
 
 -- nothing was done yet
@@ -8,7 +10,7 @@ loop-input-init g c = record {
   count = ap length c.new-trace.ensures;
   place = refl;
   run = run_empty _ _ _ _ c.new-trace.ensures;
-  valid = c.requires.valid;
+  left = refl;
   alive = c.requires.alive;
 }
 
@@ -22,6 +24,21 @@ loop-input-preserved g c = record {
   count = added_length _ _ _ _ _ _ _ c.in-Ok.ensures.adds ∙ omega (arith, c.loop-input.invariant.count);
   place = omega (arith, c.loop-input.invariant.place);
   run = run_next _ _ _ _ _ _ _ _ _ _ c.loop-input-test.true c.input-item.is c.loop-input.invariant.count c.loop-input.invariant.place c.loop-input.invariant.run c.in-Ok.ensures.adds;
-  valid = valid_next _ _ _ _ _ c.loop-input-test.true c.input-item.is c.in-Ok.ensures.time c.loop-input.invariant.valid;
+  left = refusal_past _ _ _ _ _ _ _ c.loop-input-test.true c.input-item.is c.loop-input.invariant.place c.in-Ok.ensures.time
+    (ap (λ (n : ℕ). refusal_of c.loop-input.at n c.input-item.result) (sym c.greatest.ensures) ∙ sym c.refusal.ensures ∙ c.in_default.is) c.loop-input.invariant.left;
   alive = c.in-Ok.ensures.alive;
 }
+
+-- the steps before an input that is refused stand
+pub returns-in-Some-clause-part : goal.returns-in-Some-clause-part
+returns-in-Some-clause-part g c = ran _ _ _ _ _ _ _ c.loop-input.invariant.count c.loop-input.invariant.run
+
+-- this input is the first that is refused
+pub returns-in-Some-clause-refused : goal.returns-in-Some-clause-refused
+returns-in-Some-clause-refused g c = λ _. refused_at _ _ _ _ _ _ _ _ _ _ c.loop-input-test.true c.input-item.is c.loop-input.invariant.count c.loop-input.invariant.place
+    (ap (λ (n : ℕ). refusal_of c.loop-input.at n c.input-item.result) (sym c.greatest.ensures) ∙ sym c.refusal.ensures ∙ c.in-Some.is)
+    c.loop-input.invariant.left c.loop-input.invariant.run c.loop-input.invariant.alive
+
+-- none was refused
+pub returns-clause-valid : goal.returns-clause-valid
+returns-clause-valid g c = refusal_done _ _ _ _ c.loop-input-test.false c.loop-input.invariant.left
