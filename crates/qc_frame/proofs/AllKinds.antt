@@ -6,7 +6,8 @@ use Rattle.qc_base.specs.declared.side.Dir.TheVariants.{Bi, Uni}
 use Rattle.qc_base.proofs.Exact.{Ends, exact_give}
 use Rattle.qc_frame.specs.Frame.{FrameValue}
 use Rattle.qc_frame.specs.FrameReading.{Row, pick, rows, fields_at}
-use Rattle.qc_frame.specs.FrameSpelling.{bit, stream_type}
+use Rattle.qc_base.specs.Spelling.{bit}
+use Rattle.qc_frame.specs.FrameSpelling.{stream_type}
 use Rattle.qc_frame.specs.FrameGrammar as grammar
 use Rattle.qc_frame.specs.FrameGrammar.{Fields}
 use Rattle.qc_frame.specs.declared.frames.FrameOf.TheVariants as frames
@@ -70,7 +71,7 @@ pick_takes P a f z (row ∷ others) each e = by_row P row.0 a f z row others ref
 by_type : (f : FrameValue) (a z : List ℕ) (n ty : ℕ) → (ty == n) ≡ true → Fields f a z n → Fields f a z ty
 by_type f a z n ty t s = let e : n ≡ ty = grind (arith, nat_tests) in subst (λ (m : ℕ). Fields f a z m) e s
 
-bit_is : (n : ℕ) → n < 2 → bit (n == 1) ≡ n
+bit_is : (n : ℕ) → n < 2 → bit (n == 1) 1 ≡ n
 bit_is zero h = refl
 bit_is (suc zero) h = refl
 bit_is (suc (suc n)) h = absurd (omega arith)
