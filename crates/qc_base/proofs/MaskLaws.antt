@@ -89,8 +89,8 @@ same_sample b q rest mask fits =
     let next : suc q + 4 ≡ suc (q + 4) = omega arith in
     rw (next, behind_number q rest (take (b % 4 + 1) (drop 1 mask)) fits (few_bytes b (drop 1 mask))) refl
 
-pub mask_comes_off : (mask_of : List ℕ → List ℕ) (place : ℕ) (packet : List ℕ) → 1 ≤ place → place ≤ length packet
-    → unmasked mask_of place (masked mask_of place packet) ≡ packet
+pub mask_comes_off : (mask_of : List ℕ → List ℕ) (pn_offset : ℕ) (packet : List ℕ) → 1 ≤ pn_offset → pn_offset ≤ length packet
+    → unmasked mask_of pn_offset (masked mask_of pn_offset packet) ≡ packet
 unfolding masked unmasked
 mask_comes_off mask_of zero packet some fits = let none : ⊥ = omega arith in absurd none
 mask_comes_off mask_of (suc q) [] some fits = let none : ⊥ = omega arith in absurd none

@@ -6,6 +6,7 @@ pub mod PacketNumber
 pub mod RangeSet
 pub mod Reading
 pub mod ResetToken
+pub mod Spelling
 pub mod StreamId
 pub mod Time
 pub mod TransportErrorCode

@@ -21,34 +21,34 @@ abbrev pub first_over : List ℕ → ℕ → List ℕ
 first_over [] m = []
 first_over (b ∷ bytes) m = bit_xor b (first_changes b m) ∷ bytes
 
--- each mask byte changes the byte at its place; the bytes behind stay
+-- each mask byte changes one byte, in their order; the bytes behind stay
 abbrev pub mask_over : List ℕ → List ℕ → List ℕ
 mask_over bytes [] = bytes
 mask_over [] (m ∷ mask) = []
 mask_over (b ∷ bytes) (m ∷ mask) = bit_xor b m ∷ mask_over bytes mask
 
--- the packet number changed, which has len bytes from place on, by all mask bytes but the first
+-- the packet number changed, which has len bytes from pn_offset on, by all mask bytes but the first
 abbrev pub number_over : ℕ → ℕ → List ℕ → List ℕ → List ℕ
-number_over place len mask packet = take place packet ++ mask_over (drop place packet) (take len (drop 1 mask))
+number_over pn_offset len mask packet = take pn_offset packet ++ mask_over (drop pn_offset packet) (take len (drop 1 mask))
 
--- the packet under this mask
+-- the packet, whose number begins at pn_offset, under this mask
 unfoldable pub masked_by : ℕ → List ℕ → List ℕ → List ℕ
-masked_by place mask packet =
-    number_over place (number_len_in packet) mask (first_over packet (first_byte mask))
+masked_by pn_offset mask packet =
+    number_over pn_offset (number_len_in packet) mask (first_over packet (first_byte mask))
 
 -- the packet without it: the number's length is known once the first byte is
 unfoldable pub unmasked_by : ℕ → List ℕ → List ℕ → List ℕ
-unmasked_by place mask packet =
-    let opened = first_over packet (first_byte mask) in number_over place (number_len_in opened) mask opened
+unmasked_by pn_offset mask packet =
+    let unprotected = first_over packet (first_byte mask) in number_over pn_offset (number_len_in unprotected) mask unprotected
 
 -- the 16 bytes that the mask is made of, as if the packet number had 4 bytes
 unfoldable pub sample_at : ℕ → List ℕ → List ℕ
-sample_at place packet = take 16 (drop (place + 4) packet)
+sample_at pn_offset packet = take 16 (drop (pn_offset + 4) packet)
 
--- the packet, whose number begins at place, under the mask that mask_of makes of its sample
+-- the packet, whose number begins at pn_offset, under the mask that mask_of makes of its sample
 unfoldable pub masked : (List ℕ → List ℕ) → ℕ → List ℕ → List ℕ
-masked mask_of place packet = masked_by place (mask_of (sample_at place packet)) packet
+masked mask_of pn_offset packet = masked_by pn_offset (mask_of (sample_at pn_offset packet)) packet
 
 -- and the packet without that mask
 unfoldable pub unmasked : (List ℕ → List ℕ) → ℕ → List ℕ → List ℕ
-unmasked mask_of place packet = unmasked_by place (mask_of (sample_at place packet)) packet
+unmasked mask_of pn_offset packet = unmasked_by pn_offset (mask_of (sample_at pn_offset packet)) packet

@@ -4,8 +4,8 @@ use Rattle.std.specs.Int.{bytes_high_first}
 use Rattle.qc_base.specs.declared.packet_number.PacketNumber.{PacketNumber}
 use Rattle.qc_base.specs.declared.packet_number.PacketNumber.TheVariants.{U8, U16, U24, U32}
 
--- the number n, where the peer acknowledged largest: as few bytes as can tell twice as many
--- numbers apart as lie between the two
+-- the number n, where the peer acknowledged largest: as few bytes as tell more than twice as many
+-- numbers apart as n lies above largest
 unfoldable pub number_of : ℕ → ℕ → PacketNumber
 number_of n largest =
     if nat_lt (2 * (n - largest)) 0x100 then U8 (n % 0x100)
@@ -43,6 +43,7 @@ number_low (U32 n) = n % 0x100000000
 
 -- ---- the full number (RFC 9000, appendix A.3)
 
+-- how far two numbers lie apart
 abbrev pub distance : ℕ → ℕ → ℕ
 distance a b = (a - b) + (b - a)
 

@@ -1,9 +1,17 @@
 -- Reading bytes. A reader gives a value and the bytes behind it, or a fault.
+--
+-- The names of what reads, here and in the specs of frames, headers and parameters:
+--   x_of bytes     the x at the front of the bytes and what is behind it, or None where they are cut
+--   x_at           the same as a Reader, which names its fault
+--   x_in           the x that stands in a table or a list of entries, found by its key
+--   x_value bytes  the x that all of the bytes are, with none behind it
+-- Of something that isn't bytes, x_of y is the x that belongs to y.
 use Rattle.std.specs.Prelude.{◌≡◌, ℕ, ◌-◌, Bool, List, [], ◌∷◌, length, take, drop, nat_lt, if◌then◌else◌, Result, Ok, Err, MatchResult, Option, None, Some}
 use Rattle.std.specs.Option.{ok_or, option_map, option_and_then}
 use Rattle.std.specs.Int.{Width, byte_len, from_be_bytes}
 use Rattle.qc_base.specs.Varint.{Form, one, two, four, eight, width, mark}
 
+-- what reads an X at the front of bytes, with the faults E
 abbrev pub Reader : Type 0 → Type 0 → Type 0
 Reader E X = List ℕ → Result (X × List ℕ) E
 
@@ -43,10 +51,12 @@ or_fault e read bytes = ok_or (read bytes) e
 
 -- ---- the front of the bytes, None where they are cut
 
+-- one byte
 abbrev pub byte_of : List ℕ → Option (ℕ × List ℕ)
 byte_of [] = None
 byte_of (b ∷ bytes) = Some (b, bytes)
 
+-- so many bytes
 abbrev pub bytes_of : ℕ → List ℕ → Option (List ℕ × List ℕ)
 bytes_of n bytes = if nat_lt (length bytes) n then None else Some (take n bytes, drop n bytes)
 
@@ -58,6 +68,7 @@ word_of w bytes = option_map (λ x. (from_be_bytes w x.0, x.1)) (bytes_of (byte_
 abbrev pub form_of : ℕ → Form
 form_of b = if nat_lt b 64 then one else if nat_lt b 128 then two else if nat_lt b 192 then four else eight
 
+-- a variable-length integer of this form
 abbrev pub in_form : Form → List ℕ → Option (ℕ × List ℕ)
 in_form f bytes = option_map (λ x. (from_be_bytes (width f) x.0 - mark f, x.1)) (bytes_of (byte_len (width f)) bytes)
 
@@ -70,10 +81,12 @@ varint_of (b ∷ bytes) = in_form (form_of b) (b ∷ bytes)
 unfoldable pub blob_of : List ℕ → Option (List ℕ × List ℕ)
 blob_of bytes = option_and_then (λ x. bytes_of x.0 x.1) (varint_of bytes)
 
--- ---- what a function returned is this reading, its values seen by `view`
+-- ---- what a function returned is a reading
 
+-- what a function returned is this reading, its values seen by view
 abbrev pub Gives : {E A X : Type 0} → (A → X × List ℕ) → Result A E → Result (X × List ℕ) E → Type 0
 Gives view result reading = MatchResult result (λ a. reading ≡ Ok (view a)) (λ e. reading ≡ Err e)
 
+-- and where the reading has no fault to name
 abbrev pub Finds : {E A X : Type 0} → (A → X × List ℕ) → Result A E → Option (X × List ℕ) → Type 0
 Finds view result reading = MatchResult result (λ a. reading ≡ Some (view a)) (λ _. reading ≡ None)

@@ -1,5 +1,5 @@
 -- Variable-length integers (RFC 9000, section 16)
-use Rattle.std.specs.Prelude.{ℕ, ◌+◌, ◌%◌, List, nat_lt, if◌then◌else◌}
+use Rattle.std.specs.Prelude.{ℕ, ◌+◌, ◌%◌, ◌<◌, List, nat_lt, if◌then◌else◌}
 use Rattle.std.specs.Int.{Width, w8, w16, w32, w64, to_be_bytes}
 
 -- the four lengths, by the first two bits of the first byte
@@ -9,6 +9,7 @@ pub data Form : Type 0 where
   four : Form
   eight : Form
 
+-- how many bits each has room for, with the two that tell it
 abbrev pub width : Form → Width
 width one = w8
 width two = w16
@@ -28,6 +29,10 @@ limit one = 64
 limit two = 16384
 limit four = 1073741824
 limit eight = 4611686018427387904
+
+-- a number that some form has room for: below 2^62
+abbrev pub IsNumber : ℕ → Type 0
+IsNumber n = n < 4611686018427387904
 
 -- a number below the limit in that form: big-endian, below the mark
 abbrev pub spelled : Form → ℕ → List ℕ

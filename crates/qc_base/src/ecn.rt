@@ -28,6 +28,13 @@ impl EcnCodepoint {
         }
     }
 
+    /// The mark as the two low bits of an IP packet's traffic class: 1, 2 or 3.
+    pub fn bits(self) -> u8
+        ensures { result ≡ ecn_bits self }
+    {
+        self as u8
+    }
+
     /// Whether it says that congestion was experienced.
     pub fn is_ce(self) -> bool
         ensures { IsTrue result ↔ (self ≡ EcnCodepoint.Ce) }

@@ -92,6 +92,18 @@ impl Model for ResetToken {
     ghost inverse = { λ bytes. record { 0 = bytes } };
 }
 
+impl ResetToken {
+    /// The token with these 16 bytes.
+    pub fn new(bytes: &[u8]) -> ResetToken
+        requires { length bytes.now ≡ 16 }
+        ensures { result ≡ bytes.now }
+    {
+        let mut token = [0; 16];
+        token.copy_from_slice(bytes);
+        ResetToken(token)
+    }
+}
+
 impl From<[u8; 16]> for ResetToken {
     ghost from_gives = { λ bytes token. token ≡ bytes };
 

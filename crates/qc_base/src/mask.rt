@@ -14,7 +14,7 @@ pub trait HeaderMask: Drop {
 }
 
 /// The sample of a packet whose number begins at `pn_offset`: the 16 bytes from 4 bytes after that
-/// place on (RFC 9001, section 5.4.2).
+/// on (RFC 9001, section 5.4.2).
 #[tactic(auto, unfolding(crate::specs::Mask::sample_at))]
 pub fn sample(packet: &[u8], pn_offset: usize) -> &[u8]
     requires { pn_offset + 20 ≤ length packet.now }
@@ -93,7 +93,7 @@ pub fn unmask_packet<H: HeaderMask>(key: &H, pn_offset: usize, packet: &mut [u8]
 /// The mask that was put over a packet comes off again: its sample is not masked, and the first byte
 /// tells the number's length once it is unmasked. (This does nothing; its clause is the law.)
 pub fn mask_comes_off()
-    ensures { (mask_of : List ℕ → List ℕ) (place : ℕ) (packet : List ℕ)
-        → 1 ≤ place → place ≤ length packet
-        → unmasked mask_of place (masked mask_of place packet) ≡ packet }
+    ensures { (mask_of : List ℕ → List ℕ) (pn_offset : ℕ) (packet : List ℕ)
+        → 1 ≤ pn_offset → pn_offset ≤ length packet
+        → unmasked mask_of pn_offset (masked mask_of pn_offset packet) ≡ packet }
 {}

@@ -1,12 +1,14 @@
 //! Sets of packet numbers, as the ranges of an ACK frame are (RFC 9000, section 19.3.1).
 
 ghost use Rattle.std.specs.Prelude.{◌≡◌, ◌+◌, ◌<◌, ◌≤◌, ◌↔◌, ◌⊎◌, ℕ, List, [], length, insert, slice_index_or, slice_set, ◌==◌, is_none, IfSome, IsTrue, MatchOption};
+ghost use Rattle.std.specs.Iterator.Adapters.{rev_source};
 ghost use Rattle.std.specs.Slice.Iter.{iter_rest};
 ghost use Rattle.arrayvec.specs.ArrayVec.{array_vec_len};
 ghost use Rattle.qc_base.specs.declared.range_set.NumberRange.{NumberRange};
 ghost use Rattle.qc_base.specs.RangeSet.{latest, Adds, EndsBelow, KeepsFrom, Member, Normal};
 
 use arrayvec::ArrayVec;
+use std::iter::Rev;
 use std::marker::Model;
 use std::slice::Iter;
 
@@ -213,13 +215,31 @@ impl ArrayRangeSet {
         false
     }
 
-    /// Its ranges, from low to high.
+    /// Its ranges, from low to high: their first and last numbers, both in the set.
+    pub fn as_slice(&self) -> &[NumberRange]
+        ensures ranges { result.now ≡ self.now }
+        ensures normal { Normal self.now }
+        ensures most { length self.now ≤ 64 }
+    {
+        self.ranges.as_slice()
+    }
+
+    /// Goes over its ranges, from low to high.
     pub fn iter(&self) -> Iter<'_, NumberRange>
         ensures ranges { iter_rest result ≡ self.now }
         ensures normal { Normal self.now }
         ensures most { length self.now ≤ 64 }
     {
         self.ranges.as_slice().iter()
+    }
+
+    /// Goes over its ranges, from high to low, as an ACK frame has them.
+    pub fn iter_from_high(&self) -> Rev<Iter<'_, NumberRange>>
+        ensures ranges { iter_rest (rev_source result) ≡ self.now }
+        ensures normal { Normal self.now }
+        ensures most { length self.now ≤ 64 }
+    {
+        self.ranges.as_slice().iter().rev()
     }
 
     /// The greatest number in the set, if it has one.

@@ -1,7 +1,7 @@
 //! Values at the front of bytes. Each function gives the value and the bytes behind it.
 
 ghost use Rattle.std.specs.Prelude.{◌≡◌, ◌+◌, ◌<◌, ◌≤◌, ◌^◌, length, IfOk};
-ghost use Rattle.std.specs.Int.{w32, w64};
+ghost use Rattle.std.specs.Int.{w16, w32, w64};
 ghost use Rattle.qc_base.specs.Reading.{Finds, byte_of, bytes_of, blob_of, varint_of, word_of};
 
 /// The bytes end before the value does.
@@ -29,6 +29,19 @@ pub fn read_bytes(bytes: &[u8], count: u64) -> Result<(&[u8], &[u8]), Cut>
         return Err(Cut);
     }
     Ok(bytes.split_at(count as usize))
+}
+
+/// Two bytes as a big-endian number.
+#[tactic(auto, unfolding(crate::specs::Reading::word_of))]
+pub fn read_u16(bytes: &[u8]) -> Result<(u16, &[u8]), Cut>
+    ensures exact { Finds (λ x. (x.0, x.1.now)) result (word_of w16 bytes.now) }
+    ensures shorter { IfOk result (λ x. length x.1.now < length bytes.now) }
+{
+    if bytes.len() < 2 {
+        return Err(Cut);
+    }
+    let (front, rest) = bytes.split_at(2);
+    Ok((u16::from_be_bytes([front[0], front[1]]), rest))
 }
 
 /// Four bytes as a big-endian number.

@@ -334,6 +334,9 @@ fn marks(rt: HostRuntime) {
     ];
     for (bits, mark) in table {
         assert_eq!(rt; EcnCodepoint::from_bits(bits), mark);
+        if let Some(mark) = mark {
+            assert_eq!(rt; mark.bits(), bits % 4);
+        }
     }
     assert!(rt; EcnCodepoint::Ce.is_ce() && !EcnCodepoint::Ect0.is_ce());
 }
@@ -396,10 +399,17 @@ fn range_sets(rt: HostRuntime) -> Result<(), Fail> {
     }
     assert_eq!(rt; set.len(), 2);
     assert!(rt; set.contains(8) && !set.contains(6));
+    let mut lowest_last = 10;
+    for range in set.iter_from_high() {
+        assert!(rt; range.last < lowest_last);
+        lowest_last = range.last;
+    }
+    assert_eq!(rt; lowest_last, 5);
     assert_eq!(rt; set.max(), Some(9));
     assert!(rt; set.insert_one(6) && !set.insert_one(6));
     set.subtract_below(7);
-    let ranges: &[_] = set.iter().as_slice();
+    let ranges = set.as_slice();
+    assert_eq!(rt; ranges.len(), set.iter().as_slice().len());
     assert_eq!(rt; ranges.len(), 1);
     assert_eq!(rt; (ranges[0].first, ranges[0].last), (7, 9));
     assert!(rt; !set.is_empty());

@@ -1,12 +1,13 @@
 -- All kinds of frames: what is read is what the grammar says
-use Rattle.std.proofs.Common.{◌≡◌, ℕ, zero, suc, ◌/◌, ◌%◌, ◌<◌, ◌≤◌, Bool, true, false, ◌&&◌, nat_le, ◌==◌, List, [], ◌∷◌, Ok, cond, refl, subst, arith}
+use Rattle.std.proofs.Common.{◌*◌, ◌≡◌, ℕ, zero, suc, ◌/◌, ◌%◌, ◌<◌, ◌≤◌, Bool, true, false, ◌&&◌, nat_le, ◌==◌, List, [], ◌∷◌, Ok, cond, refl, subst, arith}
 use Rattle.std.proofs.lemmas.Bool.Decides.{nat_tests}
 use Rattle.qc_base.specs.Grammar.{IsBytes}
 use Rattle.qc_base.specs.declared.side.Dir.TheVariants.{Bi, Uni}
 use Rattle.qc_base.proofs.Exact.{Ends, exact_give}
 use Rattle.qc_frame.specs.Frame.{FrameValue}
 use Rattle.qc_frame.specs.FrameReading.{Row, pick, rows, fields_at}
-use Rattle.qc_frame.specs.FrameSpelling.{bit, stream_type}
+use Rattle.qc_base.specs.Spelling.{bit}
+use Rattle.qc_frame.specs.FrameSpelling.{stream_type}
 use Rattle.qc_frame.specs.FrameGrammar as grammar
 use Rattle.qc_frame.specs.FrameGrammar.{Fields}
 use Rattle.qc_frame.specs.declared.frames.FrameOf.TheVariants as frames
@@ -70,17 +71,17 @@ pick_takes P a f z (row ∷ others) each e = by_row P row.0 a f z row others ref
 by_type : (f : FrameValue) (a z : List ℕ) (n ty : ℕ) → (ty == n) ≡ true → Fields f a z n → Fields f a z ty
 by_type f a z n ty t s = let e : n ≡ ty = grind (arith, nat_tests) in subst (λ (m : ℕ). Fields f a z m) e s
 
-bit_is : (n : ℕ) → n < 2 → bit (n == 1) ≡ n
-bit_is zero h = refl
-bit_is (suc zero) h = refl
-bit_is (suc (suc n)) h = absurd (omega arith)
+bit_is : (n worth : ℕ) → n < 2 → bit (n == 1) worth ≡ worth * n
+bit_is zero worth h = omega arith
+bit_is (suc zero) worth h = omega arith
+bit_is (suc (suc n)) worth h = absurd (omega arith)
 
 stream_type_is : (ty : ℕ) → 8 ≤ ty → ty ≤ 15 → stream_type (ty / 4 % 2 == 1) (ty / 2 % 2 == 1) (ty % 2 == 1) ≡ ty
 stream_type_is ty low high =
     let four : ty / 4 % 2 < 2 = omega arith in
     let two : ty / 2 % 2 < 2 = omega arith in
     let one : ty % 2 < 2 = omega arith in
-    rw (bit_is (ty / 4 % 2) four, bit_is (ty / 2 % 2) two, bit_is (ty % 2) one) (omega arith)
+    rw (bit_is (ty / 4 % 2) 4 four, bit_is (ty / 2 % 2) 2 two, bit_is (ty % 2) 1 one) (omega arith)
 
 by_stream_type : (f : FrameValue) (a z : List ℕ) (ty : ℕ) → (nat_le 0x08 ty && nat_le ty 0x0f) ≡ true
     → Fields f a z (stream_type (ty / 4 % 2 == 1) (ty / 2 % 2 == 1) (ty % 2 == 1)) → Fields f a z ty

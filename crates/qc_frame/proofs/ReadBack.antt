@@ -4,7 +4,7 @@ use Rattle.std.specs.List.{flat_map}
 use Rattle.std.specs.Int.{w64, to_be_bytes}
 use Rattle.std.proofs.lemmas.Bool.Decides.{nat_tests}
 use Rattle.qc_base.specs.StreamId.{dir_bit}
-use Rattle.qc_base.specs.Varint.{varint}
+use Rattle.qc_base.specs.Varint.{IsNumber, varint}
 use Rattle.qc_base.specs.Grammar.{Bytes, Varint}
 use Rattle.qc_base.specs.declared.side.Dir.{Dir}
 use Rattle.qc_base.specs.declared.side.Dir.TheVariants.{Bi, Uni}
@@ -12,8 +12,9 @@ use Rattle.qc_base.proofs.Varints.{varint_spelled}
 use Rattle.qc_base.proofs.Written.{Spells, spells_by, spells_then, spells_last, spells_is, spells_where, spells_text, spells_bytes, spells_byte, spells_word, spells_varint, spells_blob}
 use Rattle.qc_frame.specs.Frame.{FrameValue, AckValue}
 use Rattle.qc_frame.specs.FrameReading.{type_given}
-use Rattle.qc_frame.specs.FrameSpelling.{blob, numbers_of, ack_type, ecn_spelling, ack_spelling, stream_type, offset_spelling, has_offset, spelling, last_spelling}
-use Rattle.qc_frame.specs.FrameFits.{IsNumber, MoreRangesFit, RangesFit, CountsFit, TypeFits, Fits, shortest}
+use Rattle.qc_base.specs.Spelling.{blob}
+use Rattle.qc_frame.specs.FrameSpelling.{numbers_of, ack_type, ecn_spelling, ack_spelling, stream_type, offset_spelling, has_offset, spelling, last_spelling}
+use Rattle.qc_frame.specs.FrameFits.{MoreRangesFit, RangesFit, CountsFit, TypeFits, Fits, shortest}
 use Rattle.qc_frame.specs.FrameGrammar as grammar
 use Rattle.qc_frame.specs.FrameGrammar.{Fields, FrameAt}
 use Rattle.qc_frame.specs.declared.frames.EcnCounts.{EcnCounts}

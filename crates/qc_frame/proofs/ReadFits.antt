@@ -2,13 +2,13 @@
 use Rattle.std.proofs.Common.{◌≡◌, ℕ, zero, suc, ◌+◌, ◌-◌, ◌<◌, ◌≤◌, Bool, true, false, cond, ◌==◌, List, [], ◌∷◌, ◌++◌, length, Option, None, Some, refl, sym, ap, ◌∙◌, subst, append_assoc, arith, lit<}
 use Rattle.std.proofs.lemmas.List.{append_cancel_right, length-append}
 use Rattle.std.proofs.lemmas.Bool.Decides.{nat_tests}
-use Rattle.qc_base.specs.Varint.{Form, one, two, four, eight, limit, spelled}
+use Rattle.qc_base.specs.Varint.{IsNumber, Form, one, two, four, eight, limit, spelled}
 use Rattle.qc_base.specs.Grammar.{Varint, Blob}
 use Rattle.qc_base.proofs.Varints.{found_varint, varint_shorter}
 use Rattle.qc_frame.specs.Frame.{FrameValue}
 use Rattle.qc_frame.specs.FrameReading.{type_given}
 use Rattle.qc_frame.specs.FrameSpelling.{numbers_of}
-use Rattle.qc_frame.specs.FrameFits.{IsNumber, MoreRangesFit, RangesFit, CountsFit, TypeFits, Fits}
+use Rattle.qc_frame.specs.FrameFits.{MoreRangesFit, RangesFit, CountsFit, TypeFits, Fits}
 use Rattle.qc_frame.specs.FrameGrammar as grammar
 use Rattle.qc_frame.specs.FrameGrammar.{Fields, FrameAt}
 use Rattle.qc_frame.specs.declared.frames.EcnCounts.{EcnCounts}

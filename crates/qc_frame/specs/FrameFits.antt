@@ -1,15 +1,11 @@
 -- Frames whose spelling is read back
 use Rattle.std.specs.Prelude.{◌≡◌, ℕ, ◌+◌, ◌-◌, ◌<◌, ◌≤◌, ◌^◌, List, [], ◌∷◌, length, Option, None, Some}
 use Rattle.std.specs.List.{flat_map}
-use Rattle.qc_base.specs.Varint.{varint}
+use Rattle.qc_base.specs.Varint.{IsNumber, varint}
 use Rattle.qc_frame.specs.Frame.{FrameValue}
 use Rattle.qc_frame.specs.FrameSpelling.{numbers_of}
 use Rattle.qc_frame.specs.declared.frames.EcnCounts.{EcnCounts}
 use Rattle.qc_frame.specs.declared.frames.FrameOf.TheVariants as frames
-
--- a variable-length integer has room for it
-abbrev pub IsNumber : ℕ → Type 0
-IsNumber n = n < 4611686018427387904
 
 abbrev pub AllNumbers : List ℕ → Type 0
 AllNumbers [] = Unit {0}

@@ -4,19 +4,12 @@ use Rattle.std.specs.List.{flat_map}
 use Rattle.std.specs.Option.{option_map_or}
 use Rattle.std.specs.Int.{w64, to_be_bytes}
 use Rattle.qc_base.specs.Reading.{varint_of}
+use Rattle.qc_base.specs.Spelling.{bit, blob}
 use Rattle.qc_base.specs.StreamId.{dir_bit}
 use Rattle.qc_base.specs.Varint.{varint}
 use Rattle.qc_frame.specs.Frame.{FrameValue, AckValue}
 use Rattle.qc_frame.specs.declared.frames.EcnCounts.{EcnCounts}
 use Rattle.qc_frame.specs.declared.frames.FrameOf.TheVariants as frames
-
--- a byte string behind its length
-abbrev pub blob : List ℕ → List ℕ
-blob bytes = varint (length bytes) ++ bytes
-
-abbrev pub bit : Bool → ℕ
-bit true = 1
-bit false = 0
 
 -- ---- ACK (RFC 9000, section 19.3)
 
@@ -46,7 +39,7 @@ ack_spelling ack =
 
 -- bit 4 says that there is an offset, bit 2 a length, bit 1 that the stream ends
 abbrev pub stream_type : Bool → Bool → Bool → ℕ
-stream_type has_offset has_length fin = 0x08 + 4 * bit has_offset + 2 * bit has_length + bit fin
+stream_type has_offset has_length fin = 0x08 + bit has_offset 4 + bit has_length 2 + bit fin 1
 
 -- no offset stands for 0
 abbrev pub offset_spelling : ℕ → List ℕ

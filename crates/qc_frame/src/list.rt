@@ -10,6 +10,7 @@ use crate::fault::InvalidFrame;
 use crate::frames::{Frame, FrameOf, OwnedFrame};
 use crate::iter::Iter;
 use crate::write::put_frame;
+use qc_base::or_cut_back;
 use std::alloc::{AllocError, Global};
 use std::marker::Model;
 
@@ -126,13 +127,7 @@ impl FrameList {
         ensures err { OnErr result (out.new.items ≡ out.old.items) }
     {
         let len = out.len();
-        match put_all(out, self.frames.as_slice(), self.padding) {
-            Ok(()) => Ok(()),
-            Err(e) => {
-                out.truncate(len);
-                Err(e)
-            }
-        }
+        or_cut_back(put_all(out, self.frames.as_slice(), self.padding), out, len)
     }
 }
 

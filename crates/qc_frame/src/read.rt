@@ -313,18 +313,9 @@ fn read_new_connection_id(bytes: &[u8]) -> Result<(Frame<'_>, &[u8]), FrameFault
         sequence,
         retire_prior_to,
         id: ConnectionId::new(id),
-        reset_token: reset_token_of(token),
+        reset_token: ResetToken::new(token),
     };
     Ok((FrameOf::NewConnectionId(new), rest))
-}
-
-fn reset_token_of(bytes: &[u8]) -> ResetToken
-    requires { length bytes.now ≡ 16 }
-    ensures { result ≡ bytes.now }
-{
-    let mut token = [0; 16];
-    token.copy_from_slice(bytes);
-    ResetToken::from(token)
 }
 
 #[tactic(auto, unfolding(crate::specs::FrameReading::retire_connection_id_at))]

@@ -8,10 +8,10 @@ use std::process::Abort;
 use std::test::Fail;
 
 // A frame as it comes, its type and its name, and its spelling.
-type Row = (&'static [u8], u64, &'static str, &'static [u8]);
+type ReadFrame = (&'static [u8], u64, &'static str, &'static [u8]);
 
 // Each type of frame but those that go on to the payload's end.
-const FRAMES: [Row; 28] = [
+const FRAMES: [ReadFrame; 28] = [
     (b"\x00", 0x00, "PADDING", b"\x00"),
     (b"\x40\x01", 0x01, "PING", b"\x01"),
     (
@@ -88,7 +88,7 @@ const FRAMES: [Row; 28] = [
 ];
 
 // The types that go on to the payload's end, each with the number of bytes after which it may end.
-const LAST_FRAMES: [(Row, usize); 5] = [
+const LAST_FRAMES: [(ReadFrame, usize); 5] = [
     ((b"\x08\x04hi", 0x08, "STREAM", b"\x0a\x04\x02hi"), 2),
     ((b"\x09\x04hi", 0x09, "STREAM", b"\x0b\x04\x02hi"), 2),
     (
@@ -102,7 +102,7 @@ const LAST_FRAMES: [(Row, usize); 5] = [
     ((b"\x30hi", 0x30, "DATAGRAM", b"\x31\x02hi"), 1),
 ];
 
-fn check(rt: &(impl Abort + AllocGlobal), row: &Row) -> Result<(), Fail> {
+fn check(rt: &(impl Abort + AllocGlobal), row: &ReadFrame) -> Result<(), Fail> {
     let (wire, _, name, spelled) = *row;
     let mut out = Vec::new(rt.alloc());
     match first_frame(wire) {
@@ -149,7 +149,7 @@ fn grow(
     rt: &(impl Abort + AllocGlobal),
     payload: &mut Vec<u8>,
     whole: usize,
-    row: &Row,
+    row: &ReadFrame,
     least: usize,
 ) -> Result<(), Fail> {
     let (wire, number, _, _) = *row;
@@ -191,7 +191,7 @@ fn each_prefix_is_read(rt: HostRuntime) -> Result<(), Fail> {
 }
 
 // The least and the greatest fields.
-const BOUNDS: [Row; 16] = [
+const BOUNDS: [ReadFrame; 16] = [
     // a type in its longest form
     (
         b"\xc0\x00\x00\x00\x00\x00\x00\x10\x05",

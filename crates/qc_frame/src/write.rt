@@ -3,13 +3,16 @@
 ghost use Rattle.std.specs.Prelude.{◌≡◌, ◌+◌, ◌/◌, ◌<◌, ◌^◌, ◌∷◌, ◌++◌, length, take, true, false, unwrap_or, OnOk, OnErr};
 ghost use Rattle.std.specs.Int.{w64, to_be_bytes};
 ghost use Rattle.std.specs.List.{flat_map};
+ghost use Rattle.qc_base.specs.Spelling.{blob};
 ghost use Rattle.qc_base.specs.StreamId.{dir_bit};
 ghost use Rattle.qc_base.specs.Varint.{varint};
 ghost use Rattle.qc_frame.specs.Frame.{ack_map, borrowed};
-ghost use Rattle.qc_frame.specs.FrameSpelling.{ack_spelling, ack_type, blob, ecn_spelling, has_offset, last_spelling, numbers_of, offset_spelling, spelling, stream_type};
+ghost use Rattle.qc_frame.specs.FrameSpelling.{ack_spelling, ack_type, ecn_spelling, has_offset, last_spelling, numbers_of, offset_spelling, spelling, stream_type};
 
 use crate::frames::{Ack, EcnCounts, Frame, FrameOf, NewConnectionId};
-use qc_base::{Cut, Dir, StreamId, TransportErrorCode, VarInt, put_varint, read_varint};
+use qc_base::{
+    Cut, Dir, StreamId, TransportErrorCode, VarInt, or_cut_back, put_varint, read_varint,
+};
 use std::alloc::AllocError;
 
 /// Appends the frame's spelling. After want of memory `out` is as before.
@@ -18,13 +21,7 @@ pub fn put_frame(out: &mut Vec<u8>, frame: &Frame<'_>) -> Result<(), AllocError>
     ensures err { OnErr result (out.new.items ≡ out.old.items) }
 {
     let len = out.len();
-    match put_fields(out, frame) {
-        Ok(()) => Ok(()),
-        Err(e) => {
-            out.truncate(len);
-            Err(e)
-        }
-    }
+    or_cut_back(put_fields(out, frame), out, len)
 }
 
 /// Appends the frame as the last one of a packet: a STREAM or DATAGRAM frame has no length then
@@ -34,13 +31,7 @@ pub fn put_last_frame(out: &mut Vec<u8>, frame: &Frame<'_>) -> Result<(), AllocE
     ensures err { OnErr result (out.new.items ≡ out.old.items) }
 {
     let len = out.len();
-    match put_last_fields(out, frame) {
-        Ok(()) => Ok(()),
-        Err(e) => {
-            out.truncate(len);
-            Err(e)
-        }
-    }
+    or_cut_back(put_last_fields(out, frame), out, len)
 }
 
 // Each function below leaves what stood in `out` where it was, also where memory runs out.

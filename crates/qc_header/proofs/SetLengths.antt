@@ -14,7 +14,8 @@ use Rattle.qc_header.specs.declared.encode.PartialEncode.{PartialEncode}
 use Rattle.qc_header.specs.declared.header.Header.{Header}
 use Rattle.qc_header.specs.declared.header.Header.TheVariants.{Initial, Long, Retry, Short, VersionNegotiate}
 use Rattle.qc_header.specs.declared.header.InitialHeader.{InitialHeader}
-use Rattle.qc_header.specs.HeaderSpelling.{header_spelling, header_number, initial_spelling, short_spelling, long_start, length_and_number, id_field, number_tag, long_first, bit}
+use Rattle.qc_base.specs.Spelling.{bit}
+use Rattle.qc_header.specs.HeaderSpelling.{header_spelling, header_number, initial_spelling, short_spelling, long_start, length_and_number, id_field, number_tag, long_first}
 use Rattle.qc_header.specs.SetLength.{length_before, length_place, length_over, with_length, begun_by, IsPlaceOf}
 use Rattle.qc_header.proofs.WrittenHeaders.{length-number_bytes, tag_small}
 

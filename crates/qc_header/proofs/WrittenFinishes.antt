@@ -7,7 +7,8 @@ use Rattle.qc_base.specs.PacketNumber.{number_len, number_bytes}
 use Rattle.qc_header.specs.declared.header.Header.TheVariants as written
 use Rattle.qc_header.specs.declared.header.InitialHeader.{InitialHeader}
 use Rattle.qc_header.specs.declared.protected.ProtectedHeader.TheVariants as readable
-use Rattle.qc_header.specs.HeaderSpelling.{header_spelling, number_tag, long_first, bit}
+use Rattle.qc_base.specs.Spelling.{bit}
+use Rattle.qc_header.specs.HeaderSpelling.{header_spelling, number_tag, long_first}
 use Rattle.qc_header.specs.Piece.{is_protected}
 use Rattle.qc_header.specs.ReadBack.{FitsItsForm, Finishes, token_place, number_place, protected_packet}
 use Rattle.qc_header.proofs.Finished.{tag_tells, protected_finishes}

@@ -10,7 +10,8 @@ use Rattle.qc_base.specs.PacketNumber.{number_len, number_bytes}
 use Rattle.qc_header.specs.declared.header.Header.TheVariants as written
 use Rattle.qc_header.specs.declared.protected.ProtectedHeader.TheVariants as readable
 use Rattle.qc_header.specs.HeaderReading.{piece_at}
-use Rattle.qc_header.specs.HeaderSpelling.{header_spelling, short_spelling, long_start, length_and_number, id_field, number_tag, long_first, bit}
+use Rattle.qc_base.specs.Spelling.{bit}
+use Rattle.qc_header.specs.HeaderSpelling.{header_spelling, short_spelling, long_start, length_and_number, id_field, number_tag, long_first}
 use Rattle.qc_header.specs.Opened.{header_from, number_from}
 use Rattle.qc_header.specs.ReadBack.{FitsItsForm, IsWritable, IsKnown, number_place, protected_packet}
 use Rattle.qc_header.proofs.ReadHeaders.{numbered_piece, short_piece, kind_of}

@@ -15,14 +15,11 @@ use Rattle.qc_base.specs.declared.packet_number.PacketNumber.{PacketNumber}
 use Rattle.qc_base.specs.declared.side.LongType.{LongType}
 use Rattle.qc_base.specs.declared.side.LongType.TheVariants.{Handshake, ZeroRtt}
 use Rattle.qc_base.specs.PacketNumber.{number_len, number_bytes}
+use Rattle.qc_base.specs.Spelling.{bit}
 use Rattle.qc_base.specs.Varint.{varint}
 use Rattle.qc_header.specs.declared.header.Header.{Header}
 use Rattle.qc_header.specs.declared.header.Header.TheVariants.{Initial, Long, Retry, Short, VersionNegotiate}
 use Rattle.qc_header.specs.declared.header.InitialHeader.{InitialHeader}
-
--- a bit of this worth, where it is set
-abbrev pub bit : Bool → ℕ → ℕ
-bit set worth = if set then worth else 0
 
 -- the two lowest bits of a first byte: the number's length less 1
 abbrev pub number_tag : PacketNumber → ℕ

@@ -4,12 +4,13 @@ ghost use Rattle.std.specs.Prelude.{◌≡◌, ◌+◌, ◌^◌, ◌<◌, ◌≤
 ghost use Rattle.std.specs.Option.{option_map};
 ghost use Rattle.qc_base.specs.Mask.{first_byte};
 ghost use Rattle.qc_base.specs.PacketNumber.{number_len};
-ghost use Rattle.qc_header.specs.HeaderSpelling.{header_spelling, header_number, header_most, initial_spelling, short_spelling, length_and_number, long_start, number_tag, bit};
+ghost use Rattle.qc_base.specs.Spelling.{bit};
+ghost use Rattle.qc_header.specs.HeaderSpelling.{header_spelling, header_number, header_most, initial_spelling, short_spelling, length_and_number, long_start, number_tag};
 ghost use Rattle.qc_header.specs.SetLength.{length_place, with_length, begun_by, IsPlaceOf};
 
 use crate::finish::first_of;
 use crate::header::{Header, InitialHeader};
-use qc_base::{ConnectionId, LongType, PacketNumber, put_varint, varint_size};
+use qc_base::{ConnectionId, LongType, PacketNumber, or_cut_back, put_varint, varint_size};
 use std::alloc::AllocError;
 
 /// Where a header was written that is not yet protected.
@@ -294,10 +295,7 @@ impl Header {
         ensures pn_len { IfOk result (λ p. p.pn_len ≡ option_map number_len (header_number self.now)) }
     {
         let start = buf.len();
-        if let Err(e) = put_header(buf, self, length_field) {
-            buf.truncate(start);
-            return Err(e);
-        }
+        or_cut_back(put_header(buf, self, length_field), buf, start)?;
         let pn_len = match self.number() {
             Some(number) => Some(number.len()),
             None => None,

@@ -1,14 +1,12 @@
 -- What the types of the parameters hold: numbers below 2^62, ids of at most 20 bytes, tokens of 16
 use Rattle.std.specs.Prelude.{◌≡◌, ℕ, ◌<◌, ◌≤◌, true, List, length, Option, Some, None, Ok}
 use Rattle.std.specs.Net.Addr.{ipv4_octets, ipv6_segments}
+use Rattle.qc_base.specs.Varint.{IsNumber}
 use Rattle.qc_base.specs.declared.side.Side.{Side}
 use Rattle.qc_params.specs.ParametersReading.{is_legal, parameters_read}
 use Rattle.qc_params.specs.ParametersSpelling.{parameters_spelling}
 use Rattle.qc_params.specs.declared.params.TransportParameters.{TransportParameters}
 use Rattle.qc_params.specs.declared.params.PreferredAddress.{PreferredAddress}
-
-abbrev pub IsVarint : ℕ → Type 0
-IsVarint n = n < 4611686018427387904
 
 -- a fact of a value that may be absent
 abbrev pub Each : {X : Type 0} → (X → Type 0) → Option X → Type 0
@@ -32,33 +30,33 @@ pub record AddressFits (a : PreferredAddress) : Type 0 where
 -- 0x00 to 0x03
 pub record FirstFit (p : TransportParameters) : Type 0 where
   pub original_dst_cid : Each IsId p.original_dst_cid
-  pub max_idle_timeout : IsVarint p.max_idle_timeout
+  pub max_idle_timeout : IsNumber p.max_idle_timeout
   pub stateless_reset_token : Each IsToken p.stateless_reset_token
-  pub max_udp_payload_size : IsVarint p.max_udp_payload_size
+  pub max_udp_payload_size : IsNumber p.max_udp_payload_size
 
 -- 0x04 to 0x09
 pub record LimitsFit (p : TransportParameters) : Type 0 where
-  pub initial_max_data : IsVarint p.initial_max_data
-  pub initial_max_stream_data_bidi_local : IsVarint p.initial_max_stream_data_bidi_local
-  pub initial_max_stream_data_bidi_remote : IsVarint p.initial_max_stream_data_bidi_remote
-  pub initial_max_stream_data_uni : IsVarint p.initial_max_stream_data_uni
-  pub initial_max_streams_bidi : IsVarint p.initial_max_streams_bidi
-  pub initial_max_streams_uni : IsVarint p.initial_max_streams_uni
+  pub initial_max_data : IsNumber p.initial_max_data
+  pub initial_max_stream_data_bidi_local : IsNumber p.initial_max_stream_data_bidi_local
+  pub initial_max_stream_data_bidi_remote : IsNumber p.initial_max_stream_data_bidi_remote
+  pub initial_max_stream_data_uni : IsNumber p.initial_max_stream_data_uni
+  pub initial_max_streams_bidi : IsNumber p.initial_max_streams_bidi
+  pub initial_max_streams_uni : IsNumber p.initial_max_streams_uni
 
 -- 0x0a to 0x0e
 pub record MiddleFit (p : TransportParameters) : Type 0 where
-  pub ack_delay_exponent : IsVarint p.ack_delay_exponent
-  pub max_ack_delay : IsVarint p.max_ack_delay
+  pub ack_delay_exponent : IsNumber p.ack_delay_exponent
+  pub max_ack_delay : IsNumber p.max_ack_delay
   pub preferred_address : Each AddressFits p.preferred_address
-  pub active_connection_id_limit : IsVarint p.active_connection_id_limit
+  pub active_connection_id_limit : IsNumber p.active_connection_id_limit
 
 -- 0x0f to 0x20
 pub record LastFit (p : TransportParameters) : Type 0 where
   pub initial_src_cid : Each IsId p.initial_src_cid
   pub retry_src_cid : Each IsId p.retry_src_cid
-  pub max_datagram_frame_size : Each IsVarint p.max_datagram_frame_size
+  pub max_datagram_frame_size : Each IsNumber p.max_datagram_frame_size
 
-pub record Fits (p : TransportParameters) : Type 0 where
+pub record ParametersFit (p : TransportParameters) : Type 0 where
   pub first : FirstFit p
   pub limits : LimitsFit p
   pub middle : MiddleFit p
@@ -69,4 +67,4 @@ pub record ReadsBack (p : TransportParameters) : Type 0 where
   pub reads : (side : Side) → is_legal side p ≡ true → parameters_read side (parameters_spelling p) ≡ Ok p
 
 abbrev pub WrittenIsRead : Type 0
-WrittenIsRead = (p : TransportParameters) → Fits p → ReadsBack p
+WrittenIsRead = (p : TransportParameters) → ParametersFit p → ReadsBack p

@@ -77,21 +77,21 @@ abbrev pub token_value : List ℕ → Option (List ℕ)
 token_value value = if length value == 16 then Some value else None
 
 -- an address and a port
-unfoldable pub ipv4_at : List ℕ → Option ((Ipv4Addr × ℕ) × List ℕ)
-ipv4_at value = do
+unfoldable pub ipv4_of : List ℕ → Option ((Ipv4Addr × ℕ) × List ℕ)
+ipv4_of value = do
   octets ← bytes_of 4 value
   port ← word_of w16 octets.1
   Some ((record { octets = octets.0 }, port.0), port.1)
 
-unfoldable pub ipv6_at : List ℕ → Option ((Ipv6Addr × ℕ) × List ℕ)
-ipv6_at value = do
+unfoldable pub ipv6_of : List ℕ → Option ((Ipv6Addr × ℕ) × List ℕ)
+ipv6_of value = do
   octets ← bytes_of 16 value
   port ← word_of w16 octets.1
   Some ((record { segments = segments_of octets.0 }, port.0), port.1)
 
 -- an id behind its length, which is one byte, and its token
-unfoldable pub issued_at : List ℕ → Option ((List ℕ × List ℕ) × List ℕ)
-issued_at value = do
+unfoldable pub issued_of : List ℕ → Option ((List ℕ × List ℕ) × List ℕ)
+issued_of value = do
   len ← byte_of value
   id ← bytes_of len.0 len.1
   token ← bytes_of 16 id.1
@@ -99,9 +99,9 @@ issued_at value = do
 
 unfoldable pub address_value : List ℕ → Option PreferredAddress
 address_value value = do
-  v4 ← ipv4_at value
-  v6 ← ipv6_at v4.1
-  issued ← whole (issued_at v6.1)
+  v4 ← ipv4_of value
+  v6 ← ipv6_of v4.1
+  issued ← whole (issued_of v6.1)
   Some record { ipv4 = v4.0.0; port_v4 = v4.0.1; ipv6 = v6.0.0; port_v6 = v6.0.1; id = issued.0; reset_token = issued.1 }
 
 -- ---- parameters: what they are where they are absent, and else by their values

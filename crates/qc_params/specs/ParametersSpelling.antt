@@ -54,11 +54,11 @@ address_bytes a =
 -- ---- all parameters
 
 -- an id with the bytes of its value; a connection id and a token are their own bytes
-abbrev pub Row : Type 0
-Row = ℕ × Option (List ℕ)
+abbrev pub ParameterRow : Type 0
+ParameterRow = ℕ × Option (List ℕ)
 
 -- 0x00 to 0x03
-abbrev pub first_rows : TransportParameters → List Row
+abbrev pub first_rows : TransportParameters → List ParameterRow
 first_rows p =
     (0x00, p.original_dst_cid)
     ∷ (0x01, number_text 0 p.max_idle_timeout)
@@ -67,7 +67,7 @@ first_rows p =
     ∷ []
 
 -- 0x04 to 0x09, the limits on data and streams
-abbrev pub limit_rows : TransportParameters → List Row
+abbrev pub limit_rows : TransportParameters → List ParameterRow
 limit_rows p =
     (0x04, number_text 0 p.initial_max_data)
     ∷ (0x05, number_text 0 p.initial_max_stream_data_bidi_local)
@@ -78,7 +78,7 @@ limit_rows p =
     ∷ []
 
 -- 0x0a to 0x0e
-abbrev pub middle_rows : TransportParameters → List Row
+abbrev pub middle_rows : TransportParameters → List ParameterRow
 middle_rows p =
     (0x0a, number_text 3 p.ack_delay_exponent)
     ∷ (0x0b, number_text 25 p.max_ack_delay)
@@ -88,7 +88,7 @@ middle_rows p =
     ∷ []
 
 -- 0x0f and 0x10; 0x20 of RFC 9221, section 3; and 0x2ab2 of RFC 9287, section 3
-abbrev pub last_rows : TransportParameters → List Row
+abbrev pub last_rows : TransportParameters → List ParameterRow
 last_rows p =
     (0x0f, p.initial_src_cid)
     ∷ (0x10, p.retry_src_cid)
@@ -100,7 +100,7 @@ unfoldable pub row_text : ℕ → Option (List ℕ) → List ℕ
 row_text id None = []
 row_text id (Some value) = parameter id value
 
-abbrev pub rows_text : List Row → List ℕ
+abbrev pub rows_text : List ParameterRow → List ℕ
 rows_text [] = []
 rows_text (row ∷ rows) = row_text row.0 row.1 ++ rows_text rows
 

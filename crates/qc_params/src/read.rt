@@ -1,7 +1,7 @@
 ghost use Rattle.std.specs.Prelude.{◌≡◌, IfOk};
 ghost use Rattle.std.specs.Option.{ok_or};
 ghost use Rattle.qc_params.specs.ParametersReading.{first_of, limits_of, middle_of, parameters_of, may_come_to, client_may_send, is_address_allowed, is_legal, parameters_read};
-ghost use Rattle.qc_params.specs.ParametersFit.{FirstFit, LimitsFit, MiddleFit, LastFit, Fits};
+ghost use Rattle.qc_params.specs.ParametersFit.{FirstFit, LimitsFit, MiddleFit, LastFit, ParametersFit};
 ghost use Rattle.qc_params.specs.ParametersGrammar.{HasEntries};
 
 use crate::values::{address_under, flag_under, id_under, maybe_under, number_under, token_under};
@@ -136,7 +136,7 @@ fn is_address_allowed(address: &Option<PreferredAddress>) -> bool
 #[tactic(auto, unfolding(crate::specs::ParametersReading::parameters_read))]
 fn read_parameters(side: Side, bytes: &[u8]) -> Result<TransportParameters, ParamError>
     ensures exact { result ≡ parameters_read side bytes.now }
-    ensures fits { IfOk result Fits }
+    ensures fits { IfOk result ParametersFit }
 {
     let p = read_all(bytes)?;
     if !is_legal(side, &p) {
@@ -159,7 +159,7 @@ impl TransportParameters {
     /// parameters that a server alone sends (RFC 9000, section 18.2).
     pub fn read(side: Side, bytes: &[u8]) -> Result<TransportParameters, ParamError>
         ensures exact { result ≡ parameters_read side bytes.now }
-        ensures fits { IfOk result Fits }
+        ensures fits { IfOk result ParametersFit }
         ensures entries { IfOk result (λ _. HasEntries bytes.now) }
     {
         read_parameters(side, bytes)

@@ -5,11 +5,11 @@ ghost use Rattle.std.specs.Option.{option_copied, ok_or, option_map};
 ghost use Rattle.std.specs.Net.Addr.{ipv4_octets, ipv6_segments};
 ghost use Rattle.qc_base.specs.Reading.{Finds};
 ghost use Rattle.qc_params.specs.ParametersReading.{number_value, id_value, token_value, flag_value, number_in, maybe_in, flag_in, id_in, token_in, address_in};
-ghost use Rattle.qc_params.specs.ParametersFit.{IsVarint, IsId, IsToken, AddressFits, Each};
+ghost use Rattle.qc_base.specs.Varint.{IsNumber};
+ghost use Rattle.qc_params.specs.ParametersFit.{IsId, IsToken, AddressFits, Each};
 
 use crate::address::preferred_address;
 use crate::entries::value_under;
-use crate::octets::sixteen;
 use crate::{ParamError, PreferredAddress};
 use qc_base::{ConnectionId, ResetToken, VarInt, read_varint};
 
@@ -17,7 +17,7 @@ use qc_base::{ConnectionId, ResetToken, VarInt, read_varint};
 #[tactic(auto, unfolding(crate::specs::ParametersReading::number_value))]
 fn number(value: &[u8]) -> Result<VarInt, ParamError>
     ensures exact { result ≡ ok_or (number_value value.now) ParamError.Malformed }
-    ensures fits { IfOk result IsVarint }
+    ensures fits { IfOk result IsNumber }
 {
     let (n, rest) = read_varint(value)?;
     if !rest.is_empty() {
@@ -46,7 +46,7 @@ fn token(value: &[u8]) -> Result<ResetToken, ParamError>
     if value.len() != 16 {
         return Err(ParamError::Malformed);
     }
-    Ok(ResetToken::from(sixteen(value)))
+    Ok(ResetToken::new(value))
 }
 
 fn flag(value: &[u8]) -> Result<bool, ParamError>
@@ -62,7 +62,7 @@ fn flag(value: &[u8]) -> Result<bool, ParamError>
 #[tactic(auto, unfolding(crate::specs::ParametersReading::number_in))]
 pub(crate) fn number_under(bytes: &[u8], id: u64, default: u32) -> Result<VarInt, ParamError>
     ensures exact { result ≡ ok_or (number_in id default bytes.now) ParamError.Malformed }
-    ensures fits { IfOk result IsVarint }
+    ensures fits { IfOk result IsNumber }
 {
     match value_under(bytes, id)? {
         Some(value) => number(value),
@@ -74,7 +74,7 @@ pub(crate) fn number_under(bytes: &[u8], id: u64, default: u32) -> Result<VarInt
 #[tactic(auto, unfolding(crate::specs::ParametersReading::maybe_in))]
 pub(crate) fn maybe_under(bytes: &[u8], id: u64) -> Result<Option<VarInt>, ParamError>
     ensures exact { result ≡ ok_or (maybe_in id bytes.now) ParamError.Malformed }
-    ensures fits { IfOk result (Each IsVarint) }
+    ensures fits { IfOk result (Each IsNumber) }
 {
     match value_under(bytes, id)? {
         Some(value) => Ok(Some(number(value)?)),

@@ -1,13 +1,13 @@
 ghost use Rattle.std.specs.Prelude.{◌≡◌, ◌++◌, ◌<◌, ◌≤◌, ◌^◌, [], OnOk, OnErr, length, take};
 ghost use Rattle.std.specs.Option.{option_map};
 ghost use Rattle.std.specs.Net.Addr.{ipv4_octets, ipv6_segments};
-ghost use Rattle.qc_base.specs.Varint.{varint};
+ghost use Rattle.qc_base.specs.Varint.{IsNumber, varint};
 ghost use Rattle.qc_params.specs.ParametersSpelling.{parameter, number_text, flag_text, row_text, rows_text, address_bytes, parameters_spelling};
-ghost use Rattle.qc_params.specs.ParametersFit.{IsVarint, IsId, IsToken, AddressFits, Each, FirstFit, LimitsFit, MiddleFit, LastFit, Fits, ReadsBack};
+ghost use Rattle.qc_params.specs.ParametersFit.{IsId, IsToken, AddressFits, Each, FirstFit, LimitsFit, MiddleFit, LastFit, ParametersFit, ReadsBack};
 
 use crate::params;
 use crate::params::{PreferredAddress, TransportParameters};
-use qc_base::{ConnectionId, ResetToken, VarInt, put_varint, varint_size};
+use qc_base::{ConnectionId, ResetToken, VarInt, or_cut_back, put_varint, varint_size};
 use std::alloc::AllocError;
 
 // Appends the id and the length of a value, which the caller appends next.
@@ -41,7 +41,7 @@ fn put_varint_value(buf: &mut Vec<u8>, id: u64, n: u64) -> Result<(), AllocError
 fn put_number(buf: &mut Vec<u8>, id: u64, default: u64, value: VarInt) -> Result<(), AllocError>
     ensures ok { OnOk result (buf.new.items ≡ buf.old.items ++ row_text id (number_text default value)) }
     ensures kept { take (length buf.old.items) buf.new.items ≡ buf.old.items }
-    ensures fits { IsVarint value }
+    ensures fits { IsNumber value }
 {
     let n = value.into_inner();
     if n == default {
@@ -54,7 +54,7 @@ fn put_number(buf: &mut Vec<u8>, id: u64, default: u64, value: VarInt) -> Result
 fn put_maybe(buf: &mut Vec<u8>, id: u64, value: Option<VarInt>) -> Result<(), AllocError>
     ensures ok { OnOk result (buf.new.items ≡ buf.old.items ++ row_text id (option_map varint value)) }
     ensures kept { take (length buf.old.items) buf.new.items ≡ buf.old.items }
-    ensures fits { Each IsVarint value }
+    ensures fits { Each IsNumber value }
 {
     match value {
         Some(n) => put_varint_value(buf, id, n.into_inner()),
@@ -161,24 +161,18 @@ impl TransportParameters {
     pub fn write(&self, buf: &mut Vec<u8>) -> Result<(), AllocError>
         ensures ok { OnOk result (buf.new.items ≡ buf.old.items ++ parameters_spelling self.now) }
         ensures err { OnErr result (buf.new.items ≡ buf.old.items) }
-        ensures fits { OnOk result (Fits self.now) }
+        ensures fits { OnOk result (ParametersFit self.now) }
         ensures reads_back { OnOk result (ReadsBack self.now) }
     {
         let start = buf.len();
-        match self.put_rows(buf) {
-            Ok(()) => Ok(()),
-            Err(e) => {
-                buf.truncate(start);
-                Err(e)
-            },
-        }
+        or_cut_back(self.put_rows(buf), buf, start)
     }
 
     #[tactic(auto, unfolding(crate::specs::ParametersSpelling::parameters_spelling))]
     fn put_rows(&self, buf: &mut Vec<u8>) -> Result<(), AllocError>
         ensures ok { OnOk result (buf.new.items ≡ buf.old.items ++ parameters_spelling self.now) }
         ensures kept { take (length buf.old.items) buf.new.items ≡ buf.old.items }
-        ensures fits { OnOk result (Fits self.now) }
+        ensures fits { OnOk result (ParametersFit self.now) }
     {
         self.put_first_rows(buf)?;
         self.put_limit_rows(buf)?;

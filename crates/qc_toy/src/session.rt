@@ -15,7 +15,7 @@ use crate::keys::{keys_of_level, packet_keys_of};
 use crate::messages::{Kind, alert_of, body_of_first, body_of_second, put_message};
 use crate::packet_key::ToyPacketKey;
 use crate::settings::ToySettings;
-use qc_base::{ConnectionId, Side, TransportError, TransportErrorCode, VarInt};
+use qc_base::{ConnectionId, Side, TransportError, TransportErrorCode, VarInt, or_cut_back};
 use qc_crypto::{ExportKeyingMaterialError, KeyPair, Keys, Session, SessionError};
 use qc_params::TransportParameters;
 use std::alloc::{AllocError, Global};
@@ -418,13 +418,7 @@ impl Session for ToySession {
     ) -> Result<Option<Keys<ToyHeaderKey, ToyPacketKey>>, AllocError> {
         let before = buf.len();
         let due = self.due();
-        match self.put_due(due, buf) {
-            Ok(()) => {}
-            Err(e) => {
-                buf.truncate(before);
-                return Err(e);
-            }
-        }
+        or_cut_back(self.put_due(due, buf), buf, before)?;
         let keys = self.keys_due(due);
         self.progress = progress_after(self.progress, due);
         Ok(keys)

@@ -254,9 +254,7 @@ fn put_ecn(out: &mut Vec<u8>, ecn: Option<EcnCodepoint>) -> Result<(), AllocErro
 {
     match ecn {
         None => out.extend_from_slice(b"-"),
-        Some(EcnCodepoint::Ect1) => put_number(out, 1),
-        Some(EcnCodepoint::Ect0) => put_number(out, 2),
-        Some(EcnCodepoint::Ce) => put_number(out, 3),
+        Some(mark) => put_number(out, mark.bits() as u64),
     }
 }
 
