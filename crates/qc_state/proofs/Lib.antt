@@ -1,3 +1,4 @@
+pub mod RangesWith
 pub mod Seals
 pub mod Steps
 pub mod Told

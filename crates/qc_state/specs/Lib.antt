@@ -1,3 +1,4 @@
+pub mod AckRanges
 pub mod First
 pub mod Headline
 pub mod Keys

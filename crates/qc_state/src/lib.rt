@@ -3,6 +3,7 @@
 //! and laws.
 #![tactic(auto)]
 
+pub mod ack_set;
 pub mod body;
 pub mod crypto_queue;
 pub mod deeds;
@@ -21,6 +22,7 @@ pub mod trace;
 pub mod transmit;
 pub mod waiting;
 
+pub use ack_set::AckSet;
 pub use body::Body;
 pub use crypto_queue::CryptoQueue;
 pub use deeds::{Did, Dids, Quiet};
