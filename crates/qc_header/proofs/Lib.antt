@@ -1,3 +1,4 @@
+pub mod FrontHeader
 pub mod Cuts
 pub mod Finished
 pub mod ReadHeaders

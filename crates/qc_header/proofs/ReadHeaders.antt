@@ -1,5 +1,5 @@
 -- A header that was written is read, whatever mask is over it and whatever comes behind it
-use Rattle.std.proofs.Common.{◌≡◌, ℕ, ◌+◌, ◌-◌, ◌/◌, ◌%◌, ◌^◌, ◌<◌, ◌≤◌, ◌==◌, ◌&&◌, ◌⊎◌, not, inl, inr, cond, Bool, true, false, List, ◌∷◌, ◌++◌, length, nat_lt, None, Some, Ok, refl, arith, lit≤, lit<}
+use Rattle.std.proofs.Common.{◌≡◌, ℕ, ◌+◌, ◌-◌, ◌/◌, ◌%◌, ◌^◌, ◌<◌, ◌≤◌, ◌==◌, ◌&&◌, ◌⊎◌, not, inl, inr, cond, Bool, true, false, List, [], ◌∷◌, ◌++◌, length, take, drop, nat_lt, None, Some, Ok, refl, arith, lit≤, lit<}
 use Rattle.std.proofs.lemmas.Bool.{and_right}
 use Rattle.std.proofs.lemmas.Bool.Decides.{nat_tests}
 use Rattle.std.specs.List.{list_any}
@@ -75,7 +75,7 @@ unfolding long_at
 zero_reads size first versions dst src z dst_fits src_fits =
     rw (version_reads 0 (id_field dst ++ (id_field src ++ z)) (lit< tt), id_reads dst (id_field src ++ z) dst_fits, id_reads src z src_fits) refl
 
-fixed_let : (first : ℕ) (grease : Bool) → (first / 64 % 2 ≡ 1) ⊎ (grease ≡ true) → (first / 64 % 2 == 0 && not grease) ≡ false
+pub fixed_let : (first : ℕ) (grease : Bool) → (first / 64 % 2 ≡ 1) ⊎ (grease ≡ true) → (first / 64 % 2 == 0 && not grease) ≡ false
 fixed_let first grease (inl fixed) = rw fixed refl
 fixed_let first grease (inr greased) = rw greased (and_right (first / 64 % 2 == 0) false refl)
 
@@ -91,7 +91,7 @@ zero_first size k first versions z grease high fixed =
 pub retry_piece : (k first v : ℕ) (versions dst src w : List ℕ) (grease : Bool)
     → first / 16 ≡ 15 → v < 2 ^ 32 → v == 0 ≡ false → list_any (λ u. u == v) versions ≡ true → length dst ≤ 20 → length src ≤ 20
     → let datagram = first ∷ (to_be_bytes w32 v ++ (id_field dst ++ (id_field src ++ w))) in
-    piece_at k versions grease datagram ≡ Ok (record { header = Retry dst src v; place = length datagram - length w; end = length datagram })
+    piece_at k versions grease datagram ≡ Ok (record { header = Retry dst src v; pn_offset = length datagram - length w; bytes = datagram }, [])
 unfolding piece_at typed_at
 retry_piece k first v versions dst src w grease kind fits some known dst_fits src_fits =
     let datagram = first ∷ (to_be_bytes w32 v ++ (id_field dst ++ (id_field src ++ w))) in
@@ -105,7 +105,7 @@ pub negotiation_piece : (k first : ℕ) (versions dst src w : List ℕ) (grease 
     → 128 ≤ first → (first / 64 % 2 ≡ 1) ⊎ (grease ≡ true) → length dst ≤ 20 → length src ≤ 20
     → let datagram = first ∷ (to_be_bytes w32 0 ++ (id_field dst ++ (id_field src ++ w))) in
     piece_at k versions grease datagram
-    ≡ Ok (record { header = VersionNegotiate (first % 128) src dst; place = length datagram - length w; end = length datagram })
+    ≡ Ok (record { header = VersionNegotiate (first % 128) src dst; pn_offset = length datagram - length w; bytes = datagram }, [])
 unfolding piece_at
 negotiation_piece k first versions dst src w grease high fixed dst_fits src_fits =
     let datagram = first ∷ (to_be_bytes w32 0 ++ (id_field dst ++ (id_field src ++ w))) in
@@ -121,9 +121,9 @@ pub initial_piece : (k first v n : ℕ) (versions dst src token w : List ℕ) (g
     piece_at k versions grease datagram
     ≡ Ok (record {
       header = Initial dst src (length datagram - length (token ++ (to_be_bytes w16 (0x4000 + n) ++ w))) (length token) v;
-      place = length datagram - length w;
-      end = length datagram - length w + n;
-    })
+      pn_offset = length datagram - length w;
+      bytes = take (length datagram - length w + n) datagram;
+    }, drop (length datagram - length w + n) datagram)
 unfolding piece_at typed_at
 initial_piece k first v n versions dst src token w grease kind fits some known dst_fits src_fits token_fits n_fits room =
     let behind_ids = varint (length token) ++ (token ++ (to_be_bytes w16 (0x4000 + n) ++ w)) in
@@ -157,7 +157,7 @@ pub numbered_piece : (k first v n : ℕ) (ty : LongType) (versions dst src w : L
     → n < 2 ^ 14 → n ≤ length w
     → let datagram = first ∷ (to_be_bytes w32 v ++ (id_field dst ++ (id_field src ++ (to_be_bytes w16 (0x4000 + n) ++ w)))) in
     piece_at k versions grease datagram
-    ≡ Ok (record { header = Long ty dst src v; place = length datagram - length w; end = length datagram - length w + n })
+    ≡ Ok (record { header = Long ty dst src v; pn_offset = length datagram - length w; bytes = take (length datagram - length w + n) datagram }, drop (length datagram - length w + n) datagram)
 unfolding piece_at
 numbered_piece k first v n ty versions dst src w grease kind fits some known dst_fits src_fits n_fits room =
     let behind_ids = to_be_bytes w16 (0x4000 + n) ++ w in
@@ -175,7 +175,7 @@ numbered_piece k first v n ty versions dst src w grease kind fits some known dst
 pub short_piece : (k first : ℕ) (spin : Bool) (versions dst w : List ℕ) (grease : Bool)
     → first / 32 ≡ 2 + cond spin 1 0 → length dst ≡ k
     → let datagram = first ∷ (dst ++ w) in
-    piece_at k versions grease datagram ≡ Ok (record { header = Short spin dst; place = length datagram - length w; end = length datagram })
+    piece_at k versions grease datagram ≡ Ok (record { header = Short spin dst; pn_offset = length datagram - length w; bytes = datagram }, [])
 unfolding piece_at header_at short_at
 short_piece k first true versions dst w grease kind size =
     let short : nat_lt first 128 ≡ true = grind (arith, nat_tests) in

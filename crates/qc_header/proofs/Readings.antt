@@ -1,5 +1,5 @@
 -- What a reader lets through
-use Rattle.std.proofs.Common.{◌≡◌, ℕ, ◌+◌, ◌-◌, ◌/◌, ◌%◌, ◌<◌, ◌≤◌, ◌^◌, ◌==◌, ◌&&◌, ◌⊎◌, inl, inr, not, cond, Bool, true, false, List, ◌∷◌, length, nat_lt, Option, None, Some, Result, Ok, Err, option_and_then, refl, ap, subst, arith}
+use Rattle.std.proofs.Common.{◌≡◌, ℕ, ◌+◌, ◌-◌, ◌/◌, ◌%◌, ◌<◌, ◌≤◌, ◌^◌, ◌==◌, ◌&&◌, ◌⊎◌, inl, inr, not, cond, Bool, true, false, List, ◌∷◌, length, take, drop, nat_lt, Option, None, Some, Result, Ok, Err, option_and_then, refl, ap, subst, arith}
 use Rattle.std.proofs.lemmas.Bool.Decides.{nat_tests}
 use Rattle.std.proofs.lemmas.Grind.{common_steps}
 use Rattle.std.specs.Option.{ok_or}
@@ -18,8 +18,10 @@ use Rattle.qc_header.specs.declared.protected.PacketDecodeError.{PacketDecodeErr
 use Rattle.qc_header.specs.declared.protected.PacketDecodeError.TheVariants.{InvalidHeader, UnsupportedVersion}
 use Rattle.qc_header.specs.declared.protected.ProtectedHeader.{ProtectedHeader}
 use Rattle.qc_header.specs.declared.protected.ProtectedHeader.TheVariants.{Initial, Long, Retry, Short, VersionNegotiate}
-use Rattle.qc_header.specs.HeaderReading.{Place, id_of, initial_at, numbered_at, typed_at, long_at, short_at, header_at, placed, place_of, piece_at}
-use Rattle.qc_header.specs.ReadBack.{AreIds, IsKnown}
+use Rattle.qc_header.specs.HeaderReading.{id_of, initial_at, numbered_at, typed_at, long_at, short_at, header_at, packet_at, piece_at}
+use Rattle.qc_header.specs.Piece.{Piece}
+use Rattle.qc_header.specs.Known.{IsKnown}
+use Rattle.qc_header.specs.ReadBack.{AreIds}
 
 -- ---- readers whose values have a property
 
@@ -46,7 +48,7 @@ lets_give {P = P} x p = record {
   );
 }
 
-went_on : {E A : Type 0} (test : Bool) (e : E) (v : Result A E) (x : A) → cond test (Err e) v ≡ Ok x → (test ≡ false) × (v ≡ Ok x)
+pub went_on : {E A : Type 0} (test : Bool) (e : E) (v : Result A E) (x : A) → cond test (Err e) v ≡ Ok x → (test ≡ false) × (v ≡ Ok x)
 went_on true e v x is = cc
 went_on false e v x is = (refl, is)
 
@@ -71,12 +73,12 @@ not_long : (test : Bool) (v : Option (List ℕ × List ℕ)) (x : List ℕ × Li
 not_long true v x e = cc
 not_long false v x e = (refl, e)
 
-id_steps : (v : Option (ℕ × List ℕ)) (x z : List ℕ) → option_and_then (λ p. cond (nat_lt 20 p.0) None (bytes_of p.0 p.1)) v ≡ Some (x, z)
+pub id_steps : (v : Option (ℕ × List ℕ)) (x z : List ℕ) → option_and_then (λ p. cond (nat_lt 20 p.0) None (bytes_of p.0 p.1)) v ≡ Some (x, z)
     → (n : ℕ) × (b : List ℕ) × (v ≡ Some (n, b)) × (nat_lt 20 n ≡ false) × (bytes_of n b ≡ Some (x, z))
 id_steps None x z e = cc
 id_steps (Some p) x z e = let w = not_long (nat_lt 20 p.0) (bytes_of p.0 p.1) (x, z) e in (p.0, p.1, refl, w.0, w.1)
 
-was_some : {E A : Type 0} (v : Option A) (x : A) (e : E) → ok_or v e ≡ Ok x → v ≡ Some x
+pub was_some : {E A : Type 0} (v : Option A) (x : A) (e : E) → ok_or v e ≡ Ok x → v ≡ Some x
 was_some None x e is = cc
 was_some (Some y) x e is = cc
 
@@ -193,26 +195,23 @@ module _ (k : ℕ) (versions : List ℕ) (grease : Bool) where
 
 -- ---- pieces
 
-header_in : Result Place PacketDecodeError → ProtectedHeader → ProtectedHeader
-header_in (Ok p) other = p.header
+header_in : Result (Piece × List ℕ) PacketDecodeError → ProtectedHeader → ProtectedHeader
+header_in (Ok p) other = p.0.header
 header_in (Err e) other = other
 
-placed_header : (size : ℕ) (h : ProtectedHeader) (payload_len : Option ℕ) (left : ℕ) (p : Place) → placed size h payload_len left ≡ Ok p → h ≡ p.header
+packet_header : (datagram : List ℕ) (h : ProtectedHeader) (payload_len : Option ℕ) (left : ℕ) (p : Piece) (z : List ℕ)
+    → packet_at datagram h payload_len left ≡ Ok (p, z) → h ≡ p.header
 unfolding header_in
-placed_header size h None left p e = ap (λ r. header_in r h) e
-placed_header size h (Some n) left p e =
-    let w = went_on (nat_lt left n) InvalidHeader (Ok (record { header = h; place = size - left; end = size - left + n })) p e in
+packet_header datagram h None left p z e = ap (λ r. header_in r h) e
+packet_header datagram h (Some n) left p z e =
+    let end = length datagram - left + n in
+    let w = went_on (nat_lt left n) InvalidHeader (Ok (record { header = h; pn_offset = length datagram - left; bytes = take end datagram }, drop end datagram)) (p, z) e in
     ap (λ r. header_in r h) w.1
 
-place_steps : (size : ℕ) (v : Result ((ProtectedHeader × Option ℕ) × List ℕ) PacketDecodeError) (p : Place) → place_of size v ≡ Ok p
-    → (x : ProtectedHeader × Option ℕ) × (z : List ℕ) × (v ≡ Ok (x, z)) × (x.0 ≡ p.header)
-place_steps size (Err e) p is = cc
-place_steps size (Ok x) p is = (x.0, x.1, refl, placed_header size x.0.0 x.0.1 (length x.1) p is)
-
-pub piece_lets : (k : ℕ) (versions : List ℕ) (grease : Bool) (datagram : List ℕ) (p : Place) → IsBytes datagram
-    → piece_at k versions grease datagram ≡ Ok p → IsOf k versions grease p.header
+pub piece_lets : (k : ℕ) (versions : List ℕ) (grease : Bool) (datagram : List ℕ) (p : Piece) (z : List ℕ) → IsBytes datagram
+    → piece_at k versions grease datagram ≡ Ok (p, z) → IsOf k versions grease p.header
 unfolding piece_at
-piece_lets k versions grease datagram p bytes e =
-    let w = place_steps (length datagram) (header_at (length datagram) k versions grease datagram) p e in
+piece_lets k versions grease datagram p z bytes e =
+    let w = two_steps (header_at (length datagram) k versions grease datagram) (λ heading rest. packet_at datagram heading.0 heading.1 (length rest)) p z e in
     let lets = (header_lets k versions grease (length datagram)).through datagram w.0 w.1 bytes w.2 in
-    subst (λ (h : ProtectedHeader). IsOf k versions grease h) w.3 lets.0
+    subst (λ (h : ProtectedHeader). IsOf k versions grease h) (packet_header datagram w.0.0 w.0.1 (length w.1) p z w.3) lets.0

@@ -19,7 +19,7 @@ pub initial_finishes : (mask_of : List ℕ → List ℕ) (h : InitialHeader) (n 
     → FitsItsForm h.number → 20 ≤ number_len h.number + length payload
     → Finishes mask_of (record {
       header = readable.Initial h.dst_cid h.src_cid (token_place h) (length h.token) h.version;
-      place = number_place (written.Initial h) n;
+      pn_offset = number_place (written.Initial h) n;
       bytes = protected_packet mask_of (written.Initial h) n payload;
     }) (written.Initial h) (header_spelling (written.Initial h) n) payload
 initial_finishes mask_of h n payload fits some =
@@ -40,7 +40,7 @@ pub long_finishes : (mask_of : List ℕ → List ℕ) (ty : LongType) (dst src :
     → FitsItsForm number → 20 ≤ number_len number + length payload
     → Finishes mask_of (record {
       header = readable.Long ty dst src v;
-      place = number_place (written.Long ty dst src number v) n;
+      pn_offset = number_place (written.Long ty dst src number v) n;
       bytes = protected_packet mask_of (written.Long ty dst src number v) n payload;
     }) (written.Long ty dst src number v) (header_spelling (written.Long ty dst src number v) n) payload
 long_finishes mask_of ty dst src number v n payload fits some =
@@ -60,7 +60,7 @@ pub short_finishes : (mask_of : List ℕ → List ℕ) (spin key_phase : Bool) (
     → FitsItsForm number → 20 ≤ number_len number + length payload
     → Finishes mask_of (record {
       header = readable.Short spin dst;
-      place = number_place (written.Short spin key_phase dst number) n;
+      pn_offset = number_place (written.Short spin key_phase dst number) n;
       bytes = protected_packet mask_of (written.Short spin key_phase dst number) n payload;
     }) (written.Short spin key_phase dst number) (header_spelling (written.Short spin key_phase dst number) n) payload
 short_finishes mask_of spin key_phase dst number n payload fits some =

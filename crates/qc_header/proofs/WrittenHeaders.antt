@@ -1,5 +1,5 @@
 -- Written headers, under a mask, are read; and their fields come back
-use Rattle.std.proofs.Common.{◌≡◌, ℕ, ◌+◌, ◌-◌, ◌*◌, ◌/◌, ◌%◌, ◌^◌, ◌<◌, ◌≤◌, ◌==◌, suc, Bool, true, false, List, ◌∷◌, ◌++◌, length, take, drop, nat_lt, bit_xor, Result, Ok, refl, ap, ◌∙◌, arith, append_assoc, length-append, lit<}
+use Rattle.std.proofs.Common.{◌≡◌, ℕ, ◌+◌, ◌-◌, ◌*◌, ◌/◌, ◌%◌, ◌^◌, ◌<◌, ◌≤◌, ◌==◌, suc, Bool, true, false, List, ◌∷◌, ◌++◌, length, take, drop, nat_lt, bit_xor, Result, Ok, refl, ap, ◌∙◌, arith, append_assoc, length-append, lit<, [], sym}
 use Rattle.std.proofs.Math.Nat.{mod-eq_of_lt}
 use Rattle.std.proofs.lemmas.Bool.Decides.{nat_tests}
 use Rattle.std.proofs.lemmas.Nat.{xor_shr}
@@ -17,10 +17,12 @@ use Rattle.qc_header.specs.declared.header.InitialHeader.{InitialHeader}
 use Rattle.qc_header.specs.declared.protected.PacketDecodeError.{PacketDecodeError}
 use Rattle.qc_header.specs.declared.protected.ProtectedHeader.{ProtectedHeader}
 use Rattle.qc_header.specs.declared.protected.ProtectedHeader.TheVariants as readable
-use Rattle.qc_header.specs.HeaderReading.{piece_at, Place}
+use Rattle.qc_header.specs.HeaderReading.{piece_at}
 use Rattle.qc_header.specs.HeaderSpelling.{header_spelling, initial_spelling, long_start, length_and_number, id_field, number_tag}
-use Rattle.qc_header.specs.Opened.{header_from, number_from}
-use Rattle.qc_header.specs.ReadBack.{FitsItsForm, IsWritable, IsKnown, token_place, number_place, protected_packet}
+use Rattle.qc_header.specs.Unprotected.{header_from, number_from}
+use Rattle.qc_header.specs.Known.{IsKnown}
+use Rattle.qc_header.specs.Piece.{Piece}
+use Rattle.qc_header.specs.ReadBack.{FitsItsForm, IsWritable, token_place, number_place, protected_packet}
 use Rattle.qc_header.proofs.ReadHeaders.{initial_piece}
 
 -- ---- masks
@@ -40,7 +42,7 @@ short_kind first m short =
 
 -- the mask that a packet gets, and what it makes of the first byte and of the bytes from the number on
 abbrev pub mask_at : (List ℕ → List ℕ) → ℕ → List ℕ → List ℕ
-mask_at mask_of place packet = mask_of (sample_at place packet)
+mask_at mask_of pn_offset packet = mask_of (sample_at pn_offset packet)
 
 abbrev pub masked_first : ℕ → List ℕ → ℕ
 masked_first first mask = bit_xor first (first_changes first (first_byte mask))
@@ -118,12 +120,20 @@ initial_packet mask_of h n payload =
       rw (initial_place h n, initial_whole h n payload) (masked_parts mask_of (length (initial_front h n)) first (initial_front h n) z refl),
     )
 
-abbrev pub read_at : ProtectedHeader → ℕ → ℕ → Result Place PacketDecodeError
-read_at header place end = Ok (record { header = header; place = place; end = end })
+abbrev pub read_at : ProtectedHeader → ℕ → List ℕ → List ℕ → Result (Piece × List ℕ) PacketDecodeError
+read_at header pn_offset bytes rest = Ok (record { header = header; pn_offset = pn_offset; bytes = bytes }, rest)
 
-pub same_place : (header header' : ProtectedHeader) (place place' end end' : ℕ) → header ≡ header' → place ≡ place' → end ≡ end'
-    → read_at header place end ≡ read_at header' place' end'
-same_place header header' place place' end end' a b c = rw (a, b, c) refl
+pub same_place : (header header' : ProtectedHeader) (pn_offset pn_offset' : ℕ) (bytes bytes' rest rest' : List ℕ)
+    → header ≡ header' → pn_offset ≡ pn_offset' → bytes ≡ bytes' → rest ≡ rest'
+    → read_at header pn_offset bytes rest ≡ read_at header' pn_offset' bytes' rest'
+same_place header header' pn_offset pn_offset' bytes bytes' rest rest' a b c d = rw (a, b, c, d) refl
+
+-- where a packet ends that another may follow
+pub cut_front : (front rest datagram : List ℕ) (end : ℕ) → datagram ≡ front ++ rest → end ≡ length front → take end datagram ≡ front
+cut_front front rest datagram end e size = rw (e, size) (take-append_seam front rest)
+
+pub cut_rest : (front rest datagram : List ℕ) (end : ℕ) → datagram ≡ front ++ rest → end ≡ length front → drop end datagram ≡ rest
+cut_rest front rest datagram end e size = rw (e, size) (drop-append_seam front rest)
 
 same_token : (h : InitialHeader) (start start' : ℕ) → start ≡ start'
     → readable.Initial h.dst_cid h.src_cid start (length h.token) h.version ≡ readable.Initial h.dst_cid h.src_cid start' (length h.token) h.version
@@ -135,9 +145,9 @@ initial_found : (k n first : ℕ) (versions z rest : List ℕ) (grease : Bool) (
     → piece_at k versions grease ((first ∷ (initial_front h n ++ z)) ++ rest)
     ≡ Ok (record {
       header = readable.Initial h.dst_cid h.src_cid (token_place h) (length h.token) h.version;
-      place = number_place (written.Initial h) n;
-      end = length (first ∷ (initial_front h n ++ z));
-    })
+      pn_offset = number_place (written.Initial h) n;
+      bytes = first ∷ (initial_front h n ++ z);
+    }, rest)
 initial_found k n first versions z rest grease h kind writable token_fits known n_fits size =
     let w = z ++ rest in
     let found = initial_piece k first h.version n versions h.dst_cid h.src_cid h.token w grease kind writable.version
@@ -150,13 +160,17 @@ initial_found k n first versions z rest grease h kind writable token_fits known 
     let behind = length-append z rest in
     let token : length datagram - length (h.token ++ (to_be_bytes w16 (0x4000 + n) ++ w)) ≡ token_place h =
     omega (arith, length-append h.token (to_be_bytes w16 (0x4000 + n) ++ w)) in
-    let place : length datagram - length w ≡ number_place (written.Initial h) n = omega (arith, initial_place h n) in
+    let pn_offset : length datagram - length w ≡ number_place (written.Initial h) n = omega (arith, initial_place h n) in
     let end : length datagram - length w + n ≡ length (first ∷ (initial_front h n ++ z)) = omega (arith, length-append (initial_front h n) z) in
+    let split : datagram ≡ (first ∷ (initial_front h n ++ z)) ++ rest = ap (λ (l : List ℕ). first ∷ l) (sym apart) in
     ap (λ (l : List ℕ). piece_at k versions grease (first ∷ l)) apart ∙ found
     ∙ same_place (readable.Initial h.dst_cid h.src_cid (length datagram - length (h.token ++ (to_be_bytes w16 (0x4000 + n) ++ w))) (length h.token) h.version)
     (readable.Initial h.dst_cid h.src_cid (token_place h) (length h.token) h.version)
-    (length datagram - length w) (number_place (written.Initial h) n) (length datagram - length w + n) (length (first ∷ (initial_front h n ++ z)))
-    (same_token h _ _ token) place end
+    (length datagram - length w) (number_place (written.Initial h) n)
+    (take (length datagram - length w + n) datagram) (first ∷ (initial_front h n ++ z)) (drop (length datagram - length w + n) datagram) rest
+    (same_token h _ _ token) pn_offset
+    (cut_front (first ∷ (initial_front h n ++ z)) rest datagram (length datagram - length w + n) split end)
+    (cut_rest (first ∷ (initial_front h n ++ z)) rest datagram (length datagram - length w + n) split end)
 
 initial_kind : (number : PacketNumber) (mask : List ℕ) → masked_first (0xc0 + number_tag number) mask / 16 ≡ 12
 initial_kind number mask =
@@ -180,9 +194,9 @@ pub initial_is_read : (mask_of : List ℕ → List ℕ) (k n : ℕ) (versions : 
     → piece_at k versions grease (protected_packet mask_of (written.Initial h) n payload ++ rest)
     ≡ Ok (record {
       header = readable.Initial h.dst_cid h.src_cid (token_place h) (length h.token) h.version;
-      place = number_place (written.Initial h) n;
-      end = length (protected_packet mask_of (written.Initial h) n payload);
-    })
+      pn_offset = number_place (written.Initial h) n;
+      bytes = protected_packet mask_of (written.Initial h) n payload;
+    }, rest)
 initial_is_read mask_of k n versions grease h payload rest writable token_fits known n_fits size =
     let packet = initial_packet mask_of h n payload in
     let first = masked_first (0xc0 + number_tag h.number) packet.0 in
@@ -205,16 +219,16 @@ initial_token h n =
     let before : List ℕ = (0xc0 + number_tag h.number) ∷ (to_be_bytes w32 h.version ++ (id_field h.dst_cid ++ (id_field h.src_cid ++ varint (length h.token)))) in
     let behind : List ℕ = to_be_bytes w16 (0x4000 + n) ++ number_bytes h.number in
     let shape : header_spelling (written.Initial h) n ≡ before ++ (h.token ++ behind) = initial_shape h n ∙ simp append_assoc in
-    let place : token_place h ≡ length before =
+    let pn_offset : token_place h ≡ length before =
     omega (arith, length-append h.dst_cid (id_field h.src_cid ++ varint (length h.token)), length-append h.src_cid (varint (length h.token))) in
-    rw (shape, place, drop-append_seam before (h.token ++ behind), take-append_seam h.token behind) refl
+    rw (shape, pn_offset, drop-append_seam before (h.token ++ behind), take-append_seam h.token behind) refl
 
 initial_number : (h : InitialHeader) (n : ℕ) → drop (number_place (written.Initial h) n) (header_spelling (written.Initial h) n) ≡ number_bytes h.number
 initial_number h n =
     let before : List ℕ = (0xc0 + number_tag h.number) ∷ initial_front h n in
     let shape : header_spelling (written.Initial h) n ≡ before ++ number_bytes h.number = initial_shape h n in
-    let place : number_place (written.Initial h) n ≡ length before = initial_place h n in
-    rw (place, shape, drop-append_seam before (number_bytes h.number)) refl
+    let pn_offset : number_place (written.Initial h) n ≡ length before = initial_place h n in
+    rw (pn_offset, shape, drop-append_seam before (number_bytes h.number)) refl
 
 pub initial_comes_back : (h : InitialHeader) (n : ℕ) → FitsItsForm h.number
     → header_from (readable.Initial h.dst_cid h.src_cid (token_place h) (length h.token) h.version) (number_place (written.Initial h) n) (header_spelling (written.Initial h) n)

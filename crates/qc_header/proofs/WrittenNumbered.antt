@@ -1,5 +1,5 @@
 -- Written headers of 0-RTT, Handshake and 1-RTT packets, under a mask, are read; and their fields come back
-use Rattle.std.proofs.Common.{◌≡◌, ℕ, ◌+◌, ◌-◌, ◌/◌, ◌%◌, ◌^◌, ◌<◌, ◌==◌, suc, cond, Bool, true, false, List, ◌∷◌, ◌++◌, length, drop, Ok, refl, ap, ◌∙◌, arith, append_assoc, length-append}
+use Rattle.std.proofs.Common.{◌≡◌, ℕ, ◌+◌, ◌-◌, ◌/◌, ◌%◌, ◌^◌, ◌<◌, ◌==◌, suc, cond, Bool, true, false, List, ◌∷◌, ◌++◌, length, drop, Ok, refl, ap, ◌∙◌, arith, append_assoc, length-append, [], take, sym}
 use Rattle.std.proofs.Math.Seq.{drop-append_seam}
 use Rattle.std.specs.Int.{w16, w32, to_be_bytes}
 use Rattle.qc_base.specs.declared.packet_number.PacketNumber.{PacketNumber}
@@ -12,10 +12,11 @@ use Rattle.qc_header.specs.declared.protected.ProtectedHeader.TheVariants as rea
 use Rattle.qc_header.specs.HeaderReading.{piece_at}
 use Rattle.qc_base.specs.Spelling.{bit}
 use Rattle.qc_header.specs.HeaderSpelling.{header_spelling, short_spelling, long_start, length_and_number, id_field, number_tag, long_first}
-use Rattle.qc_header.specs.Opened.{header_from, number_from}
-use Rattle.qc_header.specs.ReadBack.{FitsItsForm, IsWritable, IsKnown, number_place, protected_packet}
+use Rattle.qc_header.specs.Unprotected.{header_from, number_from}
+use Rattle.qc_header.specs.Known.{IsKnown}
+use Rattle.qc_header.specs.ReadBack.{FitsItsForm, IsWritable, number_place, protected_packet}
 use Rattle.qc_header.proofs.ReadHeaders.{numbered_piece, short_piece, kind_of}
-use Rattle.qc_header.proofs.WrittenHeaders.{long_kind, short_kind, mask_at, masked_first, masked_rest, masked_parts, length-number_bytes, tag_small, version_some, behind_number, number_back, same_place}
+use Rattle.qc_header.proofs.WrittenHeaders.{cut_front, cut_rest, long_kind, short_kind, mask_at, masked_first, masked_rest, masked_parts, length-number_bytes, tag_small, version_some, behind_number, number_back, same_place}
 
 -- ---- 0-RTT and Handshake packets
 
@@ -66,9 +67,9 @@ long_found : (k n first v : ℕ) (ty : LongType) (versions dst src z rest : List
     → piece_at k versions grease ((first ∷ (long_front dst src v n ++ z)) ++ rest)
     ≡ Ok (record {
       header = readable.Long ty dst src v;
-      place = number_place (written.Long ty dst src number v) n;
-      end = length (first ∷ (long_front dst src v n ++ z));
-    })
+      pn_offset = number_place (written.Long ty dst src number v) n;
+      bytes = first ∷ (long_front dst src v n ++ z);
+    }, rest)
 long_found k n first v ty versions dst src z rest grease number kind writable known n_fits size =
     let w = z ++ rest in
     let found = numbered_piece k first v n ty versions dst src w grease kind writable.version
@@ -78,20 +79,24 @@ long_found k n first v ty versions dst src z rest grease number kind writable kn
     let all : length datagram ≡ suc (length (long_front dst src v n)) + length z + length rest =
     omega (arith, ap length apart, length-append (long_front dst src v n ++ z) rest, length-append (long_front dst src v n) z) in
     let behind = length-append z rest in
-    let place : length datagram - length w ≡ number_place (written.Long ty dst src number v) n = omega (arith, long_place ty dst src number v n) in
+    let pn_offset : length datagram - length w ≡ number_place (written.Long ty dst src number v) n = omega (arith, long_place ty dst src number v n) in
     let end : length datagram - length w + n ≡ length (first ∷ (long_front dst src v n ++ z)) = omega (arith, length-append (long_front dst src v n) z) in
+    let split : datagram ≡ (first ∷ (long_front dst src v n ++ z)) ++ rest = ap (λ (l : List ℕ). first ∷ l) (sym apart) in
     ap (λ (l : List ℕ). piece_at k versions grease (first ∷ l)) apart ∙ found
     ∙ same_place (readable.Long ty dst src v) (readable.Long ty dst src v) (length datagram - length w) (number_place (written.Long ty dst src number v) n)
-    (length datagram - length w + n) (length (first ∷ (long_front dst src v n ++ z))) refl place end
+    (take (length datagram - length w + n) datagram) (first ∷ (long_front dst src v n ++ z)) (drop (length datagram - length w + n) datagram) rest
+    refl pn_offset
+    (cut_front (first ∷ (long_front dst src v n ++ z)) rest datagram (length datagram - length w + n) split end)
+    (cut_rest (first ∷ (long_front dst src v n ++ z)) rest datagram (length datagram - length w + n) split end)
 
 pub long_is_read : (mask_of : List ℕ → List ℕ) (k n v : ℕ) (ty : LongType) (versions dst src : List ℕ) (grease : Bool) (number : PacketNumber) (payload rest : List ℕ)
     → IsWritable dst src number v → IsKnown v versions → n < 2 ^ 14 → n ≡ number_len number + length payload
     → piece_at k versions grease (protected_packet mask_of (written.Long ty dst src number v) n payload ++ rest)
     ≡ Ok (record {
       header = readable.Long ty dst src v;
-      place = number_place (written.Long ty dst src number v) n;
-      end = length (protected_packet mask_of (written.Long ty dst src number v) n payload);
-    })
+      pn_offset = number_place (written.Long ty dst src number v) n;
+      bytes = protected_packet mask_of (written.Long ty dst src number v) n payload;
+    }, rest)
 long_is_read mask_of k n v ty versions dst src grease number payload rest writable known n_fits size =
     let packet = long_packet mask_of ty dst src number v n payload in
     let first = masked_first (long_first ty + number_tag number) packet.0 in
@@ -105,8 +110,8 @@ long_number : (ty : LongType) (dst src : List ℕ) (number : PacketNumber) (v n 
 long_number ty dst src number v n =
     let before : List ℕ = (long_first ty + number_tag number) ∷ long_front dst src v n in
     let shape : header_spelling (written.Long ty dst src number v) n ≡ before ++ number_bytes number = long_shape ty dst src number v n in
-    let place : number_place (written.Long ty dst src number v) n ≡ length before = long_place ty dst src number v n in
-    rw (place, shape, drop-append_seam before (number_bytes number)) refl
+    let pn_offset : number_place (written.Long ty dst src number v) n ≡ length before = long_place ty dst src number v n in
+    rw (pn_offset, shape, drop-append_seam before (number_bytes number)) refl
 
 pub long_comes_back : (ty : LongType) (dst src : List ℕ) (number : PacketNumber) (v n : ℕ) → FitsItsForm number
     → header_from (readable.Long ty dst src v) (number_place (written.Long ty dst src number v) n) (header_spelling (written.Long ty dst src number v) n)
@@ -151,9 +156,9 @@ pub short_is_read : (mask_of : List ℕ → List ℕ) (k n : ℕ) (versions dst 
     → piece_at k versions grease (protected_packet mask_of (written.Short spin key_phase dst number) n payload)
     ≡ Ok (record {
       header = readable.Short spin dst;
-      place = number_place (written.Short spin key_phase dst number) n;
-      end = length (protected_packet mask_of (written.Short spin key_phase dst number) n payload);
-    })
+      pn_offset = number_place (written.Short spin key_phase dst number) n;
+      bytes = protected_packet mask_of (written.Short spin key_phase dst number) n payload;
+    }, [])
 short_is_read mask_of k n versions dst grease spin key_phase number payload size =
     let packet = short_packet mask_of spin key_phase dst number n payload in
     let high = short_high spin key_phase number in
@@ -162,19 +167,19 @@ short_is_read mask_of k n versions dst grease spin key_phase number payload size
     let kind = short_kind (short_byte spin key_phase number) (first_byte packet.0) high.0 ∙ high.1 in
     let found = short_piece k first spin versions dst w grease kind size in
     let datagram : List ℕ = first ∷ (dst ++ w) in
-    let place : length datagram - length w ≡ number_place (written.Short spin key_phase dst number) n =
+    let pn_offset : length datagram - length w ≡ number_place (written.Short spin key_phase dst number) n =
     omega (arith, short_place spin key_phase dst number n, length-append dst w) in
     rw packet.1
     (found ∙ same_place (readable.Short spin dst) (readable.Short spin dst) (length datagram - length w) (number_place (written.Short spin key_phase dst number) n)
-    (length datagram) (length datagram) refl place refl)
+    datagram datagram [] [] refl pn_offset refl refl)
 
 short_number : (spin key_phase : Bool) (dst : List ℕ) (number : PacketNumber) (n : ℕ)
     → drop (number_place (written.Short spin key_phase dst number) n) (header_spelling (written.Short spin key_phase dst number) n) ≡ number_bytes number
 short_number spin key_phase dst number n =
     let before : List ℕ = short_byte spin key_phase number ∷ dst in
     let shape : header_spelling (written.Short spin key_phase dst number) n ≡ before ++ number_bytes number = short_shape spin key_phase dst number n in
-    let place : number_place (written.Short spin key_phase dst number) n ≡ length before = short_place spin key_phase dst number n in
-    rw (place, shape, drop-append_seam before (number_bytes number)) refl
+    let pn_offset : number_place (written.Short spin key_phase dst number) n ≡ length before = short_place spin key_phase dst number n in
+    rw (pn_offset, shape, drop-append_seam before (number_bytes number)) refl
 
 short_phase : (spin key_phase : Bool) (number : PacketNumber) → (short_byte spin key_phase number / 4 % 2 == 1) ≡ key_phase
 short_phase true true number = let tag = tag_small number in let e : short_byte true true number / 4 % 2 ≡ 1 = omega arith in rw e refl

@@ -1,21 +1,26 @@
 -- Reading the header of a datagram's first packet (RFC 9000, section 17), as far as header
 -- protection lets it. The first fault in reading order counts.
-use Rattle.std.specs.Prelude.{◌≡◌, MatchResult, ℕ, ◌+◌, ◌-◌, ◌<◌, ◌/◌, ◌%◌, ◌==◌, ◌&&◌, not, Bool, List, length, nat_lt, if◌then◌else◌, Option, Some, None, Result, Ok, Err}
+use Rattle.std.specs.Prelude.{◌≡◌, ℕ, ◌+◌, ◌-◌, ◌<◌, ◌/◌, ◌%◌, ◌==◌, ◌&&◌, not, Bool, List, [], length, take, drop, nat_lt, if◌then◌else◌, Option, Some, None, Result, Ok, Err}
 use Rattle.std.specs.List.{list_any}
 use Rattle.std.specs.Option.{option_and_then}
 use Rattle.std.specs.Int.{w32}
 use Rattle.qc_base.specs.declared.side.LongType.{LongType}
 use Rattle.qc_base.specs.declared.side.LongType.TheVariants.{Handshake, ZeroRtt}
-use Rattle.qc_base.specs.Reading.{Reader, ◌>>=◌, give, refuse, left_at, or_fault, byte_of, bytes_of, word_of, varint_of}
+use Rattle.qc_base.specs.Reading.{Reader, ◌>>=◌, read_on, give, refuse, left_at, or_fault, byte_of, bytes_of, word_of, varint_of}
+use Rattle.qc_header.specs.Piece.{Piece}
 use Rattle.qc_header.specs.declared.read.Head.{Head}
 use Rattle.qc_header.specs.declared.protected.PacketDecodeError.{PacketDecodeError}
 use Rattle.qc_header.specs.declared.protected.PacketDecodeError.TheVariants.{InvalidHeader, UnsupportedVersion}
 use Rattle.qc_header.specs.declared.protected.ProtectedHeader.{ProtectedHeader}
 use Rattle.qc_header.specs.declared.protected.ProtectedHeader.TheVariants.{Initial, Long, Retry, Short, VersionNegotiate}
 
--- what a reader gives of a header: the header, and the value of its Length field if it has one
+-- what is readable of a header, and the value of its Length field if it has one
+abbrev pub Heading : Type 0
+Heading = ProtectedHeader × Option ℕ
+
+-- what reads a heading
 abbrev pub HeaderReader : Type 0
-HeaderReader = Reader PacketDecodeError (ProtectedHeader × Option ℕ)
+HeaderReader = Reader PacketDecodeError Heading
 
 -- a field, or InvalidHeader where it is cut
 abbrev pub field : {X : Type 0} → (List ℕ → Option (X × List ℕ)) → Reader PacketDecodeError X
@@ -73,39 +78,35 @@ header_at size local_cid_len versions grease_quic_bit = do
   refuse (first / 64 % 2 == 0 && not grease_quic_bit) InvalidHeader
       (if nat_lt first 128 then short_at local_cid_len first else long_at size versions first)
 
--- where the packet's number begins, or its header ends; and where the packet ends
-pub record Place : Type 0 where
-  pub header : ProtectedHeader
-  pub place : ℕ
-  pub end : ℕ
-
--- the packet ends with the datagram, or where its Length field says, which may not be beyond
-abbrev pub placed : ℕ → ProtectedHeader → Option ℕ → ℕ → Result Place PacketDecodeError
-placed size header None left = Ok (record { header = header; place = size - left; end = size })
-placed size header (Some payload_len) left =
+-- the packet with this header, behind which left bytes stand: it ends with its datagram, or where its Length field
+-- says, which may not be beyond
+abbrev pub packet_at : List ℕ → ProtectedHeader → Option ℕ → ℕ → Result (Piece × List ℕ) PacketDecodeError
+packet_at datagram header None left =
+    Ok (record { header = header; pn_offset = length datagram - left; bytes = datagram }, [])
+packet_at datagram header (Some payload_len) left =
     if nat_lt left payload_len then Err InvalidHeader
-    else Ok (record { header = header; place = size - left; end = size - left + payload_len })
+    else Ok (
+      record {
+        header = header;
+        pn_offset = length datagram - left;
+        bytes = take (length datagram - left + payload_len) datagram;
+      },
+      drop (length datagram - left + payload_len) datagram,
+    )
 
-abbrev pub place_of : ℕ → Result ((ProtectedHeader × Option ℕ) × List ℕ) PacketDecodeError → Result Place PacketDecodeError
-place_of size (Ok x) = placed size x.0.0 x.0.1 (length x.1)
-place_of size (Err e) = Err e
-
--- the first packet of a datagram
-unfoldable pub piece_at : ℕ → List ℕ → Bool → List ℕ → Result Place PacketDecodeError
+-- the packet at the front of a datagram, and what is behind it
+unfoldable pub piece_at : ℕ → List ℕ → Bool → Reader PacketDecodeError Piece
 piece_at local_cid_len versions grease_quic_bit datagram =
-    place_of (length datagram) (header_at (length datagram) local_cid_len versions grease_quic_bit datagram)
+    read_on (header_at (length datagram) local_cid_len versions grease_quic_bit datagram)
+    (λ heading rest. packet_at datagram heading.0 heading.1 (length rest))
 
--- a first packet is read, and bytes are behind it
+-- a packet is read, and bytes are behind it
 abbrev pub IsFollowed : ℕ → List ℕ → Bool → List ℕ → Type 0
 IsFollowed local_cid_len versions grease_quic_bit datagram =
-    (first : Place) × (piece_at local_cid_len versions grease_quic_bit datagram ≡ Ok first) × (first.end < length datagram)
+    (p : Piece) × (rest : List ℕ)
+    × (piece_at local_cid_len versions grease_quic_bit datagram ≡ Ok (p, rest)) × (0 < length rest)
 
--- a reading, and how many bytes are behind it
-abbrev pub heading : Result ((ProtectedHeader × Option ℕ) × List ℕ) PacketDecodeError → Result ((ProtectedHeader × Option ℕ) × ℕ) PacketDecodeError
-heading (Ok x) = Ok (x.0, length x.1)
-heading (Err e) = Err e
-
--- what a function returned is this reading; of the bytes behind it says how many there are
-abbrev pub GivesHead : Result Head PacketDecodeError → Result ((ProtectedHeader × Option ℕ) × List ℕ) PacketDecodeError → Type 0
-GivesHead result reading =
-    MatchResult result (λ h. heading reading ≡ Ok ((h.header, h.payload_len), h.left)) (λ e. heading reading ≡ Err e)
+-- a function returned what this reading gives; of the bytes behind it says how many there are
+abbrev pub GivesHead : Result Head PacketDecodeError → Result (Heading × List ℕ) PacketDecodeError → Type 0
+GivesHead result (Ok x) = result ≡ Ok (record { header = x.0.0; payload_len = x.0.1; left = length x.1 })
+GivesHead result (Err e) = result ≡ Err e

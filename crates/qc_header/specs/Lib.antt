@@ -1,7 +1,10 @@
+pub mod HeaderGrammar
 pub mod HeaderReading
 pub mod HeaderSpelling
-pub mod Opened
+pub mod Known
 pub mod Piece
+pub mod Pieces
 pub mod ReadBack
 pub mod RoundTrip
 pub mod SetLength
+pub mod Unprotected

@@ -10,7 +10,7 @@ use Rattle.qc_header.specs.declared.protected.ProtectedHeader.TheVariants.{Initi
 -- number; and all of the packet's bytes
 pub record Piece : Type 0 where
   pub header : ProtectedHeader
-  pub place : ℕ
+  pub pn_offset : ℕ
   pub bytes : List ℕ
 
 -- where the token ends, if the form has one, else 0
@@ -21,9 +21,9 @@ token_end (Retry dst_cid src_cid version) = 0
 token_end (Short spin dst_cid) = 0
 token_end (VersionNegotiate random src_cid dst_cid) = 0
 
-pub record IsWithin (header : ProtectedHeader) (place : ℕ) (bytes : List ℕ) : Type 0 where
-  pub fits : place ≤ length bytes
-  pub token : token_end header ≤ place
+pub record IsWithin (header : ProtectedHeader) (pn_offset : ℕ) (bytes : List ℕ) : Type 0 where
+  pub fits : pn_offset ≤ length bytes
+  pub token : token_end header ≤ pn_offset
 
 -- the number space of a packet of this form (RFC 9000, section 12.3), if it has a number
 abbrev pub space_of : ProtectedHeader → Option SpaceId

@@ -1,6 +1,5 @@
 -- Headers that can be written, and what is read of them
-use Rattle.std.specs.Prelude.{ℕ, ◌+◌, ◌-◌, ◌<◌, ◌≤◌, ◌^◌, ◌==◌, ◌≡◌, IsTrue, List, ◌++◌, length, take, drop}
-use Rattle.std.specs.List.{list_any}
+use Rattle.std.specs.Prelude.{ℕ, ◌+◌, ◌-◌, ◌<◌, ◌≤◌, ◌^◌, ◌≡◌, List, ◌++◌, length, take, drop}
 use Rattle.std.specs.Option.{option_map_or}
 use Rattle.qc_base.specs.declared.packet_number.PacketNumber.{PacketNumber}
 use Rattle.qc_base.specs.declared.packet_number.PacketNumber.TheVariants.{U8, U16, U24, U32}
@@ -10,7 +9,7 @@ use Rattle.qc_base.specs.Varint.{varint}
 use Rattle.qc_header.specs.declared.header.Header.{Header}
 use Rattle.qc_header.specs.declared.header.InitialHeader.{InitialHeader}
 use Rattle.qc_header.specs.HeaderSpelling.{header_spelling, header_number}
-use Rattle.qc_header.specs.Opened.{IsCut, opened, header_end, header_from}
+use Rattle.qc_header.specs.Unprotected.{IsCut, unprotected, header_end, header_from}
 use Rattle.qc_header.specs.Piece.{Piece}
 
 -- the number's low bytes have as many bytes as its form says
@@ -32,11 +31,6 @@ pub record AreIds (dst_cid src_cid : List ℕ) : Type 0 where
   pub dst : length dst_cid ≤ 20
   pub src : length src_cid ≤ 20
 
--- the reader knows this version
-pub record IsKnown (version : ℕ) (versions : List ℕ) : Type 0 where
-  pub some : 0 < version
-  pub listed : IsTrue (list_any (λ v. v == version) versions)
-
 -- where the token of an Initial packet begins
 abbrev pub token_place : InitialHeader → ℕ
 token_place h = 7 + length h.dst_cid + length h.src_cid + length (varint (length h.token))
@@ -54,6 +48,6 @@ protected_packet mask_of header length_field payload =
 -- what is made of a packet once its header protection is off: this header, of these bytes, and what is behind them
 pub record Finishes (mask_of : List ℕ → List ℕ) (packet : Piece) (of_packet : Header) (spelling behind : List ℕ) : Type 0 where
   pub whole : IsCut packet → ⊥
-  pub header_data : take (header_end packet (opened mask_of packet)) (opened mask_of packet) ≡ spelling
-  pub payload : drop (header_end packet (opened mask_of packet)) (opened mask_of packet) ≡ behind
-  pub header : header_from packet.header packet.place spelling ≡ of_packet
+  pub header_data : take (header_end packet (unprotected mask_of packet)) (unprotected mask_of packet) ≡ spelling
+  pub payload : drop (header_end packet (unprotected mask_of packet)) (unprotected mask_of packet) ≡ behind
+  pub header : header_from packet.header packet.pn_offset spelling ≡ of_packet

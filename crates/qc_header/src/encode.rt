@@ -8,7 +8,7 @@ ghost use Rattle.qc_base.specs.Spelling.{bit};
 ghost use Rattle.qc_header.specs.HeaderSpelling.{header_spelling, header_number, header_most, initial_spelling, short_spelling, length_and_number, long_start, number_tag};
 ghost use Rattle.qc_header.specs.SetLength.{length_place, with_length, begun_by, IsPlaceOf};
 
-use crate::finish::first_of;
+use crate::finish::leading_byte;
 use crate::header::{Header, InitialHeader};
 use qc_base::{ConnectionId, LongType, PacketNumber, or_cut_back, put_varint, varint_size};
 use std::alloc::AllocError;
@@ -36,7 +36,7 @@ impl PartialEncode {
             return None;
         }
         let header = &bytes[self.start..];
-        if first_of(header) < 0x80 || header.len() < self.header_len {
+        if leading_byte(header) < 0x80 || header.len() < self.header_len {
             return None;
         }
         if self.header_len < pn_len || self.header_len - pn_len < 3 {

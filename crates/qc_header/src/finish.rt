@@ -3,7 +3,7 @@
 ghost use Rattle.std.specs.Prelude.{◌≡◌, ◌+◌, ◌<◌, ◌≤◌, ◌^◌, ◌⊎◌, ◌↔◌, ℕ, length, take, drop, IfOk, IfErr, OnErr, IsErrOf, IsErr, OnOk, IsTrue, IsSome};
 ghost use Rattle.qc_base.specs.Mask.{unmasked, first_byte, number_len_in};
 ghost use Rattle.qc_header.specs.Piece.{is_protected, token_end};
-ghost use Rattle.qc_header.specs.Opened.{IsCut, masks_of, opened, header_end, header_from, number_from};
+ghost use Rattle.qc_header.specs.Unprotected.{IsCut, masks_of, unprotected, header_end, header_from, number_from};
 
 use crate::header::{Header, InitialHeader};
 use crate::partial_decode::PartialDecode;
@@ -50,7 +50,7 @@ fn read_number(bytes: &[u8]) -> PacketNumber
 }
 
 /// The first byte, or 0 where there is none.
-pub(crate) fn first_of(bytes: &[u8]) -> u8
+pub(crate) fn leading_byte(bytes: &[u8]) -> u8
     ensures { result ≡ first_byte bytes.now }
 {
     match bytes {
@@ -59,17 +59,17 @@ pub(crate) fn first_of(bytes: &[u8]) -> u8
     }
 }
 
-/// The whole header, whose number begins at `place` of the unprotected bytes `header_data`.
+/// The whole header, whose number begins at `pn_offset` of the unprotected bytes `header_data`.
 fn read_header(
     header: ProtectedHeader,
-    place: usize,
+    pn_offset: usize,
     header_data: &Bytes,
 ) -> Result<Header, AllocError>
-    requires place { place ≤ length header_data.now }
-    requires token { token_end header ≤ place }
-    ensures { IfOk result (λ h. h ≡ header_from header place header_data.now) }
+    requires pn_offset { pn_offset ≤ length header_data.now }
+    requires token { token_end header ≤ pn_offset }
+    ensures { IfOk result (λ h. h ≡ header_from header pn_offset header_data.now) }
 {
-    let number = read_number(&header_data.as_slice()[place..]);
+    let number = read_number(&header_data.as_slice()[pn_offset..]);
     match header {
         ProtectedHeader::Initial {
             dst_cid,
@@ -110,7 +110,7 @@ fn read_header(
         }),
         ProtectedHeader::Short { spin, dst_cid } => Ok(Header::Short {
             spin,
-            key_phase: first_of(header_data.as_slice()) / 4 % 2 == 1,
+            key_phase: leading_byte(header_data.as_slice()) / 4 % 2 == 1,
             dst_cid,
             number,
         }),
@@ -126,60 +126,60 @@ fn read_header(
     }
 }
 
-/// Takes header protection off a packet whose number begins at `place`, and gives where its header
+/// Takes header protection off a packet whose number begins at `pn_offset`, and gives where its header
 /// ends; `InvalidHeader` exactly where the packet is too short for a sample.
 fn unprotect<H: HeaderMask>(
-    place: usize,
+    pn_offset: usize,
     bytes: &mut BytesMut,
     key: &H,
 ) -> Result<usize, PacketDecodeError>
-    requires { place ≤ length bytes.old.items }
-    ensures cut { IsErr result ↔ (length bytes.old.items < place + 20) }
+    requires { pn_offset ≤ length bytes.old.items }
+    ensures cut { IsErr result ↔ (length bytes.old.items < pn_offset + 20) }
     ensures refused { IfErr result (λ e. e ≡ PacketDecodeError.InvalidHeader) }
-    ensures opened { OnOk result (bytes.new.items ≡ unmasked (H.mask_of key.now) place bytes.old.items) }
-    ensures end { IfOk result (λ end. end ≡ place + number_len_in bytes.new.items) }
+    ensures unprotected { OnOk result (bytes.new.items ≡ unmasked (H.mask_of key.now) pn_offset bytes.old.items) }
+    ensures end { IfOk result (λ end. end ≡ pn_offset + number_len_in bytes.new.items) }
     ensures fits { IfOk result (λ end. end ≤ length bytes.new.items) }
 {
-    if bytes.len() < place + 20 {
+    if bytes.len() < pn_offset + 20 {
         return Err(PacketDecodeError::InvalidHeader);
     }
-    unmask_packet(key, place, bytes.as_mut_slice());
-    let tag = first_of(bytes.as_slice()) % 4;
-    Ok(place + tag as usize + 1)
+    unmask_packet(key, pn_offset, bytes.as_mut_slice());
+    let tag = leading_byte(bytes.as_slice()) % 4;
+    Ok(pn_offset + tag as usize + 1)
 }
 
 impl PartialDecode {
     /// Takes the packet's header protection off with `key`, which a protected packet needs, and
     /// cuts the header from the payload. `InvalidHeader` exactly where a protected packet has fewer
-    /// than 20 bytes from the place of its number on (RFC 9001, section 5.4.2).
+    /// than 20 bytes from where its number begins on (RFC 9001, section 5.4.2).
     pub fn finish<H: HeaderMask>(self, key: Option<&H>) -> Result<Packet, PacketDecodeError>
         requires { IsTrue (is_protected self.header) → IsSome key }
         ensures cut { IsErrOf result PacketDecodeError.InvalidHeader ↔ IsCut self }
         ensures refused { IfErr result (λ e. (e ≡ PacketDecodeError.OutOfMemory)
             ⊎ (e ≡ PacketDecodeError.InvalidHeader)) }
         ensures header { IfOk result (λ p. p.header
-            ≡ header_from self.header self.place p.header_data) }
+            ≡ header_from self.header self.pn_offset p.header_data) }
         ensures header_data { IfOk result (λ p.
-            let bytes = opened (masks_of H.mask_of key.entry) self in
+            let bytes = unprotected (masks_of H.mask_of key.entry) self in
             p.header_data ≡ take (header_end self bytes) bytes) }
         ensures payload { IfOk result (λ p.
-            let bytes = opened (masks_of H.mask_of key.entry) self in
+            let bytes = unprotected (masks_of H.mask_of key.entry) self in
             p.payload.items ≡ drop (header_end self bytes) bytes) }
     {
         let space = self.space();
         let PartialDecode {
             header,
-            place,
+            pn_offset,
             bytes,
         } = self;
         let mut bytes = bytes;
         if space.is_none() {
-            return cut(header, place, place, bytes);
+            return cut(header, pn_offset, pn_offset, bytes);
         }
         match key {
             Some(key) => {
-                let end = unprotect(place, &mut bytes, key)?;
-                cut(header, place, end, bytes)
+                let end = unprotect(pn_offset, &mut bytes, key)?;
+                cut(header, pn_offset, end, bytes)
             }
             None => unreachable!(),
         }
@@ -189,15 +189,15 @@ impl PartialDecode {
 /// Cuts a packet without header protection where its header ends.
 fn cut(
     header: ProtectedHeader,
-    place: usize,
+    pn_offset: usize,
     end: usize,
     bytes: BytesMut,
 ) -> Result<Packet, PacketDecodeError>
-    requires token { token_end header ≤ place }
-    requires place { place ≤ end }
+    requires token { token_end header ≤ pn_offset }
+    requires pn_offset { pn_offset ≤ end }
     requires end { end ≤ length bytes.items }
     ensures refused { IfErr result (λ e. e ≡ PacketDecodeError.OutOfMemory) }
-    ensures header { IfOk result (λ p. p.header ≡ header_from header place p.header_data) }
+    ensures header { IfOk result (λ p. p.header ≡ header_from header pn_offset p.header_data) }
     ensures header_data { IfOk result (λ p. p.header_data ≡ take end bytes.items) }
     ensures payload { IfOk result (λ p. p.payload.items ≡ drop end bytes.items) }
 {
@@ -206,7 +206,7 @@ fn cut(
         Ok(header_data) => header_data,
         Err(_) => return Err(PacketDecodeError::OutOfMemory),
     };
-    match read_header(header, place, &header_data) {
+    match read_header(header, pn_offset, &header_data) {
         Ok(header) => Ok(Packet {
             header,
             header_data,

@@ -7,7 +7,6 @@ mod header;
 mod partial_decode;
 mod protected;
 mod read;
-mod read_back;
 mod round_trip;
 
 pub use encode::PartialEncode;
@@ -15,10 +14,7 @@ pub use finish::{InitialPacket, Packet};
 pub use header::{Header, InitialHeader};
 pub use partial_decode::PartialDecode;
 pub use protected::{PacketDecodeError, ProtectedHeader};
-pub use read_back::{
-    initial_is_read, long_is_read, retry_is_read, short_is_read, version_negotiation_is_read,
-};
-pub use round_trip::header_comes_back;
+pub use round_trip::{header_comes_back, header_is_read};
 
 #[cfg(test)]
 mod boundary_tests;

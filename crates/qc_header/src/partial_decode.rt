@@ -1,11 +1,12 @@
 //! Packets whose headers are read as far as header protection lets it.
 
-ghost use Rattle.std.specs.Prelude.{◌≡◌, ◌<◌, ◌≤◌, ◌⊎◌, ℕ, length, take, drop, IfOk, IfErr, IsErrOf, MatchOption, Ok, Err};
+ghost use Rattle.std.specs.Prelude.{◌≡◌, ◌<◌, ◌≤◌, ◌⊎◌, [], length, IfOk, IfErr, IfSome, IsErrOf, Ok, Err};
+ghost use Rattle.std.specs.Option.{option_map_or};
 ghost use Rattle.qc_header.specs.HeaderReading.{piece_at, IsFollowed};
 ghost use Rattle.qc_header.specs.Piece.{space_of, is_0rtt_header};
 
 use crate::protected::{PacketDecodeError, ProtectedHeader};
-use crate::read::{Place, read_place};
+use crate::read::{Bounds, read_bounds};
 use bytes::BytesMut;
 use qc_base::{LongType, SpaceId};
 use std::marker::Model;
@@ -14,7 +15,7 @@ use std::marker::Model;
 #[derive(Debug, Drop)]
 pub struct PartialDecode {
     pub(crate) header: ProtectedHeader,
-    pub(crate) place: usize,
+    pub(crate) pn_offset: usize,
     pub(crate) bytes: BytesMut,
 }
 
@@ -24,9 +25,9 @@ impl Model for PartialDecode {
 
     ghost Value = { Piece };
 
-    ghost view = { λ p. record { header = p.header; place = p.place; bytes = p.bytes.items } };
+    ghost view = { λ p. record { header = p.header; pn_offset = p.pn_offset; bytes = p.bytes.items } };
 
-    ghost invariant = { λ p. IsWithin p.header p.place p.bytes.items };
+    ghost invariant = { λ p. IsWithin p.header p.pn_offset p.bytes.items };
 }
 
 impl PartialDecode {
@@ -44,26 +45,27 @@ impl PartialDecode {
         grease_quic_bit: bool,
     ) -> Result<(PartialDecode, Option<BytesMut>), PacketDecodeError>
         requires { local_cid_len ≤ 20 }
-        ensures piece { IfOk result (λ r. (end : ℕ)
-            × (piece_at local_cid_len versions.now grease_quic_bit bytes.items
-            ≡ Ok (record { header = r.0.header; place = r.0.place; end = end }))
-            × (r.0.place ≤ end) × (end ≤ length bytes.items)
-            × (r.0.bytes ≡ take end bytes.items)
-            × MatchOption r.1 (end ≡ length bytes.items)
-            (λ rest. (end < length bytes.items) × (rest.items ≡ drop end bytes.items))) }
+        ensures exact { IfOk result (λ r.
+            piece_at local_cid_len versions.now grease_quic_bit bytes.items
+            ≡ Ok (r.0, option_map_or (λ b. b.items) r.1 [])) }
+        ensures rest { IfOk result (λ r. IfSome r.1 (λ b. 0 < length b.items)) }
         ensures refused { IfErr result (λ e. (e ≡ PacketDecodeError.OutOfMemory)
             ⊎ (piece_at local_cid_len versions.now grease_quic_bit bytes.items ≡ Err e)) }
         ensures memory { IsErrOf result PacketDecodeError.OutOfMemory
             → IsFollowed local_cid_len versions.now grease_quic_bit bytes.items }
     {
-        let place = read_place(bytes.as_slice(), local_cid_len, versions, grease_quic_bit)?;
+        let bounds = read_bounds(bytes.as_slice(), local_cid_len, versions, grease_quic_bit)?;
         let mut bytes = bytes;
-        let Place { header, place, end } = place;
+        let Bounds {
+            header,
+            pn_offset,
+            end,
+        } = bounds;
         if end == bytes.len() {
             return Ok((
                 PartialDecode {
                     header,
-                    place,
+                    pn_offset,
                     bytes,
                 },
                 None,
@@ -73,7 +75,7 @@ impl PartialDecode {
             Ok(rest) => Ok((
                 PartialDecode {
                     header,
-                    place,
+                    pn_offset,
                     bytes,
                 },
                 Some(rest),

@@ -1,6 +1,6 @@
 //! Reading a header as far as header protection lets it (RFC 9000, section 17).
 
-ghost use Rattle.std.specs.Prelude.{◌≡◌, ◌≢◌, ◌+◌, ◌-◌, ◌<◌, ◌≤◌, ◌^◌, length, IfOk, IfErr, MatchResult, Ok, Err, List, ℕ};
+ghost use Rattle.std.specs.Prelude.{◌≡◌, ◌≢◌, ◌+◌, ◌-◌, ◌<◌, ◌≤◌, ◌^◌, length, take, drop, IfOk, IfErr, MatchResult, Ok, Err, List, ℕ};
 ghost use Rattle.qc_base.specs.Reading.{Finds};
 ghost use Rattle.qc_header.specs.Piece.{token_end};
 ghost use Rattle.qc_header.specs.HeaderReading.{id_of, initial_at, numbered_at, typed_at, long_at, short_at, header_at, piece_at, GivesHead};
@@ -207,33 +207,33 @@ fn read_head(
     }
 }
 
-/// Where the first packet of a datagram lies.
-pub(crate) struct Place {
+/// Where the packet at the front of a datagram lies.
+pub(crate) struct Bounds {
     /// What is readable of its header.
     pub(crate) header: ProtectedHeader,
     /// Where its number begins, or its header ends.
-    pub(crate) place: usize,
+    pub(crate) pn_offset: usize,
     /// Where the packet ends.
     pub(crate) end: usize,
 }
 
-/// The first packet of a datagram.
+/// The packet at the front of a datagram.
 #[tactic(auto, unfolding(crate::specs::HeaderReading::piece_at))]
-pub(crate) fn read_place(
+pub(crate) fn read_bounds(
     bytes: &[u8],
     local_cid_len: usize,
     versions: &[u32],
     grease_quic_bit: bool,
-) -> Result<Place, PacketDecodeError>
+) -> Result<Bounds, PacketDecodeError>
     requires { local_cid_len ≤ 20 }
     ensures exact { MatchResult result
-        (λ p. piece_at local_cid_len versions.now grease_quic_bit bytes.now
-        ≡ Ok (record { header = p.header; place = p.place; end = p.end }))
+        (λ b. piece_at local_cid_len versions.now grease_quic_bit bytes.now
+        ≡ Ok (record { header = b.header; pn_offset = b.pn_offset; bytes = take b.end bytes.now }, drop b.end bytes.now))
         (λ e. piece_at local_cid_len versions.now grease_quic_bit bytes.now ≡ Err e) }
     ensures fault { IfErr result (λ e. e ≢ PacketDecodeError.OutOfMemory) }
-    ensures order { IfOk result (λ p. p.place ≤ p.end) }
-    ensures end { IfOk result (λ p. p.end ≤ length bytes.now) }
-    ensures token { IfOk result (λ p. token_end p.header ≤ p.place) }
+    ensures order { IfOk result (λ b. b.pn_offset ≤ b.end) }
+    ensures end { IfOk result (λ b. b.end ≤ length bytes.now) }
+    ensures token { IfOk result (λ b. token_end b.header ≤ b.pn_offset) }
 {
     let size = bytes.len();
     let head = read_head(bytes, local_cid_len, versions, grease_quic_bit)?;
@@ -242,21 +242,21 @@ pub(crate) fn read_place(
         payload_len,
         left,
     } = head;
-    let place = size - left;
+    let pn_offset = size - left;
     match payload_len {
-        None => Ok(Place {
+        None => Ok(Bounds {
             header,
-            place,
+            pn_offset,
             end: size,
         }),
         Some(payload_len) => {
             if (left as u64) < payload_len {
                 return Err(PacketDecodeError::InvalidHeader);
             }
-            Ok(Place {
+            Ok(Bounds {
                 header,
-                place,
-                end: place + payload_len as usize,
+                pn_offset,
+                end: pn_offset + payload_len as usize,
             })
         }
     }

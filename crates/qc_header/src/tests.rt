@@ -35,12 +35,12 @@ fn encoded(rt: HostRuntime) -> Result<(), Fail> {
         version: 1,
     });
     let mut out = b"ab".to_vec(rt.alloc())?;
-    let place = initial.encode_sized(0x49e, &mut out)?;
+    let pn_offset = initial.encode_sized(0x49e, &mut out)?;
     let want =
         b"ab\xc3\x00\x00\x00\x01\x08\x83\x94\xc8\xf0\x3e\x51\x57\x08\x00\x00\x44\x9e\x00\x00\x00\x02";
     assert_eq!(rt; out.as_slice(), want.as_slice());
     assert_eq!(rt;
-        (place.start, place.header_len, place.pn_len),
+        (pn_offset.start, pn_offset.header_len, pn_offset.pn_len),
         (2, 22, Some(4))
     );
     assert_eq!(rt; initial.encoded_len(), 22);
@@ -61,12 +61,12 @@ fn encoded(rt: HostRuntime) -> Result<(), Fail> {
         version: 1,
     };
     let mut out = Vec::new(rt.alloc());
-    let place = retry.encode(&mut out)?;
+    let pn_offset = retry.encode(&mut out)?;
     assert_eq!(rt;
         out.as_slice(),
         b"\xf0\x00\x00\x00\x01\x00\x08\xf0\x67\xa5\x50\x2a\x42\x62\xb5".as_slice()
     );
-    assert_eq!(rt; place.pn_len, None);
+    assert_eq!(rt; pn_offset.pn_len, None);
     Ok(())
 }
 
@@ -81,22 +81,22 @@ fn length_set(rt: HostRuntime) -> Result<(), Fail> {
         version: 1,
     });
     let mut out = b"ab".to_vec(rt.alloc())?;
-    let place = initial.encode(&mut out)?;
+    let pn_offset = initial.encode(&mut out)?;
     out.extend_from_slice(b"cde")?;
     let zero =
         b"ab\xc3\x00\x00\x00\x01\x08\x83\x94\xc8\xf0\x3e\x51\x57\x08\x00\x00\x40\x00\x00\x00\x00\x02cde";
     assert_eq!(rt; out.as_slice(), zero.as_slice());
-    place.set_length(out.as_mut_slice(), 0x49e);
+    pn_offset.set_length(out.as_mut_slice(), 0x49e);
     let want =
         b"ab\xc3\x00\x00\x00\x01\x08\x83\x94\xc8\xf0\x3e\x51\x57\x08\x00\x00\x44\x9e\x00\x00\x00\x02cde";
     assert_eq!(rt; out.as_slice(), want.as_slice());
     out[2] = 0x83;
-    place.set_length(out.as_mut_slice(), 0x3fff);
+    pn_offset.set_length(out.as_mut_slice(), 0x3fff);
     let greased =
         b"ab\x83\x00\x00\x00\x01\x08\x83\x94\xc8\xf0\x3e\x51\x57\x08\x00\x00\x7f\xff\x00\x00\x00\x02cde";
     assert_eq!(rt; out.as_slice(), greased.as_slice());
     out.truncate(20);
-    place.set_length(out.as_mut_slice(), 1);
+    pn_offset.set_length(out.as_mut_slice(), 1);
     let cut = b"ab\x83\x00\x00\x00\x01\x08\x83\x94\xc8\xf0\x3e\x51\x57\x08\x00\x00\x7f\xff";
     assert_eq!(rt; out.as_slice(), cut.as_slice());
     Ok(())
@@ -112,8 +112,8 @@ fn no_length_set(rt: HostRuntime) -> Result<(), Fail> {
         number: PacketNumber::U24(0xbff4),
     };
     let mut out = Vec::new(rt.alloc());
-    let place = short.encode(&mut out)?;
-    place.set_length(out.as_mut_slice(), 5);
+    let pn_offset = short.encode(&mut out)?;
+    pn_offset.set_length(out.as_mut_slice(), 5);
     assert_eq!(rt; out.as_slice(), b"\x42\x00\xbf\xf4".as_slice());
     Ok(())
 }

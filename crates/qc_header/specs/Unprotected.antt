@@ -12,7 +12,7 @@ use Rattle.qc_header.specs.Piece.{Piece, is_protected}
 
 -- the packet is too short for a sample
 abbrev pub IsCut : Piece → Type 0
-IsCut p = IsTrue (is_protected p.header) × (length p.bytes < p.place + 20)
+IsCut p = IsTrue (is_protected p.header) × (length p.bytes < p.pn_offset + 20)
 
 -- the masks that a key makes, where a key is given
 abbrev pub masks_of : {H : Type 0} → (H → List ℕ → List ℕ) → Option (Bor H) → List ℕ → List ℕ
@@ -20,12 +20,12 @@ masks_of mask_of None sample = []
 masks_of mask_of (Some key) sample = mask_of key.now sample
 
 -- the packet's bytes without header protection
-abbrev pub opened : (List ℕ → List ℕ) → Piece → List ℕ
-opened mask_of p = if is_protected p.header then unmasked mask_of p.place p.bytes else p.bytes
+abbrev pub unprotected : (List ℕ → List ℕ) → Piece → List ℕ
+unprotected mask_of p = if is_protected p.header then unmasked mask_of p.pn_offset p.bytes else p.bytes
 
 -- where its header ends
 abbrev pub header_end : Piece → List ℕ → ℕ
-header_end p bytes = if is_protected p.header then p.place + number_len_in bytes else p.place
+header_end p bytes = if is_protected p.header then p.pn_offset + number_len_in bytes else p.pn_offset
 
 -- the number that is spelled by 1 to 4 bytes (section 17.1), the highest first
 abbrev pub number_from : List ℕ → PacketNumber
@@ -37,18 +37,18 @@ number_from (a ∷ b ∷ c ∷ d ∷ rest) = U32 (16777216 * a + 65536 * b + 256
 
 -- the whole header, from what was readable before, where the number begins, and the unprotected bytes
 abbrev pub header_from : ProtectedHeader → ℕ → List ℕ → Header
-header_from (Initial dst_cid src_cid token_start token_len version) place bytes =
+header_from (Initial dst_cid src_cid token_start token_len version) pn_offset bytes =
     open_header.Initial (record {
       dst_cid = dst_cid;
       src_cid = src_cid;
       token = take token_len (drop token_start bytes);
-      number = number_from (drop place bytes);
+      number = number_from (drop pn_offset bytes);
       version = version;
     })
-header_from (Long ty dst_cid src_cid version) place bytes =
-    open_header.Long ty dst_cid src_cid (number_from (drop place bytes)) version
-header_from (Retry dst_cid src_cid version) place bytes = open_header.Retry dst_cid src_cid version
-header_from (Short spin dst_cid) place bytes =
-    open_header.Short spin (first_byte bytes / 4 % 2 == 1) dst_cid (number_from (drop place bytes))
-header_from (VersionNegotiate random src_cid dst_cid) place bytes =
+header_from (Long ty dst_cid src_cid version) pn_offset bytes =
+    open_header.Long ty dst_cid src_cid (number_from (drop pn_offset bytes)) version
+header_from (Retry dst_cid src_cid version) pn_offset bytes = open_header.Retry dst_cid src_cid version
+header_from (Short spin dst_cid) pn_offset bytes =
+    open_header.Short spin (first_byte bytes / 4 % 2 == 1) dst_cid (number_from (drop pn_offset bytes))
+header_from (VersionNegotiate random src_cid dst_cid) pn_offset bytes =
     open_header.VersionNegotiate random src_cid dst_cid
