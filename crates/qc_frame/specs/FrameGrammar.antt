@@ -4,7 +4,7 @@ use Rattle.std.specs.Int.{w64}
 use Rattle.qc_base.specs.Grammar.{Spelling, ◌>>=◌, Is, Where, Text, Bytes, Byte, Word, Rest, Varint, Blob}
 use Rattle.qc_base.specs.StreamId.{dir_bit}
 use Rattle.qc_base.specs.declared.side.Dir.{Dir}
-use Rattle.qc_frame.specs.Frame.{FrameValue}
+use Rattle.qc_frame.specs.Frame.{FrameValue, TypedValue}
 use Rattle.qc_frame.specs.FrameReading.{type_given}
 use Rattle.qc_frame.specs.FrameSpelling.{stream_type}
 use Rattle.qc_frame.specs.declared.frames.EcnCounts.{EcnCounts}
@@ -191,17 +191,17 @@ pub data Fields (f : FrameValue) (a z : List ℕ) : ℕ → Type 0 where
   is_datagram : Datagram false f a z → Fields f a z 0x30
   is_datagram_with_length : Datagram true f a z → Fields f a z 0x31
 
--- the bytes begin with the frame f, and go on with z
-abbrev pub FrameAt : FrameValue → List ℕ → List ℕ → Type 0
-FrameAt f a z = (ty : ℕ) × (b : List ℕ) × Varint ty a b × Fields f b z ty
+-- the bytes begin with the frame f, whose type stands before its other fields, and go on with z
+abbrev pub FrameAt : Spelling TypedValue
+FrameAt f a z = (b : List ℕ) × Varint f.ty a b × Fields f.frame b z f.ty
 
 -- no frame stands at the front of the bytes; the type that the fault names does, and where it names none no type does
 pub record NoFrameAt (a : List ℕ) (ty : Option ℕ) : Type 0 where
-  pub none : (f : FrameValue) (z : List ℕ) → FrameAt f a z → ⊥
+  pub none : (f : TypedValue) (z : List ℕ) → FrameAt f a z → ⊥
   pub typed : MatchOption ty ((n : ℕ) (b : List ℕ) → Varint n a b → ⊥) (λ n. (b : List ℕ) × Varint n a b)
 
 -- the bytes are these frames, to the end or the first bytes that are no frame
-pub data Payload : List (Result FrameValue InvalidFrame) → List ℕ → Type 0 where
+pub data Payload : List (Result TypedValue InvalidFrame) → List ℕ → Type 0 where
   no_more : Payload [] []
-  frame_and : (f : FrameValue) (a z : List ℕ) (others : List (Result FrameValue InvalidFrame)) → FrameAt f a z → Payload others z → Payload (Ok f ∷ others) a
+  frame_and : (f : TypedValue) (a z : List ℕ) (others : List (Result TypedValue InvalidFrame)) → FrameAt f a z → Payload others z → Payload (Ok f ∷ others) a
   fault : (invalid : InvalidFrame) (a : List ℕ) → 0 < length a → NoFrameAt a invalid.ty → Payload (Err invalid ∷ []) a

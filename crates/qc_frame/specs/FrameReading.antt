@@ -5,7 +5,7 @@ use Rattle.std.specs.Int.{w64}
 use Rattle.qc_base.specs.Reading.{Reader, ◌>>=◌, give, refuse, text_of, rest_at, or_fault, byte_of, bytes_of, blob_of, varint_of, word_of}
 use Rattle.qc_base.specs.declared.side.Dir.{Dir}
 use Rattle.qc_base.specs.declared.side.Dir.TheVariants.{Bi, Uni}
-use Rattle.qc_frame.specs.Frame.{FrameValue}
+use Rattle.qc_frame.specs.Frame.{FrameValue, TypedValue}
 use Rattle.qc_frame.specs.declared.frames.EcnCounts.{EcnCounts}
 use Rattle.qc_frame.specs.declared.frames.FrameOf.TheVariants as frames
 use Rattle.qc_frame.specs.declared.fault.FrameFault.{FrameFault}
@@ -231,15 +231,16 @@ pick (row ∷ others) bytes = if row.0 then row.1 bytes else pick others bytes
 unfoldable pub fields_at : ℕ → Reader FrameFault FrameValue
 fields_at ty = pick (rows ty)
 
--- a fault behind a type names it
-abbrev pub naming : ℕ → Result (FrameValue × List ℕ) FrameFault → Result (FrameValue × List ℕ) InvalidFrame
-naming ty (Ok read) = Ok read
+-- what stands behind a type is told with it, be it a frame or a fault
+abbrev pub naming : ℕ → Result (FrameValue × List ℕ) FrameFault → Result (TypedValue × List ℕ) InvalidFrame
+naming ty (Ok read) = Ok (record { ty = ty; frame = read.0 }, read.1)
 naming ty (Err why) = Err (record { ty = Some ty; why = why })
 
-abbrev pub behind_type : Option (ℕ × List ℕ) → Result (FrameValue × List ℕ) InvalidFrame
+-- what stands behind a type, or the fault that the type itself is cut
+abbrev pub behind_type : Option (ℕ × List ℕ) → Result (TypedValue × List ℕ) InvalidFrame
 behind_type None = Err (record { ty = None; why = UnexpectedEnd })
 behind_type (Some ty) = naming ty.0 (fields_at ty.0 ty.1)
 
--- a frame at the front of bytes. The type may have any length
-unfoldable pub frame_at : List ℕ → Result (FrameValue × List ℕ) InvalidFrame
+-- a frame at the front of bytes, and its type, which may have any length
+unfoldable pub frame_at : List ℕ → Result (TypedValue × List ℕ) InvalidFrame
 frame_at bytes = behind_type (varint_of bytes)

@@ -139,11 +139,27 @@ pub struct NewConnectionId {
     pub reset_token: ResetToken,
 }
 
+/// A frame as it was read, whose byte strings are held as `B`.
+#[derive(Debug, Drop)]
+pub struct TypedOf<B> {
+    /// The frame's type (RFC 9000, section 12.4). A STREAM's and a DATAGRAM's has bits that the
+    /// frame does not keep, and the error that a frame causes names its type.
+    pub ty: u64,
+    /// The frame.
+    pub frame: FrameOf<B>,
+}
+
+/// A frame as it was read, whose byte strings are slices of the payload that it was read from.
+pub type TypedFrame<'a> = TypedOf<&'a [u8]>;
+
 /// A frame whose byte strings are slices of the payload that it was read from.
 pub type Frame<'a> = FrameOf<&'a [u8]>;
 
 /// An ACK frame whose ranges are a slice of the payload that it was read from.
 pub type Ack<'a> = AckOf<&'a [u8]>;
+
+/// An ACK frame with ranges of its own.
+pub type OwnedAck = AckOf<Vec<u8>>;
 
 /// A frame with byte strings of its own.
 pub type OwnedFrame = FrameOf<Vec<u8>>;

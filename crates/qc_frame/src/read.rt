@@ -3,20 +3,20 @@
 
 ghost use Rattle.std.specs.Prelude.{◌≡◌, ◌<◌, ◌≤◌, ◌^◌, length, IfOk};
 ghost use Rattle.qc_base.specs.Reading.{Gives};
-ghost use Rattle.qc_frame.specs.Frame.{borrowed};
+ghost use Rattle.qc_frame.specs.Frame.{borrowed, typed};
 ghost use Rattle.qc_frame.specs.FrameReading.{ack_at, application_close_at, body_at, connection_close_at, counts_at, crypto_at, data_blocked_at, datagram_at, fields_at, frame_at, max_data_at, max_stream_data_at, max_streams_at, more_ranges_at, new_connection_id_at, new_token_at, offset_at, path_challenge_at, path_response_at, ranges_at, reset_stream_at, retire_connection_id_at, stop_sending_at, stream_at, stream_data_blocked_at, streams_blocked_at, type_given};
 
 use crate::fault::{FrameFault, InvalidFrame};
-use crate::frames::{AckOf, EcnCounts, Frame, FrameOf, NewConnectionId};
+use crate::frames::{AckOf, EcnCounts, Frame, FrameOf, NewConnectionId, TypedFrame, TypedOf};
 use qc_base::{
     ConnectionId, Dir, ResetToken, StreamId, TransportErrorCode, VarInt, read_blob, read_byte,
     read_bytes, read_u64, read_varint,
 };
 
-/// The frame at the front of the bytes, and the bytes behind it.
+/// The frame at the front of the bytes with its type, and the bytes behind it.
 #[tactic(auto, unfolding(crate::specs::FrameReading::frame_at))]
-pub(crate) fn read_frame(bytes: &[u8]) -> Result<(Frame<'_>, &[u8]), InvalidFrame>
-    ensures { Gives (λ x. (borrowed x.0, x.1.now)) result (frame_at bytes.now) }
+pub(crate) fn read_frame(bytes: &[u8]) -> Result<(TypedFrame<'_>, &[u8]), InvalidFrame>
+    ensures { Gives (λ x. (typed x.0, x.1.now)) result (frame_at bytes.now) }
 {
     let (ty, rest) = match read_varint(bytes) {
         Ok(read) => read,
@@ -28,7 +28,7 @@ pub(crate) fn read_frame(bytes: &[u8]) -> Result<(Frame<'_>, &[u8]), InvalidFram
         }
     };
     match read_fields(ty, rest) {
-        Ok(read) => Ok(read),
+        Ok((frame, behind)) => Ok((TypedOf { ty, frame }, behind)),
         Err(why) => Err(InvalidFrame { ty: Some(ty), why }),
     }
 }

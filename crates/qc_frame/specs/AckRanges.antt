@@ -1,0 +1,31 @@
+-- The packet numbers that an ACK acknowledges (RFC 9000, section 19.3.1)
+use Rattle.std.specs.Prelude.{ℕ, ◌+◌, ◌-◌, List, [], ◌∷◌, ◌++◌}
+use Rattle.qc_base.specs.declared.range_set.NumberRange.{NumberRange}
+use Rattle.qc_base.specs.RangeSet.{Member}
+use Rattle.qc_frame.specs.Frame.{AckValue}
+use Rattle.qc_frame.specs.FrameSpelling.{numbers_of}
+
+-- the numbers from a greatest one down to that which lies so many below it
+abbrev pub range_down : ℕ → ℕ → NumberRange
+range_down largest len = record { first = largest - len; last = largest }
+
+-- a range that ends at the largest number, by its length, and those below it, by a gap and a length each:
+-- between two ranges lie gap + 1 numbers
+abbrev pub ranges_down : ℕ → List ℕ → List NumberRange
+ranges_down largest [] = []
+ranges_down largest (len ∷ []) = range_down largest len ∷ []
+ranges_down largest (len ∷ gap ∷ others) = range_down largest len ∷ ranges_down (largest - len - (gap + 2)) others
+
+-- the ranges that an ACK acknowledges, from the greatest down
+abbrev pub ranges_of : AckValue → List NumberRange
+ranges_of ack = ranges_down ack.largest (numbers_of ack.additional)
+
+-- the ACK acknowledges the packet with this number
+abbrev pub Acknowledges : AckValue → ℕ → Type 0
+Acknowledges ack n = Member n (ranges_of ack)
+
+-- the numbers that say ranges, which are given from the lowest up: the greatest one's length, and then a gap and a length each
+abbrev pub numbers_up : List NumberRange → List ℕ
+numbers_up [] = []
+numbers_up (range ∷ []) = (range.last - range.first) ∷ []
+numbers_up (range ∷ above ∷ ranges) = numbers_up (above ∷ ranges) ++ (above.first - range.last - 2) ∷ (range.last - range.first) ∷ []
