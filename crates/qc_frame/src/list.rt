@@ -138,13 +138,7 @@ pub fn put_frames(out: &mut Vec<u8>, frames: &[OwnedFrame]) -> Result<(), AllocE
     ensures err { OnErr result (out.new.items ≡ out.old.items) }
 {
     let len = out.len();
-    match put_each(out, frames) {
-        Ok(()) => Ok(()),
-        Err(e) => {
-            out.truncate(len);
-            Err(e)
-        }
-    }
+    or_cut_back(put_each(out, frames), out, len)
 }
 
 // Each function below leaves what stood in its vector where it was, also where memory runs out.
