@@ -24,8 +24,12 @@ ranges_of ack = ranges_down ack.largest (numbers_of ack.additional)
 abbrev pub Acknowledges : AckValue → ℕ → Type 0
 Acknowledges ack n = Member n (ranges_of ack)
 
--- the numbers that say ranges, which are given from the lowest up: the greatest one's length, and then a gap and a length each
+-- the numbers that say a range below others: the gap between it and the next one, if there is one, and its length
+abbrev pub range_numbers : NumberRange → List NumberRange → List ℕ
+range_numbers range [] = (range.last - range.first) ∷ []
+range_numbers range (above ∷ ranges) = (above.first - range.last - 2) ∷ (range.last - range.first) ∷ []
+
+-- the numbers that say ranges, which are given from the lowest up and said from the greatest down
 abbrev pub numbers_up : List NumberRange → List ℕ
 numbers_up [] = []
-numbers_up (range ∷ []) = (range.last - range.first) ∷ []
-numbers_up (range ∷ above ∷ ranges) = numbers_up (above ∷ ranges) ++ (above.first - range.last - 2) ∷ (range.last - range.first) ∷ []
+numbers_up (range ∷ ranges) = numbers_up ranges ++ range_numbers range ranges
