@@ -9,10 +9,10 @@ use Rattle.qc_base.specs.declared.range_set.NumberRange.{NumberRange}
 use Rattle.qc_base.specs.RangeSet.{Above, Member, Normal}
 use Rattle.qc_base.specs.Varint.{IsNumber, varint}
 use Rattle.qc_base.proofs.AddedRanges.{nowhere}
-use Rattle.qc_base.proofs.RangeLaws.{last_member}
+use Rattle.qc_base.proofs.RangeLaws.{last_greatest, last_member}
 use Rattle.qc_frame.specs.FrameSpelling.{numbers_of}
 use Rattle.qc_frame.proofs.Numbers.{numbers_of-varints}
-use Rattle.qc_frame.specs.AckRanges.{range_down, ranges_down, range_numbers, numbers_up}
+use Rattle.qc_frame.specs.AckRanges.{ArePackets, SaysSet, range_down, ranges_down, range_numbers, numbers_up}
 use Rattle.qc_frame.specs.FrameFits.{AllNumbers, MoreRangesFit, RangesFit}
 
 -- ---- from the numbers to the ranges
@@ -204,25 +204,28 @@ normal_from (range ∷ ranges) (suc place) next d normal fits e = rw e (normal_f
 
 -- ---- an ACK made of a set
 
-pub record SaysSet (largest : ℕ) (additional : List ℕ) (set : List NumberRange) : Type 0 where
-  pub small : IsNumber largest
-  pub fits : RangesFit largest (numbers_of additional)
-  pub said : ranges_down largest (numbers_of additional) ≡ reverse set
-
-pub set_ack : (ranges set : List NumberRange) (place : ℕ) (start additional : List ℕ) → ranges ≡ set → Normal set → 0 < length set
-    → ((n : ℕ) → Member n set → n < 4611686018427387904) → place ≡ length ranges - 1 → start ≡ []
-    → additional ≡ start ++ flat_map varint (numbers_up ranges) → SaysSet (get_or ranges place nowhere).last additional set
-set_ack ranges set place start additional same normal some each at none text =
-    let normal_ranges : Normal ranges = subst (λ (l : List NumberRange). Normal l) (sym same) normal in
-    let size : length ranges ≡ length set = ap length same in
+pub set_ack : (ranges : List NumberRange) (place : ℕ) (start additional : List ℕ) → Normal ranges → 0 < length ranges
+    → (get_or ranges place nowhere).last < 4611686018427387904 → place ≡ length ranges - 1 → start ≡ []
+    → additional ≡ start ++ flat_map varint (numbers_up ranges) → SaysSet (get_or ranges place nowhere).last additional ranges
+set_ack ranges place start additional normal some small at none text =
     let largest : ℕ = (get_or ranges place nowhere).last in
-    let said = set_said ranges place nowhere (omega arith) normal_ranges in
-    let top : Member largest ranges = last_member ranges place (omega arith) normal_ranges in
-    let small : IsNumber largest = each largest (subst (λ (l : List NumberRange). Member largest l) same top) in
+    let said = set_said ranges place nowhere (omega arith) normal in
     let numbers : numbers_of additional ≡ numbers_up ranges =
     ap numbers_of (text ∙ ap (λ (s : List ℕ). s ++ flat_map varint (numbers_up ranges)) none) ∙ numbers_of-varints (numbers_up ranges) (said.numbers small) in
     record {
       small = small;
       fits = subst (λ (ns : List ℕ). RangesFit largest ns) (sym numbers) said.fits;
-      said = ap (λ (ns : List ℕ). ranges_down largest ns) numbers ∙ said.said ∙ ap reverse same;
+      said = ap (λ (ns : List ℕ). ranges_down largest ns) numbers ∙ said.said;
     }
+
+-- the numbers of ranges are packet numbers where the last one is
+pub packets_there : (ranges : List NumberRange) (place : ℕ) → Normal ranges → 0 < length ranges → place ≡ length ranges - 1
+    → (get_or ranges place nowhere).last < 4611686018427387904 → ArePackets ranges
+packets_there ranges place normal some at small =
+    (some, λ n there. let most : n ≤ (get_or ranges place nowhere).last = last_greatest ranges place n (omega arith) normal there in omega arith)
+
+pub packets_last : (ranges : List NumberRange) (place : ℕ) → Normal ranges → place ≡ length ranges - 1 → ArePackets ranges
+    → (0 < length ranges) × ((get_or ranges place nowhere).last < 4611686018427387904)
+packets_last ranges place normal at packets =
+    let some = packets.0 in
+    (some, packets.1 (get_or ranges place nowhere).last (last_member ranges place (omega arith) normal))

@@ -1,12 +1,12 @@
 //! The packet numbers that an ACK frame acknowledges (RFC 9000, section 19.3.1).
 
-ghost use Rattle.std.specs.Prelude.{◌≡◌, ◌-◌, ◌+◌, ◌<◌, ◌≤◌, ◌^◌, ◌↔◌, ℕ, List, [], ◌∷◌, ◌++◌, length, reverse, slice_index_or, IfOk, OnOk, MatchOption};
+ghost use Rattle.std.specs.Prelude.{◌≡◌, ◌-◌, ◌+◌, ◌<◌, ◌≤◌, ◌^◌, ◌↔◌, ℕ, List, [], ◌∷◌, ◌++◌, length, reverse, slice_index_or, IfOk, IfSome, IfNone, IsTrue, OnOk, MatchOption};
 ghost use Rattle.std.specs.List.{All, flat_map};
 ghost use Rattle.std.specs.Iterator.{YieldsFirst, item_count};
 ghost use Rattle.qc_base.specs.declared.range_set.NumberRange.{NumberRange};
 ghost use Rattle.qc_base.specs.RangeSet.{Member, Normal};
 ghost use Rattle.qc_base.specs.Varint.{varint};
-ghost use Rattle.qc_frame.specs.AckRanges.{Acknowledges, numbers_up, range_numbers, ranges_down, ranges_of};
+ghost use Rattle.qc_frame.specs.AckRanges.{Acknowledges, ArePackets, SaysSet, numbers_up, range_numbers, ranges_down, ranges_of};
 ghost use Rattle.qc_frame.specs.Frame.{AckValue, ack_map};
 ghost use Rattle.qc_frame.specs.FrameFits.{CountsFit, Fits};
 ghost use Rattle.qc_frame.specs.declared.frames.FrameOf.TheVariants as frames;
@@ -129,32 +129,63 @@ pub fn ranges_lie_apart()
     ensures largest { (ack : AckValue) → Fits (frames.Ack ack) → Acknowledges ack ack.largest }
 {}
 
+/// Whether these are ranges of packet numbers, which lie below 2^62, and there is one.
+fn are_packets(ranges: &[NumberRange]) -> bool
+    ensures { IsTrue result ↔ (0 < length ranges.now) × ((slice_index_or ranges.now (length ranges.now - 1) (record { first = 0; last = 0 })).last < 2 ^ 62) }
+{
+    if ranges.is_empty() {
+        return false;
+    }
+    ranges[ranges.len() - 1].last < 4_611_686_018_427_387_904
+}
+
+/// The ACK with these ranges.
+fn ack_of(
+    alloc: Global,
+    ranges: &[NumberRange],
+    delay: u64,
+    ecn: Option<EcnCounts>,
+) -> Result<OwnedAck, AllocError>
+    requires normal { Normal ranges.now }
+    requires some { 0 < length ranges.now }
+    requires small { (slice_index_or ranges.now (length ranges.now - 1) (record { first = 0; last = 0 })).last < 2 ^ 62 }
+    ensures says { IfOk result (λ ack. SaysSet ack.largest ack.additional.items ranges.now) }
+    ensures others { IfOk result (λ ack. (ack.delay ≡ delay) × (ack.ecn ≡ ecn)) }
+{
+    let mut additional = Vec::new(alloc);
+    put_ranges(&mut additional, ranges)?;
+    let largest = ranges[ranges.len() - 1].last;
+    Ok(AckOf {
+        largest,
+        delay,
+        additional,
+        ecn,
+    })
+}
+
 impl OwnedAck {
-    /// The ACK that acknowledges exactly the packets with these numbers. There has to be one, and
-    /// each has to be a packet number, below 2^62.
+    /// The ACK that acknowledges exactly the packets with these numbers, after a delay in units of
+    /// 2^ack_delay_exponent microseconds. None exactly where there is no number, or one that is no
+    /// packet number since it is 2^62 or more.
     pub fn of_numbers(
         alloc: Global,
         numbers: &ArrayRangeSet,
         delay: u64,
         ecn: Option<EcnCounts>,
-    ) -> Result<OwnedAck, AllocError>
-        requires some { 0 < length numbers.now }
-        requires each { (n : ℕ) → Member n numbers.now → n < 2 ^ 62 }
-        ensures numbers { IfOk result (λ ack. (n : ℕ) → Acknowledges (ack_map (λ bytes. bytes.items) ack) n ↔ Member n numbers.now) }
-        ensures ranges { IfOk result (λ ack. ranges_of (ack_map (λ bytes. bytes.items) ack) ≡ reverse numbers.now) }
-        ensures others { IfOk result (λ ack. (ack.delay ≡ delay) × (ack.ecn ≡ ecn)) }
-        ensures fits { delay < 2 ^ 62 → CountsFit ecn → IfOk result (λ ack. Fits (frames.Ack (ack_map (λ bytes. bytes.items) ack))) }
+    ) -> Result<Option<OwnedAck>, AllocError>
+        ensures none { IfOk result (λ r. IfNone r (ArePackets numbers.now → ⊥)) }
+        ensures some { IfOk result (λ r. IfSome r (λ _. ArePackets numbers.now)) }
+        ensures numbers { IfOk result (λ r. IfSome r (λ ack. (n : ℕ) → Acknowledges (ack_map (λ bytes. bytes.items) ack) n ↔ Member n numbers.now)) }
+        ensures ranges { IfOk result (λ r. IfSome r (λ ack. ranges_of (ack_map (λ bytes. bytes.items) ack) ≡ reverse numbers.now)) }
+        ensures others { IfOk result (λ r. IfSome r (λ ack. (ack.delay ≡ delay) × (ack.ecn ≡ ecn))) }
+        ensures fits { delay < 2 ^ 62 → CountsFit ecn → IfOk result (λ r. IfSome r (λ ack. Fits (frames.Ack (ack_map (λ bytes. bytes.items) ack)))) }
     {
         let ranges = numbers.as_slice();
-        let mut additional = Vec::new(alloc);
-        put_ranges(&mut additional, ranges)?;
-        let largest = ranges[ranges.len() - 1].last;
-        Ok(AckOf {
-            largest,
-            delay,
-            additional,
-            ecn,
-        })
+        if !are_packets(ranges) {
+            return Ok(None);
+        }
+        let ack = ack_of(alloc, ranges, delay, ecn)?;
+        Ok(Some(ack))
     }
 
     /// The ranges of packet numbers that the frame acknowledges, from the greatest down.
