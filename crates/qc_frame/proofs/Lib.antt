@@ -14,3 +14,4 @@ pub mod WrittenPayload
 pub mod PayloadFits
 pub mod PaddingRun
 pub mod RangesDown
+pub mod RangesUp

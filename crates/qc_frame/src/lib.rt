@@ -9,19 +9,19 @@ mod iter;
 mod laws;
 mod list;
 mod names;
-
 mod read;
 mod size;
 mod write;
 
+pub use ack_ranges::{AckRanges, ranges_lie_apart};
 pub use fault::{FrameFault, InvalidFrame};
 pub use frames::{
-    Ack, AckOf, EcnCounts, Frame, FrameOf, NewConnectionId, OwnedAck, OwnedFrame, TypedFrame, TypedOf,
+    Ack, AckOf, EcnCounts, Frame, FrameOf, NewConnectionId, OwnedAck, OwnedFrame, TypedFrame,
+    TypedOf,
 };
 pub use iter::{Iter, first_frame};
 pub use laws::written_is_read;
 pub use list::{FrameList, put_frames};
-pub use ack_ranges::AckRanges;
 pub use size::{
     CONNECTION_CLOSE_HEAD_MAX, CRYPTO_HEAD_MAX, DATAGRAM_HEAD_MAX, NEW_CONNECTION_ID_MAX,
     RETIRE_CONNECTION_ID_MAX, fit_application_reason, fit_close_reason, greatest_sizes,
