@@ -43,7 +43,7 @@ id_ends a x z e =
     let w = id_steps (byte_of a) x z e in
     ends_both a w.1 z (found_byte.ends a w.0 w.1 w.2) ((found_bytes w.0).ends w.1 x z w.4)
 
-found_id : Found id_of Id
+pub found_id : Found id_of Id
 found_id = record {
   takes = id_takes;
   again = λ a x z s. rw s.2 (id_begins s.0 s.1 x z s.3.0 ((found_bytes s.0).again s.1 x z s.3.1));
@@ -64,14 +64,14 @@ unfolding numbered_at
 numbered_exact ty dst src v =
     exact_then (exact_or InvalidHeader found_varint) (λ n. exact_give (Long ty dst src v, Some n))
 
-short_exact : (k first : ℕ) → Exact (short_at k first) (ShortFields k first)
+pub short_exact : (k first : ℕ) → Exact (short_at k first) (ShortFields k first)
 unfolding short_at
 short_exact k first =
     exact_then (exact_or InvalidHeader (found_bytes k)) (λ dst. exact_give (Short (first / 32 % 2 == 1) dst, None))
 
 -- ---- a choice of two readers
 
-either : {E X : Type 0} (test : Bool) (r s : Reader E X) (a : List ℕ) (x : X × List ℕ) → cond test r s a ≡ Ok x
+pub either : {E X : Type 0} (test : Bool) (r s : Reader E X) (a : List ℕ) (x : X × List ℕ) → cond test r s a ≡ Ok x
     → ((test ≡ true) × (r a ≡ Ok x)) ⊎ ((test ≡ false) × (s a ≡ Ok x))
 either true r s a x e = inl (refl, e)
 either false r s a x e = inr (refl, e)
@@ -159,7 +159,7 @@ module _ (size : ℕ) (versions : List ℕ) (first v : ℕ) (dst src : List ℕ)
 
 -- ---- behind the first byte
 
-long_exact : (size : ℕ) (versions : List ℕ) (first : ℕ) → Exact (long_at size versions first) (LongFields size versions first)
+pub long_exact : (size : ℕ) (versions : List ℕ) (first : ℕ) → Exact (long_at size versions first) (LongFields size versions first)
 unfolding long_at
 long_exact size versions first =
     exact_then (exact_or InvalidHeader (found_word w32 word_32)) (λ v.
