@@ -1,8 +1,9 @@
 -- The packets of a datagram, one by one, and what the grammar says of them
-use Rattle.std.proofs.Common.{◌≡◌, ℕ, zero, suc, ◌<◌, ◌≤◌, Bool, List, [], ◌∷◌, length, Result, Ok, Err, IfOk, IfErr, refl, sym, ap, ◌∙◌, arith}
+use Rattle.std.proofs.Common.{◌≡◌, ℕ, zero, suc, ◌<◌, ◌≤◌, Bool, List, [], ◌∷◌, length, ◌⊎◌, inl, inr, Result, Ok, Err, IfOk, IfErr, MatchResult, refl, sym, ap, ◌∙◌, arith}
 use Rattle.qc_base.specs.Grammar.{IsBytes}
-use Rattle.qc_base.proofs.Exact.{ends_bytes}
+use Rattle.qc_base.proofs.Exact.{ends_bytes, same_value, same_rest}
 use Rattle.qc_header.specs.declared.protected.PacketDecodeError.{PacketDecodeError}
+use Rattle.qc_header.specs.declared.protected.PacketDecodeError.TheVariants.{OutOfMemory}
 use Rattle.qc_header.specs.HeaderGrammar.{Item, Datagram, PieceAt, NoPieceAt}
 use Rattle.qc_header.specs.HeaderGrammar as grammar
 use Rattle.qc_header.specs.HeaderReading.{piece_at}
@@ -80,3 +81,25 @@ module _ (k : ℕ) (versions : List ℕ) (grease : Bool) where
       ∙ sym (pieces_first a p z (omega (arith, ends.1)) is)
   pieces_only _ _ bytes (grammar.unreadable e a some none) = sym (pieces_fault a e some (none_again k versions grease a e bytes none))
 
+-- ---- of a function that gives this reading
+
+module _ {A : Type 0} (view : A → Piece × List ℕ) (k : ℕ) (versions : List ℕ) (grease : Bool) (a : List ℕ) where
+  pub gives_found : (r : Result A PacketDecodeError) → IsBytes a → IfOk r (λ x. piece_at k versions grease a ≡ Ok (view x))
+      → IfOk r (λ x. PieceAt k versions grease (view x).0 a (view x).1)
+  gives_found (Ok x) bytes e = piece_takes k versions grease a (view x).0 (view x).1 bytes e
+  gives_found (Err f) bytes e = tt
+
+  pub gives_only : (r : Result A PacketDecodeError) → IfOk r (λ x. piece_at k versions grease a ≡ Ok (view x))
+      → IfErr r (λ f. (f ≡ OutOfMemory) ⊎ (piece_at k versions grease a ≡ Err f))
+      → (p : Piece) (z : List ℕ) → PieceAt k versions grease p a z → MatchResult r (λ x. ((view x).0 ≡ p) × ((view x).1 ≡ z)) (λ f. f ≡ OutOfMemory)
+  gives_only (Ok x) e none p z s =
+      let is = piece_again k versions grease a p z s in
+      (same_value (piece_at k versions grease a) (view x) (p, z) e is, same_rest (piece_at k versions grease a) (view x) (p, z) e is)
+  gives_only (Err f) e (inl memory) p z s = memory
+  gives_only (Err f) e (inr none) p z s = let is = piece_again k versions grease a p z s in cc
+
+  pub gives_none : (r : Result A PacketDecodeError) → IsBytes a → IfErr r (λ f. (f ≡ OutOfMemory) ⊎ (piece_at k versions grease a ≡ Err f))
+      → IfErr r (λ f. (f ≡ OutOfMemory) ⊎ NoPieceAt k versions grease a f)
+  gives_none (Ok x) bytes e = tt
+  gives_none (Err f) bytes (inl memory) = inl memory
+  gives_none (Err f) bytes (inr none) = inr (piece_none k versions grease a f bytes none)
