@@ -1,12 +1,12 @@
 -- Why bytes begin with no packet
-use Rattle.std.proofs.Common.{◌≡◌, ◌≢◌, ℕ, ◌/◌, ◌%◌, ◌<◌, ◌≤◌, ◌==◌, ◌&&◌, ◌-◌, ◌+◌, ◌⊎◌, inl, inr, not, cond, Bool, true, false, List, [], ◌∷◌, length, take, drop, nat_lt, Option, None, Some, Result, Ok, Err, refl, sym, ap, ◌∙◌, subst, arith}
+use Rattle.std.proofs.Common.{◌≡◌, ◌≢◌, ℕ, ◌/◌, ◌%◌, ◌<◌, ◌==◌, ◌&&◌, ◌-◌, ◌+◌, ◌⊎◌, inl, inr, not, cond, Bool, true, false, List, length, take, drop, nat_lt, Option, None, Some, Result, Ok, Err, refl, sym, ap, ◌∙◌, subst, arith}
 use Rattle.std.proofs.lemmas.Bool.Decides.{nat_tests}
 use Rattle.std.specs.Option.{ok_or}
 use Rattle.std.specs.List.{list_any}
 use Rattle.std.specs.Int.{w32}
 use Rattle.qc_base.specs.declared.side.LongType.{LongType}
 use Rattle.qc_base.specs.declared.side.LongType.TheVariants.{Handshake, ZeroRtt}
-use Rattle.qc_base.specs.Grammar.{IsBytes, Byte, Word}
+use Rattle.qc_base.specs.Grammar.{IsBytes, Word}
 use Rattle.qc_base.specs.Reading.{Reader, read_on, give, left_at, or_fault, byte_of, bytes_of, word_of, varint_of}
 use Rattle.qc_base.proofs.Exact.{ends_bytes, found_byte}
 use Rattle.qc_base.proofs.Words.{found_word, word_32}

@@ -1,26 +1,24 @@
 -- The header at the front of a datagram is what the grammar says
-use Rattle.std.proofs.Common.{◌≡◌, ℕ, ◌+◌, ◌-◌, ◌/◌, ◌%◌, ◌<◌, ◌≤◌, ◌==◌, ◌&&◌, ◌⊎◌, suc, inl, inr, not, cond, Bool, true, false, List, ◌∷◌, ◌++◌, length, nat_lt, Option, None, Some, Result, Ok, Err, refl, sym, ap, ◌∙◌, subst, arith}
+use Rattle.std.proofs.Common.{◌≡◌, ℕ, ◌-◌, ◌/◌, ◌%◌, ◌<◌, ◌≤◌, ◌==◌, ◌⊎◌, inl, inr, not, cond, Bool, true, false, List, ◌∷◌, nat_lt, None, Some, Result, Ok, Err, refl, arith}
 use Rattle.std.proofs.lemmas.Bool.Decides.{nat_tests}
-use Rattle.std.proofs.lemmas.Grind.{common_steps}
 use Rattle.std.specs.List.{list_any}
 use Rattle.std.specs.Int.{w32}
 use Rattle.qc_base.specs.declared.side.LongType.{LongType}
 use Rattle.qc_base.specs.declared.side.LongType.TheVariants.{Handshake, ZeroRtt}
-use Rattle.qc_base.specs.Grammar.{IsBytes, Byte}
-use Rattle.qc_base.specs.Reading.{Reader, read_on, give, or_fault, byte_of, bytes_of}
-use Rattle.qc_base.proofs.Front.{bytes_take, bytes_again}
-use Rattle.qc_base.proofs.Exact.{Exact, Found, Ends, ends_bytes, ends_both, ends_length, two_steps, exact_then, exact_or, exact_left, exact_give, found_bytes, found_byte}
+use Rattle.qc_base.specs.Grammar.{IsBytes}
+use Rattle.qc_base.specs.Reading.{Reader, give, byte_of, bytes_of}
+use Rattle.qc_base.proofs.Front.{bytes_take}
+use Rattle.qc_base.proofs.Exact.{Exact, Found, Ends, ends_both, exact_then, exact_or, exact_left, exact_give, found_bytes, found_byte}
 use Rattle.qc_base.proofs.Varints.{found_varint}
 use Rattle.qc_base.proofs.Words.{found_word, word_32}
 use Rattle.qc_header.specs.declared.protected.PacketDecodeError.{PacketDecodeError}
 use Rattle.qc_header.specs.declared.protected.PacketDecodeError.TheVariants.{InvalidHeader, UnsupportedVersion}
 use Rattle.qc_header.specs.declared.protected.ProtectedHeader.TheVariants.{Initial, Long, Retry, Short, VersionNegotiate}
-use Rattle.qc_header.specs.HeaderReading.{Heading, HeaderReader, id_of, initial_at, numbered_at, typed_at, long_at, short_at, header_at}
-use Rattle.qc_header.specs.HeaderGrammar.{Id, InitialFields, NumberedFields, TypeFields, LongFields, ShortFields, IsFixed, HeaderAt}
+use Rattle.qc_header.specs.HeaderReading.{Heading, HeaderReader, id_of, initial_at, numbered_at, typed_at, long_at, short_at}
+use Rattle.qc_header.specs.HeaderGrammar.{Id, InitialFields, NumberedFields, TypeFields, LongFields, ShortFields}
 use Rattle.qc_header.specs.HeaderGrammar as grammar
 use Rattle.qc_header.specs.Known.{IsKnown}
-use Rattle.qc_header.proofs.Readings.{id_steps, went_on, was_some}
-use Rattle.qc_header.proofs.ReadHeaders.{fixed_let}
+use Rattle.qc_header.proofs.Readings.{id_steps, went_on}
 
 -- ---- fields
 

@@ -1,31 +1,23 @@
 -- The packet at the front of a datagram is what the grammar says, and so is the fault where there is none
-use Rattle.std.proofs.Common.{◌≡◌, ◌≢◌, ℕ, ◌+◌, ◌-◌, ◌/◌, ◌%◌, ◌<◌, ◌≤◌, ◌==◌, ◌&&◌, ◌⊎◌, suc, inl, inr, not, cond, Bool, true, false, List, [], ◌∷◌, ◌++◌, length, take, drop, nat_lt, Option, None, Some, Result, Ok, Err, refl, sym, ap, ◌∙◌, subst, arith, length-append, append-nil}
+use Rattle.std.proofs.Common.{◌≡◌, ℕ, ◌+◌, ◌-◌, ◌/◌, ◌%◌, ◌<◌, ◌≤◌, ◌==◌, ◌&&◌, inl, inr, not, cond, Bool, true, false, List, [], ◌∷◌, ◌++◌, length, take, drop, nat_lt, Option, None, Some, Result, Ok, Err, refl, sym, ap, ◌∙◌, subst, arith, length-append, append-nil}
 use Rattle.std.proofs.lemmas.Bool.Decides.{nat_tests}
 use Rattle.std.proofs.lemmas.Grind.{common_steps}
 use Rattle.std.proofs.lemmas.List.{length-drop, length-take-le, take-append-drop}
 use Rattle.std.proofs.Math.Seq.{take-append_seam, drop-append_seam}
-use Rattle.std.specs.Option.{ok_or}
-use Rattle.std.specs.List.{list_any}
-use Rattle.std.specs.Int.{w32}
-use Rattle.qc_base.specs.declared.side.LongType.{LongType}
-use Rattle.qc_base.specs.declared.side.LongType.TheVariants.{Handshake, ZeroRtt}
-use Rattle.qc_base.specs.Grammar.{IsBytes, Byte}
-use Rattle.qc_base.specs.Reading.{Reader, read_on, give, left_at, or_fault, byte_of, bytes_of, word_of, varint_of}
-use Rattle.qc_base.proofs.Exact.{Exact, Ends, ends_bytes, ends_both, ends_length, two_steps, exact_or, found_bytes, found_byte}
+use Rattle.qc_base.specs.Grammar.{IsBytes}
+use Rattle.qc_base.specs.Reading.{read_on, or_fault, byte_of}
+use Rattle.qc_base.proofs.Exact.{Ends, ends_bytes, ends_both, ends_length, two_steps, found_byte}
 use Rattle.qc_base.proofs.Front.{same_second}
-use Rattle.qc_base.proofs.Words.{found_word, word_32}
 use Rattle.qc_header.specs.declared.protected.PacketDecodeError.{PacketDecodeError}
-use Rattle.qc_header.specs.declared.protected.PacketDecodeError.TheVariants.{InvalidHeader, UnsupportedVersion, OutOfMemory}
+use Rattle.qc_header.specs.declared.protected.PacketDecodeError.TheVariants.{InvalidHeader}
 use Rattle.qc_header.specs.declared.protected.ProtectedHeader.{ProtectedHeader}
-use Rattle.qc_header.specs.declared.protected.ProtectedHeader.TheVariants.{Initial, Long, Retry, Short, VersionNegotiate}
-use Rattle.qc_header.specs.HeaderReading.{Heading, HeaderReader, id_of, initial_at, numbered_at, typed_at, long_at, short_at, header_at, packet_at, piece_at}
-use Rattle.qc_header.specs.HeaderGrammar.{Id, IsFixed, HeaderAt, PieceAt, IsUnknown, Because, NoPieceAt}
+use Rattle.qc_header.specs.HeaderReading.{Heading, HeaderReader, long_at, short_at, header_at, packet_at, piece_at}
+use Rattle.qc_header.specs.HeaderGrammar.{IsFixed, HeaderAt, PieceAt}
 use Rattle.qc_header.specs.HeaderGrammar as grammar
-use Rattle.qc_header.specs.Known.{IsKnown}
 use Rattle.qc_header.specs.Piece.{Piece}
 use Rattle.qc_header.proofs.Readings.{went_on, was_some}
 use Rattle.qc_header.proofs.ReadHeaders.{fixed_let}
-use Rattle.qc_header.proofs.FrontHeader.{either, found_id, short_exact, long_exact}
+use Rattle.qc_header.proofs.FrontHeader.{either, short_exact, long_exact}
 
 -- ---- the first byte
 

@@ -1,5 +1,5 @@
 -- Written headers, under a mask, are read; and their fields come back
-use Rattle.std.proofs.Common.{◌≡◌, ℕ, ◌+◌, ◌-◌, ◌*◌, ◌/◌, ◌%◌, ◌^◌, ◌<◌, ◌≤◌, ◌==◌, suc, Bool, true, false, List, ◌∷◌, ◌++◌, length, take, drop, nat_lt, bit_xor, Result, Ok, refl, ap, ◌∙◌, arith, append_assoc, length-append, lit<, [], sym}
+use Rattle.std.proofs.Common.{◌≡◌, ℕ, ◌+◌, ◌-◌, ◌*◌, ◌/◌, ◌%◌, ◌^◌, ◌<◌, ◌≤◌, ◌==◌, suc, Bool, true, false, List, ◌∷◌, ◌++◌, length, take, drop, nat_lt, bit_xor, Result, Ok, refl, ap, ◌∙◌, arith, append_assoc, length-append, lit<, sym}
 use Rattle.std.proofs.Math.Nat.{mod-eq_of_lt}
 use Rattle.std.proofs.lemmas.Bool.Decides.{nat_tests}
 use Rattle.std.proofs.lemmas.Nat.{xor_shr}

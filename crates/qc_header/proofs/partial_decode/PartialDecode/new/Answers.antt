@@ -1,4 +1,4 @@
-use Rattle.std.proofs.Common.{[], arith}
+use Rattle.std.proofs.Common.{[]}
 use Rattle.std.specs.Option.{option_map_or}
 use Rattle.qc_header.proofs.Datagrams.{gives_found, gives_only, gives_none}
 use Rattle.qc_header.proofs.partial_decode.PartialDecode.new.Goals as goal
