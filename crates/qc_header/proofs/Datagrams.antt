@@ -4,18 +4,18 @@ use Rattle.qc_base.specs.Grammar.{IsBytes}
 use Rattle.qc_base.proofs.Exact.{ends_bytes, same_value, same_rest}
 use Rattle.qc_header.specs.declared.protected.PacketDecodeError.{PacketDecodeError}
 use Rattle.qc_header.specs.declared.protected.PacketDecodeError.TheVariants.{OutOfMemory}
-use Rattle.qc_header.specs.HeaderGrammar.{Item, Datagram, PieceAt, NoPieceAt}
+use Rattle.qc_header.specs.HeaderGrammar.{DatagramItem, Datagram, PieceAt, NoPieceAt}
 use Rattle.qc_header.specs.HeaderGrammar as grammar
 use Rattle.qc_header.specs.HeaderReading.{piece_at}
 use Rattle.qc_header.specs.Piece.{Piece}
-use Rattle.qc_header.specs.Pieces.{item_and, pieces_within, pieces_of}
+use Rattle.qc_header.specs.Pieces.{pieces_and, pieces_within, pieces_of}
 use Rattle.qc_header.proofs.FrontPiece.{piece_takes, piece_again, piece_ends}
 use Rattle.qc_header.proofs.Faults.{piece_none, none_again}
 
 -- the others are the same by any two functions that agree on what is left
-same_and : (v : Result (Piece × List ℕ) PacketDecodeError) (g h : List ℕ → List Item) → ((p : Piece) (z : List ℕ) → v ≡ Ok (p, z) → g z ≡ h z)
-    → item_and v g ≡ item_and v h
-same_and (Ok x) g h same = ap (λ (items : List Item). Ok x.0 ∷ items) (same x.0 x.1 refl)
+same_and : (v : Result (Piece × List ℕ) PacketDecodeError) (g h : List ℕ → List DatagramItem) → ((p : Piece) (z : List ℕ) → v ≡ Ok (p, z) → g z ≡ h z)
+    → pieces_and v g ≡ pieces_and v h
+same_and (Ok x) g h same = ap (λ (items : List DatagramItem). Ok x.0 ∷ items) (same x.0 x.1 refl)
 same_and (Err e) g h same = refl
 
 module _ (k : ℕ) (versions : List ℕ) (grease : Bool) where
@@ -44,19 +44,19 @@ module _ (k : ℕ) (versions : List ℕ) (grease : Bool) where
   pieces_first [] p z some e = absurd (omega arith)
   pieces_first (b ∷ a) p z some e =
       let less = (piece_ends k versions grease (b ∷ a) p z e).1 in
-      ap (λ v. item_and v (pieces_within (length a) k versions grease)) e
-      ∙ ap (λ (items : List Item). Ok p ∷ items) (enough (length a) (length z) z (omega (arith, less)) (omega arith))
+      ap (λ v. pieces_and v (pieces_within (length a) k versions grease)) e
+      ∙ ap (λ (items : List DatagramItem). Ok p ∷ items) (enough (length a) (length z) z (omega (arith, less)) (omega arith))
 
   pub pieces_fault : (a : List ℕ) (e : PacketDecodeError) → 0 < length a → piece_at k versions grease a ≡ Err e → pieces_of k versions grease a ≡ Err e ∷ []
   unfolding pieces_of
   pieces_fault [] e some is = absurd (omega arith)
-  pieces_fault (b ∷ a) e some is = ap (λ v. item_and v (pieces_within (length a) k versions grease)) is
+  pieces_fault (b ∷ a) e some is = ap (λ v. pieces_and v (pieces_within (length a) k versions grease)) is
 
   -- ---- they are what the grammar says, and it allows no others
 
-  item_meets : (a : List ℕ) (others : List ℕ → List Item) (v : Result (Piece × List ℕ) PacketDecodeError) → IsBytes a → 0 < length a → piece_at k versions grease a ≡ v
+  item_meets : (a : List ℕ) (others : List ℕ → List DatagramItem) (v : Result (Piece × List ℕ) PacketDecodeError) → IsBytes a → 0 < length a → piece_at k versions grease a ≡ v
       → ((p : Piece) (z : List ℕ) → piece_at k versions grease a ≡ Ok (p, z) → Datagram k versions grease (others z) z)
-      → Datagram k versions grease (item_and v others) a
+      → Datagram k versions grease (pieces_and v others) a
   item_meets a others (Ok x) bytes some is rest = grammar.piece_and x.0 a x.1 (others x.1) (piece_takes k versions grease a x.0 x.1 bytes is) (rest x.0 x.1 is)
   item_meets a others (Err e) bytes some is rest = grammar.unreadable e a some (piece_none k versions grease a e bytes is)
 
@@ -72,12 +72,12 @@ module _ (k : ℕ) (versions : List ℕ) (grease : Bool) where
   unfolding pieces_of
   pieces_meet a bytes = within_meets (length a) a bytes (omega arith)
 
-  pub pieces_only : (items : List Item) (a : List ℕ) → IsBytes a → Datagram k versions grease items a → items ≡ pieces_of k versions grease a
+  pub pieces_only : (items : List DatagramItem) (a : List ℕ) → IsBytes a → Datagram k versions grease items a → items ≡ pieces_of k versions grease a
   pieces_only _ _ bytes grammar.no_more = sym (pieces_none [] refl)
   pieces_only _ _ bytes (grammar.piece_and p a z others front behind) =
       let is = piece_again k versions grease a p z front in
       let ends = piece_ends k versions grease a p z is in
-      ap (λ (items : List Item). Ok p ∷ items) (pieces_only others z (ends_bytes a z ends.0 bytes) behind)
+      ap (λ (items : List DatagramItem). Ok p ∷ items) (pieces_only others z (ends_bytes a z ends.0 bytes) behind)
       ∙ sym (pieces_first a p z (omega (arith, ends.1)) is)
   pieces_only _ _ bytes (grammar.unreadable e a some none) = sym (pieces_fault a e some (none_again k versions grease a e bytes none))
 

@@ -2,7 +2,7 @@
 
 ghost use Rattle.std.specs.Prelude.{◌≡◌, ℕ, Bool, List};
 ghost use Rattle.qc_base.specs.Grammar.{IsBytes};
-ghost use Rattle.qc_header.specs.HeaderGrammar.{Datagram, Item};
+ghost use Rattle.qc_header.specs.HeaderGrammar.{Datagram, DatagramItem};
 ghost use Rattle.qc_header.specs.Pieces.{pieces_of};
 
 /// The pieces of a datagram are what the grammar says, and it allows no others: packets up to its
@@ -11,7 +11,7 @@ ghost use Rattle.qc_header.specs.Pieces.{pieces_of};
 pub fn datagram_is_pieces()
     ensures pieces { (k : ℕ) (versions : List ℕ) (grease : Bool) (bytes : List ℕ)
         → IsBytes bytes → Datagram k versions grease (pieces_of k versions grease bytes) bytes }
-    ensures only { (k : ℕ) (versions : List ℕ) (grease : Bool) (items : List Item) (bytes : List ℕ)
+    ensures only { (k : ℕ) (versions : List ℕ) (grease : Bool) (items : List DatagramItem) (bytes : List ℕ)
         → IsBytes bytes → Datagram k versions grease items bytes
         → items ≡ pieces_of k versions grease bytes }
 {}
