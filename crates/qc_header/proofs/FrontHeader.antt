@@ -1,26 +1,24 @@
 -- The header at the front of a datagram is what the grammar says
-use Rattle.std.proofs.Common.{◌≡◌, ℕ, ◌+◌, ◌-◌, ◌/◌, ◌%◌, ◌<◌, ◌≤◌, ◌==◌, ◌&&◌, ◌⊎◌, suc, inl, inr, not, cond, Bool, true, false, List, ◌∷◌, ◌++◌, length, nat_lt, Option, None, Some, Result, Ok, Err, refl, sym, ap, ◌∙◌, subst, arith}
+use Rattle.std.proofs.Common.{◌≡◌, ℕ, ◌-◌, ◌/◌, ◌%◌, ◌<◌, ◌≤◌, ◌==◌, ◌⊎◌, inl, inr, not, cond, Bool, true, false, List, ◌∷◌, nat_lt, None, Some, Result, Ok, Err, refl, arith}
 use Rattle.std.proofs.lemmas.Bool.Decides.{nat_tests}
-use Rattle.std.proofs.lemmas.Grind.{common_steps}
 use Rattle.std.specs.List.{list_any}
 use Rattle.std.specs.Int.{w32}
 use Rattle.qc_base.specs.declared.side.LongType.{LongType}
 use Rattle.qc_base.specs.declared.side.LongType.TheVariants.{Handshake, ZeroRtt}
-use Rattle.qc_base.specs.Grammar.{IsBytes, Byte}
-use Rattle.qc_base.specs.Reading.{Reader, read_on, give, or_fault, byte_of, bytes_of}
-use Rattle.qc_base.proofs.Front.{bytes_take, bytes_again}
-use Rattle.qc_base.proofs.Exact.{Exact, Found, Ends, ends_bytes, ends_both, ends_length, two_steps, exact_then, exact_or, exact_left, exact_give, found_bytes, found_byte}
+use Rattle.qc_base.specs.Grammar.{IsBytes}
+use Rattle.qc_base.specs.Reading.{Reader, give, byte_of, bytes_of}
+use Rattle.qc_base.proofs.Front.{bytes_take}
+use Rattle.qc_base.proofs.Exact.{Exact, Found, Ends, ends_both, exact_then, exact_or, exact_left, exact_give, found_bytes, found_byte}
 use Rattle.qc_base.proofs.Varints.{found_varint}
 use Rattle.qc_base.proofs.Words.{found_word, word_32}
 use Rattle.qc_header.specs.declared.protected.PacketDecodeError.{PacketDecodeError}
 use Rattle.qc_header.specs.declared.protected.PacketDecodeError.TheVariants.{InvalidHeader, UnsupportedVersion}
 use Rattle.qc_header.specs.declared.protected.ProtectedHeader.TheVariants.{Initial, Long, Retry, Short, VersionNegotiate}
-use Rattle.qc_header.specs.HeaderReading.{Heading, HeaderReader, id_of, initial_at, numbered_at, typed_at, long_at, short_at, header_at}
-use Rattle.qc_header.specs.HeaderGrammar.{Id, InitialFields, NumberedFields, TypeFields, LongFields, ShortFields, IsFixed, HeaderAt}
+use Rattle.qc_header.specs.HeaderReading.{Heading, HeaderReader, id_of, initial_at, numbered_at, typed_at, long_at, short_at}
+use Rattle.qc_header.specs.HeaderGrammar.{Id, InitialFields, NumberedFields, TypeFields, LongFields, ShortFields}
 use Rattle.qc_header.specs.HeaderGrammar as grammar
 use Rattle.qc_header.specs.Known.{IsKnown}
-use Rattle.qc_header.proofs.Readings.{id_steps, went_on, was_some}
-use Rattle.qc_header.proofs.ReadHeaders.{fixed_let}
+use Rattle.qc_header.proofs.Readings.{id_steps, went_on}
 
 -- ---- fields
 
@@ -43,7 +41,7 @@ id_ends a x z e =
     let w = id_steps (byte_of a) x z e in
     ends_both a w.1 z (found_byte.ends a w.0 w.1 w.2) ((found_bytes w.0).ends w.1 x z w.4)
 
-found_id : Found id_of Id
+pub found_id : Found id_of Id
 found_id = record {
   takes = id_takes;
   again = λ a x z s. rw s.2 (id_begins s.0 s.1 x z s.3.0 ((found_bytes s.0).again s.1 x z s.3.1));
@@ -64,14 +62,14 @@ unfolding numbered_at
 numbered_exact ty dst src v =
     exact_then (exact_or InvalidHeader found_varint) (λ n. exact_give (Long ty dst src v, Some n))
 
-short_exact : (k first : ℕ) → Exact (short_at k first) (ShortFields k first)
+pub short_exact : (k first : ℕ) → Exact (short_at k first) (ShortFields k first)
 unfolding short_at
 short_exact k first =
     exact_then (exact_or InvalidHeader (found_bytes k)) (λ dst. exact_give (Short (first / 32 % 2 == 1) dst, None))
 
 -- ---- a choice of two readers
 
-either : {E X : Type 0} (test : Bool) (r s : Reader E X) (a : List ℕ) (x : X × List ℕ) → cond test r s a ≡ Ok x
+pub either : {E X : Type 0} (test : Bool) (r s : Reader E X) (a : List ℕ) (x : X × List ℕ) → cond test r s a ≡ Ok x
     → ((test ≡ true) × (r a ≡ Ok x)) ⊎ ((test ≡ false) × (s a ≡ Ok x))
 either true r s a x e = inl (refl, e)
 either false r s a x e = inr (refl, e)
@@ -159,7 +157,7 @@ module _ (size : ℕ) (versions : List ℕ) (first v : ℕ) (dst src : List ℕ)
 
 -- ---- behind the first byte
 
-long_exact : (size : ℕ) (versions : List ℕ) (first : ℕ) → Exact (long_at size versions first) (LongFields size versions first)
+pub long_exact : (size : ℕ) (versions : List ℕ) (first : ℕ) → Exact (long_at size versions first) (LongFields size versions first)
 unfolding long_at
 long_exact size versions first =
     exact_then (exact_or InvalidHeader (found_word w32 word_32)) (λ v.

@@ -1,6 +1,9 @@
-pub mod FrontHeader
 pub mod Cuts
+pub mod Datagrams
+pub mod Faults
 pub mod Finished
+pub mod FrontHeader
+pub mod FrontPiece
 pub mod ReadHeaders
 pub mod Readings
 pub mod RoundTrips

@@ -119,11 +119,14 @@ pub initial_piece : (k first v n : ℕ) (versions dst src token w : List ℕ) (g
     → length token < 2 ^ 62 → n < 2 ^ 14 → n ≤ length w
     → let datagram = first ∷ (to_be_bytes w32 v ++ (id_field dst ++ (id_field src ++ (varint (length token) ++ (token ++ (to_be_bytes w16 (0x4000 + n) ++ w)))))) in
     piece_at k versions grease datagram
-    ≡ Ok (record {
-      header = Initial dst src (length datagram - length (token ++ (to_be_bytes w16 (0x4000 + n) ++ w))) (length token) v;
-      pn_offset = length datagram - length w;
-      bytes = take (length datagram - length w + n) datagram;
-    }, drop (length datagram - length w + n) datagram)
+    ≡ Ok (
+      record {
+        header = Initial dst src (length datagram - length (token ++ (to_be_bytes w16 (0x4000 + n) ++ w))) (length token) v;
+        pn_offset = length datagram - length w;
+        bytes = take (length datagram - length w + n) datagram;
+      },
+      drop (length datagram - length w + n) datagram,
+    )
 unfolding piece_at typed_at
 initial_piece k first v n versions dst src token w grease kind fits some known dst_fits src_fits token_fits n_fits room =
     let behind_ids = varint (length token) ++ (token ++ (to_be_bytes w16 (0x4000 + n) ++ w)) in

@@ -1,5 +1,5 @@
 -- A header that was read comes back once it is written and read again
-use Rattle.std.proofs.Common.{◌≡◌, ℕ, ◌<◌, ◌≤◌, ◌^◌, ◌⊎◌, Bool, true, List, [], ◌∷◌, length, take, drop, sym, subst, arith, append-nil}
+use Rattle.std.proofs.Common.{ℕ, ◌<◌, ◌^◌, Bool, List, [], ◌∷◌, take, drop, sym, subst, arith, append-nil}
 use Rattle.std.proofs.lemmas.List.{take-append-drop, length-take}
 use Rattle.qc_base.specs.Grammar.{IsBytes}
 use Rattle.qc_base.specs.declared.packet_number.PacketNumber.{PacketNumber}
@@ -9,7 +9,6 @@ use Rattle.qc_header.specs.declared.header.Header.TheVariants.{Initial, Long, Re
 use Rattle.qc_header.specs.declared.protected.ProtectedHeader.{ProtectedHeader}
 use Rattle.qc_header.specs.declared.protected.ProtectedHeader.TheVariants as readable
 use Rattle.qc_header.specs.Unprotected.{header_from, number_from}
-use Rattle.qc_header.specs.Known.{IsKnown}
 use Rattle.qc_header.specs.ReadBack.{FitsItsForm, IsWritable, AreIds}
 use Rattle.qc_header.specs.RoundTrip.{IsReadable, IsReading, IsCounted, ComesBack, packet_of}
 use Rattle.qc_header.proofs.Readings.{IsOf, piece_lets}

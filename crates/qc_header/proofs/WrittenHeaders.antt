@@ -1,5 +1,5 @@
 -- Written headers, under a mask, are read; and their fields come back
-use Rattle.std.proofs.Common.{◌≡◌, ℕ, ◌+◌, ◌-◌, ◌*◌, ◌/◌, ◌%◌, ◌^◌, ◌<◌, ◌≤◌, ◌==◌, suc, Bool, true, false, List, ◌∷◌, ◌++◌, length, take, drop, nat_lt, bit_xor, Result, Ok, refl, ap, ◌∙◌, arith, append_assoc, length-append, lit<, [], sym}
+use Rattle.std.proofs.Common.{◌≡◌, ℕ, ◌+◌, ◌-◌, ◌*◌, ◌/◌, ◌%◌, ◌^◌, ◌<◌, ◌≤◌, ◌==◌, suc, Bool, true, false, List, ◌∷◌, ◌++◌, length, take, drop, nat_lt, bit_xor, Result, Ok, refl, ap, ◌∙◌, arith, append_assoc, length-append, lit<, sym}
 use Rattle.std.proofs.Math.Nat.{mod-eq_of_lt}
 use Rattle.std.proofs.lemmas.Bool.Decides.{nat_tests}
 use Rattle.std.proofs.lemmas.Nat.{xor_shr}
@@ -143,11 +143,14 @@ same_token h start start' e = rw e refl
 initial_found : (k n first : ℕ) (versions z rest : List ℕ) (grease : Bool) (h : InitialHeader) → first / 16 ≡ 12
     → IsWritable h.dst_cid h.src_cid h.number h.version → length h.token < 2 ^ 62 → IsKnown h.version versions → n < 2 ^ 14 → n ≡ length z
     → piece_at k versions grease ((first ∷ (initial_front h n ++ z)) ++ rest)
-    ≡ Ok (record {
-      header = readable.Initial h.dst_cid h.src_cid (token_place h) (length h.token) h.version;
-      pn_offset = number_place (written.Initial h) n;
-      bytes = first ∷ (initial_front h n ++ z);
-    }, rest)
+    ≡ Ok (
+      record {
+        header = readable.Initial h.dst_cid h.src_cid (token_place h) (length h.token) h.version;
+        pn_offset = number_place (written.Initial h) n;
+        bytes = first ∷ (initial_front h n ++ z);
+      },
+      rest,
+    )
 initial_found k n first versions z rest grease h kind writable token_fits known n_fits size =
     let w = z ++ rest in
     let found = initial_piece k first h.version n versions h.dst_cid h.src_cid h.token w grease kind writable.version
@@ -192,11 +195,14 @@ pub initial_is_read : (mask_of : List ℕ → List ℕ) (k n : ℕ) (versions : 
     → IsWritable h.dst_cid h.src_cid h.number h.version → length h.token < 2 ^ 62 → IsKnown h.version versions
     → n < 2 ^ 14 → n ≡ number_len h.number + length payload
     → piece_at k versions grease (protected_packet mask_of (written.Initial h) n payload ++ rest)
-    ≡ Ok (record {
-      header = readable.Initial h.dst_cid h.src_cid (token_place h) (length h.token) h.version;
-      pn_offset = number_place (written.Initial h) n;
-      bytes = protected_packet mask_of (written.Initial h) n payload;
-    }, rest)
+    ≡ Ok (
+      record {
+        header = readable.Initial h.dst_cid h.src_cid (token_place h) (length h.token) h.version;
+        pn_offset = number_place (written.Initial h) n;
+        bytes = protected_packet mask_of (written.Initial h) n payload;
+      },
+      rest,
+    )
 initial_is_read mask_of k n versions grease h payload rest writable token_fits known n_fits size =
     let packet = initial_packet mask_of h n payload in
     let first = masked_first (0xc0 + number_tag h.number) packet.0 in

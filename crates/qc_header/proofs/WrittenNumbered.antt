@@ -65,11 +65,14 @@ long_byte Handshake number mask =
 long_found : (k n first v : ℕ) (ty : LongType) (versions dst src z rest : List ℕ) (grease : Bool) (number : PacketNumber) → first / 16 ≡ kind_of ty
     → IsWritable dst src number v → IsKnown v versions → n < 2 ^ 14 → n ≡ length z
     → piece_at k versions grease ((first ∷ (long_front dst src v n ++ z)) ++ rest)
-    ≡ Ok (record {
-      header = readable.Long ty dst src v;
-      pn_offset = number_place (written.Long ty dst src number v) n;
-      bytes = first ∷ (long_front dst src v n ++ z);
-    }, rest)
+    ≡ Ok (
+      record {
+        header = readable.Long ty dst src v;
+        pn_offset = number_place (written.Long ty dst src number v) n;
+        bytes = first ∷ (long_front dst src v n ++ z);
+      },
+      rest,
+    )
 long_found k n first v ty versions dst src z rest grease number kind writable known n_fits size =
     let w = z ++ rest in
     let found = numbered_piece k first v n ty versions dst src w grease kind writable.version
@@ -92,11 +95,14 @@ long_found k n first v ty versions dst src z rest grease number kind writable kn
 pub long_is_read : (mask_of : List ℕ → List ℕ) (k n v : ℕ) (ty : LongType) (versions dst src : List ℕ) (grease : Bool) (number : PacketNumber) (payload rest : List ℕ)
     → IsWritable dst src number v → IsKnown v versions → n < 2 ^ 14 → n ≡ number_len number + length payload
     → piece_at k versions grease (protected_packet mask_of (written.Long ty dst src number v) n payload ++ rest)
-    ≡ Ok (record {
-      header = readable.Long ty dst src v;
-      pn_offset = number_place (written.Long ty dst src number v) n;
-      bytes = protected_packet mask_of (written.Long ty dst src number v) n payload;
-    }, rest)
+    ≡ Ok (
+      record {
+        header = readable.Long ty dst src v;
+        pn_offset = number_place (written.Long ty dst src number v) n;
+        bytes = protected_packet mask_of (written.Long ty dst src number v) n payload;
+      },
+      rest,
+    )
 long_is_read mask_of k n v ty versions dst src grease number payload rest writable known n_fits size =
     let packet = long_packet mask_of ty dst src number v n payload in
     let first = masked_first (long_first ty + number_tag number) packet.0 in
@@ -154,11 +160,14 @@ short_high false false number = let tag = tag_small number in (omega arith, omeg
 
 pub short_is_read : (mask_of : List ℕ → List ℕ) (k n : ℕ) (versions dst : List ℕ) (grease spin key_phase : Bool) (number : PacketNumber) (payload : List ℕ) → length dst ≡ k
     → piece_at k versions grease (protected_packet mask_of (written.Short spin key_phase dst number) n payload)
-    ≡ Ok (record {
-      header = readable.Short spin dst;
-      pn_offset = number_place (written.Short spin key_phase dst number) n;
-      bytes = protected_packet mask_of (written.Short spin key_phase dst number) n payload;
-    }, [])
+    ≡ Ok (
+      record {
+        header = readable.Short spin dst;
+        pn_offset = number_place (written.Short spin key_phase dst number) n;
+        bytes = protected_packet mask_of (written.Short spin key_phase dst number) n payload;
+      },
+      [],
+    )
 short_is_read mask_of k n versions dst grease spin key_phase number payload size =
     let packet = short_packet mask_of spin key_phase dst number n payload in
     let high = short_high spin key_phase number in

@@ -1,5 +1,5 @@
 -- Written headers of Retry and Version Negotiation packets, which are not protected, are read and come back
-use Rattle.std.proofs.Common.{◌≡◌, ℕ, ◌+◌, ◌-◌, ◌/◌, ◌%◌, ◌^◌, ◌<◌, ◌≤◌, ◌⊎◌, inl, inr, Bool, true, false, List, ◌∷◌, ◌++◌, length, Ok, refl, ap, ◌∙◌, arith, append_assoc, length-append, [], take, drop, sym}
+use Rattle.std.proofs.Common.{◌≡◌, ℕ, ◌+◌, ◌-◌, ◌/◌, ◌%◌, ◌^◌, ◌<◌, ◌≤◌, ◌⊎◌, inl, inr, Bool, true, false, List, ◌∷◌, ◌++◌, length, Ok, refl, ap, ◌∙◌, arith, append_assoc, length-append, []}
 use Rattle.std.proofs.Math.Seq.{take-append_seam, drop-append_seam}
 use Rattle.std.specs.Int.{w32, to_be_bytes}
 use Rattle.qc_header.specs.declared.header.Header.TheVariants as written
@@ -23,11 +23,14 @@ retry_place dst src v n = omega arith
 
 pub retry_is_read : (k n v : ℕ) (versions dst src : List ℕ) (grease : Bool) (behind : List ℕ) → AreIds dst src → v < 2 ^ 32 → IsKnown v versions
     → piece_at k versions grease (header_spelling (written.Retry dst src v) n ++ behind)
-    ≡ Ok (record {
-      header = readable.Retry dst src v;
-      pn_offset = number_place (written.Retry dst src v) n;
-      bytes = header_spelling (written.Retry dst src v) n ++ behind;
-    }, [])
+    ≡ Ok (
+      record {
+        header = readable.Retry dst src v;
+        pn_offset = number_place (written.Retry dst src v) n;
+        bytes = header_spelling (written.Retry dst src v) n ++ behind;
+      },
+      [],
+    )
 retry_is_read k n v versions dst src grease behind ids fits known =
     let spelling = header_spelling (written.Retry dst src v) n in
     let datagram : List ℕ = 0xf0 ∷ (to_be_bytes w32 v ++ (id_field dst ++ (id_field src ++ behind))) in
@@ -76,11 +79,14 @@ same_random random random' src dst e = rw e refl
 pub negotiation_is_read : (k n random : ℕ) (versions dst src : List ℕ) (grease : Bool) (behind : List ℕ)
     → AreIds dst src → random < 128 → (64 ≤ random) ⊎ (grease ≡ true)
     → piece_at k versions grease (header_spelling (written.VersionNegotiate random src dst) n ++ behind)
-    ≡ Ok (record {
-      header = readable.VersionNegotiate random src dst;
-      pn_offset = number_place (written.VersionNegotiate random src dst) n;
-      bytes = header_spelling (written.VersionNegotiate random src dst) n ++ behind;
-    }, [])
+    ≡ Ok (
+      record {
+        header = readable.VersionNegotiate random src dst;
+        pn_offset = number_place (written.VersionNegotiate random src dst) n;
+        bytes = header_spelling (written.VersionNegotiate random src dst) n ++ behind;
+      },
+      [],
+    )
 negotiation_is_read k n random versions dst src grease behind ids small fixed =
     let spelling = header_spelling (written.VersionNegotiate random src dst) n in
     let first = 0x80 + random % 0x80 in

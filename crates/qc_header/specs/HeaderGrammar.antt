@@ -1,6 +1,6 @@
 -- Which bytes begin with which packet (RFC 9000, sections 12.2 and 17), as far as header protection lets it tell.
 -- Variable-length integers may have any form, and bits that are hidden or mean nothing any value.
-use Rattle.std.specs.Prelude.{◌≡◌, ◌≢◌, ℕ, ◌+◌, ◌-◌, ◌/◌, ◌%◌, ◌<◌, ◌≤◌, ◌⊎◌, ◌==◌, Bool, true, List, [], ◌∷◌, ◌++◌, length, Option, None, Some, Result, Ok, Err}
+use Rattle.std.specs.Prelude.{◌≡◌, ◌≢◌, ℕ, ◌+◌, ◌-◌, ◌/◌, ◌%◌, ◌<◌, ◌≤◌, ◌⊎◌, ◌==◌, Bool, true, List, [], ◌∷◌, ◌++◌, length, None, Some, Result, Ok, Err}
 use Rattle.std.specs.Int.{w32}
 use Rattle.qc_base.specs.Grammar.{Spelling, ◌>>=◌, Is, Where, Bytes, Byte, Word, Left, Varint}
 use Rattle.qc_base.specs.declared.side.LongType.{LongType}
@@ -117,13 +117,13 @@ pub record NoPieceAt (local_cid_len : ℕ) (versions : List ℕ) (grease_quic_bi
 -- ---- datagrams
 
 -- a packet, or the fault that ends the datagram
-abbrev pub Item : Type 0
-Item = Result Piece PacketDecodeError
+abbrev pub DatagramItem : Type 0
+DatagramItem = Result Piece PacketDecodeError
 
 -- the bytes are these packets, to the end or the first bytes that begin with none
-pub data Datagram (local_cid_len : ℕ) (versions : List ℕ) (grease_quic_bit : Bool) : List Item → List ℕ → Type 0 where
+pub data Datagram (local_cid_len : ℕ) (versions : List ℕ) (grease_quic_bit : Bool) : List DatagramItem → List ℕ → Type 0 where
   no_more : Datagram local_cid_len versions grease_quic_bit [] []
-  piece_and : (p : Piece) (a z : List ℕ) (others : List Item) → PieceAt local_cid_len versions grease_quic_bit p a z
+  piece_and : (p : Piece) (a z : List ℕ) (others : List DatagramItem) → PieceAt local_cid_len versions grease_quic_bit p a z
       → Datagram local_cid_len versions grease_quic_bit others z
       → Datagram local_cid_len versions grease_quic_bit (Ok p ∷ others) a
   unreadable : (fault : PacketDecodeError) (a : List ℕ) → 0 < length a

@@ -9,7 +9,7 @@
 --   1-RTT                section 17.3.1    01S00PNN     destination id, number
 --
 -- NN is the number's length less 1, R any bit, S the spin bit, P the key phase.
-use Rattle.std.specs.Prelude.{ℕ, ◌+◌, ◌-◌, ◌%◌, Bool, List, ◌∷◌, ◌++◌, length, if◌then◌else◌, Option, Some, None}
+use Rattle.std.specs.Prelude.{ℕ, ◌+◌, ◌-◌, ◌%◌, Bool, List, ◌∷◌, ◌++◌, length, Option, Some, None}
 use Rattle.std.specs.Int.{w16, w32, to_be_bytes}
 use Rattle.qc_base.specs.declared.packet_number.PacketNumber.{PacketNumber}
 use Rattle.qc_base.specs.declared.side.LongType.{LongType}
@@ -37,6 +37,7 @@ long_start first version dst_cid src_cid = first ∷ to_be_bytes w32 version ++ 
 unfoldable pub length_and_number : ℕ → PacketNumber → List ℕ
 length_and_number length number = to_be_bytes w16 (0x4000 + length) ++ number_bytes number
 
+-- an Initial packet's header
 unfoldable pub initial_spelling : InitialHeader → ℕ → List ℕ
 initial_spelling h length_field =
     long_start (0xc0 + number_tag h.number) h.version h.dst_cid h.src_cid
@@ -47,6 +48,7 @@ abbrev pub long_first : LongType → ℕ
 long_first ZeroRtt = 0xd0
 long_first Handshake = 0xe0
 
+-- a 1-RTT packet's header
 unfoldable pub short_spelling : Bool → Bool → List ℕ → PacketNumber → List ℕ
 short_spelling spin key_phase dst_cid number =
     (0x40 + bit spin 0x20 + bit key_phase 0x04 + number_tag number) ∷ dst_cid ++ number_bytes number

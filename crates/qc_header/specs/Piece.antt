@@ -21,6 +21,7 @@ token_end (Retry dst_cid src_cid version) = 0
 token_end (Short spin dst_cid) = 0
 token_end (VersionNegotiate random src_cid dst_cid) = 0
 
+-- header and number lie in the packet, and the token before the number
 pub record IsWithin (header : ProtectedHeader) (pn_offset : ℕ) (bytes : List ℕ) : Type 0 where
   pub fits : pn_offset ≤ length bytes
   pub token : token_end header ≤ pn_offset
@@ -38,6 +39,7 @@ space_of (VersionNegotiate random src_cid dst_cid) = None
 abbrev pub is_protected : ProtectedHeader → Bool
 is_protected header = is_some (space_of header)
 
+-- whether it is a 0-RTT packet's
 abbrev pub is_0rtt_header : ProtectedHeader → Bool
 is_0rtt_header (Long ZeroRtt dst_cid src_cid version) = true
 is_0rtt_header _ = false

@@ -15,6 +15,7 @@ length_before p header pn_len =
     if nat_lt (first_byte header) 128 || nat_lt (length header) p.header_len || nat_lt p.header_len (pn_len + 3) then None
     else Some (p.start + (p.header_len - pn_len - 2))
 
+-- the same in a buffer, where the form has a number
 unfoldable pub length_place : PartialEncode → List ℕ → Option ℕ
 length_place p bytes = option_and_then (length_before p (drop p.start bytes)) p.pn_len
 

@@ -70,6 +70,54 @@ fn sizes(datagram: BytesMut) -> Option<(usize, usize)> {
     }
 }
 
+/// How many bytes each packet of a datagram has, at most 4, and the fault behind them.
+fn pieces(datagram: BytesMut, sizes: &mut [usize; 4]) -> Option<PacketDecodeError> {
+    let mut rest = Some(datagram);
+    for size in sizes {
+        let Some(bytes) = rest else {
+            return None;
+        };
+        match PartialDecode::new(bytes, 0, &[1], false) {
+            Ok((partial, behind)) => {
+                *size = partial.len();
+                rest = behind;
+            }
+            Err(e) => return Some(e),
+        }
+    }
+    None
+}
+
+// Handshake packets of 8 and 10 bytes, a Retry, which takes all bytes behind it; and the same with
+// bytes between them that begin with no packet (RFC 9000, section 12.2).
+#[test]
+fn datagrams(rt: HostRuntime) -> Result<(), Fail> {
+    let table: [(&[u8], [usize; 4], Option<PacketDecodeError>); 3] = [
+        (
+            b"\xe0\x00\x00\x00\x01\x00\x00\x00\xef\x00\x00\x00\x01\x00\x00\x40\x01\x07",
+            [8, 10, 0, 0],
+            None,
+        ),
+        (
+            b"\xe0\x00\x00\x00\x01\x00\x00\x00\xf0\x00\x00\x00\x01\x00\x00\xe0\x00\x00\x00\x01\x00\x00\x00",
+            [8, 15, 0, 0],
+            None,
+        ),
+        (
+            b"\xe0\x00\x00\x00\x01\x00\x00\x00\x00\xe0\x00\x00\x00\x01\x00\x00\x00",
+            [8, 0, 0, 0],
+            Some(PacketDecodeError::InvalidHeader),
+        ),
+    ];
+    for (datagram, want, fault) in table {
+        let mut sizes = [0; 4];
+        let bytes = BytesMut::copy_from_slice(rt.alloc(), datagram)?;
+        assert_eq!(rt; pieces(bytes, &mut sizes), fault);
+        assert_eq!(rt; sizes, want);
+    }
+    Ok(())
+}
+
 // A Length field, of what value it is, and how many bytes packets with it have.
 const LENGTHS: [(&[u8], u32, usize); 7] = [
     (b"\x00", 0, 8),

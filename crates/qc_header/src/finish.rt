@@ -1,7 +1,8 @@
 //! Taking header protection off (RFC 9001, section 5.4).
 
-ghost use Rattle.std.specs.Prelude.{◌≡◌, ◌+◌, ◌<◌, ◌≤◌, ◌^◌, ◌⊎◌, ◌↔◌, ℕ, length, take, drop, IfOk, IfErr, OnErr, IsErrOf, IsErr, OnOk, IsTrue, IsSome};
+ghost use Rattle.std.specs.Prelude.{◌≡◌, ◌≢◌, ◌+◌, ◌<◌, ◌≤◌, ◌^◌, ◌⊎◌, ◌↔◌, ℕ, length, take, drop, IfOk, IfErr, IfSome, IfNone, OnErr, IsErrOf, IsErr, OnOk, IsTrue, IsSome};
 ghost use Rattle.qc_base.specs.Mask.{unmasked, first_byte, number_len_in};
+ghost use Rattle.qc_header.specs.declared.header.InitialHeader.{InitialHeader};
 ghost use Rattle.qc_header.specs.Piece.{is_protected, token_end};
 ghost use Rattle.qc_header.specs.Unprotected.{IsCut, masks_of, unprotected, header_end, header_from, number_from};
 
@@ -32,6 +33,33 @@ pub struct InitialPacket {
     pub header_data: Bytes,
     /// What is behind the header.
     pub payload: BytesMut,
+}
+
+impl InitialPacket {
+    /// The packet as an Initial packet; None exactly where it has another form.
+    pub fn from_packet(packet: Packet) -> Option<InitialPacket>
+        ensures header { IfSome result (λ p. packet.header ≡ Header.Initial p.header) }
+        ensures header_data { IfSome result (λ p. p.header_data ≡ packet.header_data) }
+        ensures payload { IfSome result (λ p. p.payload ≡ packet.payload) }
+        ensures none { IfNone result ((h : InitialHeader) → packet.header ≢ Header.Initial h) }
+    {
+        let Packet {
+            header,
+            header_data,
+            payload,
+        } = packet;
+        match header {
+            Header::Initial(header) => Some(InitialPacket {
+                header,
+                header_data,
+                payload,
+            }),
+            Header::Long { .. }
+            | Header::Retry { .. }
+            | Header::Short { .. }
+            | Header::VersionNegotiate { .. } => None,
+        }
+    }
 }
 
 /// The number that is spelled by these 1 to 4 bytes.

@@ -58,7 +58,8 @@ pub enum Header {
     },
     /// A Version Negotiation packet (RFC 9000, section 17.2.1). The versions are its payload.
     VersionNegotiate {
-        /// The 7 low bits of the first byte, which mean nothing.
+        /// The 7 low bits of the first byte. They mean nothing, but the highest of them is the fixed
+        /// bit, which some readers want set (RFC 9000, section 17.2.1).
         random: u8,
         /// The source connection id.
         src_cid: ConnectionId,

@@ -1,6 +1,7 @@
 //! The headers of QUIC packets (RFC 9000, section 17): writing and reading them.
 #![tactic(auto)]
 
+mod datagram;
 mod encode;
 mod finish;
 mod header;
@@ -9,6 +10,7 @@ mod protected;
 mod read;
 mod round_trip;
 
+pub use datagram::datagram_is_pieces;
 pub use encode::PartialEncode;
 pub use finish::{InitialPacket, Packet};
 pub use header::{Header, InitialHeader};

@@ -1,9 +1,11 @@
 //! Packets whose headers are read as far as header protection lets it.
 
-ghost use Rattle.std.specs.Prelude.{◌≡◌, ◌<◌, ◌≤◌, ◌⊎◌, [], length, IfOk, IfErr, IfSome, IsErrOf, Ok, Err};
+ghost use Rattle.std.specs.Prelude.{◌≡◌, ◌<◌, ◌≤◌, ◌⊎◌, ℕ, List, [], length, MatchResult, IfOk, IfErr, IfSome, IsErrOf, Ok, Err};
 ghost use Rattle.std.specs.Option.{option_map_or};
+ghost use Rattle.qc_base.specs.Grammar.{IsBytes};
+ghost use Rattle.qc_header.specs.HeaderGrammar.{PieceAt, NoPieceAt};
 ghost use Rattle.qc_header.specs.HeaderReading.{piece_at, IsFollowed};
-ghost use Rattle.qc_header.specs.Piece.{space_of, is_0rtt_header};
+ghost use Rattle.qc_header.specs.Piece.{Piece, space_of, is_0rtt_header};
 
 use crate::protected::{PacketDecodeError, ProtectedHeader};
 use crate::read::{Bounds, read_bounds};
@@ -30,14 +32,63 @@ impl Model for PartialDecode {
     ghost invariant = { λ p. IsWithin p.header p.pn_offset p.bytes.items };
 }
 
+/// The first packet of a datagram, and what is behind it.
+fn first_piece(
+    bytes: BytesMut,
+    local_cid_len: usize,
+    versions: &[u32],
+    grease_quic_bit: bool,
+) -> Result<(PartialDecode, Option<BytesMut>), PacketDecodeError>
+    requires { local_cid_len ≤ 20 }
+    ensures octets { IsBytes bytes.items }
+    ensures exact { IfOk result (λ r.
+        piece_at local_cid_len versions.now grease_quic_bit bytes.items
+        ≡ Ok (r.0, option_map_or (λ b. b.items) r.1 [])) }
+    ensures rest { IfOk result (λ r. IfSome r.1 (λ b. 0 < length b.items)) }
+    ensures fault { IfErr result (λ e. (e ≡ PacketDecodeError.OutOfMemory)
+        ⊎ (piece_at local_cid_len versions.now grease_quic_bit bytes.items ≡ Err e)) }
+    ensures memory { IsErrOf result PacketDecodeError.OutOfMemory
+        → IsFollowed local_cid_len versions.now grease_quic_bit bytes.items }
+{
+    let bounds = read_bounds(bytes.as_slice(), local_cid_len, versions, grease_quic_bit)?;
+    let mut bytes = bytes;
+    let Bounds {
+        header,
+        pn_offset,
+        end,
+    } = bounds;
+    if end == bytes.len() {
+        return Ok((
+            PartialDecode {
+                header,
+                pn_offset,
+                bytes,
+            },
+            None,
+        ));
+    }
+    match bytes.split_off(end) {
+        Ok(rest) => Ok((
+            PartialDecode {
+                header,
+                pn_offset,
+                bytes,
+            },
+            Some(rest),
+        )),
+        Err(_) => Err(PacketDecodeError::OutOfMemory),
+    }
+}
+
 impl PartialDecode {
-    /// Reads the first packet of a datagram, and gives what is behind it. Connection ids of this
-    /// end have `local_cid_len` bytes; the versions that it knows are `versions`; it takes packets
-    /// with a fixed bit of 0 where it told so (`grease_quic_bit`, RFC 9287).
+    /// Reads the first packet of a datagram, and gives what is behind it, if anything is. Connection
+    /// ids of this end have `local_cid_len` bytes; the versions that it knows are `versions`; it takes
+    /// packets with a fixed bit of 0 where it told so (`grease_quic_bit`, RFC 9287).
     ///
-    /// `InvalidHeader` and `UnsupportedVersion` come by RFC 9000, section 17, the first that holds
-    /// in reading order; `OutOfMemory` only where the first packet was read and bytes are behind it,
-    /// which cannot be cut off.
+    /// `UnsupportedVersion` comes exactly for a long header with its ids and a version that is not
+    /// known, `InvalidHeader` for all other bytes that begin with no packet (RFC 9000, section 17);
+    /// `OutOfMemory` only where the first packet was read and bytes are behind it, which cannot be
+    /// cut off.
     pub fn new(
         bytes: BytesMut,
         local_cid_len: usize,
@@ -49,39 +100,22 @@ impl PartialDecode {
             piece_at local_cid_len versions.now grease_quic_bit bytes.items
             ≡ Ok (r.0, option_map_or (λ b. b.items) r.1 [])) }
         ensures rest { IfOk result (λ r. IfSome r.1 (λ b. 0 < length b.items)) }
-        ensures refused { IfErr result (λ e. (e ≡ PacketDecodeError.OutOfMemory)
+        ensures fault { IfErr result (λ e. (e ≡ PacketDecodeError.OutOfMemory)
             ⊎ (piece_at local_cid_len versions.now grease_quic_bit bytes.items ≡ Err e)) }
         ensures memory { IsErrOf result PacketDecodeError.OutOfMemory
             → IsFollowed local_cid_len versions.now grease_quic_bit bytes.items }
+        ensures found { IfOk result (λ r.
+            PieceAt local_cid_len versions.now grease_quic_bit r.0 bytes.items
+            (option_map_or (λ b. b.items) r.1 [])) }
+        ensures only { (p : Piece) (rest : List ℕ)
+            → PieceAt local_cid_len versions.now grease_quic_bit p bytes.items rest
+            → MatchResult result
+            (λ r. (r.0 ≡ p) × (option_map_or (λ b. b.items) r.1 [] ≡ rest))
+            (λ e. e ≡ PacketDecodeError.OutOfMemory) }
+        ensures refused { IfErr result (λ e. (e ≡ PacketDecodeError.OutOfMemory)
+            ⊎ NoPieceAt local_cid_len versions.now grease_quic_bit bytes.items e) }
     {
-        let bounds = read_bounds(bytes.as_slice(), local_cid_len, versions, grease_quic_bit)?;
-        let mut bytes = bytes;
-        let Bounds {
-            header,
-            pn_offset,
-            end,
-        } = bounds;
-        if end == bytes.len() {
-            return Ok((
-                PartialDecode {
-                    header,
-                    pn_offset,
-                    bytes,
-                },
-                None,
-            ));
-        }
-        match bytes.split_off(end) {
-            Ok(rest) => Ok((
-                PartialDecode {
-                    header,
-                    pn_offset,
-                    bytes,
-                },
-                Some(rest),
-            )),
-            Err(_) => Err(PacketDecodeError::OutOfMemory),
-        }
+        first_piece(bytes, local_cid_len, versions, grease_quic_bit)
     }
 
     /// What is readable of its header.

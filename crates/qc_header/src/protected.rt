@@ -77,7 +77,7 @@ pub enum ProtectedHeader {
     },
     /// A Version Negotiation packet (RFC 9000, section 17.2.1), which is not protected.
     VersionNegotiate {
-        /// The 7 low bits of the first byte.
+        /// The 7 low bits of the first byte, the highest of which is the fixed bit.
         random: u8,
         /// The source connection id.
         src_cid: ConnectionId,

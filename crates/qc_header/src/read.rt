@@ -1,6 +1,7 @@
 //! Reading a header as far as header protection lets it (RFC 9000, section 17).
 
 ghost use Rattle.std.specs.Prelude.{◌≡◌, ◌≢◌, ◌+◌, ◌-◌, ◌<◌, ◌≤◌, ◌^◌, length, take, drop, IfOk, IfErr, MatchResult, Ok, Err, List, ℕ};
+ghost use Rattle.qc_base.specs.Grammar.{IsBytes};
 ghost use Rattle.qc_base.specs.Reading.{Finds};
 ghost use Rattle.qc_header.specs.Piece.{token_end};
 ghost use Rattle.qc_header.specs.HeaderReading.{id_of, initial_at, numbered_at, typed_at, long_at, short_at, header_at, piece_at, GivesHead};
@@ -226,6 +227,7 @@ pub(crate) fn read_bounds(
     grease_quic_bit: bool,
 ) -> Result<Bounds, PacketDecodeError>
     requires { local_cid_len ≤ 20 }
+    ensures octets { IsBytes bytes.now }
     ensures exact { MatchResult result
         (λ b. piece_at local_cid_len versions.now grease_quic_bit bytes.now
         ≡ Ok (record { header = b.header; pn_offset = b.pn_offset; bytes = take b.end bytes.now }, drop b.end bytes.now))

@@ -2,7 +2,7 @@
 
 ghost use Rattle.std.specs.Prelude.{ℕ, List};
 
-use crate::{Header, InitialHeader, PacketDecodeError, PartialDecode};
+use crate::{Header, InitialHeader, InitialPacket, PacketDecodeError, PartialDecode};
 use bytes::{Bytes, BytesMut};
 use qc_base::{ConnectionId, HeaderMask, LongType, PacketNumber, SpaceId};
 use std::test::Fail;
@@ -35,12 +35,12 @@ fn encoded(rt: HostRuntime) -> Result<(), Fail> {
         version: 1,
     });
     let mut out = b"ab".to_vec(rt.alloc())?;
-    let pn_offset = initial.encode_sized(0x49e, &mut out)?;
+    let written = initial.encode_sized(0x49e, &mut out)?;
     let want =
         b"ab\xc3\x00\x00\x00\x01\x08\x83\x94\xc8\xf0\x3e\x51\x57\x08\x00\x00\x44\x9e\x00\x00\x00\x02";
     assert_eq!(rt; out.as_slice(), want.as_slice());
     assert_eq!(rt;
-        (pn_offset.start, pn_offset.header_len, pn_offset.pn_len),
+        (written.start, written.header_len, written.pn_len),
         (2, 22, Some(4))
     );
     assert_eq!(rt; initial.encoded_len(), 22);
@@ -61,12 +61,12 @@ fn encoded(rt: HostRuntime) -> Result<(), Fail> {
         version: 1,
     };
     let mut out = Vec::new(rt.alloc());
-    let pn_offset = retry.encode(&mut out)?;
+    let written = retry.encode(&mut out)?;
     assert_eq!(rt;
         out.as_slice(),
         b"\xf0\x00\x00\x00\x01\x00\x08\xf0\x67\xa5\x50\x2a\x42\x62\xb5".as_slice()
     );
-    assert_eq!(rt; pn_offset.pn_len, None);
+    assert_eq!(rt; written.pn_len, None);
     Ok(())
 }
 
@@ -81,22 +81,22 @@ fn length_set(rt: HostRuntime) -> Result<(), Fail> {
         version: 1,
     });
     let mut out = b"ab".to_vec(rt.alloc())?;
-    let pn_offset = initial.encode(&mut out)?;
+    let written = initial.encode(&mut out)?;
     out.extend_from_slice(b"cde")?;
     let zero =
         b"ab\xc3\x00\x00\x00\x01\x08\x83\x94\xc8\xf0\x3e\x51\x57\x08\x00\x00\x40\x00\x00\x00\x00\x02cde";
     assert_eq!(rt; out.as_slice(), zero.as_slice());
-    pn_offset.set_length(out.as_mut_slice(), 0x49e);
+    written.set_length(out.as_mut_slice(), 0x49e);
     let want =
         b"ab\xc3\x00\x00\x00\x01\x08\x83\x94\xc8\xf0\x3e\x51\x57\x08\x00\x00\x44\x9e\x00\x00\x00\x02cde";
     assert_eq!(rt; out.as_slice(), want.as_slice());
     out[2] = 0x83;
-    pn_offset.set_length(out.as_mut_slice(), 0x3fff);
+    written.set_length(out.as_mut_slice(), 0x3fff);
     let greased =
         b"ab\x83\x00\x00\x00\x01\x08\x83\x94\xc8\xf0\x3e\x51\x57\x08\x00\x00\x7f\xff\x00\x00\x00\x02cde";
     assert_eq!(rt; out.as_slice(), greased.as_slice());
     out.truncate(20);
-    pn_offset.set_length(out.as_mut_slice(), 1);
+    written.set_length(out.as_mut_slice(), 1);
     let cut = b"ab\x83\x00\x00\x00\x01\x08\x83\x94\xc8\xf0\x3e\x51\x57\x08\x00\x00\x7f\xff";
     assert_eq!(rt; out.as_slice(), cut.as_slice());
     Ok(())
@@ -112,8 +112,8 @@ fn no_length_set(rt: HostRuntime) -> Result<(), Fail> {
         number: PacketNumber::U24(0xbff4),
     };
     let mut out = Vec::new(rt.alloc());
-    let pn_offset = short.encode(&mut out)?;
-    pn_offset.set_length(out.as_mut_slice(), 5);
+    let written = short.encode(&mut out)?;
+    written.set_length(out.as_mut_slice(), 5);
     assert_eq!(rt; out.as_slice(), b"\x42\x00\xbf\xf4".as_slice());
     Ok(())
 }
@@ -174,6 +174,24 @@ fn long_decoded(rt: HostRuntime) -> Result<(), Fail> {
         packet.payload.as_slice(),
         b"abcdefghijklmnopqrst".as_slice()
     );
+    assert!(rt; InitialPacket::from_packet(packet).is_none());
+    Ok(())
+}
+
+// The same as an Initial packet without ids and token, of 1 byte of number.
+#[test]
+fn initial_decoded(rt: HostRuntime) -> Result<(), Fail> {
+    let datagram = b"\xc0\x00\x00\x00\x01\x00\x00\x00\x15\x07abcdefghijklmnopqrst";
+    let bytes = BytesMut::copy_from_slice(rt.alloc(), datagram)?;
+    let (partial, _) = PartialDecode::new(bytes, 8, &[1], false)
+        .ok()
+        .ok_or("unread")?;
+    let key = FixedMask([0; 5]);
+    let packet = partial.finish(Some(&key)).ok().ok_or("cut")?;
+    let initial = InitialPacket::from_packet(packet).ok_or("no Initial packet")?;
+    assert_eq!(rt; initial.header.number, PacketNumber::U8(7));
+    assert_eq!(rt; initial.header_data.as_slice(), &datagram[..10]);
+    assert_eq!(rt; initial.payload.as_slice(), &datagram[10..]);
     Ok(())
 }
 

@@ -6,6 +6,7 @@ pub use Rattle.qc_base.specs.PacketNumber
 pub use Rattle.qc_base.specs.RangeSet
 pub use Rattle.qc_base.specs.Reading
 pub use Rattle.qc_base.specs.ResetToken
+pub use Rattle.qc_base.specs.Spelling
 pub use Rattle.qc_base.specs.StreamId
 pub use Rattle.qc_base.specs.Time
 pub use Rattle.qc_base.specs.TransportErrorCode
@@ -17,13 +18,16 @@ pub use Rattle.qc_frame.specs.FrameReading
 pub use Rattle.qc_frame.specs.FrameSpelling
 pub use Rattle.qc_frame.specs.Payload
 pub use Rattle.qc_frame.specs.Sizes
+pub use Rattle.qc_header.specs.HeaderGrammar
 pub use Rattle.qc_header.specs.HeaderReading
 pub use Rattle.qc_header.specs.HeaderSpelling
-pub use Rattle.qc_header.specs.Opened
+pub use Rattle.qc_header.specs.Known
 pub use Rattle.qc_header.specs.Piece
+pub use Rattle.qc_header.specs.Pieces
 pub use Rattle.qc_header.specs.ReadBack
 pub use Rattle.qc_header.specs.RoundTrip
 pub use Rattle.qc_header.specs.SetLength
+pub use Rattle.qc_header.specs.Unprotected
 pub use Rattle.qc_params.specs.ParametersFit
 pub use Rattle.qc_params.specs.ParametersGrammar
 pub use Rattle.qc_params.specs.ParametersReading

@@ -1,18 +1,13 @@
-use Rattle.std.proofs.Common.{◌≤◌, ◌<◌, length, drop, take, arith}
-use Rattle.std.proofs.lemmas.Grind.{common_steps}
-use Rattle.std.proofs.lemmas.List.{length-drop}
+use Rattle.std.proofs.Common.{[]}
+use Rattle.std.specs.Option.{option_map_or}
+use Rattle.qc_header.proofs.Datagrams.{gives_found, gives_only, gives_none}
 use Rattle.qc_header.proofs.partial_decode.PartialDecode.new.Goals as goal
 
-pub returns-in-Err-clause-memory : goal.returns-in-Err-clause-memory
-returns-in-Err-clause-memory c _ =
-    let within : c.in_ok-bounds.bounds.end ≤ length c.args.bytes.items = rw (← c.as_slice.ensures) c.in_ok-bounds.ensures.end in
-    let less : c.in_ok-bounds.bounds.end < length c.args.bytes.items = grind (arith, common_steps) in (
-      record {
-        header = c.in_ok-bounds.bounds.header;
-        pn_offset = c.in_ok-bounds.bounds.pn_offset;
-        bytes = take c.in_ok-bounds.bounds.end c.args.bytes.items;
-      },
-      drop c.in_ok-bounds.bounds.end c.args.bytes.items,
-      rw (← c.as_slice.ensures) c.in_ok-bounds.ensures.exact,
-      omega (arith, length-drop c.in_ok-bounds.bounds.end c.args.bytes.items),
-    )
+pub returns-clause-found : goal.returns-clause-found
+returns-clause-found c = gives_found (λ r. (r.0, option_map_or (λ b. b.items) r.1 [])) c.args.local_cid_len c.args.versions.now c.args.grease_quic_bit c.args.bytes.items c.first_piece.result c.first_piece.ensures.octets c.first_piece.ensures.exact
+
+pub returns-clause-only : goal.returns-clause-only
+returns-clause-only c = gives_only (λ r. (r.0, option_map_or (λ b. b.items) r.1 [])) c.args.local_cid_len c.args.versions.now c.args.grease_quic_bit c.args.bytes.items c.first_piece.result c.first_piece.ensures.exact c.first_piece.ensures.fault
+
+pub returns-clause-refused : goal.returns-clause-refused
+returns-clause-refused c = gives_none (λ r. (r.0, option_map_or (λ b. b.items) r.1 [])) c.args.local_cid_len c.args.versions.now c.args.grease_quic_bit c.args.bytes.items c.first_piece.result c.first_piece.ensures.octets c.first_piece.ensures.fault
