@@ -17,7 +17,6 @@ use Rattle.qc_state.specs.declared.life.State.TheVariants.{Drained}
 use Rattle.qc_state.specs.declared.paths.Paths.{Paths}
 use Rattle.qc_state.specs.declared.trace.Step.{Step}
 use Rattle.qc_state.specs.declared.waiting.SpaceWaiting.{SpaceWaiting}
-use Rattle.qc_state.specs.declared.waiting.Waiting.{Waiting}
 use Rattle.qc_state.specs.declared.life.ApplicationClose.{ApplicationClose}
 use Rattle.qc_state.specs.Moves.{Clock, Shut, Raise, Give, Say, state_move, move_to, deeds_move, paths_move, waiting_move}
 use Rattle.qc_state.specs.Numbers.{next_number}
@@ -99,9 +98,10 @@ module _ {t : Types} where
 
   carried_spelled : (s : View t) (fs : List FrameValue) → Carries s fs → IsBelowLimit s.waiting → All IsSpelled fs × (end_of (without_all s.waiting.spaces.initial fs) < 2 ^ 62)
   carried_spelled s fs (Carries.a_close owed n is) h =
-      let w : SpaceWaiting = s.waiting.spaces.initial in
-      (subst (All IsSpelled) (sym is) (All-cons IsSpelled closing_frame (replicate n frames.Padding) close_spelled (padding_spelled n)),
-       subst (λ (x : List FrameValue). end_of (without_all w x) < 2 ^ 62) (sym is) (subst (λ (v : SpaceWaiting). end_of v < 2 ^ 62) (sym (closing_stays w n)) h))
+      let w : SpaceWaiting = s.waiting.spaces.initial in (
+        subst (All IsSpelled) (sym is) (All-cons IsSpelled closing_frame (replicate n frames.Padding) close_spelled (padding_spelled n)),
+        subst (λ (x : List FrameValue). end_of (without_all w x) < 2 ^ 62) (sym is) (subst (λ (v : SpaceWaiting). end_of v < 2 ^ 62) (sym (closing_stays w n)) h),
+      )
   carried_spelled s fs (Carries.what_waits free wait holds) h = frames_spelled s.waiting.spaces.initial fs wait h
 
   -- what a transmit does

@@ -10,6 +10,6 @@ mod tests;
 pub mod text;
 
 pub use connection::Connection;
-pub use driving::{DriveError, DriveKind, drive};
+pub use driving::{BadWhy, DriveError, DriveKind, drive};
 pub use laws::text_tells_run;
 pub use qc_core::ClientSetup;

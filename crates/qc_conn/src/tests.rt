@@ -1,7 +1,6 @@
 //! Clients of toy sessions, at the start and near the limit of packet numbers.
 
 ghost use Rattle.std.specs.Prelude.{◌≡◌, IfOk, IfSome};
-ghost use Rattle.qc_state.specs.Run.{AreValid};
 
 use crate::connection::Connection;
 use crate::driving::{DriveKind, drive};
@@ -134,9 +133,7 @@ fn the_last_number_ends_the_connection(rt: HostRuntime) -> Result<(), Fail> {
 }
 
 /// A transmit, a PING and a transmit at time 1, and a transmit.
-fn inputs() -> [Input; 4]
-    ensures { AreValid 0 result }
-{
+fn inputs() -> [Input; 4] {
     let start = Instant::from_nanos(0);
     let then = Instant::from_nanos(1);
     let last = Instant::from_nanos(2);

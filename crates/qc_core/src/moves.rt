@@ -10,7 +10,9 @@ ghost use Rattle.qc_state.specs.Waiting.{taken_part};
 use crate::state::Core;
 use qc_base::{Instant, SpaceId};
 use qc_frame::FrameList;
-use qc_state::{ApplicationClose, ConnectionError, Dids, EndpointEvent, Event, Quiet, State, Suite};
+use qc_state::{
+    ApplicationClose, ConnectionError, Dids, EndpointEvent, Event, Quiet, State, Suite,
+};
 use std::alloc::{AllocError, Global};
 
 #[tactic(auto, unfolding(qc_state::specs::Moves::move_to, qc_state::specs::Moves::state_move, qc_state::specs::Moves::numbers_move, qc_state::specs::Moves::keys_move, qc_state::specs::Moves::life_move, qc_state::specs::Moves::paths_move, qc_state::specs::Moves::timers_move, qc_state::specs::Moves::waiting_move, qc_state::specs::Moves::deeds_move, qc_state::specs::Setup::ideal_setup))]

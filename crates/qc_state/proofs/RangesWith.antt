@@ -87,26 +87,31 @@ from_member n k (r ∷ rs) h = by_place (from_member n k rs h.2) (nat_lt r.last 
   where
     beyond_last : Member k rs → r.last + 1 < k
     beyond_last m = member_beyond r.last k rs h.1 h.2 m
+
     lower : (r.last < n) → (Member k rs × (n ≤ k)) ↔ (Member k (r ∷ rs) × (n ≤ k))
     lower below = ((λ m. (inr m.0, m.1)), (λ m. (in_tail m.0 m.1, m.1)))
       where
         in_tail : Member k (r ∷ rs) → n ≤ k → Member k rs
         in_tail (inl here) high = absurd (omega (arith, here.1))
         in_tail (inr there) high = there
+
     cut : (r.first < n) → (n ≤ r.last) → Member k (record { first = n; last = r.last } ∷ rs) ↔ (Member k (r ∷ rs) × (n ≤ k))
     cut below reaches = (to, from)
       where
         to : Member k (record { first = n; last = r.last } ∷ rs) → Member k (r ∷ rs) × (n ≤ k)
         to (inl here) = (inl (omega (arith, here.0), here.1), here.0)
         to (inr there) = (inr there, omega (arith, beyond_last there))
+
         from : Member k (r ∷ rs) × (n ≤ k) → Member k (record { first = n; last = r.last } ∷ rs)
         from m = split m.0 m.1
           where
             split : Member k (r ∷ rs) → n ≤ k → Member k (record { first = n; last = r.last } ∷ rs)
             split (inl here) high = inl (high, here.1)
             split (inr there) high = inr there
+
     whole : (n ≤ r.first) → Member k (r ∷ rs) ↔ (Member k (r ∷ rs) × (n ≤ k))
     whole high = ((λ m. (m, omega (arith, first_least r rs k h m))), (λ m. m.0))
+
     by_place : (Member k (from_number n rs) ↔ (Member k rs × (n ≤ k))) → (a b : Bool) → nat_lt r.last n ≡ a → nat_lt r.first n ≡ b → Member k (if a then from_number n rs else if b then record { first = n; last = r.last } ∷ rs else r ∷ rs) ↔ (Member k (r ∷ rs) × (n ≤ k))
     by_place rest true b p q =
         let low = lower (grind (arith, nat_tests)) in
@@ -124,6 +129,7 @@ from_above n m (r ∷ rs) a h = by_place (λ b. from_above n m rs b h.2) (nat_lt
         far : (qs : List NumberRange) → Above r.last qs → Normal qs → Above m qs
         far [] b k = tt
         far (q ∷ qs) b k = omega (arith, a, h.0, b)
+
     by_place : (Above m rs → Above m (from_number n rs)) → (x y : Bool) → nat_lt r.last n ≡ x → nat_lt r.first n ≡ y → Above m (if x then from_number n rs else if y then record { first = n; last = r.last } ∷ rs else r ∷ rs)
     by_place rest true y p q = rest farther
     by_place rest false true p q = let up : r.first < n = grind (arith, nat_tests) in omega (arith, a)

@@ -1,5 +1,5 @@
 -- What a transmit seals: from what the calls of the core say, to what a transmit may do.
-use Rattle.std.proofs.Common.{◌≡◌, ℕ, ◌+◌, ◌-◌, ◌≤◌, List, [], ◌∷◌, ◌++◌, length, replicate, refl, ap, sym, ◌∙◌, subst, Bool, true, false, ◌&&◌, ◌||◌, not, if◌then◌else◌, Option, Some, None, is_some, IsSome, nat_le, ◌<◌, ◌^◌, arith}
+use Rattle.std.proofs.Common.{◌≡◌, ℕ, ◌+◌, ◌-◌, ◌≤◌, List, [], ◌∷◌, ◌++◌, length, replicate, refl, ap, sym, ◌∙◌, subst, Bool, true, false, ◌&&◌, ◌||◌, not, if◌then◌else◌, Some, None, is_some, IsSome, nat_le, ◌<◌, ◌^◌, arith}
 use Rattle.std.proofs.lemmas.Bool.Decides.{nat_tests}
 use Rattle.std.specs.List.{list_any}
 use Rattle.qc_base.specs.declared.side.SpaceId.{SpaceId}
@@ -17,7 +17,7 @@ use Rattle.qc_state.specs.declared.waiting.SpaceWaiting.{SpaceWaiting}
 use Rattle.qc_state.specs.Keys.{keys_of}
 use Rattle.qc_state.specs.Moves.{Take, Seal, state_move, move_to, numbers_move, keys_move, life_move, paths_move, timers_move, waiting_move, deeds_move}
 use Rattle.qc_state.specs.Numbers.{next_number}
-use Rattle.qc_state.specs.Sending.{closing_frame, Carries, taken_now, is_silent, owes, is_used_up, may_be_quiet, header_of, sealed_with, packet_bytes, MaySeal, packet_after, quiet_after, transmit_after, MayTransmit, transmit_bytes, transmit_of, SealsOne, Transmits}
+use Rattle.qc_state.specs.Sending.{closing_frame, Carries, taken_now, owes, is_used_up, may_be_quiet, header_of, sealed_with, packet_bytes, packet_after, quiet_after, transmit_after, MayTransmit, transmit_bytes, transmit_of, SealsOne, Transmits}
 use Rattle.qc_state.specs.Spaces.{space_of, with_space}
 use Rattle.qc_state.specs.Types.{Types, Meaning}
 use Rattle.qc_state.specs.View.{View, At, at}
@@ -74,8 +74,8 @@ module _ {t : Types} where
   carries_by s room n gs false e owed wide is_gs =
       let w : SpaceWaiting = space_of s.waiting.spaces Initial in
       Carries.what_waits e
-        (subst (λ (x : List FrameValue). WaitAll w x) (sym is_gs) (waits_padded w (taken_part w room) n (taken_waits w room)))
-        (ap (list_any elicits) is_gs ∙ any_before_padding (taken_part w room) n ∙ taken_elicits w room (owed_waits s e owed) wide)
+      (subst (λ (x : List FrameValue). WaitAll w x) (sym is_gs) (waits_padded w (taken_part w room) n (taken_waits w room)))
+      (ap (list_any elicits) is_gs ∙ any_before_padding (taken_part w room) n ∙ taken_elicits w room (owed_waits s e owed) wide)
 
   carries : (s : View t) (room n : ℕ) (fs gs : List FrameValue) → owes s ≡ true → 19 ≤ room → fs ≡ taken_now s room → gs ≡ fs ++ replicate n Padding → Carries s gs
   unfolding taken_now

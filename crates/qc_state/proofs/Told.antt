@@ -15,15 +15,14 @@ use Rattle.qc_state.specs.declared.life.ConnectionError.{ConnectionError}
 use Rattle.qc_state.specs.declared.life.State.{State}
 use Rattle.qc_state.specs.declared.life.State.TheVariants as state
 use Rattle.qc_state.specs.declared.trace.Step.{Step}
-use Rattle.qc_state.specs.Headline.{deeds_of, is_space, sealed_in, reasons_in, lives_in, CloseFrom, RisesFrom, Kernel, kernel_of, kernel_after, IsRight, Tells, EachRises, LifeRises, OnlyCloses, LosesOnce}
+use Rattle.qc_state.specs.Headline.{deeds_of, is_space, sealed_in, reasons_in, lives_in, CloseFrom, RisesFrom, Kernel, kernel_of, kernel_after, Tells, EachRises, LifeRises, OnlyCloses, LosesOnce}
 use Rattle.qc_state.specs.Life.{rank_of, is_open, is_drained, reason_given, life_raised, life_closed, lost_reported, drained_reported}
 use Rattle.qc_state.specs.Moves.{Move, ClosesOnly, is_close, Clock, Ask, Take, Seal, Shut, Raise, Give, Say, ReportLost, ReportDrained, state_move, move_to, deeds_move, MayMove, told, numbers_move, life_move}
 use Rattle.qc_state.specs.Numbers.{next_number, number_used}
 use Rattle.qc_state.specs.Run.{time_of, packets_of, began, close_after, input_after, called, reported, step_after, IsAllowed, IsStep, Run, Ran}
-use Rattle.qc_state.specs.Sending.{is_silent, owes, closing_frame, internal_error, given_after, killed_after, quiet_after, packet_after, transmit_after, Carries, MaySeal, MayTransmit}
-use Rattle.qc_state.specs.Spaces.{space_of, with_space}
+use Rattle.qc_state.specs.Sending.{is_silent, owes, internal_error, given_after, killed_after, quiet_after, packet_after, transmit_after, Carries, MaySeal, MayTransmit}
 use Rattle.qc_state.specs.Types.{Types, Meaning}
-use Rattle.qc_state.specs.View.{View, At, at}
+use Rattle.qc_state.specs.View.{View, At}
 
 -- deeds told one after another are appended
 told_appends : (ds es : List Did) → told ds es ≡ ds ++ es

@@ -1,5 +1,5 @@
 -- What waits once frames are sealed, for lists that are joined, and for the frames that this end takes.
-use Rattle.std.proofs.Common.{◌≡◌, ℕ, zero, suc, ◌+◌, ◌-◌, ◌%◌, ◌<◌, ◌≤◌, List, [], ◌∷◌, ◌++◌, length, take, replicate, min, refl, ap, sym, ◌∙◌, Bool, true, false, ◌||◌, not, ◌==◌, nat_le, if◌then◌else◌, arith, length-append}
+use Rattle.std.proofs.Common.{◌≡◌, ℕ, zero, suc, ◌+◌, ◌-◌, ◌%◌, ◌<◌, ◌≤◌, List, [], ◌∷◌, ◌++◌, length, take, replicate, min, refl, ap, ◌∙◌, Bool, true, false, ◌||◌, not, ◌==◌, nat_le, if◌then◌else◌, arith, length-append}
 use Rattle.std.proofs.lemmas.Bool.Decides.{nat_tests}
 use Rattle.std.proofs.lemmas.List.{length-take, length-take-le}
 use Rattle.std.proofs.lemmas.Grind.{flat_map-append}
@@ -9,7 +9,6 @@ use Rattle.std.specs.List.{list_any}
 use Rattle.qc_frame.specs.Frame.{FrameValue}
 use Rattle.qc_frame.specs.FrameSpelling.{elicits, spelling, frames_spelling}
 use Rattle.qc_frame.specs.declared.frames.FrameOf.TheVariants.{Padding, Ping, Crypto}
-use Rattle.qc_frame.proofs.BeforePadding.{any_before_padding}
 use Rattle.qc_state.specs.declared.waiting.SpaceWaiting.{SpaceWaiting}
 use Rattle.qc_state.specs.Waiting.{Waits, WaitAll, without, without_all, waits_here, ping_part, crypto_part, taken_part}
 

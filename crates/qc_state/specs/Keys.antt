@@ -1,5 +1,5 @@
 -- The keys of a connection (RFC 9001, sections 4 and 6.6).
-use Rattle.std.specs.Prelude.{ℕ, Option, Some, None}
+use Rattle.std.specs.Prelude.{Option, Some, None}
 use Rattle.qc_base.specs.declared.side.SpaceId.{SpaceId}
 use Rattle.qc_base.specs.Time.{plus}
 use Rattle.qc_state.specs.declared.keys.KeyGroup.{KeyGroup}

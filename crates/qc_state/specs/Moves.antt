@@ -1,9 +1,8 @@
 -- The small moves that every step is made of, and what each makes of each group: one table a group, which says
 -- "everything else stays" in its last line.
-use Rattle.std.specs.Prelude.{◌≡◌, ℕ, ◌<◌, ◌≤◌, ◌+◌, Bool, true, false, if◌then◌else◌, List, [], ◌∷◌, ◌++◌, Option, Some, None}
+use Rattle.std.specs.Prelude.{◌≡◌, ℕ, ◌<◌, ◌≤◌, Bool, true, false, if◌then◌else◌, List, [], ◌∷◌, ◌++◌, None}
 use Rattle.std.specs.List.{list_any}
 use Rattle.qc_base.specs.declared.side.SpaceId.{SpaceId}
-use Rattle.qc_base.specs.declared.side.SpaceId.TheVariants.{Initial}
 use Rattle.qc_frame.specs.Frame.{FrameValue}
 use Rattle.qc_frame.specs.FrameSpelling.{elicits}
 use Rattle.qc_frame.specs.declared.frames.FrameOf.TheVariants as frames
@@ -24,7 +23,7 @@ use Rattle.qc_state.specs.Numbers.{next_number, number_used}
 use Rattle.qc_state.specs.Keys.{key_used}
 use Rattle.qc_state.specs.Paths.{path_sent}
 use Rattle.qc_state.specs.Timers.{timers_sealed, timers_stopped, timers_closing, clock_set}
-use Rattle.qc_state.specs.Types.{Types, Meaning}
+use Rattle.qc_state.specs.Types.{Types}
 use Rattle.qc_state.specs.View.{View, At, at}
 use Rattle.qc_state.specs.Waiting.{ping_asked, waiting_without, close_begun, close_ended}
 

@@ -2,7 +2,6 @@
 use Rattle.std.specs.Prelude.{ℕ, ◌+◌}
 use Rattle.qc_base.specs.declared.side.SpaceId.{SpaceId}
 use Rattle.qc_state.specs.declared.numbers.Numbers.{Numbers}
-use Rattle.qc_state.specs.declared.numbers.SpaceNumbers.{SpaceNumbers}
 use Rattle.qc_state.specs.Spaces.{space_of, with_space}
 
 -- the number of the next packet that is sealed in the space

@@ -1,10 +1,9 @@
 -- What a transmit may send, and what it leaves. Which of the waiting frames a packet carries is free, where no close is
 -- owed; all else is a function of that choice. So far a transmit seals at most one packet, an Initial in a datagram of its own.
-use Rattle.std.specs.Prelude.{◌≡◌, ℕ, ◌^◌, Bool, true, false, ◌||◌, ◌&&◌, not, nat_le, if◌then◌else◌, List, [], ◌∷◌, ◌++◌, length, replicate, Option, Some, None, is_some, is_none}
+use Rattle.std.specs.Prelude.{◌≡◌, ℕ, ◌^◌, Bool, true, false, ◌||◌, ◌&&◌, not, nat_le, if◌then◌else◌, List, [], ◌∷◌, length, replicate, Option, Some, None, is_some, is_none}
 use Rattle.std.specs.List.{list_any}
 use Rattle.qc_base.specs.declared.ecn.EcnCodepoint.TheVariants.{Ect0}
 use Rattle.qc_base.specs.declared.side.SpaceId.TheVariants.{Initial}
-use Rattle.qc_base.specs.declared.transport_error.TransportError.{TransportError}
 use Rattle.qc_base.specs.PacketNumber.{number_of}
 use Rattle.qc_frame.specs.Frame.{FrameValue}
 use Rattle.qc_frame.specs.FrameSpelling.{frames_spelling, elicits}
@@ -12,8 +11,6 @@ use Rattle.qc_frame.specs.declared.frames.FrameOf.TheVariants as frames
 use Rattle.qc_header.specs.declared.header.Header.{Header}
 use Rattle.qc_header.specs.declared.header.Header.TheVariants as header
 use Rattle.qc_packet.specs.PacketSpelling.{packet_spelling}
-use Rattle.qc_state.specs.declared.deeds.Did.{Did}
-use Rattle.qc_state.specs.declared.deeds.Did.TheVariants as did
 use Rattle.qc_state.specs.declared.deeds.Quiet.TheVariants.{NothingOwed, Silent, Killed}
 use Rattle.qc_state.specs.declared.life.ConnectionError.{ConnectionError}
 use Rattle.qc_state.specs.declared.life.ConnectionError.TheVariants as lost
@@ -23,11 +20,11 @@ use Rattle.qc_state.specs.declared.transmit.TheConstants.{DATAGRAM_SIZE}
 use Rattle.qc_state.specs.declared.keys.SpaceKeys.{SpaceKeys}
 use Rattle.qc_state.specs.Keys.{keys_of}
 use Rattle.qc_state.specs.Life.{is_open, is_drained}
-use Rattle.qc_state.specs.Moves.{Move, Seal, Take, Raise, Give, Say, move_to}
+use Rattle.qc_state.specs.Moves.{Seal, Take, Raise, Give, Say, move_to}
 use Rattle.qc_state.specs.Numbers.{next_number}
 use Rattle.qc_state.specs.Spaces.{space_of}
 use Rattle.qc_state.specs.Types.{Types, Meaning}
-use Rattle.qc_state.specs.View.{View, At, at}
+use Rattle.qc_state.specs.View.{View, At}
 use Rattle.qc_state.specs.Waiting.{waits_in, taken_part, WaitAll}
 
 -- INTERNAL_ERROR (RFC 9000, section 20.1), without the type of a frame

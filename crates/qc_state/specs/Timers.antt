@@ -1,5 +1,5 @@
 -- The timers of a connection (RFC 9000, section 10.1; RFC 9002, section 6.2). Times are nanoseconds.
-use Rattle.std.specs.Prelude.{ℕ, ◌*◌, max, Bool, true, false, nat_le, if◌then◌else◌, Option, Some, None}
+use Rattle.std.specs.Prelude.{ℕ, ◌*◌, max, false, nat_le, if◌then◌else◌, Option, Some, None}
 use Rattle.qc_base.specs.Time.{plus}
 use Rattle.qc_state.specs.declared.timers.TheConstants.{PROBE_TIMEOUT}
 use Rattle.qc_state.specs.declared.timers.Timers.{Timers}

@@ -1,5 +1,5 @@
 -- The types that a connection stands on, and what the calls on them mean.
-use Rattle.std.specs.Prelude.{ℕ, List, Option}
+use Rattle.std.specs.Prelude.{ℕ, List}
 use Rattle.qc_base.specs.declared.side.Side.{Side}
 use Rattle.qc_base.specs.declared.mask.HeaderMask.{Ghosts as HeaderMaskGhosts}
 use Rattle.qc_crypto.specs.declared.keys.Keys.{Keys}

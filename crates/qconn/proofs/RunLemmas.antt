@@ -1,10 +1,15 @@
 -- The run of the client that a script sets up.
-use Rattle.std.proofs.Common.{◌≡◌, ℕ, List, Option, None, ap, subst}
+use Rattle.std.proofs.Common.{◌≡◌, ℕ, List, Option, None, Bool, false, refl, ap, subst}
 use Rattle.std.specs.List.{All}
 use Rattle.qc_base.specs.declared.mask.HeaderMask.{Ghosts as HeaderMaskGhosts}
 use Rattle.qc_conn.specs.OneText.{IsInRange, IsPlain, IsPlainAddress}
 use Rattle.qc_conn.specs.Seen.{Seen}
-use Rattle.qc_conn.specs.TraceText.{trace_text}
+use Rattle.qc_conn.specs.TraceText.{trace_text, refused_text}
+use Rattle.qc_conn.specs.Refusal.{first_refusal, NamesInput, RefusedAt}
+use Rattle.qc_conn.specs.declared.driving.DriveError.{DriveError}
+use Rattle.qc_conn.specs.declared.driving.DriveKind.{DriveKind}
+use Rattle.qconn.specs.declared.perform.Told.{Told}
+use Rattle.qconn.specs.declared.perform.Told.TheVariants.{Whole, Refused}
 use Rattle.qc_crypto.specs.declared.packet_key.PacketKey.{Ghosts as PacketKeyGhosts}
 use Rattle.qc_state.specs.First.{first_view, client_fixed}
 use Rattle.qc_state.specs.Run.{Run}
@@ -21,7 +26,7 @@ use Rattle.std.specs.declared.net.ip_addr.IpAddr.{IpAddr}
 use Rattle.qc_toy.specs.declared.zero_random.ZeroRandom.{ZeroRandom}
 use Rattle.rand_core.specs.declared.Rng.{Ghosts as RngGhosts}
 use Rattle.std.specs.declared.net.socket_addr.SocketAddr.{SocketAddr}
-use Rattle.qconn.specs.RunText.{IsScriptAddress, IsScriptClient, IsToyRun, Sessions, first_cid, local_cid, script_session, toy}
+use Rattle.qconn.specs.RunText.{IsScriptAddress, IsScriptClient, IsToyRun, IsToyRefusal, IsToldRun, IsRefusalTold, Sessions, first_cid, local_cid, script_session, toy}
 
 -- the greatest time of a first view is the one that it was made at
 pub first_time : {t : Types} {R : Type 0} (m : Meaning t) (session : t.S) (random : R) (fixed : Fixed) (remote : SocketAddr) (cid : List ℕ) (time : ℕ) (v : Held t R)
@@ -31,13 +36,36 @@ first_time {t} {R} m session random fixed remote cid time v e = ap (λ (w : Held
 
 -- its trace, as a text
 pub toy_run : (s : Sessions) (h : HeaderMaskGhosts ToyHeaderKey) (p : PacketKeyGhosts ToyPacketKey) (r : RngGhosts ZeroRandom) (client : Seen toy ZeroRandom) (inputs : List Input) (steps : List Step) (last : View toy) (text : List ℕ)
-    → IsScriptClient s h p client → Run (meaning s h p) 0 (ideal r.stream client.core) inputs steps last → text ≡ trace_text steps
+    → IsScriptClient s h p client → first_refusal 0 client.core.timers.greatest inputs ≡ None → Run (meaning s h p) 0 (ideal r.stream client.core) inputs steps last → text ≡ trace_text steps
     → ((other : List Step) → All IsInRange other → All IsPlain other → text ≡ trace_text other → other ≡ steps) → IsToyRun s h p r inputs text
-toy_run s h p r client inputs steps last text c run spelled only = record {
+toy_run s h p r client inputs steps last text c valid run spelled only = record {
   remote = c.remote;
   address = c.address;
-  run = record { steps = steps; last = last; run = subst (λ (v : Held toy ZeroRandom). Run (meaning s h p) 0 (ideal r.stream v) inputs steps last) c.made run; spelled = spelled; only = only };
+  run = record { steps = steps; last = last; valid = subst (λ (v : Held toy ZeroRandom). first_refusal 0 v.timers.greatest inputs ≡ None) c.made valid; run = subst (λ (v : Held toy ZeroRandom). Run (meaning s h p) 0 (ideal r.stream v) inputs steps last) c.made run; spelled = spelled; only = only };
 }
+
+-- its steps before an input that is refused, as a text
+pub toy_refusal : (s : Sessions) (h : HeaderMaskGhosts ToyHeaderKey) (p : PacketKeyGhosts ToyPacketKey) (r : RngGhosts ZeroRandom) (client : Seen toy ZeroRandom) (inputs : List Input) (steps : List Step) (kind : DriveKind) (last : View toy) (text : List ℕ) (failed : Bool)
+    → IsScriptClient s h p client → RefusedAt (meaning s h p) (ideal r.stream client.core) inputs kind steps last failed → text ≡ refused_text steps kind → IsToyRefusal s h p r inputs text
+toy_refusal s h p r client inputs steps kind last text failed c refused spelled = record {
+  remote = c.remote;
+  address = c.address;
+  refused = record {
+    steps = steps;
+    kind = kind;
+    last = last;
+    refused = subst (λ (v : Held toy ZeroRandom). RefusedAt (meaning s h p) (ideal r.stream v) inputs kind steps last false) c.made
+        (record { first = refused.first; place = refused.place; before = refused.before; alive = refl });
+    spelled = spelled;
+  };
+}
+
+-- what is told of the error of such a drive
+pub told_refusal : (s : Sessions) (h : HeaderMaskGhosts ToyHeaderKey) (p : PacketKeyGhosts ToyPacketKey) (r : RngGhosts ZeroRandom) (client : Seen toy ZeroRandom) (inputs : List Input) (error : DriveError) (last : View toy) (told : Told) (failed : Bool)
+    → IsScriptClient s h p client → (NamesInput error.kind → RefusedAt (meaning s h p) (ideal r.stream client.core) inputs error.kind error.done last failed) → IsRefusalTold error told
+    → IsToldRun (IsToyRun s h p r) (IsToyRefusal s h p r) inputs told
+told_refusal s h p r client inputs error last (Whole text) failed c refused told = absurd told
+told_refusal s h p r client inputs error last (Refused text) failed c refused told = toy_refusal s h p r client inputs error.done error.kind last text.items failed c (refused told.0) told.1
 
 -- the address that its packets go to has neither flow label nor scope
 pub script_plain : (address : SocketAddr) → IsScriptAddress address → IsPlainAddress address

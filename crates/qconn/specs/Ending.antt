@@ -60,7 +60,7 @@ pub record Finished (IsRun : List Input → List ℕ → Type 0) (left left' hel
 
 -- what the source gave is no script, and the line that says so was written; a source that has more bytes than a script
 -- may have was read one byte beyond that
-pub record Refused (left left' held held' : Option (List ℕ)) : Type 0 where
+pub record NoScript (left left' held held' : Option (List ℕ)) : Type 0 where
   pub bytes : List ℕ
   pub read : Gives left left' bytes
   pub whole : length bytes ≤ 67108864 → IsAtEnd left'

@@ -1,5 +1,5 @@
 -- The run of a script's inputs on the connection that a script sets up, and its text.
-use Rattle.std.specs.Prelude.{◌≡◌, ℕ, List, [], ◌∷◌, None, Some, true, replicate}
+use Rattle.std.specs.Prelude.{◌≡◌, ℕ, List, [], ◌∷◌, None, Some, true, false, replicate}
 use Rattle.std.specs.List.{All}
 use Rattle.std.specs.Net.Addr.{ipv6_segments}
 use Rattle.std.specs.Net.Socket.{socket_ip, IsPlainSocket}
@@ -10,8 +10,13 @@ use Rattle.qc_base.specs.declared.mask.HeaderMask.{Ghosts as HeaderMaskGhosts}
 use Rattle.qc_base.specs.declared.side.Side.TheVariants.{Client}
 use Rattle.qc_config.specs.Announcement.{announced_parameters}
 use Rattle.qc_conn.specs.OneText.{IsInRange, IsPlain}
+use Rattle.qc_conn.specs.declared.driving.DriveError.{DriveError}
+use Rattle.qc_conn.specs.declared.driving.DriveKind.{DriveKind}
+use Rattle.qc_conn.specs.Refusal.{first_refusal, NamesInput, RefusedAt}
 use Rattle.qc_conn.specs.Seen.{Seen}
-use Rattle.qc_conn.specs.TraceText.{trace_text}
+use Rattle.qc_conn.specs.TraceText.{trace_text, refused_text}
+use Rattle.qconn.specs.declared.perform.Told.{Told}
+use Rattle.qconn.specs.declared.perform.Told.TheVariants.{Whole, Refused}
 use Rattle.qc_crypto.specs.declared.packet_key.PacketKey.{Ghosts as PacketKeyGhosts}
 use Rattle.qc_crypto.specs.declared.session.Session.{Ghosts as SessionGhosts}
 use Rattle.qc_recovery.specs.TransportValues.{default_transport, TransportValues}
@@ -61,6 +66,7 @@ script_session = toy_client default_transport local_cid
 pub record IsRunText {t : Types} (m : Meaning t) (first : View t) (inputs : List Input) (text : List ℕ) : Type 0 where
   pub steps : List Step
   pub last : View t
+  pub valid : first_refusal 0 first.timers.greatest inputs ≡ None
   pub run : Run m 0 first inputs steps last
   pub spelled : text ≡ trace_text steps
   pub only : (other : List Step) → All IsInRange other → All IsPlain other → text ≡ trace_text other → other ≡ steps
@@ -85,3 +91,27 @@ pub record IsToyRun (s : Sessions) (h : HeaderMaskGhosts ToyHeaderKey) (p : Pack
   pub remote : SocketAddr
   pub address : IsScriptAddress remote
   pub run : IsRunText (meaning s h p) (ideal r.stream (script_view s h p remote)) inputs text
+
+-- the text is that of the steps of the inputs before the first that is refused, and of the line that names it
+pub record IsRefusalText {t : Types} (m : Meaning t) (first : View t) (inputs : List Input) (text : List ℕ) : Type 0 where
+  pub steps : List Step
+  pub kind : DriveKind
+  pub last : View t
+  pub refused : RefusedAt m first inputs kind steps last false
+  pub spelled : text ≡ refused_text steps kind
+
+-- so for that client
+pub record IsToyRefusal (s : Sessions) (h : HeaderMaskGhosts ToyHeaderKey) (p : PacketKeyGhosts ToyPacketKey) (r : RngGhosts ZeroRandom) (inputs : List Input) (text : List ℕ) : Type 0 where
+  pub remote : SocketAddr
+  pub address : IsScriptAddress remote
+  pub refused : IsRefusalText (meaning s h p) (ideal r.stream (script_view s h p remote)) inputs text
+
+-- what is told of a run: the text of the whole, or that of a refusal
+abbrev pub IsToldRun : (IsRun IsRefusal : List Input → List ℕ → Type 0) → List Input → Told → Type 0
+IsToldRun IsRun IsRefusal inputs (Whole text) = IsRun inputs text.items
+IsToldRun IsRun IsRefusal inputs (Refused text) = IsRefusal inputs text.items
+
+-- what is told of an error: that it names an input, and the text
+abbrev pub IsRefusalTold : DriveError → Told → Type 0
+IsRefusalTold error (Whole text) = ⊥
+IsRefusalTold error (Refused text) = NamesInput error.kind × (text.items ≡ refused_text error.done error.kind)

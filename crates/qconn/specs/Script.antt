@@ -1,15 +1,17 @@
 -- The script of a run, as its user's document has it.
 --
 -- A script is the line `set side client` and then input lines. Each line is ended by LF. An input line is
---     transmit T N      a transmit at time T of at most N datagrams, N at least 1
+--     transmit T N      a transmit at time T of at most N datagrams
+--     close T C H       the application closes at time T, with the code C and the reason H
 --     ping T            a ping at time T
--- with one space between fields. Numbers are decimal, below 2^64, without leading zeros. Times are in
--- nanoseconds; none lies before the one of the line before it.
+-- with one space between fields. Numbers are decimal, below 2^64, without leading zeros; a code is below 2^62. Bytes are
+-- lower-case hex, and `-` where there are none. Times are in nanoseconds.
 use Rattle.std.specs.Prelude.{◌≡◌, ◌≢◌, ℕ, ◌+◌, ◌-◌, ◌^◌, ◌<◌, ◌≤◌, List, [], ◌∷◌, ◌++◌, length, take, map, codes, Bool, true, false, ◌==◌}
 use Rattle.std.specs.Fmt.{decimal}
-use Rattle.qc_state.specs.Run.{time_of}
+use Rattle.hex.specs.Hex.{encode_lower}
+use Rattle.qc_base.specs.Grammar.{IsBytes}
 use Rattle.qc_state.specs.declared.input.Input.{Input}
-use Rattle.qc_state.specs.declared.input.Input.TheVariants.{Transmit, Ping}
+use Rattle.qc_state.specs.declared.input.Input.TheVariants.{Transmit, Close, Ping}
 use Rattle.qconn.specs.declared.script.ScriptError.{ScriptError}
 use Rattle.qconn.specs.declared.script.ScriptError.TheVariants.{BadLine, OutOfMemory}
 
@@ -33,51 +35,66 @@ lines_of (b ∷ bytes) = with_byte (b == 10) b (lines_of bytes)
 abbrev pub first_line : List ℕ
 first_line = codes "set side client\n"
 
--- the line of an input: its word, its time, and for a transmit how many datagrams it may send
+-- bytes as a field: lower-case hex, or `-` where there are none
+abbrev pub hex_field : List ℕ → List ℕ
+hex_field [] = codes "-"
+hex_field (b ∷ bytes) = encode_lower (b ∷ bytes)
+
+-- the line of an input: its word, its time, for a transmit how many datagrams it may send, and for a close its code and
+-- its reason
 unfoldable pub input_line : Input → List ℕ
 input_line (Transmit now max_datagrams) = codes "transmit " ++ (decimal now ++ 32 ∷ (decimal max_datagrams ++ 10 ∷ []))
+input_line (Close now code reason) = codes "close " ++ (decimal now ++ 32 ∷ (decimal code ++ 32 ∷ (hex_field reason ++ 10 ∷ [])))
 input_line (Ping now) = codes "ping " ++ (decimal now ++ 10 ∷ [])
 
--- the input's numbers are below 2^64, and a transmit is of at least one datagram
+-- the input's numbers are below 2^64, a code is below 2^62, and a reason is bytes
 abbrev pub IsWithin : Input → Type 0
-IsWithin (Transmit now max_datagrams) = (now < 2 ^ 64) × (max_datagrams < 2 ^ 64) × (0 < max_datagrams)
+IsWithin (Transmit now max_datagrams) = (now < 2 ^ 64) × (max_datagrams < 2 ^ 64)
+IsWithin (Close now code reason) = (now < 2 ^ 64) × (code < 2 ^ 62) × IsBytes reason
 IsWithin (Ping now) = now < 2 ^ 64
 
--- the inputs may follow one another after this time
-abbrev pub FollowFrom : ℕ → List Input → Type 0
-FollowFrom least [] = Unit {0}
-FollowFrom least (input ∷ inputs) = (least ≤ time_of input) × IsWithin input × FollowFrom (time_of input) inputs
+-- so is each of these inputs
+abbrev pub AllWithin : List Input → Type 0
+AllWithin [] = Unit {0}
+AllWithin (input ∷ inputs) = IsWithin input × AllWithin inputs
 
--- these digits are the decimal of this time, which isn't before the least one
-pub record IsTime (digits : List ℕ) (least time : ℕ) : Type 0 where
-  pub spelled : digits ≡ decimal time
-  pub later : least ≤ time
-  pub small : time < 2 ^ 64
+-- these digits are the decimal of this number
+pub record IsNumberText (digits : List ℕ) (number : ℕ) : Type 0 where
+  pub spelled : digits ≡ decimal number
+  pub small : number < 2 ^ 64
 
 -- these fields, without LF, are those of a transmit at this time of so many datagrams
-pub record IsTransmit (fields : List ℕ) (least now max_datagrams : ℕ) : Type 0 where
+pub record IsTransmit (fields : List ℕ) (now max_datagrams : ℕ) : Type 0 where
   pub spelled : fields ≡ decimal now ++ 32 ∷ decimal max_datagrams
-  pub later : least ≤ now
   pub small : now < 2 ^ 64
   pub within : max_datagrams < 2 ^ 64
-  pub some : 0 < max_datagrams
 
--- this text and LF is the line of this input, which may follow after this time
-pub record IsNext (text : List ℕ) (least : ℕ) (input : Input) : Type 0 where
+-- and those of a close at this time with this code and reason
+pub record IsClose (fields : List ℕ) (now code : ℕ) (reason : List ℕ) : Type 0 where
+  pub spelled : fields ≡ decimal now ++ 32 ∷ (decimal code ++ 32 ∷ hex_field reason)
+  pub small : now < 2 ^ 64
+  pub within : code < 2 ^ 62
+  pub bytes : IsBytes reason
+
+-- and these fields are those of this input, which is a close
+abbrev pub IsCloseInput : List ℕ → Input → Type 0
+IsCloseInput fields (Close now code reason) = IsClose fields now code reason
+IsCloseInput fields _ = ⊥
+
+-- this text and LF is the line of this input
+pub record IsNext (text : List ℕ) (input : Input) : Type 0 where
   pub spelled : text ++ 10 ∷ [] ≡ input_line input
-  pub later : least ≤ time_of input
   pub within : IsWithin input
 
--- the text begins with the line of this input, which may follow after this time, and goes on with others
-pub record NextLine (text : List ℕ) (least : ℕ) (input : Input) (others : List ℕ) : Type 0 where
+-- the text begins with the line of this input, and goes on with others
+pub record NextLine (text : List ℕ) (input : Input) (others : List ℕ) : Type 0 where
   pub spelled : text ≡ input_line input ++ others
-  pub later : least ≤ time_of input
   pub within : IsWithin input
 
 -- these lines are a script of these inputs
 pub record IsScript (lines : List (List ℕ)) (inputs : List Input) : Type 0 where
   pub spelled : lines ≡ first_line ∷ map input_line inputs
-  pub follow : FollowFrom 0 inputs
+  pub within : AllWithin inputs
 
 -- some script begins with these lines
 pub record GoesOn (lines : List (List ℕ)) : Type 0 where

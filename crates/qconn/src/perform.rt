@@ -2,14 +2,13 @@
 
 ghost use Rattle.std.specs.Prelude.{◌≡◌, None, IfOk};
 ghost use Rattle.qc_conn.specs.OneText.{IsPlainStart};
-ghost use Rattle.qconn.specs.RunText.{IsScriptAddress, local_cid, first_cid, script_session, toy_client, IsScriptClient, IsToyRun};
-ghost use Rattle.qc_state.specs.Run.{AreValid};
+ghost use Rattle.qconn.specs.RunText.{IsScriptAddress, local_cid, first_cid, script_session, toy_client, IsScriptClient, IsToyRun, IsToyRefusal, IsToldRun, IsRefusalTold};
 ghost use Rattle.qc_recovery.specs.TransportValues.{default_transport};
 
 use qc_base::{ConnectionId, HeaderMask, Instant, Side};
 use qc_config::{NoneTokenStore, announced};
-use qc_conn::text::trace_text;
-use qc_conn::{ClientSetup, Connection, drive};
+use qc_conn::text::{refused_text, trace_text};
+use qc_conn::{ClientSetup, Connection, DriveError, DriveKind, drive};
 use qc_crypto::{ClientConfig, PacketKey, Session};
 use qc_recovery::TransportConfig;
 use qc_state::{Input, Suite};
@@ -101,24 +100,48 @@ fn script_client(alloc: Global) -> Result<Connection<Toy>, AllocError>
     Ok(client)
 }
 
-/// The text of the trace of that client, driven by these inputs. Want of memory is the only refusal.
-pub fn perform(alloc: Global, inputs: &[Input]) -> Result<Vec<u8>, AllocError>
-    requires { AreValid 0 inputs.now }
-    ensures { IfOk result (λ text. IsToyRun ⟦<ToySession as Session>⟧ ⟦<ToyHeaderKey as HeaderMask>⟧ ⟦<ToyPacketKey as PacketKey>⟧ ⟦<ZeroRandom as Rng>⟧ inputs.now text.items) }
+/// The text of a run.
+#[derive(Drop)]
+pub enum Told {
+    /// Every input was taken: the text of the trace.
+    Whole(Vec<u8>),
+    /// An input was refused: the text of the steps before it, and the line that names it and says why.
+    Refused(Vec<u8>),
+}
+
+/// The text of that client's trace, driven by these inputs. Want of memory is the only refusal.
+pub fn perform(alloc: Global, inputs: &[Input]) -> Result<Told, AllocError>
+    ensures { IfOk result (λ told. IsToldRun (IsToyRun ⟦<ToySession as Session>⟧ ⟦<ToyHeaderKey as HeaderMask>⟧ ⟦<ToyPacketKey as PacketKey>⟧ ⟦<ZeroRandom as Rng>⟧) (IsToyRefusal ⟦<ToySession as Session>⟧ ⟦<ToyHeaderKey as HeaderMask>⟧ ⟦<ToyPacketKey as PacketKey>⟧ ⟦<ZeroRandom as Rng>⟧) inputs.now told) }
 {
     let mut client = script_client(alloc)?;
     match drive(alloc, &mut client, inputs, &mut NoneTokenStore) {
         Ok(trace) => {
             let text = trace_text(alloc, &trace)?;
-            Ok(text)
+            Ok(Told::Whole(text))
         }
-        Err(_) => Err(AllocError),
+        Err(error) => refusal_told(alloc, &error),
+    }
+}
+
+/// The text of what was refused. Want of memory is handed on, and so is that a connection had failed, which no client
+/// that was just made has.
+fn refusal_told(alloc: Global, error: &DriveError) -> Result<Told, AllocError>
+    ensures { IfOk result (λ told. IsRefusalTold error.now told) }
+{
+    match error.kind {
+        DriveKind::TimeBack { .. } | DriveKind::BadCall { .. } => {
+            let text = refused_text(alloc, error)?;
+            Ok(Told::Refused(text))
+        }
+        DriveKind::OutOfMemory | DriveKind::Failed => Err(AllocError),
     }
 }
 
 #[cfg(test)]
 mod tests {
     use super::*;
+    use bytes::Bytes;
+    use qc_base::VarInt;
     use std::test::Fail;
 
     // The hello goes out first; then nothing is owed until a PING is asked for.
@@ -143,6 +166,10 @@ mod tests {
         assert!(rt; client.poll_endpoint_events().is_none());
         let timeout = client.poll_timeout().ok_or("no timer")?;
         assert_eq!(rt; timeout.nanos(), 999_000_005);
+        client.close(now, VarInt::from_u32(7), Bytes::new());
+        let mut buf = Vec::new(rt.alloc());
+        let sent = client.poll_transmit(rt.alloc(), now, 1, &mut buf)?;
+        assert!(rt; sent.is_some());
         Ok(())
     }
 }

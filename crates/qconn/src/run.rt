@@ -2,12 +2,12 @@
 
 ghost use Rattle.std.specs.Prelude.{◌≡◌, ◌≢◌, ◌⊎◌, ◌≤◌, ◌<◌, ◌↔◌, ◌++◌, [], ◌∷◌, IsTrue, codes, decimal, length, map, IfOk, OnOk, OnErr};
 ghost use Rattle.std.specs.String.{string_bytes};
-ghost use Rattle.qconn.specs.Ending.{AsksRun, Finished, IsBad, NamedBad, Performed, Refused, line_of, script_line, status_of, usage_line};
+ghost use Rattle.qconn.specs.Ending.{AsksRun, Finished, IsBad, NamedBad, NoScript, Performed, line_of, script_line, status_of, usage_line};
 ghost use Rattle.qconn.specs.Outside.{Appends, Rose};
-ghost use Rattle.qconn.specs.RunText.{IsToyRun};
+ghost use Rattle.qconn.specs.RunText.{IsToyRun, IsToyRefusal};
 ghost use Rattle.qconn.specs.Script.{lines_of, IsScript};
 
-use crate::perform::perform;
+use crate::perform::{Told, perform};
 use crate::script::{ScriptError, read_script};
 use crate::sink::Sink;
 use crate::source::{Failed, Source};
@@ -29,6 +29,9 @@ pub enum Status {
     BadScript = 1,
     /// The words are none that the program knows; nothing was read. A usage line was written.
     Usage = 2,
+    /// An input of the script was refused: its time lies before that of an input before it, or a transmit may send no
+    /// datagram. The text of the steps before it was written, and the line that names it.
+    Refused = 3,
     /// The source failed; the line `read fault` was written.
     ReadFault = 4,
     /// The sink failed.
@@ -41,7 +44,7 @@ pub enum Status {
 /// run to the sink.
 ///
 /// Other words end in `Usage`, a failing source in `ReadFault`, an input that is no script in
-/// `BadScript`, want of memory in `NoMemory`, in this order. Where the sink fails, the status is
+/// `BadScript`, want of memory in `NoMemory`, an input of the script that is refused in `Refused`, in this order. Where the sink fails, the status is
 /// `WriteFault` in place of any of them.
 pub fn run<So: Source, Si: Sink>(
     alloc: Global,
@@ -50,7 +53,8 @@ pub fn run<So: Source, Si: Sink>(
     sink: &mut Si,
 ) -> Status
     ensures done { result ≡ Status.Done → Finished (IsToyRun ⟦<ToySession as Session>⟧ ⟦<ToyHeaderKey as HeaderMask>⟧ ⟦<ToyPacketKey as PacketKey>⟧ ⟦<ZeroRandom as Rng>⟧) (So.left source.old) (So.left source.new) (Si.held sink.old) (Si.held sink.new) }
-    ensures bad_script { result ≡ Status.BadScript → Refused (So.left source.old) (So.left source.new) (Si.held sink.old) (Si.held sink.new) }
+    ensures refused { result ≡ Status.Refused → Finished (IsToyRefusal ⟦<ToySession as Session>⟧ ⟦<ToyHeaderKey as HeaderMask>⟧ ⟦<ToyPacketKey as PacketKey>⟧ ⟦<ZeroRandom as Rng>⟧) (So.left source.old) (So.left source.new) (Si.held sink.old) (Si.held sink.new) }
+    ensures bad_script { result ≡ Status.BadScript → NoScript (So.left source.old) (So.left source.new) (Si.held sink.old) (Si.held sink.new) }
 
     // Words other than `run` alone are told so, and nothing is read.
     ensures usage { result ≡ Status.Usage → (¬ AsksRun words.now) × Appends (Si.held sink.old) (Si.held sink.new) usage_line }
@@ -100,6 +104,7 @@ pub fn end<Si: Sink>(sink: &mut Si, line: &[u8], status: Status) -> Status
 /// Performs the script that these bytes are.
 fn follow<Si: Sink>(alloc: Global, bytes: &[u8], sink: &mut Si) -> Status
     ensures done { result ≡ Status.Done → (length bytes.now ≤ SCRIPT_LIMIT) × Performed (IsToyRun ⟦<ToySession as Session>⟧ ⟦<ToyHeaderKey as HeaderMask>⟧ ⟦<ToyPacketKey as PacketKey>⟧ ⟦<ZeroRandom as Rng>⟧) bytes.now (Si.held sink.old) (Si.held sink.new) }
+    ensures refused { result ≡ Status.Refused → (length bytes.now ≤ SCRIPT_LIMIT) × Performed (IsToyRefusal ⟦<ToySession as Session>⟧ ⟦<ToyHeaderKey as HeaderMask>⟧ ⟦<ToyPacketKey as PacketKey>⟧ ⟦<ZeroRandom as Rng>⟧) bytes.now (Si.held sink.old) (Si.held sink.new) }
     ensures bad_script { result ≡ Status.BadScript → NamedBad bytes.now (Si.held sink.old) (Si.held sink.new) }
     ensures no_usage { result ≢ Status.Usage }
     ensures no_read_fault { result ≢ Status.ReadFault }
@@ -112,7 +117,8 @@ fn follow<Si: Sink>(alloc: Global, bytes: &[u8], sink: &mut Si) -> Status
     }
     match read_script(alloc, bytes) {
         Ok(inputs) => match perform(alloc, inputs.as_slice()) {
-            Ok(text) => end(sink, text.as_slice(), Status::Done),
+            Ok(Told::Whole(text)) => end(sink, text.as_slice(), Status::Done),
+            Ok(Told::Refused(text)) => end(sink, text.as_slice(), Status::Refused),
             Err(_) => end(sink, b"no memory\n", Status::NoMemory),
         },
         Err(why) => end_refused(sink, why),

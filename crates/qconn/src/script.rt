@@ -1,17 +1,20 @@
 //! The script that a run follows.
 //!
 //! ASCII lines, each ended by LF, fields separated by one space: first `set side client`, then
-//! input lines `transmit T N` and `ping T`. Numbers are decimal, below 2^64, without leading zeros.
+//! input lines `transmit T N`, `close T CODE HEX` and `ping T`. Numbers are decimal, below 2^64, without leading zeros; a
+//! code is below 2^62. Bytes are lower-case hex, and `-` where there are none.
 
-ghost use Rattle.std.specs.Prelude.{◌≡◌, ◌≢◌, ℕ, ◌+◌, ◌-◌, ◌*◌, ◌^◌, ◌<◌, ◌≤◌, List, [], ◌∷◌, ◌++◌, length, IfOk, IsOkAnd, IfErr, MatchResult, MatchOption, IfSome, IfNone};
+ghost use Rattle.hex.specs.Hex.{decode_of};
+ghost use Rattle.qc_base.specs.Grammar.{IsBytes};
+ghost use Rattle.std.specs.Prelude.{codes, Ok, ◌≡◌, ◌≢◌, ℕ, ◌+◌, ◌-◌, ◌*◌, ◌^◌, ◌<◌, ◌≤◌, List, [], ◌∷◌, ◌++◌, length, IfOk, IsOkAnd, IfErr, MatchResult, MatchOption, IfSome, IfNone};
 ghost use Rattle.std.specs.Fmt.{decimal};
 ghost use Rattle.std.specs.Int.{IsInRange};
-ghost use Rattle.qc_state.specs.Run.{time_of};
-ghost use Rattle.qconn.specs.Script.{lines_of, first_line, input_line, IsWithin, IsTime, IsTransmit, IsNext, NextLine, IsScript, IsRefusal, Lacks};
+ghost use Rattle.qconn.specs.Script.{lines_of, first_line, hex_field, input_line, IsWithin, IsTransmit, IsClose, IsCloseInput, IsNext, IsScript, IsRefusal, Lacks};
 
-use qc_base::Instant;
-use qc_state::Input;
-use std::alloc::Global;
+use hex::FromHexError;
+use qc_base::{Instant, VarInt};
+use qc_state::{Body, Input};
+use std::alloc::{AllocError, Global};
 
 /// Why bytes are no script.
 #[derive(Clone, Copy, Debug, PartialEq, Eq)]
@@ -20,16 +23,6 @@ pub enum ScriptError {
     BadLine(u64),
     /// There was no memory for the inputs.
     OutOfMemory,
-}
-
-/// The time of an input, in nanoseconds.
-fn time_of(input: &Input) -> u64
-    ensures { result ≡ time_of input.now }
-{
-    match *input {
-        Input::Transmit { now, .. } => now.nanos(),
-        Input::Ping { now } => now.nanos(),
-    }
 }
 
 /// The number so far with this digit behind it.
@@ -84,55 +77,131 @@ fn split_at_byte(text: &[u8], byte: u8) -> Option<(&[u8], &[u8])>
     None
 }
 
-/// The time that these digits name, if it isn't before the least one.
-fn read_time(digits: &[u8], least: u64) -> Option<u64>
-    ensures { MatchOption result ((t : ℕ) → IsTime digits.now least t → ⊥) (IsTime digits.now least) }
-{
-    let time = read_number(digits)?;
-    if time < least {
-        return None;
-    }
-    Some(time)
-}
-
 /// The time and the count of datagrams of a transmit with these fields.
-fn read_transmit(fields: &[u8], least: u64) -> Option<(u64, u64)>
-    ensures { MatchOption result ((t n : ℕ) → IsTransmit fields.now least t n → ⊥) (λ x. IsTransmit fields.now least x.0 x.1) }
+fn read_transmit(fields: &[u8]) -> Option<(u64, u64)>
+    ensures { MatchOption result ((t n : ℕ) → IsTransmit fields.now t n → ⊥) (λ x. IsTransmit fields.now x.0 x.1) }
 {
     let (time, count) = split_at_byte(fields, b' ')?;
-    let now = read_time(time, least)?;
+    let now = read_number(time)?;
     let max_datagrams = read_number(count)?;
-    if max_datagrams == 0 {
-        return None;
-    }
     Some((now, max_datagrams))
 }
 
-/// The input of this line, LF excluded, if it may follow after this time.
-fn read_line(text: &[u8], least: u64) -> Option<Input>
-    ensures { MatchOption result ((input : Input) → IsNext text.now least input → ⊥) (IsNext text.now least) }
+/// The bytes that a field spells in hex.
+fn read_hex(alloc: Global, field: &[u8]) -> Result<Option<Body>, AllocError>
+    ensures { IfOk result (λ r. MatchOption r ((bytes : List ℕ) → IsBytes bytes → field.now ≢ hex_field bytes) (λ body. (field.now ≡ hex_field body) × IsBytes body)) }
 {
-    if let Some(fields) = after_word(text, b"transmit ") {
-        let (now, max_datagrams) = read_transmit(fields, least)?;
-        return Some(Input::Transmit {
-            now: Instant::from_nanos(now),
-            max_datagrams: max_datagrams as usize,
-        });
+    if field == b"-".as_slice() {
+        return Ok(Some(Body::from_vec(Vec::new(alloc))));
     }
-    let digits = after_word(text, b"ping ")?;
-    let now = read_time(digits, least)?;
-    Some(Input::Ping {
-        now: Instant::from_nanos(now),
-    })
+    match hex::decode(alloc, field) {
+        Ok(bytes) => in_lower_case(alloc, field, bytes),
+        Err(why) => match why {
+            FromHexError::OutOfMemory => Err(AllocError),
+            _ => Ok(None),
+        },
+    }
 }
 
-/// The input whose line the text begins with, if it may follow after this time, and the rest.
-fn read_next(rest: &[u8], least: u64) -> Option<(Input, &[u8])>
-    ensures { MatchOption result ((input : Input) (others : List ℕ) → NextLine rest.now least input others → ⊥) (λ x. NextLine rest.now least x.0 x.1.now) }
+/// Each item of a slice of bytes is a byte. (This does nothing; its clause is the law.)
+fn are_bytes(bytes: &[u8])
+    ensures { IsBytes bytes.now }
 {
-    let (text, others) = split_at_byte(rest, b'\n')?;
-    let input = read_line(text, least)?;
-    Some((input, others))
+    let _count = bytes.len();
+}
+
+/// The bytes, where the field spells them in lower case, and there are any.
+fn in_lower_case(alloc: Global, field: &[u8], bytes: Vec<u8>) -> Result<Option<Body>, AllocError>
+    requires bytes { decode_of field.now ≡ Ok bytes.items }
+    requires some { field.now ≢ codes "-" }
+    ensures { IfOk result (λ r. MatchOption r ((bytes : List ℕ) → IsBytes bytes → field.now ≢ hex_field bytes) (λ body. (field.now ≡ hex_field body) × IsBytes body)) }
+{
+    are_bytes(bytes.as_slice());
+    let text = hex::encode(alloc, bytes.as_slice())?;
+    if bytes.is_empty() {
+        return Ok(None);
+    }
+    if text.as_bytes() == field {
+        return Ok(Some(Body::from_vec(bytes)));
+    }
+    Ok(None)
+}
+
+/// The code that these digits are the decimal of, which is below 2^62.
+fn read_code(digits: &[u8]) -> Option<VarInt>
+    ensures { MatchOption result ((n : ℕ) → n < 2 ^ 62 → digits.now ≢ decimal n) (λ n. digits.now ≡ decimal n) }
+{
+    let code = read_number(digits)?;
+    match VarInt::from_u64(code) {
+        Ok(code) => Some(code),
+        Err(_) => None,
+    }
+}
+
+/// The time, the code and the reason of a close with these fields.
+fn read_close(alloc: Global, fields: &[u8]) -> Result<Option<(u64, VarInt, Body)>, AllocError>
+    ensures { IfOk result (λ r. MatchOption r ((t c : ℕ) (reason : List ℕ) → IsClose fields.now t c reason → ⊥) (λ x. IsClose fields.now x.0 x.1 x.2)) }
+{
+    let Some((time, rest)) = split_at_byte(fields, b' ') else {
+        return Ok(None);
+    };
+    let Some((code, reason)) = split_at_byte(rest, b' ') else {
+        return Ok(None);
+    };
+    let Some(now) = read_number(time) else {
+        return Ok(None);
+    };
+    let Some(code) = read_code(code) else {
+        return Ok(None);
+    };
+    match read_hex(alloc, reason)? {
+        Some(reason) => Ok(Some((now, code, reason))),
+        None => Ok(None),
+    }
+}
+
+/// The close of a line with these fields.
+fn close_line(alloc: Global, fields: &[u8]) -> Result<Option<Input>, AllocError>
+    ensures { IfOk result (λ r. MatchOption r ((t c : ℕ) (reason : List ℕ) → IsClose fields.now t c reason → ⊥) (λ input. IsCloseInput fields.now input)) }
+{
+    match read_close(alloc, fields)? {
+        Some((now, code, reason)) => Ok(Some(Input::Close {
+            now: Instant::from_nanos(now),
+            code,
+            reason,
+        })),
+        None => Ok(None),
+    }
+}
+
+/// The input of this line, LF excluded.
+fn read_line(alloc: Global, text: &[u8]) -> Result<Option<Input>, AllocError>
+    ensures { IfOk result (λ r. MatchOption r ((input : Input) → IsNext text.now input → ⊥) (IsNext text.now)) }
+{
+    if let Some(fields) = after_word(text, b"transmit ") {
+        let Some((now, max_datagrams)) = read_transmit(fields) else {
+            return Ok(None);
+        };
+        return Ok(Some(Input::Transmit {
+            now: Instant::from_nanos(now),
+            max_datagrams: max_datagrams as usize,
+        }));
+    }
+    if let Some(fields) = after_word(text, b"close ") {
+        return match close_line(alloc, fields)? {
+            Some(input) => Ok(Some(input)),
+            None => Ok(None),
+        };
+    }
+    let Some(digits) = after_word(text, b"ping ") else {
+        return Ok(None);
+    };
+    let Some(now) = read_number(digits) else {
+        return Ok(None);
+    };
+    Ok(Some(Input::Ping {
+        now: Instant::from_nanos(now),
+    }))
 }
 
 /// The inputs of the script that these bytes are.
@@ -147,12 +216,17 @@ pub fn read_script(alloc: Global, bytes: &[u8]) -> Result<Vec<Input>, ScriptErro
         return Err(ScriptError::BadLine(1));
     };
     let mut inputs = Vec::new(alloc);
-    let mut least = 0;
     while !rest.is_empty() {
-        let Some((input, others)) = read_next(rest, least) else {
+        let Some((text, others)) = split_at_byte(rest, b'\n') else {
             return Err(ScriptError::BadLine(inputs.len() as u64 + 2));
         };
-        least = time_of(&input);
+        let line = match read_line(alloc, text) {
+            Ok(line) => line,
+            Err(_) => return Err(ScriptError::OutOfMemory),
+        };
+        let Some(input) = line else {
+            return Err(ScriptError::BadLine(inputs.len() as u64 + 2));
+        };
         match inputs.push(input) {
             Ok(()) => {}
             Err(_) => return Err(ScriptError::OutOfMemory),

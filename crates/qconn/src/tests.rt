@@ -70,14 +70,14 @@ fn words_and_scripts_end_in_their_status(rt: HostRuntime) -> Result<(), Fail> {
         (
             &["run"],
             "set side client\nping 5\nping 4\n",
-            Status::BadScript,
-            "script line 3\n",
+            Status::Refused,
+            "qconn 1\nstep 0 ping 5\nanswer done\ntimer -\ninput 1 time back 4 5\n",
         ),
         (
             &["run"],
             "set side client\ntransmit 0 0\n",
-            Status::BadScript,
-            "script line 2\n",
+            Status::Refused,
+            "qconn 1\ninput 0 bad call zero datagrams\n",
         ),
         (
             &["run"],
@@ -121,6 +121,24 @@ fn ping_follows_the_hello(rt: HostRuntime) -> Result<(), Fail> {
         "step 3 transmit 2\nquiet NothingOwed\n",
     ] {
         assert!(rt; text.as_str().contains(part), "{part}");
+    }
+    Ok(())
+}
+
+// The application's close is told in an Initial packet as the transport's APPLICATION_ERROR, code 12, without its reason
+// (RFC 9000, 10.2.3); then nothing more is sent.
+#[test]
+fn a_close_is_told_once(rt: HostRuntime) -> Result<(), Fail> {
+    let script = "set side client\nclose 3 7 6279\ntransmit 4 1\nping 5\ntransmit 6 1\n";
+    let (status, text) = outcome(rt.alloc(), &["run"], script, &none())?;
+    assert_eq!(rt; status, Status::Done);
+    for part in [
+        "step 0 close 3\nlife 2\n",
+        "step 1 transmit 4\nseal initial 0 0 CONNECTION_CLOSE/1c0c0000 PADDING*",
+        "step 2 ping 5\nanswer done\n",
+        "step 3 transmit 6\nquiet Silent\n",
+    ] {
+        assert!(rt; text.as_str().contains(part), "{part} {text}");
     }
     Ok(())
 }

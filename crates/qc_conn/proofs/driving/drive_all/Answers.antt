@@ -25,7 +25,7 @@ loop-input-preserved g c = record {
   place = omega (arith, c.loop-input.invariant.place);
   run = run_next _ _ _ _ _ _ _ _ _ _ c.loop-input-test.true c.input-item.is c.loop-input.invariant.count c.loop-input.invariant.place c.loop-input.invariant.run c.in-Ok.ensures.adds;
   left = refusal_past _ _ _ _ _ _ _ c.loop-input-test.true c.input-item.is c.loop-input.invariant.place c.in-Ok.ensures.time
-    (ap (λ (n : ℕ). refusal_of c.loop-input.at n c.input-item.result) (sym c.greatest.ensures) ∙ sym c.refusal.ensures ∙ c.in_default.is) c.loop-input.invariant.left;
+      (ap (λ (n : ℕ). refusal_of c.loop-input.at n c.input-item.result) (sym c.greatest.ensures) ∙ sym c.refusal.ensures ∙ c.in_default.is) c.loop-input.invariant.left;
   alive = c.in-Ok.ensures.alive;
 }
 

@@ -1,7 +1,7 @@
-use Rattle.std.proofs.Common.{◌≡◌, ◌<◌, ◌^◌, arith, refl}
+use Rattle.std.proofs.Common.{◌<◌, ◌^◌, arith, refl}
 use Rattle.qc_base.specs.declared.side.SpaceId.TheVariants.{Initial}
 use Rattle.qc_state.specs.Numbers.{next_number}
-use Rattle.qc_state.specs.View.{ideal, held}
+use Rattle.qc_state.specs.View.{ideal}
 use Rattle.qc_state.proofs.Seals.{loud_low, loud_keyed, header_is_short, header_has_number, taken_room, seals_one}
 use Rattle.qc_send.proofs.sending.seal_one.Goals as goal
 

@@ -1,5 +1,3 @@
-use Rattle.std.proofs.Common.{sym, ◌∙◌, arith}
-use Rattle.std.proofs.lemmas.Fmt.{decimal_injective}
 use Rattle.qconn.proofs.NumberLemmas.{no_split}
 use Rattle.qconn.proofs.ScriptLemmas.{transmit_parts}
 use Rattle.qconn.proofs.script.read_transmit.Goals as goal
@@ -9,16 +7,10 @@ returns-in_err-time c = rw c.from_residual.ensures (λ t n h. no_split 32 c.args
 
 pub returns-in_err-now : goal.returns-in_err-now
 returns-in_err-now c = rw c.from_residual-in_err-now.ensures (λ t n h.
-    let parts = transmit_parts c.args.fields.now c.in_ok-time.time.now c.in_ok-time.count.now c.args.least t n c.in_ok-time.ensures.0 c.in_ok-time.ensures.1 h in
-    c.in_err-now.ensures t (record { spelled = parts.0; later = h.later; small = h.small }))
+    let parts = transmit_parts c.args.fields.now c.in_ok-time.time.now c.in_ok-time.count.now t n c.in_ok-time.ensures.0 c.in_ok-time.ensures.1 h in
+    c.in_err-now.ensures t h.small parts.0)
 
 pub returns-in_err-max_datagrams : goal.returns-in_err-max_datagrams
 returns-in_err-max_datagrams c = rw c.from_residual-in_err-max_datagrams.ensures (λ t n h.
-    let parts = transmit_parts c.args.fields.now c.in_ok-time.time.now c.in_ok-time.count.now c.args.least t n c.in_ok-time.ensures.0 c.in_ok-time.ensures.1 h in
+    let parts = transmit_parts c.args.fields.now c.in_ok-time.time.now c.in_ok-time.count.now t n c.in_ok-time.ensures.0 c.in_ok-time.ensures.1 h in
     c.in_err-max_datagrams.ensures n h.within parts.1)
-
-pub returns-then-max_datagrams-eq0 : goal.returns-then-max_datagrams-eq0
-returns-then-max_datagrams-eq0 c t n h =
-    let parts = transmit_parts c.args.fields.now c.in_ok-time.time.now c.in_ok-time.count.now c.args.least t n c.in_ok-time.ensures.0 c.in_ok-time.ensures.1 h in
-    let same = decimal_injective c.in_ok-max_datagrams.max_datagrams n (omega arith) h.within (sym c.in_ok-max_datagrams.ensures ∙ parts.1) in
-    omega (arith, same, h.some)
