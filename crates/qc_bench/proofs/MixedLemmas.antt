@@ -3,8 +3,8 @@ use Rattle.std.proofs.Common.{◌≡◌, ℕ, zero, suc, ◌+◌, ◌*◌, ◌^�
 use Rattle.std.proofs.lemmas.List.{flat_map_more}
 use Rattle.std.proofs.lemmas.Nat.{mul-le}
 use Rattle.qc_base.specs.Reading.{varint_of}
-use Rattle.qc_frame.specs.Frame.{FrameValue}
-use Rattle.qc_frame.specs.FrameFits.{Fits, AllFit, RangesFit, shortest}
+use Rattle.qc_frame.specs.Frame.{FrameValue, TypedValue}
+use Rattle.qc_frame.specs.FrameFits.{Fits, AllFit, RangesFit, as_written}
 use Rattle.qc_frame.specs.FrameReading.{frame_at}
 use Rattle.qc_frame.specs.FrameSpelling.{numbers_of, spelling}
 use Rattle.qc_frame.specs.Payload.{Item, item_and, items_within, items_of}
@@ -30,7 +30,7 @@ spells_more n a b s g = record {
   spelled = g.appended ∙ ap (λ bytes. bytes ++ spelling g.frame) s.spelled ∙ flat_map_more spelling [] s.frames g.frame;
 }
 
-all_frames : (fs : List FrameValue) → frames_among (map (λ f. Ok (shortest f)) fs) ≡ length fs
+all_frames : (fs : List FrameValue) → frames_among (map (λ f. Ok (as_written f)) fs) ≡ length fs
 all_frames [] = refl
 all_frames (f ∷ fs) = omega (arith, all_frames fs)
 
@@ -38,7 +38,7 @@ all_frames (f ∷ fs) = omega (arith, all_frames fs)
 pub frames_spelled : (n : ℕ) (a : List ℕ) → SpellsFrames n a → frames_among (items_of a) ≡ n
 frames_spelled n a s = ap (λ bytes. frames_among (items_of bytes)) s.spelled ∙ ap frames_among (payload_read_back s.frames s.fit) ∙ all_frames s.frames ∙ s.number
 
-among_and : (n : ℕ) (v : Result (FrameValue × List ℕ) InvalidFrame) (others : List ℕ → List Item) → ((a : List ℕ) → frames_among (others a) ≤ n) → frames_among (item_and v others) ≤ n + 1
+among_and : (n : ℕ) (v : Result (TypedValue × List ℕ) InvalidFrame) (others : List ℕ → List Item) → ((a : List ℕ) → frames_among (others a) ≤ n) → frames_among (item_and v others) ≤ n + 1
 among_and n (Ok frame) others few = let h = few frame.1 in omega (arith, h)
 among_and n (Err fault) others few = omega arith
 

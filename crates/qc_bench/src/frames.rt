@@ -43,9 +43,9 @@ pub fn read_once(payload: &[u8]) -> Tally
     if let Ok(items) = Iter::new(payload) {
         for item in items {
             match item {
-                Ok(frame) => {
+                Ok(read) => {
                     frames += 1;
-                    weight = weight.wrapping_add(weight_of(&frame));
+                    weight = weight.wrapping_add(weight_of(&read.frame));
                 }
                 Err(_) => {}
             }

@@ -6,8 +6,8 @@ use Rattle.std.proofs.lemmas.Bool.{ne_eqb, cases_Bool, false≢true}
 use Rattle.std.proofs.lemmas.List.Elements.{All-head, All-tail}
 use Rattle.hex.specs.Hex.{encode_lower}
 use Rattle.qc_base.specs.Grammar.{IsBytes}
-use Rattle.qc_frame.specs.Frame.{FrameValue}
-use Rattle.qc_frame.specs.FrameFits.{shortest}
+use Rattle.qc_frame.specs.Frame.{FrameValue, TypedValue}
+use Rattle.qc_frame.specs.FrameFits.{as_written}
 use Rattle.qc_frame.specs.FrameReading.{frame_at}
 use Rattle.qc_frame.specs.FrameSpelling.{frame_name, spelling}
 use Rattle.qc_frame.specs.declared.frames.FrameOf.TheVariants as frames
@@ -50,8 +50,8 @@ pub record IsTold (frame : FrameValue) : Type 0 where
 spelled_back : (f g : FrameValue) → IsTold f → IsTold g → spelling f ≡ spelling g → f ≡ g
 spelled_back f g p q e =
     let read = sym (frame_read_back f [] p.fits.0) ∙ ap (λ (a : List ℕ). frame_at (a ++ [])) e ∙ frame_read_back g [] q.fits.0 in
-    let pairs : (shortest f, []) ≡ (shortest g, []) = cc read in
-    sym p.fits.1 ∙ ap (λ (x : FrameValue × List ℕ). x.0) pairs ∙ q.fits.1
+    let pairs : (as_written f, []) ≡ (as_written g, []) = cc read in
+    sym p.fits.1 ∙ ap (λ (x : TypedValue × List ℕ). x.0.frame) pairs ∙ q.fits.1
 
 -- a frame's text as it is read: a space, the name, a slash, the hex
 frame_parts : (f : FrameValue) (r : List ℕ) → frame_text f ++ r ≡ 32 ∷ (frame_name f ++ 47 ∷ (encode_lower (spelling f) ++ r))

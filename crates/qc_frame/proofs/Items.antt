@@ -1,13 +1,13 @@
 -- The items of a payload, one by one
 use Rattle.std.proofs.Common.{◌≡◌, ℕ, zero, suc, ◌<◌, ◌≤◌, List, [], ◌∷◌, length, Result, Ok, Err, refl, ap, ◌∙◌, arith}
-use Rattle.qc_frame.specs.Frame.{FrameValue}
+use Rattle.qc_frame.specs.Frame.{TypedValue}
 use Rattle.qc_frame.specs.FrameReading.{frame_at}
 use Rattle.qc_frame.specs.Payload.{Item, item_and, items_within, items_of}
 use Rattle.qc_frame.specs.declared.fault.InvalidFrame.{InvalidFrame}
 use Rattle.qc_frame.proofs.FrontFrame.{frame_shorter}
 
 -- the others are the same by any two functions that agree on shorter bytes
-same_and : (v : Result (FrameValue × List ℕ) InvalidFrame) (g h : List ℕ → List Item) → ((f : FrameValue) (z : List ℕ) → v ≡ Ok (f, z) → g z ≡ h z) → item_and v g ≡ item_and v h
+same_and : (v : Result (TypedValue × List ℕ) InvalidFrame) (g h : List ℕ → List Item) → ((f : TypedValue) (z : List ℕ) → v ≡ Ok (f, z) → g z ≡ h z) → item_and v g ≡ item_and v h
 same_and (Ok x) g h same = ap (λ (is : List Item). Ok x.0 ∷ is) (same x.0 x.1 refl)
 same_and (Err e) g h same = refl
 
@@ -28,7 +28,7 @@ unfolding items_of
 items_none [] none = refl
 items_none (b ∷ a) none = absurd (omega arith)
 
-pub items_frame : (a : List ℕ) (f : FrameValue) (z : List ℕ) → 0 < length a → frame_at a ≡ Ok (f, z) → items_of a ≡ Ok f ∷ items_of z
+pub items_frame : (a : List ℕ) (f : TypedValue) (z : List ℕ) → 0 < length a → frame_at a ≡ Ok (f, z) → items_of a ≡ Ok f ∷ items_of z
 unfolding items_of
 items_frame [] f z some e = absurd (omega arith)
 items_frame (b ∷ a) f z some e =
@@ -40,7 +40,7 @@ unfolding items_of
 items_fault [] f some e = absurd (omega arith)
 items_fault (b ∷ a) f some e = ap (λ v. item_and v (items_within (length a))) e
 
-ends_at : (v : Result (FrameValue × List ℕ) InvalidFrame) (others : List ℕ → List Item) (e : InvalidFrame) (rest : List Item) → item_and v others ≡ Err e ∷ rest → rest ≡ []
+ends_at : (v : Result (TypedValue × List ℕ) InvalidFrame) (others : List ℕ → List Item) (e : InvalidFrame) (rest : List Item) → item_and v others ≡ Err e ∷ rest → rest ≡ []
 ends_at (Ok x) others e rest is = cc
 ends_at (Err f) others e rest is = cc
 

@@ -23,6 +23,14 @@ pub varint_size_max : (n : ℕ) → length (varint n) ≤ 8
 unfolding varint
 varint_size_max n = one_of n (n % 4611686018427387904) (nat_lt n 64) (nat_lt n 16384) (nat_lt n 1073741824)
 
+not_less : (n m : ℕ) → m ≤ n → nat_lt n m ≡ false
+not_less n m h = grind (arith, nat_tests)
+
+-- a number of 2^30 or more has eight
+pub varint_size_longest : (n : ℕ) → 1073741824 ≤ n → length (varint n) ≡ 8
+unfolding varint
+varint_size_longest n h = rw (not_less n 64 (omega arith), not_less n 16384 (omega arith), not_less n 1073741824 h) refl
+
 -- a type below 64 has one byte
 pub length_type : (ty : ℕ) → ty < 64 → length (varint ty) ≡ 1
 unfolding varint
@@ -58,15 +66,16 @@ length-datagram body = let ty = length_type 49 (lit< tt) in simp length-append (
 -- the longest front of a reason, for a frame that has `head` bytes before its count
 pub is_longest : (close : List ℕ → FrameValue) (head : ℕ) (reason : List ℕ) (room kept : ℕ)
     → ((r : List ℕ) → length (spelling (close r)) ≡ head + length (varint (length r)) + length r)
-    → kept ≤ length reason → (head + length (varint 0) ≤ room → head + length (varint kept) + kept ≤ room)
+    → kept ≤ length reason → (head + length (varint 0) ≤ room → head + length (varint kept) + kept ≤ room) → (room < head + length (varint 0) → kept ≡ 0)
     → ((n : ℕ) → n ≤ length reason → head + length (varint n) + n ≤ room → n ≤ kept)
     → IsLongestReason close reason room (take kept reason)
-is_longest close head reason room kept size within fits longest =
+is_longest close head reason room kept size within fits nothing longest =
     let has : length (take kept reason) ≡ kept = length-take-le kept reason within in
     let whole : length (spelling (close (take kept reason))) ≡ head + length (varint kept) + kept = size (take kept reason) ∙ ap (λ (n : ℕ). head + length (varint n) + n) has in
     record {
       front = ap (λ (n : ℕ). take n reason) (sym has);
       fits = λ h. let none = size [] in let all = fits (omega arith) in omega arith;
+      nothing = λ h. let none = size [] in let kept_none = nothing (omega arith) in rw kept_none refl;
       longest = λ n less h.
           let has_n : length (take n reason) ≡ n = length-take-le n reason less in
           let part : length (spelling (close (take n reason))) ≡ head + length (varint n) + n = size (take n reason) ∙ ap (λ (m : ℕ). head + length (varint m) + m) has_n in

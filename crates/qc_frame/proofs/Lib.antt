@@ -11,3 +11,7 @@ pub mod Lengths
 pub mod ReadBack
 pub mod ReadFits
 pub mod WrittenPayload
+pub mod PayloadFits
+pub mod PaddingRun
+pub mod RangesDown
+pub mod RangesUp

@@ -3,7 +3,7 @@ use Rattle.std.proofs.Common.{◌≡◌, ℕ, zero, suc, ◌<◌, ◌≤◌, Lis
 use Rattle.std.specs.Result.{result_ok}
 use Rattle.qc_base.specs.Grammar.{IsBytes}
 use Rattle.qc_base.proofs.Exact.{ends_bytes}
-use Rattle.qc_frame.specs.Frame.{FrameValue}
+use Rattle.qc_frame.specs.Frame.{TypedValue}
 use Rattle.qc_frame.specs.FrameReading.{frame_at}
 use Rattle.qc_frame.specs.FrameGrammar.{Payload, NoFrameAt}
 use Rattle.qc_frame.specs.FrameGrammar as grammar
@@ -12,8 +12,8 @@ use Rattle.qc_frame.specs.declared.fault.InvalidFrame.{InvalidFrame}
 use Rattle.qc_frame.proofs.FrontFrame.{frame_again, frame_takes, frame_none, frame_shorter, frame_ends}
 use Rattle.qc_frame.proofs.Items.{items_none, items_frame, items_fault}
 
-item_meets : (a : List ℕ) (others : List ℕ → List Item) (v : Result (FrameValue × List ℕ) InvalidFrame) → IsBytes a → 0 < length a → frame_at a ≡ v
-    → ((f : FrameValue) (z : List ℕ) → frame_at a ≡ Ok (f, z) → Payload (others z) z) → Payload (item_and v others) a
+item_meets : (a : List ℕ) (others : List ℕ → List Item) (v : Result (TypedValue × List ℕ) InvalidFrame) → IsBytes a → 0 < length a → frame_at a ≡ v
+    → ((f : TypedValue) (z : List ℕ) → frame_at a ≡ Ok (f, z) → Payload (others z) z) → Payload (item_and v others) a
 item_meets a others (Ok x) h some is rest = grammar.frame_and x.0 a x.1 (others x.1) (frame_takes a x.0 x.1 h is) (rest x.0 x.1 is)
 item_meets a others (Err invalid) h some is rest = grammar.fault invalid a some (frame_none a invalid h is)
 
@@ -31,7 +31,7 @@ items_meet a h = within_meets (length a) a h (omega arith)
 
 -- ---- the grammar allows no other frames
 
-only_fault : (a : List ℕ) (v : Result (FrameValue × List ℕ) InvalidFrame) (ty : Option ℕ) → frame_at a ≡ v → IsBytes a → 0 < length a → NoFrameAt a ty
+only_fault : (a : List ℕ) (v : Result (TypedValue × List ℕ) InvalidFrame) (ty : Option ℕ) → frame_at a ≡ v → IsBytes a → 0 < length a → NoFrameAt a ty
     → None ∷ [] ≡ map result_ok (items_of a)
 only_fault a (Ok x) ty is h some none = absurd (none.none x.0 x.1 (frame_takes a x.0 x.1 h is))
 only_fault a (Err invalid) ty is h some none = ap (λ (items : List Item). map result_ok items) (sym (items_fault a invalid some is))
@@ -41,6 +41,6 @@ items_only _ _ h grammar.no_more = ap (λ (items : List Item). map result_ok ite
 items_only _ _ h (grammar.frame_and f a z others front behind) =
     let is = frame_again a f z front in
     let less = frame_shorter a f z is in
-    ap (λ (fs : List (Option FrameValue)). Some f ∷ fs) (items_only others z (ends_bytes a z (frame_ends a f z is) h) behind)
+    ap (λ (fs : List (Option TypedValue)). Some f ∷ fs) (items_only others z (ends_bytes a z (frame_ends a f z is) h) behind)
     ∙ ap (λ (items : List Item). map result_ok items) (sym (items_frame a f z (omega arith) is))
 items_only _ _ h (grammar.fault invalid a some none) = only_fault a (frame_at a) invalid.ty refl h some none

@@ -10,25 +10,25 @@ use Rattle.qc_base.specs.declared.side.Dir.{Dir}
 use Rattle.qc_base.specs.declared.side.Dir.TheVariants.{Bi, Uni}
 use Rattle.qc_base.proofs.Varints.{varint_spelled}
 use Rattle.qc_base.proofs.Written.{Spells, spells_by, spells_then, spells_last, spells_is, spells_where, spells_text, spells_bytes, spells_byte, spells_word, spells_varint, spells_blob}
-use Rattle.qc_frame.specs.Frame.{FrameValue, AckValue}
+use Rattle.qc_frame.specs.Frame.{FrameValue, AckValue, TypedValue}
 use Rattle.qc_frame.specs.FrameReading.{type_given}
 use Rattle.qc_base.specs.Spelling.{blob}
-use Rattle.qc_frame.specs.FrameSpelling.{numbers_of, ack_type, ecn_spelling, ack_spelling, stream_type, offset_spelling, has_offset, spelling, last_spelling}
-use Rattle.qc_frame.specs.FrameFits.{MoreRangesFit, RangesFit, CountsFit, TypeFits, Fits, shortest}
+use Rattle.qc_frame.specs.FrameSpelling.{numbers_of, ack_type, ecn_spelling, ack_spelling, stream_type, offset_spelling, has_offset, spelling, last_spelling, frame_type, last_type}
+use Rattle.qc_frame.specs.FrameFits.{MoreRangesFit, RangesFit, CountsFit, TypeFits, Fits, shortest, as_written, last_as_written}
 use Rattle.qc_frame.specs.FrameGrammar as grammar
 use Rattle.qc_frame.specs.FrameGrammar.{Fields, FrameAt}
 use Rattle.qc_frame.specs.declared.frames.EcnCounts.{EcnCounts}
 use Rattle.qc_frame.specs.declared.frames.FrameOf.TheVariants as frames
 
 -- a type, and the other fields behind it
-typed : (f : FrameValue) (ty : ℕ) (t : List ℕ) → ty < 64 → ((z : List ℕ) → Fields f (t ++ z) z ty) → Spells FrameAt f (varint ty ++ t)
+typed : (f : FrameValue) (ty : ℕ) (t : List ℕ) → ty < 64 → ((z : List ℕ) → Fields f (t ++ z) z ty) → Spells FrameAt (record { ty = ty; frame = f }) (varint ty ++ t)
 typed f ty t small fields = record {
-  goes = λ z. (ty, t ++ z, subst (λ (a : List ℕ). Varint ty a (t ++ z)) (sym (append_assoc (varint ty) t z)) (varint_spelled ty (t ++ z) (omega arith)), fields z);
+  goes = λ z. (t ++ z, subst (λ (a : List ℕ). Varint ty a (t ++ z)) (sym (append_assoc (varint ty) t z)) (varint_spelled ty (t ++ z) (omega arith)), fields z);
 }
 
 -- a type alone
-typed_only : (f : FrameValue) (ty : ℕ) → ty < 64 → ((z : List ℕ) → Fields f z z ty) → Spells FrameAt f (varint ty)
-typed_only f ty small fields = record { goes = λ z. (ty, z, varint_spelled ty z (omega arith), fields z) }
+typed_only : (f : FrameValue) (ty : ℕ) → ty < 64 → ((z : List ℕ) → Fields f z z ty) → Spells FrameAt (record { ty = ty; frame = f }) (varint ty)
+typed_only f ty small fields = record { goes = λ z. (z, varint_spelled ty z (omega arith), fields z) }
 
 crypto_spelled : (offset : ℕ) (body : List ℕ) → IsNumber offset → IsNumber (length body) → Spells grammar.Crypto (frames.Crypto offset body) (varint offset ++ blob body)
 crypto_spelled offset body o b = spells_then (spells_varint offset o) (spells_last (spells_blob body b))
@@ -197,7 +197,7 @@ ack_fields f a z None s = grammar.is_ack s
 ack_fields f a z (Some counts) s = grammar.is_ack_with_counts s
 
 ack_written : (ack : AckValue) → IsNumber ack.largest → IsNumber ack.delay → RangesFit ack.largest (numbers_of ack.additional) → CountsFit ack.ecn
-    → Spells FrameAt (shortest (frames.Ack ack)) (ack_spelling ack)
+    → Spells FrameAt (record { ty = ack_type ack.ecn; frame = shortest (frames.Ack ack) }) (ack_spelling ack)
 unfolding ack_spelling
 ack_written ack l d r c =
     let ns = numbers_of ack.additional in
@@ -206,8 +206,8 @@ ack_written ack l d r c =
     (λ z. ack_fields (shortest (frames.Ack ack)) ((varint ack.largest ++ (varint ack.delay ++ (varint (length ns / 2) ++ (flat_map varint ns ++ ecn_spelling ack.ecn)))) ++ z) z ack.ecn
     ((ack_spelled ack l d r c).goes z)))
 
-pub written : (f : FrameValue) → Fits f → Spells FrameAt (shortest f) (spelling f)
-unfolding Fits spelling
+pub written : (f : FrameValue) → Fits f → Spells FrameAt (as_written f) (spelling f)
+unfolding Fits spelling frame_type
 written frames.Padding fits = typed_only frames.Padding 0x00 (lit< tt) (λ z. grammar.is_padding (refl, refl))
 written frames.Ping fits = typed_only frames.Ping 0x01 (lit< tt) (λ z. grammar.is_ping (refl, refl))
 written (frames.Ack ack) fits = ack_written ack fits.0 fits.1 fits.2 fits.3
@@ -263,17 +263,17 @@ written (frames.Datagram body) fits =
 
 -- ---- the last frame of a packet
 
-ends_in : (f : FrameValue) (ty : ℕ) (t : List ℕ) → ty < 64 → Fields f t [] ty → FrameAt f (varint ty ++ t) []
-ends_in f ty t small fields = (ty, t, varint_spelled ty t (omega arith), fields)
+ends_in : (f : FrameValue) (ty : ℕ) (t : List ℕ) → ty < 64 → Fields f t [] ty → FrameAt (record { ty = ty; frame = f }) (varint ty ++ t) []
+ends_in f ty t small fields = (t, varint_spelled ty t (omega arith), fields)
 
-whole : (f : FrameValue) (t : List ℕ) → Spells FrameAt f t → FrameAt f t []
+whole : (f : TypedValue) (t : List ℕ) → Spells FrameAt f t → FrameAt f t []
 whole f t s = subst (λ (a : List ℕ). FrameAt f a []) (append-nil t) (s.goes [])
 
-pub last_written : (f : FrameValue) → Fits f → FrameAt (shortest f) (last_spelling f) []
-unfolding Fits last_spelling
+pub last_written : (f : FrameValue) → Fits f → FrameAt (last_as_written f) (last_spelling f) []
+unfolding Fits last_spelling last_type
 last_written (frames.Stream id offset fin body) fits =
     let t = varint id ++ (offset_spelling offset ++ body) in
-    subst (λ (a : List ℕ). FrameAt (frames.Stream id offset fin body) a [])
+    subst (λ (a : List ℕ). FrameAt (last_as_written (frames.Stream id offset fin body)) a [])
     (four (varint (stream_type (has_offset offset) false fin)) (varint id) (offset_spelling offset) body)
     (ends_in (frames.Stream id offset fin body) (stream_type (has_offset offset) false fin) t (small_stream_type (has_offset offset) false fin)
     (grammar.is_stream (has_offset offset) false fin (
@@ -284,4 +284,4 @@ last_written (frames.Stream id offset fin body) fits =
     )))
 last_written (frames.Datagram body) fits =
     ends_in (frames.Datagram body) 0x30 body (lit< tt) (grammar.is_datagram (body, [], (refl, refl), (refl, refl)))
-last_written f fits = whole (shortest f) (spelling f) (written f fits)
+last_written f fits = whole (as_written f) (spelling f) (written f fits)

@@ -5,7 +5,7 @@ use Rattle.std.proofs.lemmas.Bool.Decides.{nat_tests}
 use Rattle.qc_base.specs.Varint.{IsNumber, Form, one, two, four, eight, limit, spelled}
 use Rattle.qc_base.specs.Grammar.{Varint, Blob}
 use Rattle.qc_base.proofs.Varints.{found_varint, varint_shorter}
-use Rattle.qc_frame.specs.Frame.{FrameValue}
+use Rattle.qc_frame.specs.Frame.{FrameValue, TypedValue}
 use Rattle.qc_frame.specs.FrameReading.{type_given}
 use Rattle.qc_frame.specs.FrameSpelling.{numbers_of}
 use Rattle.qc_frame.specs.FrameFits.{MoreRangesFit, RangesFit, CountsFit, TypeFits, Fits}
@@ -133,5 +133,5 @@ fields_fit f a z ty size (grammar.is_handshake_done (is, _)) = fits_as f frames.
 fields_fit f a z ty size (grammar.is_datagram s) = datagram_fits false f a z size s
 fields_fit f a z ty size (grammar.is_datagram_with_length s) = datagram_fits true f a z size s
 
-pub read_fits : (f : FrameValue) (a z : List ℕ) → IsNumber (length a) → FrameAt f a z → Fits f
-read_fits f a z size (ty, b, t, fields) = let less = shorter ty a b t in fields_fit f b z ty (omega arith) fields
+pub read_fits : (f : TypedValue) (a z : List ℕ) → IsNumber (length a) → FrameAt f a z → Fits f.frame
+read_fits f a z size (b, t, fields) = let less = shorter f.ty a b t in fields_fit f.frame b z f.ty (omega arith) fields

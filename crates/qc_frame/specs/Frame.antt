@@ -4,13 +4,20 @@ use Rattle.std.specs.Global.{Global}
 use Rattle.std.specs.Borrow.{Bor}
 use Rattle.qc_frame.specs.declared.frames.AckOf.{AckOf}
 use Rattle.qc_frame.specs.declared.frames.FrameOf.{FrameOf}
+use Rattle.qc_frame.specs.declared.frames.TypedOf.{TypedOf}
 use Rattle.qc_frame.specs.declared.frames.FrameOf.TheVariants as frames
 
+-- a frame whose byte strings are lists
 abbrev pub FrameValue : Type 0
 FrameValue = FrameOf (List ℕ)
 
+-- an ACK whose ranges are spelled by a list of bytes
 abbrev pub AckValue : Type 0
 AckValue = AckOf (List ℕ)
+
+-- a frame and the type that it came with
+abbrev pub TypedValue : Type 0
+TypedValue = TypedOf (List ℕ)
 
 -- the same ACK, each of its byte strings changed by f
 abbrev pub ack_map : {A B : Type 0} → (A → B) → AckOf A → AckOf B
@@ -48,3 +55,7 @@ borrowed = frame_map (λ b. b.now)
 -- the value of a frame that has byte strings of its own
 abbrev pub owned : FrameOf (Vec ℕ Global) → FrameValue
 owned = frame_map (λ v. v.items)
+
+-- the value of a frame that was read, and its type
+abbrev pub typed : TypedOf (Bor (List ℕ)) → TypedValue
+typed t = record { ty = t.ty; frame = borrowed t.frame }

@@ -2,11 +2,12 @@
 use Rattle.std.specs.Prelude.{◌≡◌, ℕ, ◌+◌, ◌-◌, ◌<◌, ◌≤◌, ◌^◌, List, [], ◌∷◌, length, Option, None, Some}
 use Rattle.std.specs.List.{flat_map}
 use Rattle.qc_base.specs.Varint.{IsNumber, varint}
-use Rattle.qc_frame.specs.Frame.{FrameValue}
-use Rattle.qc_frame.specs.FrameSpelling.{numbers_of}
+use Rattle.qc_frame.specs.Frame.{FrameValue, TypedValue}
+use Rattle.qc_frame.specs.FrameSpelling.{frame_type, last_type, numbers_of}
 use Rattle.qc_frame.specs.declared.frames.EcnCounts.{EcnCounts}
 use Rattle.qc_frame.specs.declared.frames.FrameOf.TheVariants as frames
 
+-- each of them is a number that a variable-length integer has room for
 abbrev pub AllNumbers : List ℕ → Type 0
 AllNumbers [] = Unit {0}
 AllNumbers (n ∷ ns) = IsNumber n × AllNumbers ns
@@ -17,10 +18,12 @@ MoreRangesFit smallest [] = Unit {0}
 MoreRangesFit smallest (gap ∷ []) = ⊥
 MoreRangesFit smallest (gap ∷ len ∷ others) = (gap + 2 ≤ smallest) × (len ≤ smallest - (gap + 2)) × MoreRangesFit (smallest - (gap + 2) - len) others
 
+-- the first range's length, and then the others below it
 abbrev pub RangesFit : ℕ → List ℕ → Type 0
 RangesFit largest [] = ⊥
 RangesFit largest (first ∷ others) = (first ≤ largest) × MoreRangesFit (largest - first) others
 
+-- each count has room in its field
 abbrev pub CountsFit : Option EcnCounts → Type 0
 CountsFit None = Unit {0}
 CountsFit (Some counts) = IsNumber counts.ect0 × IsNumber counts.ect1 × IsNumber counts.ce
@@ -60,6 +63,15 @@ abbrev pub shortest : FrameValue → FrameValue
 shortest (frames.Ack ack) = frames.Ack (record { largest = ack.largest; delay = ack.delay; additional = flat_map varint (numbers_of ack.additional); ecn = ack.ecn })
 shortest f = f
 
+-- what is read where a frame was written: its type, and the frame
+abbrev pub as_written : FrameValue → TypedValue
+as_written f = record { ty = frame_type f; frame = shortest f }
+
+-- the same where it was written as the last frame of a packet
+abbrev pub last_as_written : FrameValue → TypedValue
+last_as_written f = record { ty = last_type f; frame = shortest f }
+
+-- the same for each of them
 abbrev pub AllFit : List FrameValue → Type 0
 AllFit [] = Unit {0}
 AllFit (f ∷ fs) = Fits f × AllFit fs

@@ -4,7 +4,7 @@ use Rattle.std.specs.Int.{w64}
 use Rattle.qc_base.specs.Grammar.{Spelling, ◌>>=◌, Is, Where, Text, Bytes, Byte, Word, Rest, Varint, Blob}
 use Rattle.qc_base.specs.StreamId.{dir_bit}
 use Rattle.qc_base.specs.declared.side.Dir.{Dir}
-use Rattle.qc_frame.specs.Frame.{FrameValue}
+use Rattle.qc_frame.specs.Frame.{FrameValue, TypedValue}
 use Rattle.qc_frame.specs.FrameReading.{type_given}
 use Rattle.qc_frame.specs.FrameSpelling.{stream_type}
 use Rattle.qc_frame.specs.declared.frames.EcnCounts.{EcnCounts}
@@ -13,6 +13,7 @@ use Rattle.qc_frame.specs.declared.fault.InvalidFrame.{InvalidFrame}
 
 -- ---- ACK (section 19.3). No range goes below 0: between two of them lie gap + 1 numbers.
 
+-- ranges below a smallest number, so many: of each the gap above it, and its length
 abbrev pub MoreRanges : ℕ → ℕ → Spelling (Unit {0})
 MoreRanges zero smallest = Is tt
 MoreRanges (suc count) smallest = do
@@ -21,11 +22,13 @@ MoreRanges (suc count) smallest = do
     len ← Varint
     Where (len ≤ smallest - (gap + 2)) (MoreRanges count (smallest - (gap + 2) - len)))
 
+-- the first range, which ends at the largest number, by its length, and so many more
 abbrev pub Ranges : ℕ → ℕ → Spelling (Unit {0})
 Ranges count largest = do
   first ← Varint
   Where (first ≤ largest) (MoreRanges count (largest - first))
 
+-- the three counts of packets with a mark of congestion, or none of them
 abbrev pub Counts : Bool → Spelling (Option EcnCounts)
 Counts false = Is None
 Counts true = do
@@ -34,6 +37,7 @@ Counts true = do
   ce ← Varint
   Is (Some (record { ect0 = ect0; ect1 = ect1; ce = ce }))
 
+-- ACK: the largest number, the delay, how many ranges come behind the first one, the ranges, the counts
 abbrev pub Ack : Bool → Spelling FrameValue
 Ack has_counts = do
   largest ← Varint
@@ -45,6 +49,7 @@ Ack has_counts = do
 
 -- ---- streams (sections 19.4, 19.5, 19.8 to 19.14)
 
+-- RESET_STREAM: the stream, the code, the final size
 abbrev pub ResetStream : Spelling FrameValue
 ResetStream = do
   id ← Varint
@@ -52,20 +57,24 @@ ResetStream = do
   final_size ← Varint
   Is (frames.ResetStream id error_code final_size)
 
+-- STOP_SENDING: the stream, the code
 abbrev pub StopSending : Spelling FrameValue
 StopSending = do
   id ← Varint
   error_code ← Varint
   Is (frames.StopSending id error_code)
 
+-- an offset; where it is left out it is 0
 abbrev pub Offset : Bool → Spelling ℕ
 Offset false = Is 0
 Offset true = Varint
 
+-- a body behind its length; where that is left out, all bytes that are left
 abbrev pub Body : Bool → Spelling (List ℕ)
 Body false = Rest
 Body true = Blob
 
+-- STREAM: the stream, the offset, the body; whether there is an offset, a length and an end is said by the type
 abbrev pub Stream : Bool → Bool → Bool → Spelling FrameValue
 Stream has_offset has_length fin = do
   id ← Varint
@@ -73,33 +82,39 @@ Stream has_offset has_length fin = do
   body ← Body has_length
   Is (frames.Stream id offset fin body)
 
+-- MAX_DATA: the limit
 abbrev pub MaxData : Spelling FrameValue
 MaxData = do
   limit ← Varint
   Is (frames.MaxData limit)
 
+-- MAX_STREAM_DATA: the stream, the limit
 abbrev pub MaxStreamData : Spelling FrameValue
 MaxStreamData = do
   id ← Varint
   offset ← Varint
   Is (frames.MaxStreamData id offset)
 
+-- MAX_STREAMS of either direction: the limit
 abbrev pub MaxStreams : Dir → Spelling FrameValue
 MaxStreams dir = do
   count ← Varint
   Is (frames.MaxStreams dir count)
 
+-- DATA_BLOCKED: the limit
 abbrev pub DataBlocked : Spelling FrameValue
 DataBlocked = do
   offset ← Varint
   Is (frames.DataBlocked offset)
 
+-- STREAM_DATA_BLOCKED: the stream, the limit
 abbrev pub StreamDataBlocked : Spelling FrameValue
 StreamDataBlocked = do
   id ← Varint
   offset ← Varint
   Is (frames.StreamDataBlocked id offset)
 
+-- STREAMS_BLOCKED of either direction: the limit
 abbrev pub StreamsBlocked : Dir → Spelling FrameValue
 StreamsBlocked dir = do
   limit ← Varint
@@ -107,17 +122,20 @@ StreamsBlocked dir = do
 
 -- ---- the handshake and the connection (sections 19.6, 19.7, 19.15 to 19.19; RFC 9221, section 4)
 
+-- CRYPTO: the offset, the bytes of the handshake
 abbrev pub Crypto : Spelling FrameValue
 Crypto = do
   offset ← Varint
   body ← Blob
   Is (frames.Crypto offset body)
 
+-- NEW_TOKEN: the token
 abbrev pub NewToken : Spelling FrameValue
 NewToken = do
   token ← Blob
   Is (frames.NewToken token)
 
+-- NEW_CONNECTION_ID: its number, the number below which ids are retired, the id behind its length, the token that resets
 abbrev pub NewConnectionId : Spelling FrameValue
 NewConnectionId = do
   sequence ← Varint
@@ -129,21 +147,25 @@ NewConnectionId = do
       reset_token ← Bytes 16
       Is (frames.NewConnectionId (record { sequence = sequence; retire_prior_to = retire_prior_to; id = id; reset_token = reset_token }))))
 
+-- RETIRE_CONNECTION_ID: the number of the id
 abbrev pub RetireConnectionId : Spelling FrameValue
 RetireConnectionId = do
   sequence ← Varint
   Is (frames.RetireConnectionId sequence)
 
+-- PATH_CHALLENGE: eight bytes, as a number
 abbrev pub PathChallenge : Spelling FrameValue
 PathChallenge = do
   word ← Word w64
   Is (frames.PathChallenge word)
 
+-- PATH_RESPONSE: the same
 abbrev pub PathResponse : Spelling FrameValue
 PathResponse = do
   word ← Word w64
   Is (frames.PathResponse word)
 
+-- CONNECTION_CLOSE of the transport: the code, the type of the frame that caused it, the reason
 abbrev pub ConnectionClose : Spelling FrameValue
 ConnectionClose = do
   error_code ← Varint
@@ -151,12 +173,14 @@ ConnectionClose = do
   reason ← Blob
   Is (frames.ConnectionClose error_code (type_given frame_type) reason)
 
+-- CONNECTION_CLOSE of the application: the code, the reason
 abbrev pub ApplicationClose : Spelling FrameValue
 ApplicationClose = do
   error_code ← Varint
   reason ← Blob
   Is (frames.ApplicationClose error_code reason)
 
+-- DATAGRAM: the body; whether there is a length is said by the type
 abbrev pub Datagram : Bool → Spelling FrameValue
 Datagram has_length = do
   body ← Body has_length
@@ -191,17 +215,17 @@ pub data Fields (f : FrameValue) (a z : List ℕ) : ℕ → Type 0 where
   is_datagram : Datagram false f a z → Fields f a z 0x30
   is_datagram_with_length : Datagram true f a z → Fields f a z 0x31
 
--- the bytes begin with the frame f, and go on with z
-abbrev pub FrameAt : FrameValue → List ℕ → List ℕ → Type 0
-FrameAt f a z = (ty : ℕ) × (b : List ℕ) × Varint ty a b × Fields f b z ty
+-- the bytes begin with the frame f, whose type stands before its other fields, and go on with z
+abbrev pub FrameAt : Spelling TypedValue
+FrameAt f a z = (b : List ℕ) × Varint f.ty a b × Fields f.frame b z f.ty
 
 -- no frame stands at the front of the bytes; the type that the fault names does, and where it names none no type does
 pub record NoFrameAt (a : List ℕ) (ty : Option ℕ) : Type 0 where
-  pub none : (f : FrameValue) (z : List ℕ) → FrameAt f a z → ⊥
+  pub none : (f : TypedValue) (z : List ℕ) → FrameAt f a z → ⊥
   pub typed : MatchOption ty ((n : ℕ) (b : List ℕ) → Varint n a b → ⊥) (λ n. (b : List ℕ) × Varint n a b)
 
 -- the bytes are these frames, to the end or the first bytes that are no frame
-pub data Payload : List (Result FrameValue InvalidFrame) → List ℕ → Type 0 where
+pub data Payload : List (Result TypedValue InvalidFrame) → List ℕ → Type 0 where
   no_more : Payload [] []
-  frame_and : (f : FrameValue) (a z : List ℕ) (others : List (Result FrameValue InvalidFrame)) → FrameAt f a z → Payload others z → Payload (Ok f ∷ others) a
+  frame_and : (f : TypedValue) (a z : List ℕ) (others : List (Result TypedValue InvalidFrame)) → FrameAt f a z → Payload others z → Payload (Ok f ∷ others) a
   fault : (invalid : InvalidFrame) (a : List ℕ) → 0 < length a → NoFrameAt a invalid.ty → Payload (Err invalid ∷ []) a

@@ -22,14 +22,17 @@ numbers_within (suc most) bytes = option_map_or (λ x. x.0 ∷ numbers_within mo
 unfoldable pub numbers_of : List ℕ → List ℕ
 numbers_of bytes = numbers_within (length bytes) bytes
 
+-- an ACK with counts of ECN has a type of its own
 abbrev pub ack_type : Option EcnCounts → ℕ
 ack_type None = 0x02
 ack_type (Some _) = 0x03
 
+-- three counts, or none
 abbrev pub ecn_spelling : Option EcnCounts → List ℕ
 ecn_spelling None = []
 ecn_spelling (Some counts) = varint counts.ect0 ++ varint counts.ect1 ++ varint counts.ce
 
+-- an ACK: behind its delay the number of ranges but for the first, then the ranges
 unfoldable pub ack_spelling : AckValue → List ℕ
 ack_spelling ack =
     varint (ack_type ack.ecn) ++ varint ack.largest ++ varint ack.delay ++ varint (length (numbers_of ack.additional) / 2)
@@ -45,6 +48,7 @@ stream_type has_offset has_length fin = 0x08 + bit has_offset 4 + bit has_length
 abbrev pub offset_spelling : ℕ → List ℕ
 offset_spelling offset = if offset == 0 then [] else varint offset
 
+-- whether a STREAM frame has an offset
 abbrev pub has_offset : ℕ → Bool
 has_offset offset = if offset == 0 then false else true
 
@@ -75,6 +79,31 @@ spelling (frames.ApplicationClose code reason) = varint 0x1d ++ varint code ++ b
 spelling frames.HandshakeDone = varint 0x1e
 spelling (frames.Datagram body) = varint 0x31 ++ blob body
 
+-- the type with which that spelling begins
+unfoldable pub frame_type : FrameValue → ℕ
+frame_type frames.Padding = 0x00
+frame_type frames.Ping = 0x01
+frame_type (frames.Ack ack) = ack_type ack.ecn
+frame_type (frames.ResetStream _ _ _) = 0x04
+frame_type (frames.StopSending _ _) = 0x05
+frame_type (frames.Crypto _ _) = 0x06
+frame_type (frames.NewToken _) = 0x07
+frame_type (frames.Stream id offset fin body) = stream_type (has_offset offset) true fin
+frame_type (frames.MaxData _) = 0x10
+frame_type (frames.MaxStreamData _ _) = 0x11
+frame_type (frames.MaxStreams dir _) = 0x12 + dir_bit dir
+frame_type (frames.DataBlocked _) = 0x14
+frame_type (frames.StreamDataBlocked _ _) = 0x15
+frame_type (frames.StreamsBlocked dir _) = 0x16 + dir_bit dir
+frame_type (frames.NewConnectionId _) = 0x18
+frame_type (frames.RetireConnectionId _) = 0x19
+frame_type (frames.PathChallenge _) = 0x1a
+frame_type (frames.PathResponse _) = 0x1b
+frame_type (frames.ConnectionClose _ _ _) = 0x1c
+frame_type (frames.ApplicationClose _ _) = 0x1d
+frame_type frames.HandshakeDone = 0x1e
+frame_type (frames.Datagram _) = 0x31
+
 -- the bytes of frames, one after the other
 abbrev pub frames_spelling : List FrameValue → List ℕ
 frames_spelling fs = flat_map spelling fs
@@ -84,6 +113,12 @@ unfoldable pub last_spelling : FrameValue → List ℕ
 last_spelling (frames.Stream id offset fin body) = varint (stream_type (has_offset offset) false fin) ++ varint id ++ offset_spelling offset ++ body
 last_spelling (frames.Datagram body) = varint 0x30 ++ body
 last_spelling f = spelling f
+
+-- the type with which that spelling begins
+unfoldable pub last_type : FrameValue → ℕ
+last_type (frames.Stream id offset fin body) = stream_type (has_offset offset) false fin
+last_type (frames.Datagram _) = 0x30
+last_type f = frame_type f
 
 -- whether the receiver owes an acknowledgement of the frame (RFC 9000, section 13.2)
 unfoldable pub elicits : FrameValue → Bool

@@ -5,3 +5,4 @@ pub mod FrameSpelling
 pub mod Payload
 pub mod Sizes
 pub mod FrameFits
+pub mod AckRanges

@@ -139,29 +139,46 @@ pub struct NewConnectionId {
     pub reset_token: ResetToken,
 }
 
+/// A frame as it was read, whose byte strings are held as `B`.
+#[derive(Debug, Drop)]
+pub struct TypedOf<B> {
+    /// The frame.
+    pub frame: FrameOf<B>,
+    /// The frame's type (RFC 9000, section 12.4). A STREAM's and a DATAGRAM's has bits that the
+    /// frame does not keep, and the error that a frame causes names its type.
+    pub ty: u64,
+}
+
+/// A frame as it was read, whose byte strings are slices of the payload that it was read from.
+pub type TypedFrame<'a> = TypedOf<&'a [u8]>;
+
 /// A frame whose byte strings are slices of the payload that it was read from.
 pub type Frame<'a> = FrameOf<&'a [u8]>;
 
 /// An ACK frame whose ranges are a slice of the payload that it was read from.
 pub type Ack<'a> = AckOf<&'a [u8]>;
 
+/// An ACK frame with ranges of its own.
+pub type OwnedAck = AckOf<Vec<u8>>;
+
 /// A frame with byte strings of its own.
 pub type OwnedFrame = FrameOf<Vec<u8>>;
 
-impl OwnedFrame {
-    /// The same frame, its byte strings borrowed.
-    pub fn as_frame(&self) -> Frame<'_>
-        ensures { borrowed result ≡ owned self.now }
-    {
-        match self {
+/// The same frame, each of its byte strings changed.
+macro_rules! with_bytes {
+    ($frame:expr, $bytes:ident => $changed:expr) => {
+        match $frame {
             FrameOf::Padding => FrameOf::Padding,
             FrameOf::Ping => FrameOf::Ping,
-            FrameOf::Ack(ack) => FrameOf::Ack(AckOf {
-                largest: ack.largest,
-                delay: ack.delay,
-                additional: ack.additional.as_slice(),
-                ecn: ack.ecn,
-            }),
+            FrameOf::Ack(ack) => {
+                let $bytes = &ack.additional;
+                FrameOf::Ack(AckOf {
+                    largest: ack.largest,
+                    delay: ack.delay,
+                    additional: $changed,
+                    ecn: ack.ecn,
+                })
+            }
             FrameOf::ResetStream {
                 id,
                 error_code,
@@ -175,23 +192,24 @@ impl OwnedFrame {
                 id: *id,
                 error_code: *error_code,
             },
-            FrameOf::Crypto { offset, body } => FrameOf::Crypto {
+            FrameOf::Crypto {
+                offset,
+                body: $bytes,
+            } => FrameOf::Crypto {
                 offset: *offset,
-                body: body.as_slice(),
+                body: $changed,
             },
-            FrameOf::NewToken { token } => FrameOf::NewToken {
-                token: token.as_slice(),
-            },
+            FrameOf::NewToken { token: $bytes } => FrameOf::NewToken { token: $changed },
             FrameOf::Stream {
                 id,
                 offset,
                 fin,
-                body,
+                body: $bytes,
             } => FrameOf::Stream {
                 id: *id,
                 offset: *offset,
                 fin: *fin,
-                body: body.as_slice(),
+                body: $changed,
             },
             FrameOf::MaxData(limit) => FrameOf::MaxData(*limit),
             FrameOf::MaxStreamData { id, offset } => FrameOf::MaxStreamData {
@@ -220,21 +238,31 @@ impl OwnedFrame {
             FrameOf::ConnectionClose {
                 error_code,
                 frame_type,
-                reason,
+                reason: $bytes,
             } => FrameOf::ConnectionClose {
                 error_code: *error_code,
                 frame_type: *frame_type,
-                reason: reason.as_slice(),
+                reason: $changed,
             },
-            FrameOf::ApplicationClose { error_code, reason } => FrameOf::ApplicationClose {
+            FrameOf::ApplicationClose {
+                error_code,
+                reason: $bytes,
+            } => FrameOf::ApplicationClose {
                 error_code: *error_code,
-                reason: reason.as_slice(),
+                reason: $changed,
             },
             FrameOf::HandshakeDone => FrameOf::HandshakeDone,
-            FrameOf::Datagram { body } => FrameOf::Datagram {
-                body: body.as_slice(),
-            },
+            FrameOf::Datagram { body: $bytes } => FrameOf::Datagram { body: $changed },
         }
+    };
+}
+
+impl OwnedFrame {
+    /// The same frame, its byte strings borrowed.
+    pub fn as_frame(&self) -> Frame<'_>
+        ensures { borrowed result ≡ owned self.now }
+    {
+        with_bytes!(self, bytes => bytes.as_slice())
     }
 }
 
@@ -243,87 +271,6 @@ impl Frame<'_> {
     pub fn to_owned(&self, alloc: Global) -> Result<OwnedFrame, AllocError>
         ensures { IfOk result (λ frame. owned frame ≡ borrowed self.now) }
     {
-        Ok(match self {
-            FrameOf::Padding => FrameOf::Padding,
-            FrameOf::Ping => FrameOf::Ping,
-            FrameOf::Ack(ack) => FrameOf::Ack(AckOf {
-                largest: ack.largest,
-                delay: ack.delay,
-                additional: Vec::from_slice(alloc, ack.additional)?,
-                ecn: ack.ecn,
-            }),
-            FrameOf::ResetStream {
-                id,
-                error_code,
-                final_size,
-            } => FrameOf::ResetStream {
-                id: *id,
-                error_code: *error_code,
-                final_size: *final_size,
-            },
-            FrameOf::StopSending { id, error_code } => FrameOf::StopSending {
-                id: *id,
-                error_code: *error_code,
-            },
-            FrameOf::Crypto { offset, body } => FrameOf::Crypto {
-                offset: *offset,
-                body: Vec::from_slice(alloc, body)?,
-            },
-            FrameOf::NewToken { token } => FrameOf::NewToken {
-                token: Vec::from_slice(alloc, token)?,
-            },
-            FrameOf::Stream {
-                id,
-                offset,
-                fin,
-                body,
-            } => FrameOf::Stream {
-                id: *id,
-                offset: *offset,
-                fin: *fin,
-                body: Vec::from_slice(alloc, body)?,
-            },
-            FrameOf::MaxData(limit) => FrameOf::MaxData(*limit),
-            FrameOf::MaxStreamData { id, offset } => FrameOf::MaxStreamData {
-                id: *id,
-                offset: *offset,
-            },
-            FrameOf::MaxStreams { dir, count } => FrameOf::MaxStreams {
-                dir: *dir,
-                count: *count,
-            },
-            FrameOf::DataBlocked { offset } => FrameOf::DataBlocked { offset: *offset },
-            FrameOf::StreamDataBlocked { id, offset } => FrameOf::StreamDataBlocked {
-                id: *id,
-                offset: *offset,
-            },
-            FrameOf::StreamsBlocked { dir, limit } => FrameOf::StreamsBlocked {
-                dir: *dir,
-                limit: *limit,
-            },
-            FrameOf::NewConnectionId(new) => FrameOf::NewConnectionId(*new),
-            FrameOf::RetireConnectionId { sequence } => FrameOf::RetireConnectionId {
-                sequence: *sequence,
-            },
-            FrameOf::PathChallenge(data) => FrameOf::PathChallenge(*data),
-            FrameOf::PathResponse(data) => FrameOf::PathResponse(*data),
-            FrameOf::ConnectionClose {
-                error_code,
-                frame_type,
-                reason,
-            } => FrameOf::ConnectionClose {
-                error_code: *error_code,
-                frame_type: *frame_type,
-                reason: Vec::from_slice(alloc, reason)?,
-            },
-            FrameOf::ApplicationClose { error_code, reason } => FrameOf::ApplicationClose {
-                error_code: *error_code,
-                reason: Vec::from_slice(alloc, reason)?,
-            },
-            FrameOf::HandshakeDone => FrameOf::HandshakeDone,
-            FrameOf::Datagram { body } => FrameOf::Datagram {
-                body: Vec::from_slice(alloc, body)?,
-            },
-        })
+        Ok(with_bytes!(self, bytes => Vec::from_slice(alloc, bytes)?))
     }
 }

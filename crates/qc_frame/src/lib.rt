@@ -1,6 +1,7 @@
 //! The frames of QUIC packets (RFC 9000, sections 12.4 and 19; RFC 9221).
 #![tactic(auto)]
 
+mod ack_ranges;
 mod eliciting;
 mod fault;
 mod frames;
@@ -12,8 +13,12 @@ mod read;
 mod size;
 mod write;
 
+pub use ack_ranges::{AckRanges, ranges_lie_apart};
 pub use fault::{FrameFault, InvalidFrame};
-pub use frames::{Ack, AckOf, EcnCounts, Frame, FrameOf, NewConnectionId, OwnedFrame};
+pub use frames::{
+    Ack, AckOf, EcnCounts, Frame, FrameOf, NewConnectionId, OwnedAck, OwnedFrame, TypedFrame,
+    TypedOf,
+};
 pub use iter::{Iter, first_frame};
 pub use laws::written_is_read;
 pub use list::{FrameList, put_frames};

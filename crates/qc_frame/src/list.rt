@@ -3,7 +3,7 @@
 ghost use Rattle.std.specs.Prelude.{◌≡◌, ◌==◌, ℕ, take, ◌+◌, ◌≤◌, ◌^◌, [], ◌∷◌, ◌++◌, length, map, replicate, IfOk, OnOk, OnErr};
 ghost use Rattle.qc_frame.specs.Frame.{borrowed, owned};
 ghost use Rattle.qc_frame.specs.FrameSpelling.{frames_spelling};
-ghost use Rattle.qc_frame.specs.Payload.{items_of, with_fault};
+ghost use Rattle.qc_frame.specs.Payload.{items_of, untyped, with_fault};
 ghost use Rattle.qc_frame.specs.declared.frames.FrameOf.TheVariants.{Padding};
 
 use crate::fault::InvalidFrame;
@@ -101,12 +101,12 @@ impl FrameList {
         alloc: Global,
         frames: Iter<'_>,
     ) -> Result<(FrameList, Option<InvalidFrame>), AllocError>
-        ensures { IfOk result (λ r. items_of frames.entry ≡ with_fault r.0 r.1) }
+        ensures { IfOk result (λ r. map untyped (items_of frames.entry) ≡ with_fault r.0 r.1) }
     {
         let mut list = FrameList::new(alloc);
         for item in frames {
             match item {
-                Ok(frame) => list.push_read(alloc, &frame)?,
+                Ok(read) => list.push_read(alloc, &read.frame)?,
                 Err(invalid) => return Ok((list, Some(invalid))),
             }
         }
@@ -129,6 +129,16 @@ impl FrameList {
         let len = out.len();
         or_cut_back(put_all(out, self.frames.as_slice(), self.padding), out, len)
     }
+}
+
+/// Appends the spelling of these frames, one after the other. After want of memory `out` is as
+/// before.
+pub fn put_frames(out: &mut Vec<u8>, frames: &[OwnedFrame]) -> Result<(), AllocError>
+    ensures ok { OnOk result (out.new.items ≡ out.old.items ++ frames_spelling (map owned frames.now)) }
+    ensures err { OnErr result (out.new.items ≡ out.old.items) }
+{
+    let len = out.len();
+    or_cut_back(put_each(out, frames), out, len)
 }
 
 // Each function below leaves what stood in its vector where it was, also where memory runs out.
@@ -163,13 +173,11 @@ fn put_all(out: &mut Vec<u8>, frames: &[OwnedFrame], padding: u64) -> Result<(),
     ensures ok { OnOk result (out.new.items ≡ out.old.items ++ frames_spelling (map owned frames.now ++ replicate padding Padding)) }
     ensures kept { take (length out.old.items) out.new.items ≡ out.old.items }
 {
-    put_frames(out, frames)?;
+    put_each(out, frames)?;
     put_padding(out, padding)
 }
 
-/// Appends the spelling of these frames, one after the other. After want of memory what stood in
-/// `out` is still at its front.
-pub fn put_frames(out: &mut Vec<u8>, frames: &[OwnedFrame]) -> Result<(), AllocError>
+fn put_each(out: &mut Vec<u8>, frames: &[OwnedFrame]) -> Result<(), AllocError>
     ensures ok { OnOk result (out.new.items ≡ out.old.items ++ frames_spelling (map owned frames.now)) }
     ensures kept { take (length out.old.items) out.new.items ≡ out.old.items }
 {

@@ -1,6 +1,6 @@
 //! How long frames get, and a reason cut so that its frame fits.
 
-ghost use Rattle.std.specs.Prelude.{◌≡◌, ℕ, ◌+◌, ◌<◌, ◌≤◌, List, [], length, Option};
+ghost use Rattle.std.specs.Prelude.{◌≡◌, ℕ, ◌+◌, ◌<◌, ◌≤◌, ◌^◌, List, [], length, Option, Some};
 ghost use Rattle.qc_base.specs.Varint.{varint};
 ghost use Rattle.qc_frame.specs.FrameSpelling.{spelling};
 ghost use Rattle.qc_frame.specs.Sizes.{IsLongestReason};
@@ -24,7 +24,8 @@ pub const RETIRE_CONNECTION_ID_MAX: usize = 9;
 /// The most bytes of a DATAGRAM frame before its body (RFC 9221, section 4).
 pub const DATAGRAM_HEAD_MAX: usize = 9;
 
-/// A law, which runs no code: no frame of these kinds is longer than the constants above say.
+/// A law, which runs no code: no frame of these kinds is longer than the constants above say, and
+/// frames whose numbers take their longest form are that long.
 pub fn greatest_sizes()
     ensures crypto { (offset : ℕ) (body : List ℕ) → length (spelling (frames.Crypto offset body)) ≤ CRYPTO_HEAD_MAX + length body }
     ensures connection_close { (code : ℕ) (ty : Option ℕ) (reason : List ℕ) → length (spelling (frames.ConnectionClose code ty reason)) ≤ CONNECTION_CLOSE_HEAD_MAX + length reason }
@@ -32,6 +33,11 @@ pub fn greatest_sizes()
     ensures new_connection_id { (new : NewConnectionId) → length new.id ≤ 20 → length new.reset_token ≡ 16 → length (spelling (frames.NewConnectionId new)) ≤ NEW_CONNECTION_ID_MAX }
     ensures retire_connection_id { (sequence : ℕ) → length (spelling (frames.RetireConnectionId sequence)) ≤ RETIRE_CONNECTION_ID_MAX }
     ensures datagram { (body : List ℕ) → length (spelling (frames.Datagram body)) ≤ DATAGRAM_HEAD_MAX + length body }
+    ensures crypto_reached { (offset : ℕ) (body : List ℕ) → 2 ^ 30 ≤ offset → 2 ^ 30 ≤ length body → length (spelling (frames.Crypto offset body)) ≡ CRYPTO_HEAD_MAX + length body }
+    ensures connection_close_reached { (code ty : ℕ) (reason : List ℕ) → 2 ^ 30 ≤ code → 2 ^ 30 ≤ ty → 2 ^ 30 ≤ length reason → length (spelling (frames.ConnectionClose code (Some ty) reason)) ≡ CONNECTION_CLOSE_HEAD_MAX + length reason }
+    ensures new_connection_id_reached { (new : NewConnectionId) → 2 ^ 30 ≤ new.sequence → 2 ^ 30 ≤ new.retire_prior_to → length new.id ≡ 20 → length new.reset_token ≡ 16 → length (spelling (frames.NewConnectionId new)) ≡ NEW_CONNECTION_ID_MAX }
+    ensures retire_connection_id_reached { (sequence : ℕ) → 2 ^ 30 ≤ sequence → length (spelling (frames.RetireConnectionId sequence)) ≡ RETIRE_CONNECTION_ID_MAX }
+    ensures datagram_reached { (body : List ℕ) → 2 ^ 30 ≤ length body → length (spelling (frames.Datagram body)) ≡ DATAGRAM_HEAD_MAX + length body }
 {}
 
 /// The longest front of `reason` with which a CONNECTION_CLOSE frame has at most `room` bytes;
@@ -62,6 +68,7 @@ fn longest_reason(head: usize, reason: &[u8], room: usize) -> usize
     requires { head ≤ 17 }
     ensures within { result ≤ length reason.now }
     ensures fits { head + length (varint 0) ≤ room → head + length (varint result) + result ≤ room }
+    ensures nothing { room < head + length (varint 0) → result ≡ 0 }
     ensures longest { (n : ℕ) → n ≤ length reason.now → head + length (varint n) + n ≤ room → n ≤ result }
 {
     let mut len = reason.len().min(room);

@@ -1,8 +1,8 @@
 use crate::{
-    FrameFault, FrameList, FrameOf, InvalidFrame, Iter, first_frame, fit_application_reason,
-    fit_close_reason, put_frame, put_frames, put_last_frame,
+    FrameFault, FrameList, FrameOf, InvalidFrame, Iter, OwnedAck, OwnedFrame, first_frame,
+    fit_application_reason, fit_close_reason, put_frame, put_frames, put_last_frame,
 };
-use qc_base::{TransportErrorCode, VarInt};
+use qc_base::{ArrayRangeSet, NumberRange, TransportErrorCode, VarInt};
 use std::alloc::{AllocError, Global};
 use std::process::Abort;
 use std::test::Fail;
@@ -103,13 +103,17 @@ const LAST_FRAMES: [(ReadFrame, usize); 5] = [
 ];
 
 fn check(rt: &(impl Abort + AllocGlobal), row: &ReadFrame) -> Result<(), Fail> {
-    let (wire, _, name, spelled) = *row;
+    let (wire, number, name, spelled) = *row;
     let mut out = Vec::new(rt.alloc());
     match first_frame(wire) {
-        Ok((frame, rest)) => {
+        Ok((read, rest)) => {
             assert!(rt; rest.is_empty());
-            assert_eq!(rt; frame.name(), name);
-            put_frame(&mut out, &frame)?;
+            assert_eq!(rt; read.ty, number);
+            assert_eq!(rt; read.frame.name(), name);
+            if let [first, ..] = spelled {
+                assert_eq!(rt; read.frame.ty(), u64::from(*first));
+            }
+            put_frame(&mut out, &read.frame)?;
         }
         Err(_) => assert!(rt; false),
     }
@@ -191,7 +195,7 @@ fn each_prefix_is_read(rt: HostRuntime) -> Result<(), Fail> {
 }
 
 // The least and the greatest fields.
-const BOUNDS: [ReadFrame; 16] = [
+const BOUNDS: [ReadFrame; 21] = [
     // a type in its longest form
     (
         b"\xc0\x00\x00\x00\x00\x00\x00\x10\x05",
@@ -262,6 +266,33 @@ const BOUNDS: [ReadFrame; 16] = [
         "NEW_CONNECTION_ID",
         b"\x18\x05\x05\x01a0123456789ABCDEF",
     ),
+    // what has a form, though a receiver refuses it: more than 2^60 streams, a token of no bytes,
+    // and bytes that end at 2^62 or above
+    (
+        b"\x12\xd0\x00\x00\x00\x00\x00\x00\x01",
+        0x12,
+        "MAX_STREAMS",
+        b"\x12\xd0\x00\x00\x00\x00\x00\x00\x01",
+    ),
+    (
+        b"\x17\xd0\x00\x00\x00\x00\x00\x00\x01",
+        0x17,
+        "STREAMS_BLOCKED",
+        b"\x17\xd0\x00\x00\x00\x00\x00\x00\x01",
+    ),
+    (b"\x07\x00", 0x07, "NEW_TOKEN", b"\x07\x00"),
+    (
+        b"\x0e\x04\xff\xff\xff\xff\xff\xff\xff\xff\x01a",
+        0x0e,
+        "STREAM",
+        b"\x0e\x04\xff\xff\xff\xff\xff\xff\xff\xff\x01a",
+    ),
+    (
+        b"\x06\xff\xff\xff\xff\xff\xff\xff\xff\x02ab",
+        0x06,
+        "CRYPTO",
+        b"\x06\xff\xff\xff\xff\xff\xff\xff\xff\x02ab",
+    ),
     // the greatest stream
     (
         b"\x05\xff\xff\xff\xff\xff\xff\xff\xff\x00",
@@ -301,8 +332,11 @@ const NUMBERS: [(u64, &[u8]); 11] = [
 fn numbers_of_each_length_are_read(rt: HostRuntime) {
     for (number, wire) in &NUMBERS {
         match first_frame(wire) {
-            Ok((FrameOf::MaxData(limit), _)) => assert_eq!(rt; limit, *number),
-            _ => assert!(rt; false, "{number}"),
+            Ok((read, _)) => match read.frame {
+                FrameOf::MaxData(limit) => assert_eq!(rt; limit, *number),
+                _ => assert!(rt; false, "{number}"),
+            },
+            Err(_) => assert!(rt; false, "{number}"),
         }
     }
 }
@@ -310,8 +344,8 @@ fn numbers_of_each_length_are_read(rt: HostRuntime) {
 // The frame at the front of the bytes, written again.
 fn written(alloc: Global, wire: &[u8]) -> Result<Vec<u8>, AllocError> {
     let mut out = Vec::new(alloc);
-    if let Ok((frame, _)) = first_frame(wire) {
-        put_frame(&mut out, &frame)?;
+    if let Ok((read, _)) = first_frame(wire) {
+        put_frame(&mut out, &read.frame)?;
     }
     Ok(out)
 }
@@ -468,11 +502,11 @@ fn a_payload_is_kept_in_a_list(rt: HostRuntime) -> Result<(), Fail> {
 fn the_last_frame_needs_no_length(rt: HostRuntime) -> Result<(), Fail> {
     let mut out = Vec::new(rt.alloc());
     match first_frame(b"\x0b\x04\x02hi") {
-        Ok((frame, _)) => put_last_frame(&mut out, &frame)?,
+        Ok((read, _)) => put_last_frame(&mut out, &read.frame)?,
         Err(_) => assert!(rt; false),
     }
     match first_frame(b"\x31\x02hi") {
-        Ok((frame, _)) => put_last_frame(&mut out, &frame)?,
+        Ok((read, _)) => put_last_frame(&mut out, &read.frame)?,
         Err(_) => assert!(rt; false),
     }
     assert_eq!(rt; out.as_slice(), b"\x09\x04hi\x30hi".as_slice());
@@ -487,8 +521,57 @@ fn a_reason_is_cut_to_fit(rt: HostRuntime) {
     assert_eq!(rt; fit_close_reason(code, Some(6), reason, 67).len(), 63);
     assert_eq!(rt; fit_close_reason(code, Some(6), reason, 69).len(), 64);
     assert_eq!(rt; fit_close_reason(code, None, reason, 4).len(), 0);
+    assert_eq!(rt; fit_close_reason(code, None, reason, 3).len(), 0);
     assert_eq!(rt;
         fit_application_reason(VarInt::from_u32(7), reason, 10).len(),
         7
     );
+    assert_eq!(rt;
+        fit_application_reason(VarInt::from_u32(7), reason, 2).len(),
+        0
+    );
+}
+
+#[test]
+fn a_run_of_padding_is_skipped(rt: HostRuntime) {
+    match Iter::new(b"\x00\x00\x00\x01\x00\x40\x00") {
+        Ok(frames) => {
+            let mut frames = frames;
+            assert_eq!(rt; frames.skip_padding(), 3);
+            assert_eq!(rt; frames.skip_padding(), 0);
+            assert!(rt; frames.next().is_some());
+            assert_eq!(rt; frames.skip_padding(), 1);
+            assert!(rt; frames.next().is_some());
+            assert!(rt; frames.next().is_none());
+            assert_eq!(rt; frames.skip_padding(), 0);
+        }
+        Err(_) => assert!(rt; false),
+    }
+}
+
+// The packets 0, 3, 4 and 8 to 10 in an ACK: 8 to 10, then three not there (gap 2), 3 and 4, then
+// two not there (gap 1), and 0.
+#[test]
+fn packets_are_acknowledged(rt: HostRuntime) -> Result<(), Fail> {
+    let mut numbers = ArrayRangeSet::new();
+    for number in [8u64, 4, 0, 10, 9, 3] {
+        numbers.insert_one(number);
+    }
+    let Some(ack) = OwnedAck::of_numbers(rt.alloc(), &numbers, 5, None)? else {
+        return Ok(());
+    };
+    assert_eq!(rt; ack.largest, 10);
+    let mut ranges = ack.ranges();
+    for (first, last) in [(8u64, 10u64), (3, 4), (0, 0)] {
+        assert_eq!(rt; ranges.next(), Some(NumberRange { first, last }));
+    }
+    assert_eq!(rt; ranges.next(), None);
+    let frame = OwnedFrame::Ack(ack);
+    let mut out = Vec::new(rt.alloc());
+    put_frame(&mut out, &frame.as_frame())?;
+    assert_eq!(rt;
+        out.as_slice(),
+        b"\x02\x0a\x05\x02\x02\x02\x01\x01\x00".as_slice()
+    );
+    Ok(())
 }

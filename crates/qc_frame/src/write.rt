@@ -159,7 +159,7 @@ fn put_typed_word(out: &mut Vec<u8>, ty: u64, word: u64) -> Result<(), AllocErro
 }
 
 // The type of a frame that has one for each direction.
-fn type_of_dir(ty: u64, dir: Dir) -> u64
+pub(crate) fn type_of_dir(ty: u64, dir: Dir) -> u64
     requires { ty < 2 ^ 62 }
     ensures { result ≡ ty + dir_bit dir }
 {
@@ -190,7 +190,7 @@ fn put_crypto(out: &mut Vec<u8>, offset: u64, body: &[u8]) -> Result<(), AllocEr
     put_blob(out, body)
 }
 
-fn stream_type_of(offset: u64, has_length: bool, fin: bool) -> u64
+pub(crate) fn stream_type_of(offset: u64, has_length: bool, fin: bool) -> u64
     ensures { result ≡ stream_type (has_offset offset) has_length fin }
 {
     let offset_bit = if offset == 0 { 0 } else { 4 };
@@ -293,7 +293,7 @@ fn put_ack_head(out: &mut Vec<u8>, ack: &Ack<'_>) -> Result<(), AllocError>
     put_varint(out, count_numbers(ack.additional) / 2)
 }
 
-fn type_of_ack(ecn: Option<EcnCounts>) -> u64
+pub(crate) fn type_of_ack(ecn: Option<EcnCounts>) -> u64
     ensures { result ≡ ack_type ecn }
 {
     match ecn {

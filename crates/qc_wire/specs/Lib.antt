@@ -11,6 +11,7 @@ pub use Rattle.qc_base.specs.StreamId
 pub use Rattle.qc_base.specs.Time
 pub use Rattle.qc_base.specs.TransportErrorCode
 pub use Rattle.qc_base.specs.Varint
+pub use Rattle.qc_frame.specs.AckRanges
 pub use Rattle.qc_frame.specs.Frame
 pub use Rattle.qc_frame.specs.FrameFits
 pub use Rattle.qc_frame.specs.FrameGrammar

@@ -10,4 +10,4 @@ returns c =
     let same = c.into_inner.ensures.value in
     is_longest (frames.ApplicationClose c.args.error_code) (1 + c.varint_size-head.result) c.args.reason.now c.args.room c.longest_reason.result
     (λ r. let l = length-application_close c.args.error_code r in let e = ap (λ (n : ℕ). length (varint n)) same in omega arith)
-    c.longest_reason.ensures.within c.longest_reason.ensures.fits c.longest_reason.ensures.longest
+    c.longest_reason.ensures.within c.longest_reason.ensures.fits c.longest_reason.ensures.nothing c.longest_reason.ensures.longest

@@ -12,4 +12,4 @@ returns c =
     let ty_is = ap (λ (n : ℕ). length (varint n)) c.unwrap_or.ensures in
     is_longest (frames.ConnectionClose c.args.error_code c.args.frame_type) (1 + c.varint_size.result + c.varint_size-2.result) c.args.reason.now c.args.room c.longest_reason.result
     (λ r. let l = length-connection_close c.args.error_code c.args.frame_type r in omega arith)
-    c.longest_reason.ensures.within c.longest_reason.ensures.fits c.longest_reason.ensures.longest
+    c.longest_reason.ensures.within c.longest_reason.ensures.fits c.longest_reason.ensures.nothing c.longest_reason.ensures.longest

@@ -1,4 +1,5 @@
 use Rattle.std.proofs.Common.{arith}
+use Rattle.qc_frame.proofs.PayloadFits.{items_fit}
 use Rattle.qc_frame.proofs.Payloads.{items_meet, items_only}
 use Rattle.qc_frame.proofs.iter.Iter.new.Goals as goal
 
@@ -13,3 +14,9 @@ returns-then-is_empty-clause-only c items meets = items_only items c.args.payloa
 
 pub returns-clause-only : goal.returns-clause-only
 returns-clause-only c items meets = items_only items c.args.payload.now (λ i. omega (arith, c.type_inv.payload i)) meets
+
+pub returns-then-is_empty-clause-fits : goal.returns-then-is_empty-clause-fits
+returns-then-is_empty-clause-fits c size = items_fit c.args.payload.now (λ i. omega (arith, c.type_inv.payload i)) size
+
+pub returns-clause-fits : goal.returns-clause-fits
+returns-clause-fits c size = items_fit c.args.payload.now (λ i. omega (arith, c.type_inv.payload i)) size

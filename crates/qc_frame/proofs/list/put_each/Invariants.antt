@@ -1,7 +1,7 @@
 use Rattle.std.proofs.Common.{◌≡◌, ◌++◌, length, map, take, drop}
 use Rattle.qc_frame.specs.Frame.{owned}
 use Rattle.qc_frame.specs.FrameSpelling.{frames_spelling}
-use Rattle.qc_frame.proofs.list.put_frames.Given as goal
+use Rattle.qc_frame.proofs.list.put_each.Given as goal
 
 abbrev pub invariant-loop-frame : goal.invariant-loop-frame
 invariant-loop-frame l = record {
