@@ -298,3 +298,13 @@ pub record ArePaired (client server : ToySession) : Type 0 where
   pub client_side : client.side ≡ Client
   pub server_side : server.side ≡ Server
   pub secret : client.settings.secret ≡ server.settings.secret
+
+-- A session that has neither read nor written.
+pub record IsFresh (s : ToySession) : Type 0 where
+  pub heard : s.heard ≡ []
+  pub progress : s.progress ≡ progress.Start
+  pub epoch : s.epoch ≡ 0
+
+-- What holds of every session that calls lead to from a fresh one.
+abbrev pub IsSound : ToySession → Type 0
+IsSound s = Unit {0}

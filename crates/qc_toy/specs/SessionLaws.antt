@@ -1,6 +1,6 @@
 -- The laws that the toy's sessions keep.
 use Rattle.std.specs.Prelude.{Bool, true, false, not, ◌&&◌, ◌⊎◌, ◌==◌, cond, is_some, IsSome, Option, Some, None, Result, Ok, Err}
-use Rattle.std.proofs.Common.{◌≡◌, ◌≢◌, ℕ, ◌+◌, ◌%◌, ◌^◌, ◌<◌, ◌≤◌, List, [], ◌++◌, length, refl, ap, sym, ◌∙◌, subst, arith, lit<, lit≤, inl, inr}
+use Rattle.std.proofs.Common.{◌≡◌, ◌≢◌, ℕ, ◌+◌, ◌/◌, ◌%◌, ◌^◌, ◌<◌, ◌≤◌, List, [], ◌++◌, length, refl, ap, sym, ◌∙◌, subst, arith, lit<, lit≤, inl, inr}
 use Rattle.qc_base.specs.declared.side.Side.{Side}
 use Rattle.qc_base.specs.declared.side.Side.TheVariants.{Client, Server}
 use Rattle.qc_base.specs.declared.side.SpaceId.{SpaceId}
@@ -10,17 +10,20 @@ use Rattle.qc_params.specs.declared.params.TransportParameters.{TransportParamet
 use Rattle.qc_params.specs.declared.error.ParamError.{ParamError}
 use Rattle.qc_params.specs.declared.error.ParamError.TheVariants.{IllegalValue}
 use Rattle.qc_params.specs.ParametersReading.{parameters_read, parameters_of, judged, is_legal}
-use Rattle.qc_crypto.specs.Mates.{AreEarlyMates, OpensItsPackets, ArePacketMates, ArePacketsApart, AreMates}
+use Rattle.qc_crypto.specs.Mates.{AreEarlyMates, OpensItsPackets, OpensNoOtherNumber, OpenEachOther, ReadEachOther, ArePacketMates, ArePacketsApart, AreMates}
 use Rattle.qc_crypto.specs.Refusal.{IsSendable}
 use Rattle.qc_toy.specs.declared.messages.Kind.{Kind}
-use Rattle.qc_crypto.specs.SessionCall.{SessionCall, Read, Write, Next, after_call, keys_given, space_of_change, HasSameKeys}
+use Rattle.qc_crypto.specs.GivenKeys.{keys_given, space_of_change}
+use Rattle.qc_crypto.specs.Start.{GivesParameters}
 use Rattle.qc_crypto.specs.declared.keys.KeyPair.{KeyPair}
 use Rattle.qc_crypto.specs.declared.keys.Keys.{Keys}
 use Rattle.qc_toy.specs.declared.packet_key.ToyPacketKey.{ToyPacketKey}
 use Rattle.qc_toy.specs.declared.header_key.ToyHeaderKey.{ToyHeaderKey}
 use Rattle.qc_toy.specs.declared.key_bytes.Level.{Level}
 use Rattle.qc_toy.specs.declared.key_bytes.Level.TheVariants as level
+use Rattle.qc_toy.specs.declared.key_bytes.Usage.{Usage}
 use Rattle.qc_toy.specs.declared.key_bytes.Usage.TheVariants as usage
+use Rattle.qc_toy.specs.KeyBytes.{key_bytes}
 use Rattle.qc_toy.specs.declared.session.ToySession.{ToySession}
 use Rattle.qc_toy.specs.declared.session.Progress.{Progress}
 use Rattle.qc_toy.specs.declared.session.Progress.TheVariants as progress
@@ -31,8 +34,8 @@ use Rattle.qc_toy.specs.Cipher.{toy_seal, toy_opening, toy_mask}
 use Rattle.qc_toy.specs.CipherLaws.{opens_sealed, opens_no_other, opens_no_other_epoch}
 use Rattle.qc_toy.specs.Messages.{message, first_body, second_body, refusal, peer_messages}
 use Rattle.qc_toy.specs.MessageLaws.{length-message, first_stays, second_stays, refusal_small}
-use Rattle.qc_toy.specs.ToyKeys.{level_keys, packet_keys, packet_key, header_key}
-use Rattle.qc_toy.specs.Handshake.{due_of, session_due, written_for, given_for, progress_for, session_writes, session_write_keys, session_after_write, steps_left, bytes_left, changes_of, session_reads, session_after_read, read_answer, heard_after, goes_on, session_handshaking, session_negotiated, ready_unit, early_keys, has_early, session_early_taken, early_taken_by, session_next_keys, session_after_next, session_parameters, parameters_by, parameters_in, parameters_or_error, heard_parameters, parameter_error, before_hello, before_server_end, cached_parameters, keys_of_space, keys_of_epoch, keys_of_id, level_of, ArePaired}
+use Rattle.qc_toy.specs.ToyKeys.{level_keys, packet_keys, packet_key, header_key, other_side}
+use Rattle.qc_toy.specs.Handshake.{due_of, session_due, written_for, given_for, progress_for, session_writes, session_write_keys, session_after_write, steps_left, bytes_left, changes_of, session_reads, session_after_read, read_answer, heard_after, goes_on, session_handshaking, session_negotiated, ready_unit, early_keys, has_early, session_early_taken, early_taken_by, session_next_keys, session_after_next, session_parameters, parameters_by, parameters_in, parameters_or_error, heard_parameters, parameter_error, before_hello, before_server_end, cached_parameters, keys_of_space, keys_of_epoch, keys_of_id, level_of, exported_bytes, ArePaired}
 
 true_false : true ≡ false → ⊥
 true_false e = cc
@@ -73,17 +76,17 @@ no_message : (kind : Kind) (body : List ℕ) → message kind body ≡ [] → �
 unfolding message
 no_message kind body e = cc
 
-stays_of : (s : ToySession) (p : Progress) (d : Due) → written_for s d ≡ [] → given_for s d ≡ None → steps_left (progress_for p d) ≡ steps_left p
-stays_of s p due.Silence e h = refl
-stays_of s p due.Hello e h = absurd (no_message _ _ e)
-stays_of s p due.Keys e h = absurd (no_keys_some h)
-stays_of s p due.ClientEnd e h = absurd (no_keys_some h)
-stays_of s p due.Reply e h = absurd (no_keys_some h)
-stays_of s p due.ServerEnd e h = absurd (no_keys_some h)
+idle_of : (s : ToySession) (d : Due) → written_for s d ≡ [] → given_for s d ≡ None → record s { progress = progress_for s.progress d } ≡ s
+idle_of s due.Silence e h = refl
+idle_of s due.Hello e h = absurd (no_message _ _ e)
+idle_of s due.Keys e h = absurd (no_keys_some h)
+idle_of s due.ClientEnd e h = absurd (no_keys_some h)
+idle_of s due.Reply e h = absurd (no_keys_some h)
+idle_of s due.ServerEnd e h = absurd (no_keys_some h)
 
-pub toy_stays : (s : ToySession) → session_writes s ≡ [] → session_write_keys s ≡ None → steps_left (session_after_write s).progress ≡ steps_left s.progress
+pub toy_idle : (s : ToySession) → session_writes s ≡ [] → session_write_keys s ≡ None → session_after_write s ≡ s
 unfolding session_writes session_write_keys session_after_write
-toy_stays s e h = stays_of s s.progress (session_due s) e h
+toy_idle s e h = idle_of s (session_due s) e h
 
 length-written : (s : ToySession) (d : Due) → length (written_for s d) ≤ 65538
 length-written s due.Silence = lit≤ tt
@@ -92,10 +95,6 @@ length-written s due.Keys = lit≤ tt
 length-written s due.ClientEnd = length-message _ _
 length-written s due.Reply = length-message _ _
 length-written s due.ServerEnd = length-message _ _
-
-pub toy_short : (s : ToySession) → length (session_writes s) < 2 ^ 62
-unfolding session_writes
-toy_short s = let l = length-written s (session_due s) in omega arith
 
 pub toy_unwritten_most : (s : ToySession) → bytes_left s.progress < 2 ^ 62
 toy_unwritten_most s = most s.progress where
@@ -123,14 +122,13 @@ pub toy_unwritten_write : (s : ToySession) → length (session_writes s) + bytes
 unfolding session_writes session_after_write session_due
 toy_unwritten_write s = unwritten_of s s.side s.progress (is_some (first_body s.heard)) (is_some (second_body s.heard))
 
-abbrev toy_after : ToySession → SessionCall → ToySession
-toy_after s call = after_call session_after_read session_after_write session_after_next s call
+pub toy_unwritten_read : (s : ToySession) (bytes : List ℕ) → bytes_left (session_after_read s bytes).progress ≤ bytes_left s.progress
+unfolding session_after_read
+toy_unwritten_read s bytes = omega arith
 
-pub toy_unwritten_call : (s : ToySession) (call : SessionCall) → bytes_left (toy_after s call).progress ≤ bytes_left s.progress
-unfolding session_after_read session_after_next
-toy_unwritten_call s (Read bytes) = omega arith
-toy_unwritten_call s Write = omega (arith, toy_unwritten_write s)
-toy_unwritten_call s Next = omega arith
+pub toy_unwritten_next : (s : ToySession) → bytes_left (session_after_next s).progress ≤ bytes_left s.progress
+unfolding session_after_next
+toy_unwritten_next s = omega arith
 
 -- ---- changes of keys
 
@@ -214,11 +212,17 @@ second_kept : (alert : Option ℕ) (before more : List ℕ) → is_some (second_
 second_kept None before more h = second_stays before more h
 second_kept (Some alert) before more h = h
 
-pub toy_over_stays : (s : ToySession) (call : SessionCall) → session_handshaking s ≡ false → session_handshaking (toy_after s call) ≡ false
-unfolding session_handshaking session_after_read session_after_write session_after_next session_due
-toy_over_stays s (Read bytes) e = over_reads s.side s.progress _ _ (second_kept (refusal (peer_messages s.side) (s.heard ++ bytes)) s.heard bytes) e
-toy_over_stays s Write e = over_writes s.side s.progress (is_some (first_body s.heard)) (is_some (second_body s.heard)) e
-toy_over_stays s Next e = e
+pub toy_over_read : (s : ToySession) (bytes : List ℕ) → session_handshaking s ≡ false → session_handshaking (session_after_read s bytes) ≡ false
+unfolding session_handshaking session_after_read
+toy_over_read s bytes e = over_reads s.side s.progress _ _ (second_kept (refusal (peer_messages s.side) (s.heard ++ bytes)) s.heard bytes) e
+
+pub toy_over_write : (s : ToySession) → session_handshaking s ≡ false → session_handshaking (session_after_write s) ≡ false
+unfolding session_handshaking session_after_write session_due
+toy_over_write s e = over_writes s.side s.progress (is_some (first_body s.heard)) (is_some (second_body s.heard)) e
+
+pub toy_over_next : (s : ToySession) → session_handshaking s ≡ false → session_handshaking (session_after_next s) ≡ false
+unfolding session_handshaking session_after_next
+toy_over_next s e = e
 
 -- ---- early keys, and the data of the handshake
 
@@ -281,11 +285,17 @@ ready_by : (b : Bool) → IsSome (ready_unit b) → b ≡ true
 ready_by true e = refl
 ready_by false e = absurd (true_false (sym e))
 
-pub toy_ready_stays : (s : ToySession) (call : SessionCall) → IsSome (session_negotiated s) → IsSome (session_negotiated (toy_after s call))
-unfolding session_negotiated session_after_read session_after_write session_after_next
-toy_ready_stays s (Read bytes) e = rw (first_kept (refusal (peer_messages s.side) (s.heard ++ bytes)) s.heard bytes (ready_by (is_some (first_body s.heard)) e)) refl
-toy_ready_stays s Write e = e
-toy_ready_stays s Next e = e
+pub toy_ready_read : (s : ToySession) (bytes : List ℕ) → IsSome (session_negotiated s) → IsSome (session_negotiated (session_after_read s bytes))
+unfolding session_negotiated session_after_read
+toy_ready_read s bytes e = rw (first_kept (refusal (peer_messages s.side) (s.heard ++ bytes)) s.heard bytes (ready_by (is_some (first_body s.heard)) e)) refl
+
+pub toy_ready_write : (s : ToySession) → IsSome (session_negotiated s) → IsSome (session_negotiated (session_after_write s))
+unfolding session_negotiated session_after_write
+toy_ready_write s e = e
+
+pub toy_ready_next : (s : ToySession) → IsSome (session_negotiated s) → IsSome (session_negotiated (session_after_next s))
+unfolding session_negotiated session_after_next
+toy_ready_next s e = e
 
 -- ---- refusals and parameters
 
@@ -297,22 +307,31 @@ pub toy_refusal : (s : ToySession) (bytes : List ℕ) (error : TransportError) �
 unfolding session_reads
 toy_refusal s bytes error e = read_err _ _ error (λ a h. refusal_small (peer_messages s.side) (s.heard ++ bytes) a h) e
 
-pub toy_first_epoch : (s : ToySession) → (keys_of_space s space.Data).packet ≡ keys_of_epoch s 0
-toy_first_epoch s = refl
+-- a key holds the epoch as eight bytes, which are those of its rest by 2^64
+key_of_rest : (secret : List ℕ) (l : Level) (from : Side) (usage : Usage) (n : ℕ) → key_bytes secret l from usage (n % 2 ^ 64) ≡ key_bytes secret l from usage n
+unfolding key_bytes
+key_of_rest secret l from usage n =
+    let b0 : n % 2 ^ 64 / 72057594037927936 % 256 ≡ n / 72057594037927936 % 256 = omega arith in
+    let b1 : n % 2 ^ 64 / 281474976710656 % 256 ≡ n / 281474976710656 % 256 = omega arith in
+    let b2 : n % 2 ^ 64 / 1099511627776 % 256 ≡ n / 1099511627776 % 256 = omega arith in
+    let b3 : n % 2 ^ 64 / 4294967296 % 256 ≡ n / 4294967296 % 256 = omega arith in
+    let b4 : n % 2 ^ 64 / 16777216 % 256 ≡ n / 16777216 % 256 = omega arith in
+    let b5 : n % 2 ^ 64 / 65536 % 256 ≡ n / 65536 % 256 = omega arith in
+    let b6 : n % 2 ^ 64 / 256 % 256 ≡ n / 256 % 256 = omega arith in
+    let b7 : n % 2 ^ 64 % 256 ≡ n % 256 = omega arith in
+    rw (b0, b1, b2, b3, b4, b5, b6, b7) refl
 
-pub toy_given_next : (s : ToySession) → session_next_keys s ≡ cond (changes_of s.progress == 2) (Some (keys_of_epoch s ((s.epoch + 1) % 2 ^ 64))) None
+epoch_of_rest : (s : ToySession) (n : ℕ) → keys_of_epoch s (n % 2 ^ 64) ≡ keys_of_epoch s n
+epoch_of_rest s n =
+    rw (key_of_rest s.settings.secret level.Data s.side usage.Packet n, key_of_rest s.settings.secret level.Data (other_side s.side) usage.Packet n) refl
+
+pub toy_given_next : (s : ToySession) → session_next_keys s ≡ cond (changes_of s.progress == 2) (Some (keys_of_epoch s (s.epoch + 1))) None
 unfolding session_next_keys
-toy_given_next s = refl
+toy_given_next s = ap (λ (keys : KeyPair ToyPacketKey). cond (changes_of s.progress == 2) (Some keys) None) (epoch_of_rest s (s.epoch + 1))
 
-pub toy_next_epoch : (s : ToySession) → (session_after_next s).epoch ≡ cond (changes_of s.progress == 2) ((s.epoch + 1) % 2 ^ 64) s.epoch
+pub toy_next_epoch : (s : ToySession) → s.epoch + 1 < 2 ^ 64 → (session_after_next s).epoch ≡ cond (changes_of s.progress == 2) (s.epoch + 1) s.epoch
 unfolding session_after_next
-toy_next_epoch s = refl
-
-pub toy_same_keys : (s : ToySession) (call : SessionCall) → HasSameKeys (λ (s : ToySession). s.side) keys_of_id keys_of_space keys_of_epoch s (toy_after s call)
-unfolding session_after_read session_after_write session_after_next
-toy_same_keys s (Read bytes) = record { side = refl; initial_keys = λ _ _. refl; space = λ _. refl; epoch = λ _. refl }
-toy_same_keys s Write = record { side = refl; initial_keys = λ _ _. refl; space = λ _. refl; epoch = λ _. refl }
-toy_same_keys s Next = record { side = refl; initial_keys = λ _ _. refl; space = λ _. refl; epoch = λ _. refl }
+toy_next_epoch s h = let small : (s.epoch + 1) % 2 ^ 64 ≡ s.epoch + 1 = omega arith in rw small refl
 
 some_keys : {x y : Keys ToyHeaderKey ToyPacketKey} → Some x ≡ Some y → x ≡ y
 some_keys e = cc
@@ -331,8 +350,8 @@ given_of s Server progress.Greeted first second keys e = absurd (no_keys_some (s
 given_of s Server progress.Handshake first second keys e = sym (some_keys e)
 given_of s Server progress.Data first second keys e = absurd (no_keys_some (sym e))
 
-pub toy_given_keys : (s : ToySession) (keys : Keys ToyHeaderKey ToyPacketKey) → session_write_keys s ≡ Some keys → keys ≡ keys_of_space s (space_of_change (changes_of s.progress))
-unfolding session_write_keys session_due
+pub toy_given_keys : (s : ToySession) (keys : Keys ToyHeaderKey ToyPacketKey) → session_write_keys s ≡ Some keys → keys ≡ keys_of_space (session_after_write s) (space_of_change (changes_of s.progress))
+unfolding session_write_keys session_after_write session_due
 toy_given_keys s keys e = given_of s s.side s.progress (is_some (first_body s.heard)) (is_some (second_body s.heard)) keys e
 
 -- ---- mates
@@ -350,19 +369,30 @@ abbrev pub open_by : ToyPacketKey → ℕ → List ℕ → List ℕ → Option (
 open_by key = toy_opening key.bytes
 
 pub opens_its_packets : (key : List ℕ) → OpensItsPackets (toy_seal key) (toy_opening key)
-opens_its_packets key = record { same = opens_sealed key; other = opens_no_other key }
+opens_its_packets key = record { same = opens_sealed key }
+
+pub opens_no_number : (key : List ℕ) → OpensNoOtherNumber (toy_seal key) (toy_opening key)
+opens_no_number key = record { other = opens_no_other key }
 
 -- keys of one secret, level and epoch are mates, whatever their limits
 pub packets_mate : (one other : ToySettings) (secret : List ℕ) (l : Level) (epoch : ℕ)
     → ArePacketMates seal_by open_by (packet_keys one secret l Client epoch) (packet_keys other secret l Server epoch)
-packets_mate one other secret l epoch = record { forth = opens_its_packets _; back = opens_its_packets _ }
+packets_mate one other secret l epoch = record { opens = record { forth = opens_its_packets _; back = opens_its_packets _ }; forth = opens_no_number _; back = opens_no_number _ }
 
 pub levels_mate : (one other : ToySettings) (secret : List ℕ) (l : Level)
     → AreMates mask_by seal_by open_by (level_keys one secret l Client) (level_keys other secret l Server)
 levels_mate one other secret l = record { header = record { forth = λ _. refl; back = λ _. refl }; packet = packets_mate one other secret l 0 }
 
-pub toy_initial_mates : (s : ToySession) (id : List ℕ) → AreMates mask_by seal_by open_by (keys_of_id s id Client) (keys_of_id s id Server)
-toy_initial_mates s id = levels_mate s.settings s.settings _ level.Initial
+-- mates read each other
+pub levels_read : (one other : ToySettings) (secret : List ℕ) (l : Level)
+    → ReadEachOther mask_by seal_by open_by (level_keys one secret l Client) (level_keys other secret l Server)
+levels_read one other secret l = let m = levels_mate one other secret l in record { header = m.header; packet = m.packet.opens }
+
+pub toy_initial_fits : (s : ToySession) (id : List ℕ) → ReadEachOther mask_by seal_by open_by (keys_of_id s id Client) (keys_of_id s id Server)
+toy_initial_fits s id = levels_read s.settings s.settings _ level.Initial
+
+pub toy_initial_mates : (client server : ToySession) (id : List ℕ) → AreMates mask_by seal_by open_by (keys_of_id client id Client) (keys_of_id server id Server)
+toy_initial_mates client server id = levels_mate client.settings server.settings _ level.Initial
 
 spaces_mate : (one other : ToySettings) (l : Level) (c t : Side) (secret their : List ℕ) → c ≡ Client → t ≡ Server → secret ≡ their
     → AreMates mask_by seal_by open_by (level_keys one secret l c) (level_keys other their l t)
@@ -403,7 +433,7 @@ early_mate : (one other : ToySettings) (secret their : List ℕ) → secret ≡ 
     → AreEarlyMates mask_by seal_by open_by (header_key secret level.Early Client, packet_key one secret level.Early Client 0) (header_key their level.Early Client, packet_key other their level.Early Client 0)
 early_mate one other secret their h =
     subst (λ x. AreEarlyMates mask_by seal_by open_by (header_key secret level.Early Client, packet_key one secret level.Early Client 0) (header_key x level.Early Client, packet_key other x level.Early Client 0)) h
-    (record { header = λ _. refl; packet = opens_its_packets _ })
+    (record { header = λ _. refl; packet = opens_its_packets _; number = opens_no_number _ })
 
 pub toy_early_mates : (client server : ToySession) (one other : ToyHeaderKey × ToyPacketKey) → ArePaired client server → early_keys client ≡ Some one → early_keys server ≡ Some other
     → AreEarlyMates mask_by seal_by open_by one other
@@ -567,3 +597,126 @@ toy_write_parameters s = write_parameters_of s s.side
 pub toy_write_early : (s : ToySession) → early_keys (session_after_write s) ≡ early_keys s
 unfolding early_keys session_after_write
 toy_write_early s = refl
+
+pub toy_next_parameters : (s : ToySession) → session_parameters (session_after_next s) ≡ session_parameters s
+unfolding session_parameters session_after_next
+toy_next_parameters s = by_side s.side where
+  by_side : (side : Side) → parameters_by side (session_after_next s) ≡ parameters_by side s
+  by_side Client = refl
+  by_side Server = refl
+
+pub toy_next_early : (s : ToySession) → early_keys (session_after_next s) ≡ early_keys s
+unfolding early_keys session_after_next
+toy_next_early s = refl
+
+written_next : (s : ToySession) (epoch : ℕ) (d : Due) → written_for (record s { epoch = epoch }) d ≡ written_for s d
+written_next s epoch due.Silence = refl
+written_next s epoch due.Hello = refl
+written_next s epoch due.Keys = refl
+written_next s epoch due.ClientEnd = refl
+written_next s epoch due.Reply = refl
+written_next s epoch due.ServerEnd = refl
+
+pub toy_next_writes : (s : ToySession) → session_writes (session_after_next s) ≡ session_writes s
+unfolding session_writes session_after_next session_due
+toy_next_writes s = written_next s (session_after_next s).epoch (session_due s)
+
+given_next : (s : ToySession) (epoch : ℕ) (d : Due) → given_for (record s { epoch = epoch }) d ≡ given_for s d
+given_next s epoch due.Silence = refl
+given_next s epoch due.Hello = refl
+given_next s epoch due.Keys = refl
+given_next s epoch due.ClientEnd = refl
+given_next s epoch due.Reply = refl
+given_next s epoch due.ServerEnd = refl
+
+pub toy_next_write_keys : (s : ToySession) → session_write_keys (session_after_next s) ≡ session_write_keys s
+unfolding session_write_keys session_after_next session_due
+toy_next_write_keys s = given_next s (session_after_next s).epoch (session_due s)
+
+-- ---- the same end, and the same keys
+
+pub toy_side_read : (s : ToySession) (bytes : List ℕ) → (session_after_read s bytes).side ≡ s.side
+unfolding session_after_read
+toy_side_read s bytes = refl
+
+pub toy_side_write : (s : ToySession) → (session_after_write s).side ≡ s.side
+unfolding session_after_write
+toy_side_write s = refl
+
+pub toy_side_next : (s : ToySession) → (session_after_next s).side ≡ s.side
+unfolding session_after_next
+toy_side_next s = refl
+
+pub toy_initial_read : (s : ToySession) (bytes id : List ℕ) (side : Side) → keys_of_id (session_after_read s bytes) id side ≡ keys_of_id s id side
+unfolding session_after_read
+toy_initial_read s bytes id side = refl
+
+pub toy_initial_write : (s : ToySession) (id : List ℕ) (side : Side) → keys_of_id (session_after_write s) id side ≡ keys_of_id s id side
+unfolding session_after_write
+toy_initial_write s id side = refl
+
+pub toy_initial_next : (s : ToySession) (id : List ℕ) (side : Side) → keys_of_id (session_after_next s) id side ≡ keys_of_id s id side
+unfolding session_after_next
+toy_initial_next s id side = refl
+
+pub toy_space_read : (s : ToySession) (bytes : List ℕ) (space : SpaceId) → keys_of_space (session_after_read s bytes) space ≡ keys_of_space s space
+unfolding session_after_read
+toy_space_read s bytes space = refl
+
+pub toy_space_write : (s : ToySession) (space : SpaceId) → keys_of_space (session_after_write s) space ≡ keys_of_space s space
+unfolding session_after_write
+toy_space_write s space = refl
+
+pub toy_space_next : (s : ToySession) (space : SpaceId) → keys_of_space (session_after_next s) space ≡ keys_of_space s space
+unfolding session_after_next
+toy_space_next s space = refl
+
+pub toy_epochs_read : (s : ToySession) (bytes : List ℕ) (n : ℕ) → keys_of_epoch (session_after_read s bytes) n ≡ keys_of_epoch s n
+unfolding session_after_read
+toy_epochs_read s bytes n = refl
+
+pub toy_epochs_write : (s : ToySession) (n : ℕ) → keys_of_epoch (session_after_write s) n ≡ keys_of_epoch s n
+unfolding session_after_write
+toy_epochs_write s n = refl
+
+pub toy_epochs_next : (s : ToySession) (n : ℕ) → keys_of_epoch (session_after_next s) n ≡ keys_of_epoch s n
+unfolding session_after_next
+toy_epochs_next s n = refl
+
+pub toy_epoch_read : (s : ToySession) (bytes : List ℕ) → (session_after_read s bytes).epoch ≡ s.epoch
+unfolding session_after_read
+toy_epoch_read s bytes = refl
+
+pub toy_epoch_write : (s : ToySession) → (session_after_write s).epoch ≡ s.epoch
+unfolding session_after_write
+toy_epoch_write s = refl
+
+-- ---- pairs
+
+pub toy_pair_client_read : (client server : ToySession) (bytes : List ℕ) → ArePaired client server → ArePaired (session_after_read client bytes) server
+unfolding session_after_read
+toy_pair_client_read client server bytes h = record { client_side = h.client_side; server_side = h.server_side; secret = h.secret }
+
+pub toy_pair_client_write : (client server : ToySession) → ArePaired client server → ArePaired (session_after_write client) server
+unfolding session_after_write
+toy_pair_client_write client server h = record { client_side = h.client_side; server_side = h.server_side; secret = h.secret }
+
+pub toy_pair_client_next : (client server : ToySession) → ArePaired client server → ArePaired (session_after_next client) server
+unfolding session_after_next
+toy_pair_client_next client server h = record { client_side = h.client_side; server_side = h.server_side; secret = h.secret }
+
+pub toy_pair_server_read : (client server : ToySession) (bytes : List ℕ) → ArePaired client server → ArePaired client (session_after_read server bytes)
+unfolding session_after_read
+toy_pair_server_read client server bytes h = record { client_side = h.client_side; server_side = h.server_side; secret = h.secret }
+
+pub toy_pair_server_write : (client server : ToySession) → ArePaired client server → ArePaired client (session_after_write server)
+unfolding session_after_write
+toy_pair_server_write client server h = record { client_side = h.client_side; server_side = h.server_side; secret = h.secret }
+
+pub toy_pair_server_next : (client server : ToySession) → ArePaired client server → ArePaired client (session_after_next server)
+unfolding session_after_next
+toy_pair_server_next client server h = record { client_side = h.client_side; server_side = h.server_side; secret = h.secret }
+
+pub toy_same_exports : (client server : ToySession) (count : ℕ) (label context : List ℕ) → ArePaired client server
+    → exported_bytes client.settings.secret count label context ≡ exported_bytes server.settings.secret count label context
+toy_same_exports client server count label context h = ap (λ (secret : List ℕ). exported_bytes secret count label context) h.secret

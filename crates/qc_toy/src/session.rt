@@ -261,7 +261,7 @@ pub(crate) fn tag_of_retry(id: &[u8], header: &[u8], token: &[u8]) -> [u8; 16]
 
 impl Session for ToySession {
     ghost use Rattle.std.specs.Prelude.{◌≡◌, None};
-    ghost use Rattle.qc_toy.specs.Handshake.{session_negotiated, early_keys, session_early_taken, session_handshaking, session_reads, session_after_read, session_parameters, session_writes, session_write_keys, session_after_write, steps_left, changes_of, bytes_left, session_next_keys, session_after_next, fits_retry as toy_fits_retry, exported_bytes, keys_of_id, keys_of_space, keys_of_epoch, ArePaired};
+    ghost use Rattle.qc_toy.specs.Handshake.{session_negotiated, early_keys, session_early_taken, session_handshaking, session_reads, session_after_read, session_parameters, session_writes, session_write_keys, session_after_write, steps_left, changes_of, bytes_left, session_next_keys, session_after_next, fits_retry as toy_fits_retry, exported_bytes, keys_of_id, keys_of_space, keys_of_epoch, ArePaired, IsFresh, IsSound};
 
     type HeaderKey = ToyHeaderKey;
 
@@ -311,7 +311,13 @@ impl Session for ToySession {
 
     ghost exported = { λ s. exported_bytes s.settings.secret };
 
+    ghost is_fresh = { IsFresh };
+
+    ghost is_sound = { IsSound };
+
     ghost side_of = { λ s. s.side };
+
+    ghost version_of = { λ _. 1 };
 
     ghost space_keys = { keys_of_space };
 
@@ -468,63 +474,156 @@ impl Session for ToySession {
         Ok(())
     }
 
-    ghost use Rattle.qc_toy.specs.SessionLaws.{toy_falls, toy_stays, toy_short, toy_changes_most, toy_changes_write, toy_changes_read, toy_changes_next, toy_unwritten_most, toy_unwritten_write, toy_unwritten_call, toy_over_late, toy_over_stays, toy_over_early, toy_ready_once, toy_ready_then, toy_ready_stays, toy_refusal, toy_unreadable, toy_allowed, toy_server_knows, toy_write_parameters, toy_write_early, toy_same_keys, toy_given_keys, toy_first_epoch, toy_given_next, toy_next_epoch, toy_initial_mates, toy_space_mates, toy_early_mates, toy_epoch_mates, toy_epochs_apart};
+    ghost use Rattle.std.specs.Prelude.{refl};
+    ghost use Rattle.qc_base.specs.declared.side.SpaceId.TheVariants.{Handshake, Data};
+    ghost use Rattle.qc_toy.specs.Start.{fresh_changes, fresh_hello, fresh_no_keys, fresh_whole, fresh_alone, fresh_early};
+    ghost use Rattle.qc_toy.specs.SessionLaws.{toy_falls, toy_idle, toy_unwritten_most, toy_unwritten_write, toy_unwritten_read, toy_unwritten_next, toy_changes_most, toy_changes_write, toy_changes_read, toy_changes_next, toy_over_late, toy_over_read, toy_over_write, toy_over_next, toy_over_early, toy_ready_once, toy_ready_then, toy_ready_read, toy_ready_write, toy_ready_next, toy_refusal, toy_unreadable, toy_allowed, toy_server_knows, toy_write_parameters, toy_write_early, toy_next_parameters, toy_next_early, toy_next_writes, toy_next_write_keys, toy_side_read, toy_side_write, toy_side_next, toy_initial_read, toy_initial_write, toy_initial_next, toy_given_keys, toy_space_read, toy_space_write, toy_space_next, toy_epochs_read, toy_epochs_write, toy_epochs_next, toy_given_next, toy_next_epoch, toy_epoch_read, toy_epoch_write, toy_initial_fits, toy_pair_client_read, toy_pair_client_write, toy_pair_client_next, toy_pair_server_read, toy_pair_server_write, toy_pair_server_next, toy_initial_mates, toy_space_mates, toy_early_mates, toy_epoch_mates, toy_epochs_apart, toy_same_exports};
 
-    ghost falls = { toy_falls };
+    ghost fresh_sound = { λ _ _. tt };
 
-    ghost stays = { toy_stays };
+    ghost sound_read = { λ _ _ _. tt };
 
-    ghost short = { toy_short };
+    ghost sound_write = { λ _ _. tt };
 
-    ghost changes_most = { toy_changes_most };
+    ghost sound_next = { λ _ _. tt };
 
-    ghost changes_write = { toy_changes_write };
+    ghost fresh_changes = { fresh_changes };
 
-    ghost changes_read = { toy_changes_read };
+    ghost fresh_epoch = { λ _ h. h.epoch };
 
-    ghost changes_next = { toy_changes_next };
+    ghost hello_first = { fresh_hello };
 
-    ghost unwritten_most = { toy_unwritten_most };
+    ghost hello_no_keys = { fresh_no_keys };
 
-    ghost unwritten_write = { toy_unwritten_write };
+    ghost hello_whole = { fresh_whole };
 
-    ghost unwritten_call = { toy_unwritten_call };
+    ghost hello_alone = { fresh_alone };
 
-    ghost over_late = { toy_over_late };
+    ghost fresh_early = { fresh_early };
 
-    ghost over_stays = { toy_over_stays };
+    ghost falls = { λ s _. toy_falls s };
 
-    ghost over_early = { toy_over_early };
+    ghost idle = { λ s _. toy_idle s };
 
-    ghost ready_once = { toy_ready_once };
+    ghost unwritten_most = { λ s _. toy_unwritten_most s };
 
-    ghost ready_then = { toy_ready_then };
+    ghost unwritten_write = { λ s _. toy_unwritten_write s };
 
-    ghost ready_stays = { toy_ready_stays };
+    ghost unwritten_read = { λ s bytes _. toy_unwritten_read s bytes };
 
-    ghost refusal = { toy_refusal };
+    ghost unwritten_next = { λ s _. toy_unwritten_next s };
 
-    ghost unreadable = { toy_unreadable };
+    ghost changes_most = { λ s _. toy_changes_most s };
 
-    ghost allowed = { toy_allowed };
+    ghost changes_write = { λ s _. toy_changes_write s };
 
-    ghost server_knows = { toy_server_knows };
+    ghost changes_read = { λ s bytes _. toy_changes_read s bytes };
 
-    ghost write_parameters = { toy_write_parameters };
+    ghost changes_next = { λ s _. toy_changes_next s };
 
-    ghost write_early = { toy_write_early };
+    ghost over_late = { λ s _. toy_over_late s };
 
-    ghost same_keys = { toy_same_keys };
+    ghost over_read = { λ s bytes _. toy_over_read s bytes };
 
-    ghost given_keys = { toy_given_keys };
+    ghost over_write = { λ s _. toy_over_write s };
 
-    ghost first_epoch = { toy_first_epoch };
+    ghost over_next = { λ s _. toy_over_next s };
 
-    ghost given_next = { toy_given_next };
+    ghost over_early = { λ s _. toy_over_early s };
 
-    ghost next_epoch = { toy_next_epoch };
+    ghost ready_once = { λ s bytes _. toy_ready_once s bytes };
 
-    ghost initial_mates = { toy_initial_mates };
+    ghost ready_then = { λ s bytes _. toy_ready_then s bytes };
+
+    ghost ready_read = { λ s bytes _. toy_ready_read s bytes };
+
+    ghost ready_write = { λ s _. toy_ready_write s };
+
+    ghost ready_next = { λ s _. toy_ready_next s };
+
+    ghost refusal = { λ s bytes error _. toy_refusal s bytes error };
+
+    ghost unreadable = { λ s error _. toy_unreadable s error };
+
+    ghost allowed = { λ s p _. toy_allowed s p };
+
+    ghost server_knows = { λ s _. toy_server_knows s };
+
+    ghost write_parameters = { λ s _. toy_write_parameters s };
+
+    ghost write_early = { λ s _. toy_write_early s };
+
+    ghost next_parameters = { λ s _. toy_next_parameters s };
+
+    ghost next_early = { λ s _. toy_next_early s };
+
+    ghost next_writes = { λ s _. toy_next_writes s };
+
+    ghost next_write_keys = { λ s _. toy_next_write_keys s };
+
+    ghost side_read = { λ s bytes _. toy_side_read s bytes };
+
+    ghost side_write = { λ s _. toy_side_write s };
+
+    ghost side_next = { λ s _. toy_side_next s };
+
+    ghost version_read = { λ _ _ _. refl };
+
+    ghost version_write = { λ _ _. refl };
+
+    ghost version_next = { λ _ _. refl };
+
+    ghost initial_read = { λ s bytes id side _. toy_initial_read s bytes id side };
+
+    ghost initial_write = { λ s id side _. toy_initial_write s id side };
+
+    ghost initial_next = { λ s id side _. toy_initial_next s id side };
+
+    ghost given_keys = { λ s keys _. toy_given_keys s keys };
+
+    ghost handshake_read = { λ s bytes _ _. toy_space_read s bytes Handshake };
+
+    ghost handshake_write = { λ s _ _. toy_space_write s Handshake };
+
+    ghost handshake_next = { λ s _ _. toy_space_next s Handshake };
+
+    ghost data_read = { λ s bytes _ _. toy_space_read s bytes Data };
+
+    ghost data_write = { λ s _ _. toy_space_write s Data };
+
+    ghost data_next = { λ s _ _. toy_space_next s Data };
+
+    ghost epochs_read = { λ s bytes n _ _. toy_epochs_read s bytes n };
+
+    ghost epochs_write = { λ s n _ _. toy_epochs_write s n };
+
+    ghost epochs_next = { λ s n _ _. toy_epochs_next s n };
+
+    ghost first_epoch = { λ _ _ _. refl };
+
+    ghost given_next = { λ s _. toy_given_next s };
+
+    ghost next_epoch = { λ s _. toy_next_epoch s };
+
+    ghost epoch_read = { λ s bytes _. toy_epoch_read s bytes };
+
+    ghost epoch_write = { λ s _. toy_epoch_write s };
+
+    ghost initial_fits = { λ s id _. toy_initial_fits s id };
+
+    ghost pair_client_read = { toy_pair_client_read };
+
+    ghost pair_client_write = { toy_pair_client_write };
+
+    ghost pair_client_next = { toy_pair_client_next };
+
+    ghost pair_server_read = { toy_pair_server_read };
+
+    ghost pair_server_write = { toy_pair_server_write };
+
+    ghost pair_server_next = { toy_pair_server_next };
+
+    ghost initial_mates = { λ client server id _. toy_initial_mates client server id };
 
     ghost space_mates = { toy_space_mates };
 
@@ -533,4 +632,6 @@ impl Session for ToySession {
     ghost epoch_mates = { toy_epoch_mates };
 
     ghost epochs_apart = { toy_epochs_apart };
+
+    ghost same_exports = { toy_same_exports };
 }
