@@ -321,13 +321,14 @@ key_of_rest secret l from usage n =
     let b7 : n % 2 ^ 64 % 256 ≡ n % 256 = omega arith in
     rw (b0, b1, b2, b3, b4, b5, b6, b7) refl
 
-epoch_of_rest : (s : ToySession) (n : ℕ) → keys_of_epoch s (n % 2 ^ 64) ≡ keys_of_epoch s n
-epoch_of_rest s n =
-    rw (key_of_rest s.settings.secret level.Data s.side usage.Packet n, key_of_rest s.settings.secret level.Data (other_side s.side) usage.Packet n) refl
+-- so the keys of an epoch are those of its rest
+pub epoch_of_rest : (settings : ToySettings) (secret : List ℕ) (l : Level) (side : Side) (n : ℕ) → packet_keys settings secret l side (n % 2 ^ 64) ≡ packet_keys settings secret l side n
+epoch_of_rest settings secret l side n =
+    rw (key_of_rest secret l side usage.Packet n, key_of_rest secret l (other_side side) usage.Packet n) refl
 
 pub toy_given_next : (s : ToySession) → session_next_keys s ≡ cond (changes_of s.progress == 2) (Some (keys_of_epoch s (s.epoch + 1))) None
 unfolding session_next_keys
-toy_given_next s = ap (λ (keys : KeyPair ToyPacketKey). cond (changes_of s.progress == 2) (Some keys) None) (epoch_of_rest s (s.epoch + 1))
+toy_given_next s = ap (λ (keys : KeyPair ToyPacketKey). cond (changes_of s.progress == 2) (Some keys) None) (epoch_of_rest s.settings s.settings.secret level.Data s.side (s.epoch + 1))
 
 pub toy_next_epoch : (s : ToySession) → s.epoch + 1 < 2 ^ 64 → (session_after_next s).epoch ≡ cond (changes_of s.progress == 2) (s.epoch + 1) s.epoch
 unfolding session_after_next
