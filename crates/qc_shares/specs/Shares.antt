@@ -3,13 +3,12 @@ use Rattle.std.specs.Prelude.{◌≡◌, ℕ, ◌+◌, ◌%◌, ◌^◌, ◌≤�
 use Rattle.qc_base.specs.declared.side.Side.{Side}
 use Rattle.qc_base.specs.declared.side.Side.TheVariants.{Client, Server}
 use Rattle.qc_base.specs.declared.side.SpaceId.{SpaceId}
-use Rattle.qc_base.specs.declared.side.SpaceId.TheVariants.{Initial, Handshake, Data}
+use Rattle.qc_base.specs.declared.side.SpaceId.TheVariants.{Handshake, Data}
 use Rattle.qc_base.specs.declared.transport_error.TransportError.{TransportError}
 use Rattle.qc_params.specs.declared.params.TransportParameters.{TransportParameters}
 use Rattle.qc_params.specs.ParametersSpelling.{default_parameters}
 use Rattle.qc_crypto.specs.declared.keys.KeyPair.{KeyPair}
 use Rattle.qc_crypto.specs.declared.keys.Keys.{Keys}
-use Rattle.qc_toy.specs.declared.key_bytes.Level.{Level}
 use Rattle.qc_toy.specs.declared.key_bytes.Level.TheVariants as level
 use Rattle.qc_toy.specs.declared.packet_key.ToyPacketKey.{ToyPacketKey}
 use Rattle.qc_toy.specs.declared.header_key.ToyHeaderKey.{ToyHeaderKey}
