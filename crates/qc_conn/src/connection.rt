@@ -12,7 +12,7 @@ ghost use Rattle.qc_state.specs.Types.{meaning};
 ghost use Rattle.qc_state.specs.View.{ideal};
 
 use crate::steps::{core_send, core_step};
-use qc_base::{Fault, Instant, SpaceId};
+use qc_base::{Fault, Instant, Side, SpaceId};
 use qc_config::TokenStore;
 use qc_core::{ClientSetup, Core};
 use qc_state::{EndpointEvent, Event, Input, Step, Suite, Transmit};
@@ -38,7 +38,8 @@ impl<U: Suite> Model for Connection<U> {
 }
 
 impl<U: Suite> Connection<U> {
-    /// A client's connection, made at `now`: its hello waits to be sealed. So far no token is taken from the store.
+    /// A client's connection, made at `now` of a client's session that has neither read nor written: its hello waits to be
+    /// sealed. So far no token is taken from the store.
     ///
     /// # Errors
     ///
@@ -50,6 +51,8 @@ impl<U: Suite> Connection<U> {
         store: &mut G,
         now: Instant,
     ) -> Result<Connection<U>, AllocError>
+        requires fresh { U.Session.is_fresh setup.session }
+        requires client { U.Session.side_of setup.session ≡ Side.Client }
         ensures made { IfOk result (λ c. c.core ≡ first_view (meaning U.Session.Session U.Session.HeaderKey.HeaderMask U.Session.PacketKey.PacketKey) setup.session setup.random (client_fixed setup.version setup.local_cid setup.local_ip setup.transport.max_idle_timeout) setup.remote setup.first_cid now) }
         ensures plain { IsPlainAddress setup.remote → IfOk result (λ c. IsPlainStart c.core.waiting c.core.paths) }
         ensures alive { IfOk result (λ c. c.failed ≡ false) }

@@ -7,10 +7,10 @@ use crate::connection::Connection;
 use crate::driving::{DriveKind, drive};
 use crate::laws::text_tells_run;
 use crate::text::trace_text;
-use qc_base::{ConnectionId, Instant, TransportErrorCode};
+use qc_base::{ConnectionId, Instant, Side, TransportErrorCode};
 use qc_config::{NoneTokenStore, announced};
 use qc_core::ClientSetup;
-use qc_crypto::ClientConfig;
+use qc_crypto::{ClientConfig, Session};
 use qc_recovery::TransportConfig;
 use qc_state::{ConnectionError, Event, Input, Suite};
 use qc_toy::{ToyClient, ToySession, ToySettings, ZeroRandom};
@@ -27,7 +27,11 @@ impl Suite for Toy {
     type Random = ZeroRandom;
 }
 
-fn session(alloc: Global, transport: &TransportConfig, id: ConnectionId) -> Option<ToySession> {
+#[tactic(auto, using(qc_toy::specs::Start::start_fresh, qc_toy::specs::Start::start_side))]
+fn session(alloc: Global, transport: &TransportConfig, id: ConnectionId) -> Option<ToySession>
+    ensures fresh { IfSome result ⟦<ToySession as Session>⟧.is_fresh }
+    ensures client { IfSome result (λ session. session.side ≡ Side.Client) }
+{
     let client = ToyClient {
         settings: ToySettings::default(),
     };
@@ -35,7 +39,10 @@ fn session(alloc: Global, transport: &TransportConfig, id: ConnectionId) -> Opti
     client.start_session(alloc, 1, "", &params).ok()
 }
 
-fn setup(alloc: Global) -> Option<ClientSetup<Toy>> {
+fn setup(alloc: Global) -> Option<ClientSetup<Toy>>
+    ensures fresh { IfSome result (λ setup. ⟦<ToySession as Session>⟧.is_fresh setup.session) }
+    ensures client { IfSome result (λ setup. setup.session.side ≡ Side.Client) }
+{
     let transport = TransportConfig::default();
     let local_cid = ConnectionId::new(&[1; 8]);
     let session = session(alloc, &transport, local_cid)?;
@@ -59,6 +66,8 @@ fn setup(alloc: Global) -> Option<ClientSetup<Toy>> {
 /// A client made at time 0.
 #[tactic(auto, unfolding(qc_state::specs::First::first_view))]
 fn fresh(alloc: Global, setup: ClientSetup<Toy>) -> Result<Connection<Toy>, AllocError>
+    requires fresh { ⟦<ToySession as Session>⟧.is_fresh setup.session }
+    requires client { setup.session.side ≡ Side.Client }
     ensures { IfOk result (λ client. client.core.timers.greatest ≡ 0) }
 {
     let start = Instant::from_nanos(0);

@@ -18,7 +18,7 @@ use std::net::{IpAddr, SocketAddr};
 /// What a client's connection is made of.
 #[derive(Drop)]
 pub struct ClientSetup<U: Suite> {
-    /// A client's session, which has neither read nor written.
+    /// A client's session. It is fresh: it has neither read nor written.
     pub session: U::Session,
     /// The source of random words.
     pub random: U::Random,
@@ -83,6 +83,8 @@ impl<U: Suite> Core<U> {
         setup: ClientSetup<U>,
         now: Instant,
     ) -> Result<Core<U>, AllocError>
+        requires fresh { U.Session.is_fresh setup.session }
+        requires client { U.Session.side_of setup.session ≡ Side.Client }
         ensures made { IfOk result (λ core. core ≡ first_view (meaning U.Session.Session U.Session.HeaderKey.HeaderMask U.Session.PacketKey.PacketKey) setup.session setup.random (client_fixed setup.version setup.local_cid setup.local_ip setup.transport.max_idle_timeout) setup.remote setup.first_cid now) }
         ensures hello { IfOk result (λ core. length core.waiting.spaces.initial.crypto.bytes < 2 ^ 62) }
     {

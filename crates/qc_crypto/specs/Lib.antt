@@ -1,5 +1,5 @@
+pub mod GivenKeys
 pub mod Mates
 pub mod Refusal
 pub mod Sealing
-pub mod SessionCall
 pub mod Start

@@ -9,6 +9,12 @@ abbrev pub AnswersError : Result Bool TransportError → SessionError → Type 0
 AnswersError answer (Transport error) = answer ≡ Err error
 AnswersError answer OutOfMemory = Unit {0}
 
+-- What a refused reading leaves: the session after the bytes that it refuses, and for want of memory
+-- the session before.
+abbrev pub LeavesAfter : {S : Type 0} → S → S → S → SessionError → Type 0
+LeavesAfter after before now (Transport error) = now ≡ after
+LeavesAfter after before now OutOfMemory = now ≡ before
+
 -- A frame type, where one is named, is above 0, and fits a variable-length integer.
 abbrev pub IsFrameType : Option ℕ → Type 0
 IsFrameType None = Unit {0}

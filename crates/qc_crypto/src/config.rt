@@ -1,11 +1,10 @@
 //! What sessions are started with.
 
-ghost use Rattle.std.specs.Prelude.{◌≡◌, ℕ, ◌++◌, List, Bool, true, false, Option, Result, Ok, Err, ◌↔◌, IsSome, IfOk, is_ok, length};
+ghost use Rattle.std.specs.Prelude.{◌≡◌, ℕ, ◌++◌, List, Bool, true, false, Option, Result, Ok, Err, ◌↔◌, IfOk, is_ok};
 ghost use Rattle.qc_base.specs.declared.side.Side.{Side};
 ghost use Rattle.qc_params.specs.declared.params.TransportParameters.{TransportParameters};
 ghost use Rattle.qc_crypto.specs.declared.keys.Keys.{Keys};
-ghost use Rattle.qc_crypto.specs.Mates.{AreMates};
-ghost use Rattle.qc_crypto.specs.Start.{WritesWholeHello, GivesParameters};
+ghost use Rattle.qc_crypto.specs.Mates.{ReadEachOther};
 
 use crate::{ConnectError, Keys, Session, UnsupportedVersion};
 use qc_base::{ConnectionId, Side};
@@ -20,8 +19,9 @@ pub trait ClientConfig: Drop {
     // Whether a version is in the list.
     ghost supports: { Self → ℕ → Bool };
 
-    // The session of a version, a server's name and the client's own parameters.
-    ghost session_of: { Self → ℕ → List ℕ → TransportParameters → Self.Session };
+    // What may start of a version, a server's name and the client's own parameters. It is a relation,
+    // since two sessions that start alike have different secrets.
+    ghost starts: { Self → ℕ → List ℕ → TransportParameters → Self.Session → Type 0 };
 
     /// Starts the session of one connection. `params` are what the client announces.
     ///
@@ -36,17 +36,15 @@ pub trait ClientConfig: Drop {
         server_name: &str,
         params: &TransportParameters,
     ) -> Result<Self::Session, ConnectError>
-        ensures ok { IfOk result (λ session. session ≡ session_of self.now version server_name.now params.now) }
+        ensures ok { IfOk result (starts self.now version server_name.now params.now) }
         ensures unsupported { (result ≡ Err ConnectError.UnsupportedVersion) ↔ (supports self.now version ≡ false) };
 
-    ghost client: { (config : Self) (version : ℕ) (name : List ℕ) (params : TransportParameters) → Self.Session.side_of (session_of config version name params) ≡ Side.Client };
+    // What starts is a fresh session of a client, and of that version.
+    ghost fresh: { (config : Self) (version : ℕ) (name : List ℕ) (params : TransportParameters) (session : Self.Session) → starts config version name params session → Self.Session.is_fresh session };
 
-    ghost begins: { (config : Self) (version : ℕ) (name : List ℕ) (params : TransportParameters) → Self.Session.changes (session_of config version name params) ≡ 0 };
+    ghost client: { (config : Self) (version : ℕ) (name : List ℕ) (params : TransportParameters) (session : Self.Session) → starts config version name params session → Self.Session.side_of session ≡ Side.Client };
 
-    ghost whole_hello: { (config : Self) (version : ℕ) (name : List ℕ) (params : TransportParameters) → WritesWholeHello Self.Session.writes Self.Session.write_keys Self.Session.after_write (session_of config version name params) };
-
-    // Where there are early keys, the peer's parameters are known of an earlier connection.
-    ghost early_parameters: { (config : Self) (version : ℕ) (name : List ℕ) (params : TransportParameters) → IsSome (Self.Session.early (session_of config version name params)) → GivesParameters (Self.Session.parameters (session_of config version name params)) };
+    ghost of_version: { (config : Self) (version : ℕ) (name : List ℕ) (params : TransportParameters) (session : Self.Session) → supports config version ≡ true → starts config version name params session → Self.Session.version_of session ≡ version };
 }
 
 /// What a server's sessions are started with.
@@ -64,8 +62,8 @@ pub trait ServerConfig: Drop {
     // to its tag.
     ghost retry_tag_of: { Self → ℕ → List ℕ → List ℕ → List ℕ };
 
-    // The session of a version and the server's own parameters.
-    ghost session_of: { Self → ℕ → TransportParameters → Self.Session };
+    // What may start of a version and the server's own parameters.
+    ghost starts: { Self → ℕ → TransportParameters → Self.Session → Type 0 };
 
     /// The server's keys of the Initial space, from the destination id of the client's first
     /// packet (RFC 9001, section 5.2).
@@ -101,15 +99,20 @@ pub trait ServerConfig: Drop {
         params: &TransportParameters,
     ) -> Result<Self::Session, AllocError>
         requires { supports self.now version ≡ true }
-        ensures { IfOk result (λ session. session ≡ session_of self.now version params.now) };
+        ensures { IfOk result (starts self.now version params.now) };
 
-    ghost server: { (config : Self) (version : ℕ) (params : TransportParameters) → Self.Session.side_of (session_of config version params) ≡ Side.Server };
+    // What starts is a fresh session of a server, of that version, with these Initial keys.
+    ghost fresh: { (config : Self) (version : ℕ) (params : TransportParameters) (session : Self.Session) → starts config version params session → Self.Session.is_fresh session };
 
-    ghost begins: { (config : Self) (version : ℕ) (params : TransportParameters) → Self.Session.changes (session_of config version params) ≡ 0 };
+    ghost server: { (config : Self) (version : ℕ) (params : TransportParameters) (session : Self.Session) → starts config version params session → Self.Session.side_of session ≡ Side.Server };
 
-    // The keys are mates of those that the client's session makes of the same id.
-    ghost initial_mates: { (config : Self) (session : Self.Session) (version : ℕ) (id : List ℕ) → supports config version ≡ true → AreMates Self.Session.HeaderKey.mask_of Self.Session.PacketKey.seal Self.Session.PacketKey.opening (Self.Session.initial session id Side.Client) (initial_of config version id) };
+    ghost of_version: { (config : Self) (version : ℕ) (params : TransportParameters) (session : Self.Session) → supports config version ≡ true → starts config version params session → Self.Session.version_of session ≡ version };
 
-    // The tag fits the packet that it was made for.
-    ghost retry_fits: { (config : Self) (session : Self.Session) (version : ℕ) (id header token : List ℕ) → supports config version ≡ true → Self.Session.fits_retry session id header (token ++ retry_tag_of config version id (header ++ token)) ≡ true };
+    ghost same_initial: { (config : Self) (version : ℕ) (params : TransportParameters) (session : Self.Session) (id : List ℕ) → supports config version ≡ true → starts config version params session → Self.Session.initial session id Side.Server ≡ initial_of config version id };
+
+    // The server and each sound session of the version read each other with Initial keys of one id.
+    ghost initial_fits: { (config : Self) (session : Self.Session) (version : ℕ) (id : List ℕ) → supports config version ≡ true → Self.Session.is_sound session → Self.Session.version_of session ≡ version → ReadEachOther Self.Session.HeaderKey.mask_of Self.Session.PacketKey.seal Self.Session.PacketKey.opening (Self.Session.initial session id Side.Client) (initial_of config version id) };
+
+    // To each sound session of the version the tag fits the packet that it was made for.
+    ghost retry_fits: { (config : Self) (session : Self.Session) (version : ℕ) (id header token : List ℕ) → supports config version ≡ true → Self.Session.is_sound session → Self.Session.version_of session ≡ version → Self.Session.fits_retry session id header (token ++ retry_tag_of config version id (header ++ token)) ≡ true };
 }

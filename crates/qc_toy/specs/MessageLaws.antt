@@ -1,9 +1,9 @@
 -- What the messages' definitions keep.
 use Rattle.std.specs.Prelude.{Bool, true, false, nat_lt, ◌==◌, cond, is_some, Option, Some, None}
-use Rattle.std.proofs.Common.{◌≡◌, ℕ, ◌+◌, ◌*◌, ◌<◌, ◌≤◌, List, [], ◌∷◌, ◌++◌, length, take, drop, refl, ap, subst, arith, length-append, lit<}
+use Rattle.std.proofs.Common.{◌≡◌, ℕ, zero, suc, ◌+◌, ◌*◌, ◌<◌, ◌≤◌, List, [], ◌∷◌, ◌++◌, length, take, drop, refl, ap, subst, arith, length-append, lit<, lit≤}
 use Rattle.std.proofs.lemmas.List.{length-take, take-append-le, drop-append-le}
 use Rattle.qc_toy.specs.declared.messages.Kind.{Kind}
-use Rattle.qc_toy.specs.Messages.{Message, message, message_by_length, first_message, first_body, second_body, body_of, second_of, refusal, refusal_at, refusal_after, has_form, kind_byte, unexpected_message, decode_error}
+use Rattle.qc_toy.specs.Messages.{Message, message, messages, message_then, message_by_length, first_message, first_body, body_of, refusal, has_form, kind_byte, unexpected_message, decode_error}
 
 -- a message has at most 65538 bytes
 pub length-message : (kind : Kind) (body : List ℕ) → length (message kind body) ≤ 65538
@@ -45,29 +45,37 @@ first_stays bytes more h = first_by (first_message bytes) refl h where
   first_by None e h = cc
   first_by (Some m) e h = rw (first_message_stays bytes more m e) refl
 
-pub second_stays : (bytes more : List ℕ) → is_some (second_body bytes) ≡ true → is_some (second_body (bytes ++ more)) ≡ true
-second_stays bytes more h = second_by (first_message bytes) refl h where
-  second_by : (o : Option Message) → first_message bytes ≡ o → is_some (second_of o) ≡ true → is_some (second_body (bytes ++ more)) ≡ true
-  second_by None e h = cc
-  second_by (Some m) e h = rw (first_message_stays bytes more m e) (first_stays m.rest more h)
-
 some_same : {x y : ℕ} → Some x ≡ Some y → x ≡ y
 some_same e = cc
 
-at_small : (kind : Kind) (next : List ℕ → Option ℕ) → ((rest : List ℕ) (a : ℕ) → next rest ≡ Some a → a < 256)
-    → (m : Option Message) (a : ℕ) → refusal_at kind next m ≡ Some a → a < 256
-at_small kind next ih None a e = cc
-at_small kind next ih (Some m) a e = by_tests (m.kind == kind_byte kind) (has_form kind m.body) e where
-  by_tests : (b c : Bool) → cond b (cond c (next m.rest) (Some decode_error)) (Some unexpected_message) ≡ Some a → a < 256
-  by_tests false c e = subst (λ x. x < 256) (some_same e) (lit< tt)
-  by_tests true false e = subst (λ x. x < 256) (some_same e) (lit< tt)
-  by_tests true true e = ih m.rest a e
+small_by : (b c : Bool) (rest : Option ℕ) (a : ℕ) → (rest ≡ Some a → a < 256) → cond b (cond c rest (Some decode_error)) (Some unexpected_message) ≡ Some a → a < 256
+small_by false c rest a h e = subst (λ x. x < 256) (some_same e) (lit< tt)
+small_by true false rest a h e = subst (λ x. x < 256) (some_same e) (lit< tt)
+small_by true true rest a h e = h e
 
 -- an alert is a byte
-pub refusal_small : (kinds : List Kind) (bytes : List ℕ) (a : ℕ) → refusal kinds bytes ≡ Some a → a < 256
-unfolding refusal
-refusal_small [] bytes a e = after_small (first_message bytes) e where
-  after_small : (o : Option Message) → refusal_after o ≡ Some a → a < 256
-  after_small None e = cc
-  after_small (Some m) e = subst (λ x. x < 256) (some_same e) (lit< tt)
-refusal_small (kind ∷ kinds) bytes a e = at_small kind (λ rest. refusal kinds rest) (λ rest b h. refusal_small kinds rest b h) (first_message bytes) a e
+pub refusal_small : (kinds : List Kind) (ms : List Message) (a : ℕ) → refusal kinds ms ≡ Some a → a < 256
+refusal_small kinds [] a e = cc
+refusal_small [] (m ∷ ms) a e = subst (λ x. x < 256) (some_same e) (lit< tt)
+refusal_small (kind ∷ kinds) (m ∷ ms) a e = small_by (m.kind == kind_byte kind) (has_form kind m.body) (refusal kinds ms) a (λ h. refusal_small kinds ms a h) e
+
+grow_by : (n : ℕ) (bytes more : List ℕ) → ((rest : List ℕ) → length (messages n rest) ≤ length (messages n (rest ++ more))) → (o : Option Message) → first_message bytes ≡ o
+    → length (message_then (λ rest. messages n rest) o) ≤ length (message_then (λ rest. messages n rest) (first_message (bytes ++ more)))
+grow_by n bytes more ih None e = omega arith
+grow_by n bytes more ih (Some m) e = rw (first_message_stays bytes more m e) (let l = ih m.rest in omega (arith, l))
+
+-- whole messages don't become fewer as more bytes come
+pub messages_grow : (n : ℕ) (bytes more : List ℕ) → length (messages n bytes) ≤ length (messages n (bytes ++ more))
+unfolding messages
+messages_grow zero bytes more = lit≤ tt
+messages_grow (suc n) bytes more = grow_by n bytes more (λ rest. messages_grow n rest more) (first_message bytes) refl
+
+-- where one message is whole, the first is
+pub one_is_first : (bytes : List ℕ) → 1 ≤ length (messages 2 bytes) → is_some (first_body bytes) ≡ true
+unfolding messages
+one_is_first bytes h = by (first_message bytes) h where
+  by : (o : Option Message) → 1 ≤ length (message_then (λ rest. messages 1 rest) o) → is_some (body_of o) ≡ true
+  by None h = absurd (none h) where
+    none : 1 ≤ 0 → ⊥
+    none h = omega (arith, h)
+  by (Some m) h = refl

@@ -1,5 +1,5 @@
 -- The messages of the toy's handshake: a type byte, two bytes of length, and a body.
-use Rattle.std.specs.Prelude.{ℕ, ◌+◌, ◌*◌, ◌==◌, if◌then◌else◌, Bool, false, List, [], ◌∷◌, ◌++◌, length, take, drop, nat_lt, Option, Some, None}
+use Rattle.std.specs.Prelude.{ℕ, zero, suc, ◌+◌, ◌*◌, ◌==◌, if◌then◌else◌, Bool, false, List, [], ◌∷◌, ◌++◌, length, take, drop, nat_lt, Option, Some, None}
 use Rattle.std.specs.Int.{w16, to_be_bytes}
 use Rattle.qc_base.specs.declared.side.Side.{Side}
 use Rattle.qc_base.specs.declared.side.Side.TheVariants.{Client, Server}
@@ -13,9 +13,13 @@ kind_byte Reply = 2
 kind_byte ServerEnd = 3
 kind_byte ClientEnd = 4
 
--- A message as it is written. Two bytes of length count at most 65535 bytes of body.
+-- A message of a body that two bytes of length can count.
+abbrev pub framed : Kind → List ℕ → List ℕ
+framed kind body = kind_byte kind ∷ to_be_bytes w16 (length body) ++ body
+
+-- A message as it is written, its body cut where two bytes of length can't count it.
 unfoldable pub message : Kind → List ℕ → List ℕ
-message kind body = kind_byte kind ∷ to_be_bytes w16 (length (take 65535 body)) ++ take 65535 body
+message kind body = framed kind (take 65535 body)
 
 -- The same of a body in two parts that fits.
 abbrev pub message_by_parts : Kind → List ℕ → List ℕ → List ℕ
@@ -70,23 +74,24 @@ unexpected_message = 0x0a
 abbrev pub decode_error : ℕ
 decode_error = 0x32
 
--- The alert with which a message is refused, where it has another type than the next, or a body of
--- wrong form; else what `next` says of the rest. A cut message waits.
-abbrev pub refusal_at : Kind → (List ℕ → Option ℕ) → Option Message → Option ℕ
-refusal_at kind next None = None
-refusal_at kind next (Some m) =
-    if m.kind == kind_byte kind then (if has_form kind m.body then next m.rest else Some decode_error)
+-- a message, if it is there, and what `next` cuts off the bytes that follow it
+abbrev pub message_then : (List ℕ → List Message) → Option Message → List Message
+message_then next None = []
+message_then next (Some m) = m ∷ next m.rest
+
+-- At most n messages cut off the front of some bytes, each once it is whole.
+unfoldable pub messages : ℕ → List ℕ → List Message
+messages zero bytes = []
+messages (suc n) bytes = message_then (λ rest. messages n rest) (first_message bytes)
+
+-- The alert with which whole messages are refused that are to be of these kinds, in order, if they are:
+-- one has another type than the next, a body of wrong form, or is one too many.
+abbrev pub refusal : List Kind → List Message → Option ℕ
+refusal kinds [] = None
+refusal [] (m ∷ rest) = Some unexpected_message
+refusal (kind ∷ kinds) (m ∷ rest) =
+    if m.kind == kind_byte kind then (if has_form kind m.body then refusal kinds rest else Some decode_error)
     else Some unexpected_message
-
--- After the last message no other may come.
-abbrev pub refusal_after : Option Message → Option ℕ
-refusal_after None = None
-refusal_after (Some m) = Some unexpected_message
-
--- The alert with which some bytes are refused that are to hold these messages, if they are.
-unfoldable pub refusal : List Kind → List ℕ → Option ℕ
-refusal [] bytes = refusal_after (first_message bytes)
-refusal (kind ∷ kinds) bytes = refusal_at kind (λ rest. refusal kinds rest) (first_message bytes)
 
 -- The bodies of the first and the second message, once they are whole.
 abbrev pub body_of : Option Message → Option (List ℕ)

@@ -31,13 +31,16 @@ pub struct ToyServer {
 impl ClientConfig for ToyClient {
     ghost use Rattle.std.specs.Prelude.{◌==◌};
     ghost use Rattle.qc_base.specs.declared.side.Side.TheVariants.{Client};
-    ghost use Rattle.qc_toy.specs.Start.{session_of, client_side, client_begins, client_whole_hello, client_early};
+    ghost use Rattle.std.proofs.Common.{subst, sym};
+    ghost use Rattle.qc_toy.specs.declared.session.ToySession.{ToySession};
+    ghost use Rattle.qc_toy.specs.Handshake.{IsFresh};
+    ghost use Rattle.qc_toy.specs.Start.{session_of, start_fresh, start_side, version_one};
 
     type Session = ToySession;
 
     ghost supports = { λ _ version. version == 1 };
 
-    ghost session_of = { λ config _ _ params. session_of config.settings Client params };
+    ghost starts = { λ config _ _ params session. session ≡ session_of config.settings Client params };
 
     fn start_session(
         &self,
@@ -55,13 +58,11 @@ impl ClientConfig for ToyClient {
         }
     }
 
-    ghost client = { λ config _ _ params. client_side config.settings params };
+    ghost fresh = { λ config _ _ params _ e. subst IsFresh (sym e) (start_fresh config.settings Client params) };
 
-    ghost begins = { λ config _ _ params. client_begins config.settings params };
+    ghost client = { λ config _ _ params _ e. subst (λ (s : ToySession). s.side ≡ Client) (sym e) (start_side config.settings Client params) };
 
-    ghost whole_hello = { λ config _ _ params. client_whole_hello config.settings params };
-
-    ghost early_parameters = { λ config _ _ params. client_early config.settings params };
+    ghost of_version = { λ _ version _ _ _ h _. version_one version h };
 }
 
 impl ServerConfig for ToyServer {
@@ -71,7 +72,10 @@ impl ServerConfig for ToyServer {
     ghost use Rattle.qc_toy.specs.KeyBytes.{initial_secret};
     ghost use Rattle.qc_toy.specs.ToyKeys.{level_keys};
     ghost use Rattle.qc_toy.specs.Handshake.{retry_tag as toy_retry_tag};
-    ghost use Rattle.qc_toy.specs.Start.{session_of, server_side, server_begins, server_mates, server_retry_fits};
+    ghost use Rattle.qc_toy.specs.Start.{session_of, start_fresh, start_side, version_one, same_initial, server_fits, server_retry_fits};
+    ghost use Rattle.std.proofs.Common.{subst, sym};
+    ghost use Rattle.qc_toy.specs.declared.session.ToySession.{ToySession};
+    ghost use Rattle.qc_toy.specs.Handshake.{IsFresh};
 
     type Session = ToySession;
 
@@ -81,7 +85,7 @@ impl ServerConfig for ToyServer {
 
     ghost retry_tag_of = { λ _ _. toy_retry_tag };
 
-    ghost session_of = { λ config _ params. session_of config.settings Server params };
+    ghost starts = { λ config _ params session. session ≡ session_of config.settings Server params };
 
     fn initial_keys(
         &self,
@@ -108,11 +112,15 @@ impl ServerConfig for ToyServer {
         ToySession::start(alloc, &self.settings, Side::Server, params)
     }
 
-    ghost server = { λ config _ params. server_side config.settings params };
+    ghost fresh = { λ config _ params _ e. subst IsFresh (sym e) (start_fresh config.settings Server params) };
 
-    ghost begins = { λ config _ params. server_begins config.settings params };
+    ghost server = { λ config _ params _ e. subst (λ (s : ToySession). s.side ≡ Server) (sym e) (start_side config.settings Server params) };
 
-    ghost initial_mates = { λ config session _ id _. server_mates config.settings session id };
+    ghost of_version = { λ _ version _ _ h _. version_one version h };
 
-    ghost retry_fits = { λ _ _ _ id header token _. server_retry_fits id header token };
+    ghost same_initial = { λ config _ params session id _ e. same_initial config.settings session params id e };
+
+    ghost initial_fits = { λ config session _ id _ _ _. server_fits config.settings session id };
+
+    ghost retry_fits = { λ _ _ _ id header token _ _ _. server_retry_fits id header token };
 }

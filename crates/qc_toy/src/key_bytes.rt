@@ -7,10 +7,14 @@ use qc_base::Side;
 
 /// What a key is for.
 #[derive(Clone, Copy, Debug, PartialEq, Eq)]
-pub(crate) enum Level {
+pub enum Level {
+    /// The Initial space.
     Initial,
+    /// The Handshake space.
     Handshake,
+    /// The 1-RTT packets of the Data space.
     Data,
+    /// Its 0-RTT packets.
     Early,
 }
 

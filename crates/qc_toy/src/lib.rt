@@ -19,6 +19,7 @@ mod zero_random;
 
 pub use config::{ToyClient, ToyServer};
 pub use header_key::ToyHeaderKey;
+pub use key_bytes::Level;
 pub use packet_key::ToyPacketKey;
 pub use session::ToySession;
 pub use settings::ToySettings;

@@ -2,7 +2,7 @@
 
 ghost use Rattle.std.specs.Prelude.{◌≡◌, ◌+◌, ◌++◌, ◌<◌, ◌≤◌, [], ◌∷◌, Some, None, MatchOption, OnOk, OnErr, take, length};
 ghost use Rattle.std.specs.Option.{option_copied};
-ghost use Rattle.qc_toy.specs.Messages.{kind_byte, message, message_by_parts, first_message, has_form, peer_messages, refusal, first_body, second_body};
+ghost use Rattle.qc_toy.specs.Messages.{kind_byte, message, message_by_parts, first_message, messages, has_form, peer_messages, refusal, first_body, second_body};
 
 use qc_base::Side;
 use std::alloc::AllocError;
@@ -104,9 +104,9 @@ fn fits_form(kind: Kind, body: &[u8]) -> bool
 }
 
 // The alert after the last message that may come.
-#[tactic(auto, unfolding(crate::specs::Messages::refusal))]
+#[tactic(auto, unfolding(crate::specs::Messages::messages))]
 fn alert_after(bytes: &[u8]) -> Option<u8>
-    ensures { result ≡ refusal [] bytes.now }
+    ensures { result ≡ refusal [] (messages 1 bytes.now) }
 {
     match split_message(bytes) {
         None => None,
@@ -115,9 +115,9 @@ fn alert_after(bytes: &[u8]) -> Option<u8>
 }
 
 // The alert of the last message that may come, and of what follows it.
-#[tactic(auto, unfolding(crate::specs::Messages::refusal))]
+#[tactic(auto, unfolding(crate::specs::Messages::messages))]
 fn alert_of_last(kind: Kind, bytes: &[u8]) -> Option<u8>
-    ensures { result ≡ refusal (kind ∷ []) bytes.now }
+    ensures { result ≡ refusal (kind ∷ []) (messages 2 bytes.now) }
 {
     let message = split_message(bytes)?;
     if message.kind != kind_number(kind) {
@@ -130,9 +130,9 @@ fn alert_of_last(kind: Kind, bytes: &[u8]) -> Option<u8>
 }
 
 // The alert of two messages, and of what follows them.
-#[tactic(auto, unfolding(crate::specs::Messages::refusal))]
+#[tactic(auto, unfolding(crate::specs::Messages::messages))]
 fn alert_of_both(first: Kind, last: Kind, bytes: &[u8]) -> Option<u8>
-    ensures { result ≡ refusal (first ∷ last ∷ []) bytes.now }
+    ensures { result ≡ refusal (first ∷ last ∷ []) (messages 3 bytes.now) }
 {
     let message = split_message(bytes)?;
     if message.kind != kind_number(first) {
@@ -146,11 +146,25 @@ fn alert_of_both(first: Kind, last: Kind, bytes: &[u8]) -> Option<u8>
 
 /// The alert with which the end `side` refuses what it has read of its peer, if it does.
 pub(crate) fn alert_of(side: Side, bytes: &[u8]) -> Option<u8>
-    ensures { result ≡ refusal (peer_messages side) bytes.now }
+    ensures { result ≡ refusal (peer_messages side) (messages 3 bytes.now) }
 {
     match side {
         Side::Client => alert_of_both(Kind::Reply, Kind::ServerEnd, bytes),
         Side::Server => alert_of_both(Kind::Hello, Kind::ClientEnd, bytes),
+    }
+}
+
+/// How many messages are whole, of the first two.
+#[tactic(auto, unfolding(crate::specs::Messages::messages))]
+pub(crate) fn count_heard(bytes: &[u8]) -> u8
+    ensures { result ≡ length (messages 2 bytes.now) }
+{
+    match split_message(bytes) {
+        None => 0,
+        Some(message) => match split_message(message.rest) {
+            None => 1,
+            Some(_) => 2,
+        },
     }
 }
 

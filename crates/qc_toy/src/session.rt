@@ -1,10 +1,10 @@
 //! The toy's sessions.
 
-ghost use Rattle.std.specs.Prelude.{◌≡◌, ◌++◌, ◌==◌, ◌≤◌, take, drop, length, IfOk, OnOk};
+ghost use Rattle.std.specs.Prelude.{◌≡◌, ◌++◌, ◌==◌, ◌<◌, ◌≤◌, take, drop, length, slice_get, IfOk, IfSome, OnOk};
 ghost use Rattle.std.specs.Option.{option_copied};
 ghost use Rattle.qc_toy.specs.Start.{session_of};
-ghost use Rattle.qc_toy.specs.ToyKeys.{level_keys};
-ghost use Rattle.qc_toy.specs.Handshake.{flag_byte, session_due, has_early, early_flag, written_for, given_for, progress_for, heard_parameters, parameters_in, before_hello, before_server_end, cached_parameters, retry_tag};
+ghost use Rattle.qc_toy.specs.Messages.{message};
+ghost use Rattle.qc_toy.specs.Handshake.{flag_byte, client_steps, server_steps, steps_of, session_due, made_all, has_early, early_flag, body_for, bytes_for, keys_for, keys_of_level, heard_parameters, parameters_in, parameters_before, cached_parameters, retry_tag};
 
 use crate::body::Body;
 use crate::cipher::{checksum_of_parts, tag_of};
@@ -12,7 +12,7 @@ use crate::export::{put_exported, sum_of};
 use crate::header_key::ToyHeaderKey;
 use crate::key_bytes::{Level, secret_of_id};
 use crate::keys::{keys_of_level, packet_keys_of};
-use crate::messages::{Kind, alert_of, body_of_first, body_of_second, put_message};
+use crate::messages::{Kind, alert_of, body_of_first, body_of_second, count_heard, put_message};
 use crate::packet_key::ToyPacketKey;
 use crate::settings::ToySettings;
 use qc_base::{ConnectionId, Side, TransportError, TransportErrorCode, VarInt, or_cut_back};
@@ -21,34 +21,15 @@ use qc_params::TransportParameters;
 use std::alloc::{AllocError, Global};
 use std::default::Default;
 
-/// How far a session has come.
+/// A step of an end's handshake, which a write makes once enough was heard.
 #[derive(Clone, Copy, Debug, PartialEq, Eq)]
-pub(crate) enum Progress {
-    /// Nothing was written.
-    Start,
-    /// A client has written its hello.
-    Greeted,
-    /// The Handshake keys were given.
-    Handshake,
-    /// The 1-RTT keys were given.
-    Data,
-}
-
-/// What a session is to write next.
-#[derive(Clone, Copy, Debug, PartialEq, Eq)]
-pub(crate) enum Due {
-    /// Nothing.
-    Silence,
-    /// The client's hello.
-    Hello,
-    /// No bytes, but the Handshake keys.
-    Keys,
-    /// The client's last message, with the 1-RTT keys.
-    ClientEnd,
-    /// The server's reply, with the Handshake keys.
-    Reply,
-    /// The server's last message, with the 1-RTT keys.
-    ServerEnd,
+pub(crate) struct Step {
+    /// How many whole messages of the peer it needs.
+    heard: u8,
+    /// The message that it writes.
+    writes: Option<Kind>,
+    /// The level whose keys it gives.
+    gives: Option<Level>,
 }
 
 /// A toy session of one end.
@@ -60,9 +41,60 @@ pub struct ToySession {
     parameters: Body,
     /// All that was read and not refused.
     heard: Body,
-    progress: Progress,
+    /// How many steps of the handshake were made.
+    steps: u8,
     /// The epoch of the newest 1-RTT keys.
     epoch: u64,
+}
+
+fn client_steps() -> [Step; 3]
+    ensures { result ≡ client_steps }
+{
+    [
+        Step {
+            heard: 0,
+            writes: Some(Kind::Hello),
+            gives: None,
+        },
+        Step {
+            heard: 1,
+            writes: None,
+            gives: Some(Level::Handshake),
+        },
+        Step {
+            heard: 2,
+            writes: Some(Kind::ClientEnd),
+            gives: Some(Level::Data),
+        },
+    ]
+}
+
+fn server_steps() -> [Step; 2]
+    ensures { result ≡ server_steps }
+{
+    [
+        Step {
+            heard: 1,
+            writes: Some(Kind::Reply),
+            gives: Some(Level::Handshake),
+        },
+        Step {
+            heard: 1,
+            writes: Some(Kind::ServerEnd),
+            gives: Some(Level::Data),
+        },
+    ]
+}
+
+// The step after so many.
+fn step_at(side: Side, made: u8) -> Option<Step>
+    ensures step { result ≡ slice_get (steps_of side) made }
+    ensures few { IfSome result (λ _. made < 3) }
+{
+    match side {
+        Side::Client => client_steps().get(made as usize).copied(),
+        Side::Server => server_steps().get(made as usize).copied(),
+    }
 }
 
 fn flag(set: bool) -> u8
@@ -99,107 +131,94 @@ impl ToySession {
             settings: *settings,
             parameters: Body::from_vec(parameters),
             heard: Body::new(alloc),
-            progress: Progress::Start,
+            steps: 0,
             epoch: 0,
         })
     }
 
     #[tactic(auto, unfolding(crate::specs::Handshake::session_due))]
-    fn due(&self) -> Due
-        ensures { result ≡ session_due self.now }
+    fn due(&self) -> Option<Step>
+        ensures due { result ≡ session_due self.now }
+        ensures few { IfSome result (λ _. self.now.steps < 3) }
     {
-        let heard = self.heard.as_slice();
-        let first = body_of_first(heard).is_some();
-        let second = body_of_second(heard).is_some();
-        match (self.side, self.progress) {
-            (Side::Client, Progress::Start) => Due::Hello,
-            (Side::Client, Progress::Greeted) if first => Due::Keys,
-            (Side::Client, Progress::Handshake) if second => Due::ClientEnd,
-            (Side::Server, Progress::Start) if first => Due::Reply,
-            (Side::Server, Progress::Handshake) => Due::ServerEnd,
-            _ => Due::Silence,
+        let step = step_at(self.side, self.steps)?;
+        if step.heard <= count_heard(self.heard.as_slice()) {
+            Some(step)
+        } else {
+            None
         }
     }
 
-    fn before_server_end(&self) -> Result<Option<TransportParameters>, TransportError>
-        ensures { result ≡ before_server_end self.now.settings.early }
+    // Whether all steps were made.
+    fn made_all(&self) -> bool
+        ensures { result ≡ made_all self.now }
+    {
+        match self.side {
+            Side::Client => self.steps == 3,
+            Side::Server => self.steps == 2,
+        }
+    }
+
+    // What a client with early keys knows before the server's last message.
+    fn parameters_before(&self) -> Option<TransportParameters>
+        ensures { result ≡ parameters_before self.now.settings.early }
     {
         if self.settings.early {
-            Ok(Some(cached()))
+            Some(cached())
         } else {
-            Ok(None)
-        }
-    }
-
-    fn before_hello(&self) -> Result<Option<TransportParameters>, TransportError>
-        ensures { result ≡ before_hello self.now.progress }
-    {
-        match self.progress {
-            Progress::Start | Progress::Greeted => Ok(None),
-            Progress::Handshake | Progress::Data => Err(TransportError {
-                code: TransportErrorCode::TRANSPORT_PARAMETER_ERROR,
-                frame: None,
-            }),
+            None
         }
     }
 
     fn has_early(&self) -> bool
         ensures { result ≡ has_early self.now }
     {
-        match self.side {
-            Side::Client => self.settings.early,
-            Side::Server => {
-                self.settings.early && asks_early(body_of_first(self.heard.as_slice()))
-            }
-        }
+        let asked = match self.side {
+            Side::Client => true,
+            Side::Server => asks_early(body_of_first(self.heard.as_slice())),
+        };
+        self.settings.early && asked
     }
 
     fn keys_of_level(&self, level: Level) -> Keys<ToyHeaderKey, ToyPacketKey>
-        ensures { result ≡ level_keys self.now.settings self.now.settings.secret level self.now.side }
+        ensures { result ≡ keys_of_level self.now level }
     {
         keys_of_level(&self.settings, self.settings.secret, level, self.side)
     }
 
-    // Appends what is due.
-    fn put_due(&self, due: Due, buf: &mut Vec<u8>) -> Result<(), AllocError>
-        ensures ok { OnOk result (buf.new.items ≡ buf.old.items ++ written_for self.now due) }
+    // Appends a message.
+    fn put(&self, kind: Kind, buf: &mut Vec<u8>) -> Result<(), AllocError>
+        ensures ok { OnOk result (buf.new.items ≡ buf.old.items ++ message kind (body_for self.now kind)) }
         ensures kept { take (length buf.old.items) buf.new.items ≡ buf.old.items }
     {
         let parameters = self.parameters.as_slice();
-        match due {
-            Due::Silence | Due::Keys => Ok(()),
-            Due::Hello => put_message(buf, Kind::Hello, &[flag(self.settings.early)], parameters),
-            Due::ClientEnd => put_message(buf, Kind::ClientEnd, &[], &[]),
-            Due::Reply => put_message(buf, Kind::Reply, &[0], &[]),
-            Due::ServerEnd => put_message(
-                buf,
-                Kind::ServerEnd,
-                &[flag(self.has_early())],
-                parameters,
-            ),
+        match kind {
+            Kind::Hello => put_message(buf, kind, &[flag(self.settings.early)], parameters),
+            Kind::Reply => put_message(buf, kind, &[0], &[]),
+            Kind::ServerEnd => put_message(buf, kind, &[flag(self.has_early())], parameters),
+            Kind::ClientEnd => put_message(buf, kind, &[], &[]),
         }
     }
 
-    // The keys that go with it.
-    fn keys_due(&self, due: Due) -> Option<Keys<ToyHeaderKey, ToyPacketKey>>
-        ensures { result ≡ given_for self.now due }
+    // Appends what a step writes.
+    fn put_step(&self, step: Step, buf: &mut Vec<u8>) -> Result<(), AllocError>
+        ensures ok { OnOk result (buf.new.items ≡ buf.old.items ++ bytes_for self.now step.writes) }
+        ensures kept { take (length buf.old.items) buf.new.items ≡ buf.old.items }
     {
-        match due {
-            Due::Silence | Due::Hello => None,
-            Due::Keys | Due::Reply => Some(self.keys_of_level(Level::Handshake)),
-            Due::ClientEnd | Due::ServerEnd => Some(self.keys_of_level(Level::Data)),
+        match step.writes {
+            None => Ok(()),
+            Some(kind) => self.put(kind, buf),
         }
     }
-}
 
-fn progress_after(progress: Progress, due: Due) -> Progress
-    ensures { result ≡ progress_for progress due }
-{
-    match due {
-        Due::Silence => progress,
-        Due::Hello => Progress::Greeted,
-        Due::Keys | Due::Reply => Progress::Handshake,
-        Due::ClientEnd | Due::ServerEnd => Progress::Data,
+    // The keys that it gives.
+    fn keys_of_step(&self, step: Step) -> Option<Keys<ToyHeaderKey, ToyPacketKey>>
+        ensures { result ≡ keys_for self.now step.gives }
+    {
+        match step.gives {
+            None => None,
+            Some(level) => Some(self.keys_of_level(level)),
+        }
     }
 }
 
@@ -219,13 +238,13 @@ fn read_parameters(side: Side, body: &[u8]) -> Result<Option<TransportParameters
 
 fn peer_parameters(
     side: Side,
-    before: Result<Option<TransportParameters>, TransportError>,
+    before: Option<TransportParameters>,
     body: Option<&[u8]>,
 ) -> Result<Option<TransportParameters>, TransportError>
     ensures { result ≡ parameters_in side before (option_copied body.entry) }
 {
     match body {
-        None => before,
+        None => Ok(before),
         Some(body) => read_parameters(side, body),
     }
 }
@@ -261,7 +280,7 @@ pub(crate) fn tag_of_retry(id: &[u8], header: &[u8], token: &[u8]) -> [u8; 16]
 
 impl Session for ToySession {
     ghost use Rattle.std.specs.Prelude.{◌≡◌, None};
-    ghost use Rattle.qc_toy.specs.Handshake.{session_negotiated, early_keys, session_early_taken, session_handshaking, session_reads, session_after_read, session_parameters, session_writes, session_write_keys, session_after_write, steps_left, changes_of, bytes_left, session_next_keys, session_after_next, fits_retry as toy_fits_retry, exported_bytes, keys_of_id, keys_of_space, keys_of_epoch, ArePaired};
+    ghost use Rattle.qc_toy.specs.Handshake.{session_negotiated, early_keys, session_early_taken, session_handshaking, session_reads, session_after_read, session_parameters, session_writes, session_write_keys, session_after_write, steps_left, changes_of, bytes_left, session_next_keys, session_after_next, fits_retry as toy_fits_retry, exported_bytes, keys_of_id, keys_of_space, keys_of_epoch, ArePaired, IsFresh, IsSound};
 
     type HeaderKey = ToyHeaderKey;
 
@@ -295,11 +314,11 @@ impl Session for ToySession {
 
     ghost after_write = { session_after_write };
 
-    ghost left = { λ s. steps_left s.progress };
+    ghost left = { steps_left };
 
-    ghost changes = { λ s. changes_of s.progress };
+    ghost changes = { changes_of };
 
-    ghost unwritten = { λ s. bytes_left s.progress };
+    ghost unwritten = { bytes_left };
 
     ghost next_keys = { session_next_keys };
 
@@ -311,7 +330,13 @@ impl Session for ToySession {
 
     ghost exported = { λ s. exported_bytes s.settings.secret };
 
+    ghost is_fresh = { IsFresh };
+
+    ghost is_sound = { IsSound };
+
     ghost side_of = { λ s. s.side };
+
+    ghost version_of = { λ _. 1 };
 
     ghost space_keys = { keys_of_space };
 
@@ -367,11 +392,7 @@ impl Session for ToySession {
 
     #[tactic(auto, unfolding(crate::specs::Handshake::session_handshaking))]
     fn is_handshaking(&self) -> bool {
-        match (self.side, self.progress) {
-            (Side::Client, Progress::Data) => false,
-            (Side::Server, Progress::Data) => body_of_second(self.heard.as_slice()).is_none(),
-            _ => true,
-        }
+        !self.made_all() || count_heard(self.heard.as_slice()) < 2
     }
 
     #[tactic(auto, unfolding(crate::specs::Handshake::session_reads, crate::specs::Handshake::session_after_read))]
@@ -400,14 +421,10 @@ impl Session for ToySession {
         match self.side {
             Side::Client => peer_parameters(
                 Side::Client,
-                self.before_server_end(),
+                self.parameters_before(),
                 body_of_second(heard),
             ),
-            Side::Server => peer_parameters(
-                Side::Server,
-                self.before_hello(),
-                body_of_first(heard),
-            ),
+            Side::Server => peer_parameters(Side::Server, None, body_of_first(heard)),
         }
     }
 
@@ -416,29 +433,28 @@ impl Session for ToySession {
         &mut self,
         buf: &mut Vec<u8>,
     ) -> Result<Option<Keys<ToyHeaderKey, ToyPacketKey>>, AllocError> {
+        let Some(step) = self.due() else {
+            return Ok(None);
+        };
         let before = buf.len();
-        let due = self.due();
-        or_cut_back(self.put_due(due, buf), buf, before)?;
-        let keys = self.keys_due(due);
-        self.progress = progress_after(self.progress, due);
-        Ok(keys)
+        or_cut_back(self.put_step(step, buf), buf, before)?;
+        self.steps += 1;
+        Ok(self.keys_of_step(step))
     }
 
     #[tactic(auto, unfolding(crate::specs::Handshake::session_next_keys, crate::specs::Handshake::session_after_next))]
     fn next_1rtt_keys(&mut self) -> Option<KeyPair<ToyPacketKey>> {
-        match self.progress {
-            Progress::Data => {
-                self.epoch = self.epoch.wrapping_add(1);
-                Some(packet_keys_of(
-                    &self.settings,
-                    self.settings.secret,
-                    Level::Data,
-                    self.side,
-                    self.epoch,
-                ))
-            }
-            _ => None,
+        if !self.made_all() {
+            return None;
         }
+        self.epoch = self.epoch.wrapping_add(1);
+        Some(packet_keys_of(
+            &self.settings,
+            self.settings.secret,
+            Level::Data,
+            self.side,
+            self.epoch,
+        ))
     }
 
     #[tactic(auto, unfolding(crate::specs::Handshake::fits_retry))]
@@ -468,63 +484,156 @@ impl Session for ToySession {
         Ok(())
     }
 
-    ghost use Rattle.qc_toy.specs.SessionLaws.{toy_falls, toy_stays, toy_short, toy_changes_most, toy_changes_write, toy_changes_read, toy_changes_next, toy_unwritten_most, toy_unwritten_write, toy_unwritten_call, toy_over_late, toy_over_stays, toy_over_early, toy_ready_once, toy_ready_then, toy_ready_stays, toy_refusal, toy_unreadable, toy_allowed, toy_server_knows, toy_write_parameters, toy_write_early, toy_same_keys, toy_given_keys, toy_first_epoch, toy_given_next, toy_next_epoch, toy_initial_mates, toy_space_mates, toy_early_mates, toy_epoch_mates, toy_epochs_apart};
+    ghost use Rattle.std.specs.Prelude.{refl};
+    ghost use Rattle.qc_base.specs.declared.side.SpaceId.TheVariants.{Handshake, Data};
+    ghost use Rattle.qc_toy.specs.Start.{fresh_changes, fresh_hello, fresh_no_keys, fresh_whole, fresh_alone, fresh_early};
+    ghost use Rattle.qc_toy.specs.SessionLaws.{toy_fresh_sound, toy_sound_read, toy_sound_write, toy_sound_next, toy_falls, toy_idle, toy_unwritten_most, toy_unwritten_write, toy_unwritten_read, toy_unwritten_next, toy_changes_most, toy_changes_write, toy_changes_read, toy_changes_next, toy_over_late, toy_over_read, toy_over_write, toy_over_next, toy_over_early, toy_ready_once, toy_ready_then, toy_ready_read, toy_ready_write, toy_ready_next, toy_refusal, toy_unreadable, toy_allowed, toy_server_knows, toy_write_parameters, toy_write_early, toy_next_parameters, toy_next_early, toy_next_writes, toy_next_write_keys, toy_side_read, toy_side_write, toy_side_next, toy_initial_read, toy_initial_write, toy_initial_next, toy_given_keys, toy_space_read, toy_space_write, toy_space_next, toy_epochs_read, toy_epochs_write, toy_epochs_next, toy_given_next, toy_next_epoch, toy_epoch_read, toy_epoch_write, toy_initial_fits, toy_pair_client_read, toy_pair_client_write, toy_pair_client_next, toy_pair_server_read, toy_pair_server_write, toy_pair_server_next, toy_initial_mates, toy_space_mates, toy_early_mates, toy_epoch_mates, toy_epochs_apart, toy_same_exports};
 
-    ghost falls = { toy_falls };
+    ghost fresh_sound = { toy_fresh_sound };
 
-    ghost stays = { toy_stays };
+    ghost sound_read = { toy_sound_read };
 
-    ghost short = { toy_short };
+    ghost sound_write = { toy_sound_write };
+
+    ghost sound_next = { toy_sound_next };
+
+    ghost fresh_changes = { fresh_changes };
+
+    ghost fresh_epoch = { λ _ h. h.epoch };
+
+    ghost hello_first = { fresh_hello };
+
+    ghost hello_no_keys = { fresh_no_keys };
+
+    ghost hello_whole = { fresh_whole };
+
+    ghost hello_alone = { fresh_alone };
+
+    ghost fresh_early = { fresh_early };
+
+    ghost falls = { λ s _. toy_falls s };
+
+    ghost idle = { λ s _. toy_idle s };
+
+    ghost unwritten_most = { λ s _. toy_unwritten_most s };
+
+    ghost unwritten_write = { λ s _. toy_unwritten_write s };
+
+    ghost unwritten_read = { λ s bytes _. toy_unwritten_read s bytes };
+
+    ghost unwritten_next = { λ s _. toy_unwritten_next s };
 
     ghost changes_most = { toy_changes_most };
 
-    ghost changes_write = { toy_changes_write };
+    ghost changes_write = { λ s _. toy_changes_write s };
 
-    ghost changes_read = { toy_changes_read };
+    ghost changes_read = { λ s bytes _. toy_changes_read s bytes };
 
-    ghost changes_next = { toy_changes_next };
+    ghost changes_next = { λ s _. toy_changes_next s };
 
-    ghost unwritten_most = { toy_unwritten_most };
+    ghost over_late = { λ s _. toy_over_late s };
 
-    ghost unwritten_write = { toy_unwritten_write };
+    ghost over_read = { λ s bytes _. toy_over_read s bytes };
 
-    ghost unwritten_call = { toy_unwritten_call };
+    ghost over_write = { λ s _. toy_over_write s };
 
-    ghost over_late = { toy_over_late };
+    ghost over_next = { λ s _. toy_over_next s };
 
-    ghost over_stays = { toy_over_stays };
+    ghost over_early = { λ s _. toy_over_early s };
 
-    ghost over_early = { toy_over_early };
+    ghost ready_once = { λ s bytes _. toy_ready_once s bytes };
 
-    ghost ready_once = { toy_ready_once };
+    ghost ready_then = { λ s bytes _. toy_ready_then s bytes };
 
-    ghost ready_then = { toy_ready_then };
+    ghost ready_read = { λ s bytes _. toy_ready_read s bytes };
 
-    ghost ready_stays = { toy_ready_stays };
+    ghost ready_write = { λ s _. toy_ready_write s };
 
-    ghost refusal = { toy_refusal };
+    ghost ready_next = { λ s _. toy_ready_next s };
 
-    ghost unreadable = { toy_unreadable };
+    ghost refusal = { λ s bytes error _. toy_refusal s bytes error };
 
-    ghost allowed = { toy_allowed };
+    ghost unreadable = { λ s error _. toy_unreadable s error };
+
+    ghost allowed = { λ s p _. toy_allowed s p };
 
     ghost server_knows = { toy_server_knows };
 
-    ghost write_parameters = { toy_write_parameters };
+    ghost write_parameters = { λ s _. toy_write_parameters s };
 
-    ghost write_early = { toy_write_early };
+    ghost write_early = { λ s _. toy_write_early s };
 
-    ghost same_keys = { toy_same_keys };
+    ghost next_parameters = { λ s _. toy_next_parameters s };
 
-    ghost given_keys = { toy_given_keys };
+    ghost next_early = { λ s _. toy_next_early s };
 
-    ghost first_epoch = { toy_first_epoch };
+    ghost next_writes = { λ s _. toy_next_writes s };
 
-    ghost given_next = { toy_given_next };
+    ghost next_write_keys = { λ s _. toy_next_write_keys s };
 
-    ghost next_epoch = { toy_next_epoch };
+    ghost side_read = { λ s bytes _. toy_side_read s bytes };
 
-    ghost initial_mates = { toy_initial_mates };
+    ghost side_write = { λ s _. toy_side_write s };
+
+    ghost side_next = { λ s _. toy_side_next s };
+
+    ghost version_read = { λ _ _ _. refl };
+
+    ghost version_write = { λ _ _. refl };
+
+    ghost version_next = { λ _ _. refl };
+
+    ghost initial_read = { λ s bytes id side _. toy_initial_read s bytes id side };
+
+    ghost initial_write = { λ s id side _. toy_initial_write s id side };
+
+    ghost initial_next = { λ s id side _. toy_initial_next s id side };
+
+    ghost given_keys = { λ s keys _. toy_given_keys s keys };
+
+    ghost handshake_read = { λ s bytes _ _. toy_space_read s bytes Handshake };
+
+    ghost handshake_write = { λ s _ _. toy_space_write s Handshake };
+
+    ghost handshake_next = { λ s _ _. toy_space_next s Handshake };
+
+    ghost data_read = { λ s bytes _ _. toy_space_read s bytes Data };
+
+    ghost data_write = { λ s _ _. toy_space_write s Data };
+
+    ghost data_next = { λ s _ _. toy_space_next s Data };
+
+    ghost epochs_read = { λ s bytes n _ _. toy_epochs_read s bytes n };
+
+    ghost epochs_write = { λ s n _ _. toy_epochs_write s n };
+
+    ghost epochs_next = { λ s n _ _. toy_epochs_next s n };
+
+    ghost first_epoch = { λ _ _ _. refl };
+
+    ghost given_next = { λ s _. toy_given_next s };
+
+    ghost next_epoch = { λ s _. toy_next_epoch s };
+
+    ghost epoch_read = { λ s bytes _. toy_epoch_read s bytes };
+
+    ghost epoch_write = { λ s _. toy_epoch_write s };
+
+    ghost initial_fits = { λ s id _. toy_initial_fits s id };
+
+    ghost pair_client_read = { toy_pair_client_read };
+
+    ghost pair_client_write = { toy_pair_client_write };
+
+    ghost pair_client_next = { toy_pair_client_next };
+
+    ghost pair_server_read = { toy_pair_server_read };
+
+    ghost pair_server_write = { toy_pair_server_write };
+
+    ghost pair_server_next = { toy_pair_server_next };
+
+    ghost initial_mates = { λ client server id _. toy_initial_mates client server id };
 
     ghost space_mates = { toy_space_mates };
 
@@ -533,4 +642,6 @@ impl Session for ToySession {
     ghost epoch_mates = { toy_epoch_mates };
 
     ghost epochs_apart = { toy_epochs_apart };
+
+    ghost same_exports = { toy_same_exports };
 }

@@ -63,6 +63,8 @@ fn a_token_is_sealed(rt: HostRuntime) -> Result<(), Fail> {
     let mut token = Vec::from_slice(rt.alloc(), plain)?;
     token_key.seal(&mut token, &[])?;
     assert_eq!(rt; token.as_slice(), sealed.as_slice());
+    assert!(rt; token_key.open(token.as_mut_slice(), b"\x01").is_err());
+    assert_eq!(rt; token.as_slice(), sealed.as_slice());
     let opened = token_key.open_in_place(token.as_mut_slice(), &[]);
     assert_eq!(rt; opened, Ok(26));
     Ok(())

@@ -6,7 +6,7 @@ ghost use Rattle.qconn.specs.RunText.{IsScriptAddress, local_cid, first_cid, scr
 ghost use Rattle.qc_state.specs.Run.{AreValid};
 ghost use Rattle.qc_recovery.specs.TransportValues.{default_transport};
 
-use qc_base::{ConnectionId, HeaderMask, Instant};
+use qc_base::{ConnectionId, HeaderMask, Instant, Side};
 use qc_config::{NoneTokenStore, announced};
 use qc_conn::text::trace_text;
 use qc_conn::{ClientSetup, Connection, drive};
@@ -32,7 +32,10 @@ impl Suite for Toy {
 }
 
 /// What the client of a script is made of where no line says otherwise.
+#[tactic(auto, using(qc_toy::specs::Start::start_fresh, qc_toy::specs::Start::start_side))]
 fn client_setup(alloc: Global) -> Result<ClientSetup<Toy>, AllocError>
+    ensures fresh { IfOk result (λ setup. ⟦<ToySession as Session>⟧.is_fresh setup.session) }
+    ensures client { IfOk result (λ setup. setup.session.side ≡ Side.Client) }
     ensures session { IfOk result (λ setup. setup.session ≡ script_session) }
     ensures version { IfOk result (λ setup. setup.version ≡ 1) }
     ensures local_cid { IfOk result (λ setup. setup.local_cid ≡ local_cid) }
