@@ -6,7 +6,8 @@ use Rattle.std.specs.Option.{option_and_then, option_map}
 use Rattle.std.specs.Int.{byte_len, from_be_bytes}
 use Rattle.qc_base.specs.Varint.{Form, one, two, four, eight, width, mark}
 use Rattle.qc_base.specs.Reading.{varint_of, blob_of, bytes_of, form_of}
-use Rattle.qc_params.specs.ParametersReading.{Entry, entry_of, entries_within, entries_of, values_of, only_one, value_in}
+use Rattle.qc_params.specs.ParametersReading.{entry_of, entries_within, entries_of, only_one, value_in}
+use Rattle.qc_params.specs.ParametersGrammar.{Entry, values_of}
 
 -- ---- what is read leaves fewer bytes
 
