@@ -1,5 +1,5 @@
 -- What a run of the program gives, of its words.
-use Rattle.std.specs.Prelude.{◌≡◌, ℕ, ◌*◌, List}
+use Rattle.std.specs.Prelude.{◌≡◌, ℕ, ◌*◌, List, ◌++◌, codes, decimal}
 use Rattle.qc_bench.specs.Asking.{Asks}
 use Rattle.qc_bench.specs.declared.frames.Tally.{Tally}
 use Rattle.qc_bench.specs.declared.job.Job.{Job}
@@ -21,3 +21,14 @@ status_of (outcome.Read tally) = 0
 status_of (outcome.Sealed opened) = 0
 status_of outcome.Usage = 2
 status_of outcome.NoMemory = 6
+
+-- a line: a name and a number
+abbrev pub line : List ℕ → ℕ → List ℕ
+line name n = name ++ codes " " ++ decimal n ++ codes "\n"
+
+-- what is printed: a line for each count, or the one line that says why there is none
+abbrev pub outcome_text : Outcome → List ℕ
+outcome_text (outcome.Read tally) = line (codes "frames") tally.frames ++ line (codes "bytes") tally.bytes ++ line (codes "weight") tally.weight
+outcome_text (outcome.Sealed opened) = line (codes "packets") opened.packets ++ line (codes "sum") opened.sum
+outcome_text outcome.Usage = codes "usage: qc_bench frames COUNT TIMES | qc_bench keys COUNT\n"
+outcome_text outcome.NoMemory = codes "no memory\n"

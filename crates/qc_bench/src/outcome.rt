@@ -1,7 +1,7 @@
 //! What the program prints, and the status that it ends with.
 
-ghost use Rattle.std.specs.Prelude.{◌≡◌};
-ghost use Rattle.qc_bench.specs.Results.{status_of};
+ghost use Rattle.std.specs.Prelude.{◌≡◌, Some};
+ghost use Rattle.qc_bench.specs.Results.{status_of, outcome_text};
 
 use crate::frames::Tally;
 use crate::keys::Opened;
@@ -34,6 +34,8 @@ impl Outcome {
 }
 
 impl fmt::Display for Outcome {
+    ghost output = { λ outcome. Some (outcome_text outcome) };
+
     fn fmt<W: fmt::Write>(&self, f: &mut fmt::Formatter<W>) -> fmt::Result {
         match self {
             Outcome::Read(tally) => {

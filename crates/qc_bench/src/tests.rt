@@ -1,4 +1,4 @@
-//! What no clause says: the sums, and the text that is printed.
+//! What no clause says: the sums that are printed, and which frames are read.
 
 use crate::run::run;
 use std::alloc::Global;

@@ -1,20 +1,19 @@
 -- Entries are read exactly where the grammar has them
-use Rattle.std.proofs.Common.{◌≡◌, ℕ, List, [], ◌∷◌, Option, Some, None, Result, Ok, Err, IfOk, refl, sym, ap, ◌∙◌, subst}
+use Rattle.std.proofs.Common.{◌≡◌, ℕ, List, [], ◌∷◌, ◌++◌, Option, Some, None, refl, sym, ap, ◌∙◌, subst}
 use Rattle.std.specs.Option.{option_and_then}
+use Rattle.qc_base.specs.Varint.{spelled}
 use Rattle.qc_base.specs.Grammar.{IsBytes}
 use Rattle.qc_base.specs.Reading.{varint_of, blob_of}
 use Rattle.qc_base.proofs.Exact.{Ends, ends_bytes, ends_both}
-use Rattle.qc_base.proofs.Front.{same_first, same_second}
-use Rattle.qc_base.proofs.Varints.{found_varint, found_blob}
-use Rattle.qc_base.specs.declared.side.Side.{Side}
-use Rattle.qc_params.specs.declared.error.ParamError.{ParamError}
+use Rattle.qc_base.proofs.Front.{behind_bytes, same_first, same_second}
+use Rattle.qc_base.proofs.Varints.{found_varint, found_blob, front_bytes}
 use Rattle.qc_params.specs.declared.params.TransportParameters.{TransportParameters}
-use Rattle.qc_params.specs.ParametersReading.{Entry, entry_of, entries_of, values_of, only_one, value_in, id_in, first_of, limits_of, middle_of, parameters_of, judged, parameters_read}
-use Rattle.qc_params.specs.ParametersGrammar.{AnEntry, Entries, AreEntries, HasEntries, EntriesAreRead}
+use Rattle.qc_params.specs.ParametersReading.{entry_of, entries_of, only_one, value_in, id_in, first_parameters_of, limits_of, middle_of, parameters_of, EntriesAreRead}
+use Rattle.qc_params.specs.ParametersGrammar.{Entry, AnEntry, Entries, values_of}
 use Rattle.qc_params.proofs.EntryLaws.{entries_step, entries_none, nothing, in_some}
 
--- an entry is read in two steps
-two_steps : {X Y : Type 0} (o : Option X) (k : X → Option Y) (y : Y) → option_and_then k o ≡ Some y → (x : X) × (o ≡ Some x) × (k x ≡ Some y)
+-- what two readings in a row give
+pub two_steps : {X Y : Type 0} (o : Option X) (k : X → Option Y) (y : Y) → option_and_then k o ≡ Some y → (x : X) × (o ≡ Some x) × (k x ≡ Some y)
 two_steps None k y e = cc
 two_steps (Some x) k y e = (x, refl, e)
 
@@ -79,8 +78,22 @@ pub values_from : (id : ℕ) (es : List Entry) (a : List ℕ) → entries_of a �
 unfolding value_in
 values_from id es a e = rw e refl
 
-pub are_entries : (es : List Entry) (a : List ℕ) → IsBytes a → entries_of a ≡ Some es → AreEntries es a
-are_entries es a h e = record { spelled = entries_take es a h e; values = λ id. values_from id es a e }
+-- each value of an entry is bytes
+abbrev pub EachBytes : List Entry → Type 0
+EachBytes [] = Unit {0}
+EachBytes (e ∷ es) = IsBytes e.1 × EachBytes es
+
+entry_bytes : (a : List ℕ) (e : Entry) (z : List ℕ) → IsBytes a → AnEntry e a z → IsBytes e.1 × IsBytes z
+entry_bytes a e z h (id, b, (f, _, v), (value, c, (n, d, (g, _, w), (_, t)), (p, q))) =
+    let P : List ℕ → Type 0 = λ s. IsBytes s in
+    let behind_id : IsBytes b = behind_bytes (spelled f id) b (subst P v h) in
+    let behind_length : IsBytes d = behind_bytes (spelled g n) d (subst P w behind_id) in
+    let both : IsBytes (value ++ c) = subst P t behind_length in
+    (subst (λ (s : Entry). IsBytes s.1) (sym p) (front_bytes value c both), subst P (sym q) (behind_bytes value c both))
+
+pub each_bytes : (es : List Entry) (a : List ℕ) → IsBytes a → Entries es a → EachBytes es
+each_bytes [] a h s = tt
+each_bytes (e ∷ es) a h (z, s, t) = let w = entry_bytes a e z h s in (w.0, each_bytes es z w.1 t)
 
 -- ---- bytes that are parameters are entries
 
@@ -88,35 +101,20 @@ value_entries : (id : ℕ) (o : Option (List ℕ)) (a : List ℕ) → value_in i
 unfolding value_in
 value_entries id o a e = let w = two_steps (entries_of a) _ o e in (w.0, w.1)
 
-first_entries : (a : List ℕ) (p : TransportParameters) → first_of a ≡ Some p → (es : List Entry) × (entries_of a ≡ Some es)
-unfolding first_of id_in
+first_entries : (a : List ℕ) (p : TransportParameters) → first_parameters_of a ≡ Some p → (es : List Entry) × (entries_of a ≡ Some es)
+unfolding first_parameters_of id_in
 first_entries a p e =
     let w = two_steps (id_in 0x00 a) _ p e in
     let v = two_steps (value_in 0x00 a) _ w.0 w.1 in
     value_entries 0x00 v.0 a v.1
 
-all_entries : (a : List ℕ) (p : TransportParameters) → parameters_of a ≡ Some p → (es : List Entry) × (entries_of a ≡ Some es)
+pub all_entries : (a : List ℕ) (p : TransportParameters) → parameters_of a ≡ Some p → (es : List Entry) × (entries_of a ≡ Some es)
 unfolding parameters_of middle_of limits_of
 all_entries a p e =
     let middle = two_steps (middle_of a) _ p e in
     let limits = two_steps (limits_of a) _ middle.0 middle.1 in
-    let first = two_steps (first_of a) _ limits.0 limits.1 in
+    let first = two_steps (first_parameters_of a) _ limits.0 limits.1 in
     first_entries a first.0 first.1
-
-judged_some : (side : Side) (o : Option TransportParameters) (p : TransportParameters) → judged side o ≡ Ok p → (q : TransportParameters) × (o ≡ Some q)
-judged_some side None p e = cc
-judged_some side (Some q) p e = (q, refl)
-
-pub has_entries : (side : Side) (a : List ℕ) (p : TransportParameters) → IsBytes a → parameters_read side a ≡ Ok p → HasEntries a
-unfolding parameters_read
-has_entries side a p h e =
-    let some = judged_some side (parameters_of a) p e in
-    let split = all_entries a some.0 some.1 in
-    record { entries = split.0; are = are_entries split.0 a h split.1 }
 
 pub entries_read : EntriesAreRead
 entries_read a es e = entries_again es a e
-
-pub read_entries : (side : Side) (a : List ℕ) (r : Result TransportParameters ParamError) → IsBytes a → r ≡ parameters_read side a → IfOk r (λ _. HasEntries a)
-read_entries side a (Ok p) h e = has_entries side a p h (sym e)
-read_entries side a (Err fault) h e = tt

@@ -1,5 +1,6 @@
 pub mod AddressLength
 pub mod EntryLaws
 pub mod GrammarLaws
-pub mod ValuesBack
+pub mod ValueLaws
+pub mod ReadingLaws
 pub mod RoundTrip

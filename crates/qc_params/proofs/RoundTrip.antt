@@ -1,19 +1,21 @@
 -- Parameters that were written are read back
-use Rattle.std.proofs.Common.{◌≡◌, ℕ, ◌%◌, ◌≤◌, List, [], ◌∷◌, ◌++◌, length, Option, Some, None, Bool, true, false, Ok, refl, arith, sym, ap, ◌∙◌, subst, nat_eq, append_assoc, if◌then◌else◌, length-append, nat_lt}
+use Rattle.std.proofs.Common.{◌≡◌, ℕ, ◌%◌, ◌≤◌, List, [], ◌∷◌, ◌++◌, length, Option, Some, None, Bool, true, false, Result, Ok, Err, OnOk, refl, arith, sym, ap, ◌∙◌, subst, nat_eq, append_assoc, if◌then◌else◌, length-append, nat_lt}
+use Rattle.std.proofs.lemmas.Bool.Decides.{nat_tests}
 use Rattle.std.specs.Prelude.{option_to_list}
 use Rattle.std.specs.Option.{option_map}
 use Rattle.std.specs.Net.Addr.{ipv6_segments}
 use Rattle.qc_base.specs.Varint.{IsNumber, varint, one, two, four, eight, spelled}
+use Rattle.qc_base.specs.Grammar.{Spelling}
 use Rattle.qc_base.specs.declared.side.Side.{Side}
 use Rattle.qc_base.proofs.Varints.{varint_spelled}
 use Rattle.qc_params.specs.declared.params.TransportParameters.{TransportParameters}
 use Rattle.qc_params.specs.declared.params.PreferredAddress.{PreferredAddress}
 use Rattle.qc_params.specs.ParametersFit.{Each, IsId, IsToken, AddressFits, ParametersFit, ReadsBack}
-use Rattle.qc_params.specs.ParametersGrammar.{AnEntry, Entries}
-use Rattle.qc_params.specs.ParametersSpelling.{default_parameters, ParameterRow, parameter, number_text, flag_text, row_text, rows_text, first_rows, limit_rows, middle_rows, last_rows, address_bytes, parameters_spelling}
-use Rattle.qc_params.specs.ParametersReading.{Entry, values_of, only_one, value_in, number_in, first_of, limits_of, middle_of, parameters_of, is_legal, parameters_read}
-use Rattle.qc_params.proofs.GrammarLaws.{entries_again, values_from}
-use Rattle.qc_params.proofs.ValuesBack.{number_back, maybe_back, flag_back, id_back, token_back, address_back, length_octets}
+use Rattle.qc_params.specs.ParametersGrammar.{Entry, AnEntry, Entries, values_of, Number, Flag, Id, Token, Address, Given, OneOr, Under, AreParameters, Parameters}
+use Rattle.qc_params.specs.ParametersSpelling.{ParameterRow, parameter, number_text, flag_text, row_text, rows_text, first_rows, limit_rows, middle_rows, last_rows, address_bytes, parameters_spelling}
+use Rattle.qc_params.specs.ParametersReading.{is_legal, parameters_read}
+use Rattle.qc_params.proofs.ValueLaws.{number_spelled, id_spelled, token_spelled, address_spelled, length_octets}
+use Rattle.qc_params.proofs.ReadingLaws.{read_only}
 
 -- ---- the entries of a table
 
@@ -71,14 +73,10 @@ values_of_rows id [] = refl
 values_of_rows id ((k, None) ∷ rows) = none_under id k rows (nat_eq k id) (values_of_rows id rows)
 values_of_rows id ((k, Some v) ∷ rows) = values_under id k v rows (nat_eq k id) refl (values_of_rows id rows)
 
-only_this : (o : Option (List ℕ)) → only_one (option_to_list o ++ []) ≡ Some o
-only_this None = refl
-only_this (Some v) = refl
-
-value_of_rows : (id : ℕ) (o : Option (List ℕ)) (rows : List ParameterRow) → AllFit rows → values_at id rows ≡ option_to_list o ++ [] → value_in id (rows_text rows) ≡ Some o
-value_of_rows id o rows h e =
-    values_from id (entries_in rows) (rows_text rows) (entries_again (entries_in rows) (rows_text rows) (rows_spelled rows h))
-    ∙ ap only_one (values_of_rows id rows ∙ e) ∙ only_this o
+-- what a table says under an id where it has a value, or none
+under_rows : {X : Type 0} (S : Spelling X) (d x : X) (id : ℕ) (o : Option (List ℕ)) (rows : List ParameterRow) → values_at id rows ≡ option_to_list o ++ [] → OneOr S d (option_to_list o) x → Under id S d (entries_in rows) x
+under_rows S d x id None rows e s = subst (λ (w : List (List ℕ)). OneOr S d w x) (sym (values_of_rows id rows ∙ e)) s
+under_rows S d x id (Some v) rows e s = subst (λ (w : List (List ℕ)). OneOr S d w x) (sym (values_of_rows id rows ∙ e)) s
 
 -- ---- the table of the parameters
 
@@ -193,79 +191,73 @@ all_fit p h = (
   ),
 )
 
--- the value under an id of the parameters as they are written
-value_back : (p : TransportParameters) (id : ℕ) (o : Option (List ℕ)) → ParametersFit p → values_at id (rows p) ≡ option_to_list o ++ [] → value_in id (rows_text (rows p)) ≡ Some o
-value_back p id o h e = value_of_rows id o (rows p) (all_fit p h) e
+-- ---- what the table says
 
-number_here : (p : TransportParameters) → ParametersFit p → (id d n : ℕ) → IsNumber n → values_at id (rows p) ≡ option_to_list (number_text d n) ++ [] → number_in id d (rows_text (rows p)) ≡ Some n
-number_here p h id d n f e = number_back id d n (rows_text (rows p)) f (value_back p id (number_text d n) h e)
+number_said_by : (d n : ℕ) (b : Bool) → nat_eq n d ≡ b → IsNumber n → OneOr Number d (option_to_list (if b then None else Some (varint n))) n
+number_said_by d n true t h = grind (arith, nat_tests)
+number_said_by d n false t h = number_spelled n h
 
--- the parameters up to this group, the others as if absent
-abbrev first_part : TransportParameters → TransportParameters
-first_part p = record default_parameters { original_dst_cid = p.original_dst_cid; max_idle_timeout = p.max_idle_timeout; stateless_reset_token = p.stateless_reset_token; max_udp_payload_size = p.max_udp_payload_size }
+number_said : (rows : List ParameterRow) (id d n : ℕ) → IsNumber n → values_at id rows ≡ option_to_list (number_text d n) ++ [] → Under id Number d (entries_in rows) n
+unfolding number_text
+number_said rows id d n h e = under_rows Number d n id (number_text d n) rows e (number_said_by d n (nat_eq n d) refl h)
 
-first_back : (p : TransportParameters) → ParametersFit p → first_of (rows_text (rows p)) ≡ Some (first_part p)
-unfolding first_of
-first_back p h =
-    let a = rows_text (rows p) in
-    rw (
-      id_back 0x00 p.original_dst_cid a h.first.original_dst_cid (value_back p 0x00 p.original_dst_cid h refl),
-      number_here p h 0x01 0 p.max_idle_timeout h.first.max_idle_timeout refl,
-      token_back 0x02 p.stateless_reset_token a h.first.stateless_reset_token (value_back p 0x02 p.stateless_reset_token h refl),
-      number_here p h 0x03 65527 p.max_udp_payload_size h.first.max_udp_payload_size refl,
-    ) refl
+maybe_said : (rows : List ParameterRow) (id : ℕ) (o : Option ℕ) → Each IsNumber o → values_at id rows ≡ option_to_list (option_map varint o) ++ [] → Under id (Given Number) None (entries_in rows) o
+maybe_said rows id None h e = under_rows (Given Number) None None id None rows e refl
+maybe_said rows id (Some n) h e = under_rows (Given Number) None (Some n) id (Some (varint n)) rows e (n, [], number_spelled n h, (refl, refl))
 
--- the parameters up to this group, the others as if absent
-abbrev limits_part : TransportParameters → TransportParameters
-limits_part p = record (first_part p) { initial_max_data = p.initial_max_data; initial_max_stream_data_bidi_local = p.initial_max_stream_data_bidi_local; initial_max_stream_data_bidi_remote = p.initial_max_stream_data_bidi_remote; initial_max_stream_data_uni = p.initial_max_stream_data_uni; initial_max_streams_bidi = p.initial_max_streams_bidi; initial_max_streams_uni = p.initial_max_streams_uni }
+flag_said : (rows : List ParameterRow) (id : ℕ) (b : Bool) → values_at id rows ≡ option_to_list (flag_text b) ++ [] → Under id Flag false (entries_in rows) b
+flag_said rows id false e = under_rows Flag false false id None rows e refl
+flag_said rows id true e = under_rows Flag false true id (Some []) rows e (refl, refl)
 
-limits_back : (p : TransportParameters) → ParametersFit p → limits_of (rows_text (rows p)) ≡ Some (limits_part p)
-unfolding limits_of
-limits_back p h =
-    let a = rows_text (rows p) in
-    rw (
-      first_back p h,
-      number_here p h 0x04 0 p.initial_max_data h.limits.initial_max_data refl,
-      number_here p h 0x05 0 p.initial_max_stream_data_bidi_local h.limits.initial_max_stream_data_bidi_local refl,
-      number_here p h 0x06 0 p.initial_max_stream_data_bidi_remote h.limits.initial_max_stream_data_bidi_remote refl,
-      number_here p h 0x07 0 p.initial_max_stream_data_uni h.limits.initial_max_stream_data_uni refl,
-      number_here p h 0x08 0 p.initial_max_streams_bidi h.limits.initial_max_streams_bidi refl,
-      number_here p h 0x09 0 p.initial_max_streams_uni h.limits.initial_max_streams_uni refl,
-    ) refl
+id_said : (rows : List ParameterRow) (id : ℕ) (o : Option (List ℕ)) → Each IsId o → values_at id rows ≡ option_to_list o ++ [] → Under id (Given Id) None (entries_in rows) o
+id_said rows id None h e = under_rows (Given Id) None None id None rows e refl
+id_said rows id (Some v) h e = under_rows (Given Id) None (Some v) id (Some v) rows e (v, [], id_spelled v h, (refl, refl))
 
--- the parameters up to this group, the others as if absent
-abbrev middle_part : TransportParameters → TransportParameters
-middle_part p = record (limits_part p) { ack_delay_exponent = p.ack_delay_exponent; max_ack_delay = p.max_ack_delay; disable_active_migration = p.disable_active_migration; preferred_address = p.preferred_address; active_connection_id_limit = p.active_connection_id_limit }
+token_said : (rows : List ParameterRow) (id : ℕ) (o : Option (List ℕ)) → Each IsToken o → values_at id rows ≡ option_to_list o ++ [] → Under id (Given Token) None (entries_in rows) o
+token_said rows id None h e = under_rows (Given Token) None None id None rows e refl
+token_said rows id (Some v) h e = under_rows (Given Token) None (Some v) id (Some v) rows e (v, [], token_spelled v h, (refl, refl))
 
-middle_back : (p : TransportParameters) → ParametersFit p → middle_of (rows_text (rows p)) ≡ Some (middle_part p)
-unfolding middle_of
-middle_back p h =
-    let a = rows_text (rows p) in
-    rw (
-      limits_back p h,
-      number_here p h 0x0a 3 p.ack_delay_exponent h.middle.ack_delay_exponent refl,
-      number_here p h 0x0b 25 p.max_ack_delay h.middle.max_ack_delay refl,
-      flag_back 0x0c p.disable_active_migration a (value_back p 0x0c (flag_text p.disable_active_migration) h refl),
-      address_back 0x0d p.preferred_address a h.middle.preferred_address (value_back p 0x0d (option_map address_bytes p.preferred_address) h refl),
-      number_here p h 0x0e 2 p.active_connection_id_limit h.middle.active_connection_id_limit refl,
-    ) refl
+address_said : (rows : List ParameterRow) (id : ℕ) (o : Option PreferredAddress) → Each AddressFits o → values_at id rows ≡ option_to_list (option_map address_bytes o) ++ [] → Under id (Given Address) None (entries_in rows) o
+address_said rows id None h e = under_rows (Given Address) None None id None rows e refl
+address_said rows id (Some v) h e = under_rows (Given Address) None (Some v) id (Some (address_bytes v)) rows e (v, [], address_spelled v h, (refl, refl))
 
-all_back : (p : TransportParameters) → ParametersFit p → parameters_of (rows_text (rows p)) ≡ Some (p)
-unfolding parameters_of
-all_back p h =
-    let a = rows_text (rows p) in
-    rw (
-      middle_back p h,
-      id_back 0x0f p.initial_src_cid a h.last.initial_src_cid (value_back p 0x0f p.initial_src_cid h refl),
-      id_back 0x10 p.retry_src_cid a h.last.retry_src_cid (value_back p 0x10 p.retry_src_cid h refl),
-      maybe_back 0x20 p.max_datagram_frame_size a h.last.max_datagram_frame_size (value_back p 0x20 (option_map varint p.max_datagram_frame_size) h refl),
-      flag_back 0x2ab2 p.grease_quic_bit a (value_back p 0x2ab2 (flag_text p.grease_quic_bit) h refl),
-    ) refl
+all_said : (p : TransportParameters) → ParametersFit p → AreParameters (entries_in (rows p)) p
+all_said p h =
+    let r = rows p in
+    record {
+      original_dst_cid = id_said r 0x00 p.original_dst_cid h.first.original_dst_cid refl;
+      max_idle_timeout = number_said r 0x01 0 p.max_idle_timeout h.first.max_idle_timeout refl;
+      stateless_reset_token = token_said r 0x02 p.stateless_reset_token h.first.stateless_reset_token refl;
+      max_udp_payload_size = number_said r 0x03 65527 p.max_udp_payload_size h.first.max_udp_payload_size refl;
+      initial_max_data = number_said r 0x04 0 p.initial_max_data h.limits.initial_max_data refl;
+      initial_max_stream_data_bidi_local = number_said r 0x05 0 p.initial_max_stream_data_bidi_local h.limits.initial_max_stream_data_bidi_local refl;
+      initial_max_stream_data_bidi_remote = number_said r 0x06 0 p.initial_max_stream_data_bidi_remote h.limits.initial_max_stream_data_bidi_remote refl;
+      initial_max_stream_data_uni = number_said r 0x07 0 p.initial_max_stream_data_uni h.limits.initial_max_stream_data_uni refl;
+      initial_max_streams_bidi = number_said r 0x08 0 p.initial_max_streams_bidi h.limits.initial_max_streams_bidi refl;
+      initial_max_streams_uni = number_said r 0x09 0 p.initial_max_streams_uni h.limits.initial_max_streams_uni refl;
+      ack_delay_exponent = number_said r 0x0a 3 p.ack_delay_exponent h.middle.ack_delay_exponent refl;
+      max_ack_delay = number_said r 0x0b 25 p.max_ack_delay h.middle.max_ack_delay refl;
+      disable_active_migration = flag_said r 0x0c p.disable_active_migration refl;
+      preferred_address = address_said r 0x0d p.preferred_address h.middle.preferred_address refl;
+      active_connection_id_limit = number_said r 0x0e 2 p.active_connection_id_limit h.middle.active_connection_id_limit refl;
+      initial_src_cid = id_said r 0x0f p.initial_src_cid h.last.initial_src_cid refl;
+      retry_src_cid = id_said r 0x10 p.retry_src_cid h.last.retry_src_cid refl;
+      max_datagram_frame_size = maybe_said r 0x20 p.max_datagram_frame_size h.last.max_datagram_frame_size refl;
+      grease_quic_bit = flag_said r 0x2ab2 p.grease_quic_bit refl;
+    }
+
+written_spelled : (p : TransportParameters) → ParametersFit p → Parameters p (parameters_spelling p)
+unfolding parameters_spelling
+written_spelled p h = record { entries = entries_in (rows p); spelled = rows_spelled (rows p) (all_fit p h); say = all_said p h }
 
 -- parameters that may be sent, and whose values fit, are read as what was written
 written_back : (side : Side) (p : TransportParameters) → ParametersFit p → is_legal side p ≡ true → parameters_read side (parameters_spelling p) ≡ Ok p
-unfolding parameters_read parameters_spelling
-written_back side p h legal = rw (all_back p h, legal) refl
+written_back side p h legal = read_only side (parameters_spelling p) p (written_spelled p h) ∙ rw legal refl
 
 pub reads_back : (p : TransportParameters) → ParametersFit p → ReadsBack p
-reads_back p h = record { reads = λ side legal. written_back side p h legal }
+reads_back p h = record { spelled = written_spelled p h; reads = λ side legal. written_back side p h legal }
+
+-- where an answer is Ok, and fits are known of it
+pub ok_reads_back : {E : Type 0} (p : TransportParameters) (r s : Result (Unit {0}) E) → s ≡ r → OnOk r (ParametersFit p) → OnOk s (ReadsBack p)
+ok_reads_back p r (Ok u) e h = reads_back p (subst (λ q. OnOk q (ParametersFit p)) (sym e) h)
+ok_reads_back p r (Err f) e h = tt

@@ -5,6 +5,7 @@ use Rattle.qc_base.specs.Varint.{IsNumber}
 use Rattle.qc_base.specs.declared.side.Side.{Side}
 use Rattle.qc_params.specs.ParametersReading.{is_legal, parameters_read}
 use Rattle.qc_params.specs.ParametersSpelling.{parameters_spelling}
+use Rattle.qc_params.specs.ParametersGrammar.{Parameters}
 use Rattle.qc_params.specs.declared.params.TransportParameters.{TransportParameters}
 use Rattle.qc_params.specs.declared.params.PreferredAddress.{PreferredAddress}
 
@@ -13,12 +14,15 @@ abbrev pub Each : {X : Type 0} → (X → Type 0) → Option X → Type 0
 Each P None = Unit {0}
 Each P (Some x) = P x
 
+-- what a connection id holds
 abbrev pub IsId : List ℕ → Type 0
 IsId id = length id ≤ 20
 
+-- what the token of a stateless reset holds
 abbrev pub IsToken : List ℕ → Type 0
 IsToken token = length token ≡ 16
 
+-- what a preferred address holds: two addresses with ports of 16 bits, an id and a token
 pub record AddressFits (a : PreferredAddress) : Type 0 where
   pub ipv4 : length (ipv4_octets a.ipv4) ≡ 4
   pub port_v4 : a.port_v4 < 65536
@@ -56,15 +60,18 @@ pub record LastFit (p : TransportParameters) : Type 0 where
   pub retry_src_cid : Each IsId p.retry_src_cid
   pub max_datagram_frame_size : Each IsNumber p.max_datagram_frame_size
 
+-- all of them
 pub record ParametersFit (p : TransportParameters) : Type 0 where
   pub first : FirstFit p
   pub limits : LimitsFit p
   pub middle : MiddleFit p
   pub last : LastFit p
 
--- a side that may be sent the parameters reads what was written as them
+-- what is written spells these parameters, and a side that may be sent them reads it as them
 pub record ReadsBack (p : TransportParameters) : Type 0 where
+  pub spelled : Parameters p (parameters_spelling p)
   pub reads : (side : Side) → is_legal side p ≡ true → parameters_read side (parameters_spelling p) ≡ Ok p
 
-abbrev pub WrittenIsRead : Type 0
-WrittenIsRead = (p : TransportParameters) → ParametersFit p → ReadsBack p
+-- parameters whose values fit their types come back
+abbrev pub ParametersWrittenAreRead : Type 0
+ParametersWrittenAreRead = (p : TransportParameters) → ParametersFit p → ReadsBack p

@@ -1,3 +1,5 @@
+-- How parameters are written (RFC 9000, section 18): those that differ from their defaults, by ascending ids, each number
+-- in its shortest form
 use Rattle.std.specs.Prelude.{ℕ, ◌==◌, Bool, true, false, List, [], ◌∷◌, ◌++◌, length, Option, Some, None, if◌then◌else◌}
 use Rattle.std.specs.Option.{option_map}
 use Rattle.std.specs.Int.{w16, to_be_bytes}
@@ -96,10 +98,12 @@ last_rows p =
     ∷ (0x2ab2, flag_text p.grease_quic_bit)
     ∷ []
 
+-- a parameter, or nothing where it is left out
 unfoldable pub row_text : ℕ → Option (List ℕ) → List ℕ
 row_text id None = []
 row_text id (Some value) = parameter id value
 
+-- parameters, one after another
 abbrev pub rows_text : List ParameterRow → List ℕ
 rows_text [] = []
 rows_text (row ∷ rows) = row_text row.0 row.1 ++ rows_text rows

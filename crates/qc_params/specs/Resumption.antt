@@ -8,6 +8,8 @@ IsNoLower None current = Unit {0}
 IsNoLower (Some limit) None = ⊥
 IsNoLower (Some limit) (Some current) = limit ≤ current
 
+-- no limit fell since the session was made; packets whose QUIC bit is 0 may still be sent (RFC 9221, section 3; RFC 9287,
+-- section 3.1)
 pub record KeepsLimits (cached current : TransportParameters) : Type 0 where
   pub max_data : cached.initial_max_data ≤ current.initial_max_data
   pub bidi_local : cached.initial_max_stream_data_bidi_local ≤ current.initial_max_stream_data_bidi_local

@@ -48,7 +48,7 @@ fn issued(value: &[u8]) -> Result<(&[u8], &[u8], &[u8]), Cut>
     Ok((id, token, rest))
 }
 
-#[tactic(auto, unfolding(crate::specs::ParametersReading::address_value))]
+#[tactic(auto, unfolding(crate::specs::ParametersReading::address_value, crate::specs::ParametersReading::address_of))]
 pub(crate) fn preferred_address(value: &[u8]) -> Result<PreferredAddress, ParamError>
     ensures exact { result ≡ ok_or (address_value value.now) ParamError.Malformed }
     ensures fits { IfOk result AddressFits }

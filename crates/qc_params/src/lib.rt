@@ -9,13 +9,14 @@ mod error;
 mod laws;
 mod limits;
 mod octets;
+mod parameter_ids;
 mod params;
 mod read;
 mod values;
 mod write;
 
 pub use error::ParamError;
-pub use laws::{entries_are_read, written_is_read};
+pub use laws::{entries_are_read, parameters_written_are_read};
 pub use params::{PreferredAddress, TransportParameters};
 
 #[cfg(test)]

@@ -1,11 +1,12 @@
-ghost use Rattle.std.specs.Prelude.{◌≡◌, IfOk};
+ghost use Rattle.std.specs.Prelude.{◌≡◌, Some, IfOk};
 ghost use Rattle.std.specs.Option.{ok_or};
-ghost use Rattle.qc_params.specs.ParametersReading.{first_of, limits_of, middle_of, parameters_of, may_come_to, client_may_send, is_address_allowed, is_legal, parameters_read};
+ghost use Rattle.qc_params.specs.ParametersReading.{first_parameters_of, limits_of, middle_of, parameters_of, may_come_to, client_may_send, is_address_allowed, is_legal, judged, parameters_read, IsReading};
 ghost use Rattle.qc_params.specs.ParametersFit.{FirstFit, LimitsFit, MiddleFit, LastFit, ParametersFit};
-ghost use Rattle.qc_params.specs.ParametersGrammar.{HasEntries};
+ghost use Rattle.qc_params.specs.declared.params.TransportParameters.{TransportParameters};
+ghost use Rattle.qc_params.specs.ParametersGrammar.{Parameters};
 
 use crate::values::{address_under, flag_under, id_under, maybe_under, number_under, token_under};
-use crate::{ParamError, PreferredAddress, TransportParameters, params};
+use crate::{ParamError, PreferredAddress, TransportParameters, parameter_ids};
 use qc_base::Side;
 use std::default::Default;
 
@@ -13,16 +14,16 @@ use std::default::Default;
 const MOST_STREAMS: u64 = 1 << 60;
 
 // 0x00 to 0x03
-#[tactic(auto, unfolding(crate::specs::ParametersReading::first_of))]
+#[tactic(auto, unfolding(crate::specs::ParametersReading::first_parameters_of))]
 fn read_first(bytes: &[u8]) -> Result<TransportParameters, ParamError>
-    ensures exact { result ≡ ok_or (first_of bytes.now) ParamError.Malformed }
+    ensures exact { result ≡ ok_or (first_parameters_of bytes.now) ParamError.Malformed }
     ensures first { IfOk result FirstFit }
 {
     Ok(TransportParameters {
-        original_dst_cid: id_under(bytes, params::ORIGINAL_DST_CID)?,
-        max_idle_timeout: number_under(bytes, params::MAX_IDLE_TIMEOUT, 0)?,
-        stateless_reset_token: token_under(bytes, params::STATELESS_RESET_TOKEN)?,
-        max_udp_payload_size: number_under(bytes, params::MAX_UDP_PAYLOAD_SIZE, 65527)?,
+        original_dst_cid: id_under(bytes, parameter_ids::ORIGINAL_DST_CID)?,
+        max_idle_timeout: number_under(bytes, parameter_ids::MAX_IDLE_TIMEOUT, 0)?,
+        stateless_reset_token: token_under(bytes, parameter_ids::STATELESS_RESET_TOKEN)?,
+        max_udp_payload_size: number_under(bytes, parameter_ids::MAX_UDP_PAYLOAD_SIZE, 65527)?,
         ..TransportParameters::default()
     })
 }
@@ -36,20 +37,24 @@ fn read_limits(bytes: &[u8]) -> Result<TransportParameters, ParamError>
 {
     let p = read_first(bytes)?;
     Ok(TransportParameters {
-        initial_max_data: number_under(bytes, params::INITIAL_MAX_DATA, 0)?,
+        initial_max_data: number_under(bytes, parameter_ids::INITIAL_MAX_DATA, 0)?,
         initial_max_stream_data_bidi_local: number_under(
             bytes,
-            params::INITIAL_MAX_STREAM_DATA_BIDI_LOCAL,
+            parameter_ids::INITIAL_MAX_STREAM_DATA_BIDI_LOCAL,
             0,
         )?,
         initial_max_stream_data_bidi_remote: number_under(
             bytes,
-            params::INITIAL_MAX_STREAM_DATA_BIDI_REMOTE,
+            parameter_ids::INITIAL_MAX_STREAM_DATA_BIDI_REMOTE,
             0,
         )?,
-        initial_max_stream_data_uni: number_under(bytes, params::INITIAL_MAX_STREAM_DATA_UNI, 0)?,
-        initial_max_streams_bidi: number_under(bytes, params::INITIAL_MAX_STREAMS_BIDI, 0)?,
-        initial_max_streams_uni: number_under(bytes, params::INITIAL_MAX_STREAMS_UNI, 0)?,
+        initial_max_stream_data_uni: number_under(
+            bytes,
+            parameter_ids::INITIAL_MAX_STREAM_DATA_UNI,
+            0,
+        )?,
+        initial_max_streams_bidi: number_under(bytes, parameter_ids::INITIAL_MAX_STREAMS_BIDI, 0)?,
+        initial_max_streams_uni: number_under(bytes, parameter_ids::INITIAL_MAX_STREAMS_UNI, 0)?,
         ..p
     })
 }
@@ -64,11 +69,15 @@ fn read_middle(bytes: &[u8]) -> Result<TransportParameters, ParamError>
 {
     let p = read_limits(bytes)?;
     Ok(TransportParameters {
-        ack_delay_exponent: number_under(bytes, params::ACK_DELAY_EXPONENT, 3)?,
-        max_ack_delay: number_under(bytes, params::MAX_ACK_DELAY, 25)?,
-        disable_active_migration: flag_under(bytes, params::DISABLE_ACTIVE_MIGRATION)?,
-        preferred_address: address_under(bytes, params::PREFERRED_ADDRESS)?,
-        active_connection_id_limit: number_under(bytes, params::ACTIVE_CONNECTION_ID_LIMIT, 2)?,
+        ack_delay_exponent: number_under(bytes, parameter_ids::ACK_DELAY_EXPONENT, 3)?,
+        max_ack_delay: number_under(bytes, parameter_ids::MAX_ACK_DELAY, 25)?,
+        disable_active_migration: flag_under(bytes, parameter_ids::DISABLE_ACTIVE_MIGRATION)?,
+        preferred_address: address_under(bytes, parameter_ids::PREFERRED_ADDRESS)?,
+        active_connection_id_limit: number_under(
+            bytes,
+            parameter_ids::ACTIVE_CONNECTION_ID_LIMIT,
+            2,
+        )?,
         ..p
     })
 }
@@ -84,10 +93,10 @@ fn read_all(bytes: &[u8]) -> Result<TransportParameters, ParamError>
 {
     let p = read_middle(bytes)?;
     Ok(TransportParameters {
-        initial_src_cid: id_under(bytes, params::INITIAL_SRC_CID)?,
-        retry_src_cid: id_under(bytes, params::RETRY_SRC_CID)?,
-        max_datagram_frame_size: maybe_under(bytes, params::MAX_DATAGRAM_FRAME_SIZE)?,
-        grease_quic_bit: flag_under(bytes, params::GREASE_QUIC_BIT)?,
+        initial_src_cid: id_under(bytes, parameter_ids::INITIAL_SRC_CID)?,
+        retry_src_cid: id_under(bytes, parameter_ids::RETRY_SRC_CID)?,
+        max_datagram_frame_size: maybe_under(bytes, parameter_ids::MAX_DATAGRAM_FRAME_SIZE)?,
+        grease_quic_bit: flag_under(bytes, parameter_ids::GREASE_QUIC_BIT)?,
         ..p
     })
 }
@@ -147,7 +156,9 @@ fn read_parameters(side: Side, bytes: &[u8]) -> Result<TransportParameters, Para
 
 impl TransportParameters {
     /// Reads the parameters that the other end sent; `side` is the reader's (RFC 9000, section 18).
-    /// Unknown ids are skipped, and an absent parameter has its default. It takes no memory.
+    /// Unknown ids are skipped, and an absent parameter has its default. It takes no memory. What is
+    /// read is what the grammar has, in any form of its numbers, and nothing that the grammar has is
+    /// read as anything else.
     ///
     /// # Errors
     ///
@@ -157,10 +168,12 @@ impl TransportParameters {
     /// 1200, more than 2^60 streams, an exponent above 20, a delay of 2^14 ms or more, fewer than
     /// two connection ids, an empty id at a preferred address, or from a client one of the four
     /// parameters that a server alone sends (RFC 9000, section 18.2).
+    #[tactic(auto, using(crate::proofs::ReadingLaws::read_only))]
     pub fn read(side: Side, bytes: &[u8]) -> Result<TransportParameters, ParamError>
         ensures exact { result ≡ parameters_read side bytes.now }
         ensures fits { IfOk result ParametersFit }
-        ensures entries { IfOk result (λ _. HasEntries bytes.now) }
+        ensures reading { IsReading side bytes.now result }
+        ensures only { (p : TransportParameters) → Parameters p bytes.now → result ≡ judged side (Some p) }
     {
         read_parameters(side, bytes)
     }

@@ -1,4 +1,7 @@
-use crate::{ParamError, PreferredAddress, TransportParameters, entries_are_read, written_is_read};
+use crate::{
+    ParamError, PreferredAddress, TransportParameters, entries_are_read,
+    parameters_written_are_read,
+};
 use qc_base::{ConnectionId, ResetToken, Side, TransportError, VarInt};
 use std::alloc::{AllocError, Global};
 use std::net::{Ipv4Addr, Ipv6Addr};
@@ -102,7 +105,7 @@ fn a_client_announces(rt: HostRuntime) -> Result<(), Fail> {
     assert_eq!(rt; written.as_slice(), bytes.as_slice());
     let read = TransportParameters::read(Side::Server, bytes.as_slice());
     assert_eq!(rt; read.ok().ok_or("refused")?, client_parameters());
-    written_is_read();
+    parameters_written_are_read();
     entries_are_read();
     Ok(())
 }

@@ -5,7 +5,7 @@ ghost use Rattle.qc_base.specs.Varint.{IsNumber, varint};
 ghost use Rattle.qc_params.specs.ParametersSpelling.{parameter, number_text, flag_text, row_text, rows_text, address_bytes, parameters_spelling};
 ghost use Rattle.qc_params.specs.ParametersFit.{IsId, IsToken, AddressFits, Each, FirstFit, LimitsFit, MiddleFit, LastFit, ParametersFit, ReadsBack};
 
-use crate::params;
+use crate::parameter_ids;
 use crate::params::{PreferredAddress, TransportParameters};
 use qc_base::{ConnectionId, ResetToken, VarInt, or_cut_back, put_varint, varint_size};
 use std::alloc::AllocError;
@@ -114,7 +114,7 @@ fn put_address_bytes(buf: &mut Vec<u8>, address: &PreferredAddress) -> Result<()
     buf.extend_from_slice(&*address.reset_token)
 }
 
-#[tactic(auto, using(crate::proofs::AddressLength::address_length, crate::proofs::ValuesBack::length_octets))]
+#[tactic(auto, using(crate::proofs::AddressLength::address_length, crate::proofs::ValueLaws::length_octets))]
 fn address_len(address: &PreferredAddress) -> usize
     ensures value { result ≡ length (address_bytes address.now) }
     ensures ipv4 { length (ipv4_octets address.now.ipv4) ≡ 4 }
@@ -157,7 +157,6 @@ impl TransportParameters {
     /// # Errors
     ///
     /// `AllocError` for want of memory; `buf` is then as it was.
-    #[tactic(auto, using(crate::proofs::RoundTrip::reads_back))]
     pub fn write(&self, buf: &mut Vec<u8>) -> Result<(), AllocError>
         ensures ok { OnOk result (buf.new.items ≡ buf.old.items ++ parameters_spelling self.now) }
         ensures err { OnErr result (buf.new.items ≡ buf.old.items) }
@@ -186,16 +185,21 @@ impl TransportParameters {
         ensures kept { take (length buf.old.items) buf.new.items ≡ buf.old.items }
         ensures fits { OnOk result (FirstFit self.now) }
     {
-        put_id(buf, params::ORIGINAL_DST_CID, &self.original_dst_cid)?;
-        put_number(buf, params::MAX_IDLE_TIMEOUT, 0, self.max_idle_timeout)?;
+        put_id(buf, parameter_ids::ORIGINAL_DST_CID, &self.original_dst_cid)?;
+        put_number(
+            buf,
+            parameter_ids::MAX_IDLE_TIMEOUT,
+            0,
+            self.max_idle_timeout,
+        )?;
         put_token(
             buf,
-            params::STATELESS_RESET_TOKEN,
+            parameter_ids::STATELESS_RESET_TOKEN,
             &self.stateless_reset_token,
         )?;
         put_number(
             buf,
-            params::MAX_UDP_PAYLOAD_SIZE,
+            parameter_ids::MAX_UDP_PAYLOAD_SIZE,
             65527,
             self.max_udp_payload_size,
         )
@@ -207,34 +211,39 @@ impl TransportParameters {
         ensures kept { take (length buf.old.items) buf.new.items ≡ buf.old.items }
         ensures fits { OnOk result (LimitsFit self.now) }
     {
-        put_number(buf, params::INITIAL_MAX_DATA, 0, self.initial_max_data)?;
         put_number(
             buf,
-            params::INITIAL_MAX_STREAM_DATA_BIDI_LOCAL,
+            parameter_ids::INITIAL_MAX_DATA,
+            0,
+            self.initial_max_data,
+        )?;
+        put_number(
+            buf,
+            parameter_ids::INITIAL_MAX_STREAM_DATA_BIDI_LOCAL,
             0,
             self.initial_max_stream_data_bidi_local,
         )?;
         put_number(
             buf,
-            params::INITIAL_MAX_STREAM_DATA_BIDI_REMOTE,
+            parameter_ids::INITIAL_MAX_STREAM_DATA_BIDI_REMOTE,
             0,
             self.initial_max_stream_data_bidi_remote,
         )?;
         put_number(
             buf,
-            params::INITIAL_MAX_STREAM_DATA_UNI,
+            parameter_ids::INITIAL_MAX_STREAM_DATA_UNI,
             0,
             self.initial_max_stream_data_uni,
         )?;
         put_number(
             buf,
-            params::INITIAL_MAX_STREAMS_BIDI,
+            parameter_ids::INITIAL_MAX_STREAMS_BIDI,
             0,
             self.initial_max_streams_bidi,
         )?;
         put_number(
             buf,
-            params::INITIAL_MAX_STREAMS_UNI,
+            parameter_ids::INITIAL_MAX_STREAMS_UNI,
             0,
             self.initial_max_streams_uni,
         )
@@ -246,17 +255,26 @@ impl TransportParameters {
         ensures kept { take (length buf.old.items) buf.new.items ≡ buf.old.items }
         ensures fits { OnOk result (MiddleFit self.now) }
     {
-        put_number(buf, params::ACK_DELAY_EXPONENT, 3, self.ack_delay_exponent)?;
-        put_number(buf, params::MAX_ACK_DELAY, 25, self.max_ack_delay)?;
-        put_flag(
-            buf,
-            params::DISABLE_ACTIVE_MIGRATION,
-            self.disable_active_migration,
-        )?;
-        put_address(buf, params::PREFERRED_ADDRESS, &self.preferred_address)?;
         put_number(
             buf,
-            params::ACTIVE_CONNECTION_ID_LIMIT,
+            parameter_ids::ACK_DELAY_EXPONENT,
+            3,
+            self.ack_delay_exponent,
+        )?;
+        put_number(buf, parameter_ids::MAX_ACK_DELAY, 25, self.max_ack_delay)?;
+        put_flag(
+            buf,
+            parameter_ids::DISABLE_ACTIVE_MIGRATION,
+            self.disable_active_migration,
+        )?;
+        put_address(
+            buf,
+            parameter_ids::PREFERRED_ADDRESS,
+            &self.preferred_address,
+        )?;
+        put_number(
+            buf,
+            parameter_ids::ACTIVE_CONNECTION_ID_LIMIT,
             2,
             self.active_connection_id_limit,
         )
@@ -268,13 +286,13 @@ impl TransportParameters {
         ensures kept { take (length buf.old.items) buf.new.items ≡ buf.old.items }
         ensures fits { OnOk result (LastFit self.now) }
     {
-        put_id(buf, params::INITIAL_SRC_CID, &self.initial_src_cid)?;
-        put_id(buf, params::RETRY_SRC_CID, &self.retry_src_cid)?;
+        put_id(buf, parameter_ids::INITIAL_SRC_CID, &self.initial_src_cid)?;
+        put_id(buf, parameter_ids::RETRY_SRC_CID, &self.retry_src_cid)?;
         put_maybe(
             buf,
-            params::MAX_DATAGRAM_FRAME_SIZE,
+            parameter_ids::MAX_DATAGRAM_FRAME_SIZE,
             self.max_datagram_frame_size,
         )?;
-        put_flag(buf, params::GREASE_QUIC_BIT, self.grease_quic_bit)
+        put_flag(buf, parameter_ids::GREASE_QUIC_BIT, self.grease_quic_bit)
     }
 }

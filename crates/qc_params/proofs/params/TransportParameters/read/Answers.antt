@@ -1,8 +1,9 @@
--- Bytes that were read are some entries.
-use Rattle.std.proofs.Common.{arith}
-use Rattle.qc_params.proofs.GrammarLaws.{read_entries}
+-- What was read is what the grammar has.
+use Rattle.std.proofs.Common.{arith, sym, subst}
+use Rattle.qc_params.specs.ParametersReading.{IsReading}
+use Rattle.qc_params.proofs.ReadingLaws.{read_is}
 use Rattle.qc_params.proofs.params.TransportParameters.read.Goals as goal
 
-pub returns-clause-entries : goal.returns-clause-entries
-returns-clause-entries c =
-    read_entries c.args.side c.args.bytes.now c.read_parameters.result (λ i. omega (arith, c.type_inv.bytes i)) c.read_parameters.ensures.exact
+pub returns-clause-reading : goal.returns-clause-reading
+returns-clause-reading c =
+    subst (λ r. IsReading c.args.side c.args.bytes.now r) (sym c.read_parameters.ensures.exact) (read_is c.args.side c.args.bytes.now (λ i. omega (arith, c.type_inv.bytes i)))
