@@ -2,8 +2,9 @@
 //! with its type, and the bytes behind it.
 
 ghost use Rattle.std.specs.Prelude.{◌≡◌, ◌<◌, ◌≤◌, ◌^◌, length, IfOk};
-ghost use Rattle.qc_base.specs.Reading.{Gives};
+ghost use Rattle.qc_base.specs.Reading.{Gives, give};
 ghost use Rattle.qc_frame.specs.Frame.{borrowed, typed};
+ghost use Rattle.qc_frame.specs.declared.frames.FrameOf.TheVariants as frames;
 ghost use Rattle.qc_frame.specs.FrameReading.{ack_at, application_close_at, body_at, connection_close_at, counts_at, crypto_at, data_blocked_at, datagram_at, fields_at, frame_at, max_data_at, max_stream_data_at, max_streams_at, more_ranges_at, new_connection_id_at, new_token_at, offset_at, path_challenge_at, path_response_at, ranges_at, reset_stream_at, retire_connection_id_at, stop_sending_at, stream_at, stream_data_blocked_at, streams_blocked_at, type_given};
 
 use crate::fault::{FrameFault, InvalidFrame};
@@ -39,20 +40,8 @@ fn read_fields(ty: u64, bytes: &[u8]) -> Result<(TypedFrame<'_>, &[u8]), FrameFa
     ensures told { IfOk result (λ x. x.0.ty ≡ ty) }
 {
     match ty {
-        0x00 => Ok((
-            TypedOf {
-                ty,
-                frame: FrameOf::Padding,
-            },
-            bytes,
-        )),
-        0x01 => Ok((
-            TypedOf {
-                ty,
-                frame: FrameOf::Ping,
-            },
-            bytes,
-        )),
+        0x00 => read_padding(ty, bytes),
+        0x01 => read_ping(ty, bytes),
         0x02 => read_ack(ty, false, bytes),
         0x03 => read_ack(ty, true, bytes),
         0x04 => read_reset_stream(ty, bytes),
@@ -74,17 +63,37 @@ fn read_fields(ty: u64, bytes: &[u8]) -> Result<(TypedFrame<'_>, &[u8]), FrameFa
         0x1b => read_path_response(ty, bytes),
         0x1c => read_connection_close(ty, bytes),
         0x1d => read_application_close(ty, bytes),
-        0x1e => Ok((
-            TypedOf {
-                ty,
-                frame: FrameOf::HandshakeDone,
-            },
-            bytes,
-        )),
+        0x1e => read_handshake_done(ty, bytes),
         0x30 => read_datagram(ty, false, bytes),
         0x31 => read_datagram(ty, true, bytes),
         _ => Err(FrameFault::InvalidFrameId),
     }
+}
+
+fn read_padding(ty: u64, bytes: &[u8]) -> Result<(TypedFrame<'_>, &[u8]), FrameFault>
+    ensures exact { Gives (λ x. (borrowed x.0.frame, x.1.now)) result (give frames.Padding bytes.now) }
+    ensures told { IfOk result (λ x. x.0.ty ≡ ty) }
+{
+    Ok((
+        TypedOf {
+            ty,
+            frame: FrameOf::Padding,
+        },
+        bytes,
+    ))
+}
+
+fn read_ping(ty: u64, bytes: &[u8]) -> Result<(TypedFrame<'_>, &[u8]), FrameFault>
+    ensures exact { Gives (λ x. (borrowed x.0.frame, x.1.now)) result (give frames.Ping bytes.now) }
+    ensures told { IfOk result (λ x. x.0.ty ≡ ty) }
+{
+    Ok((
+        TypedOf {
+            ty,
+            frame: FrameOf::Ping,
+        },
+        bytes,
+    ))
 }
 
 fn varint_of_number(number: u64) -> VarInt
@@ -515,6 +524,19 @@ fn read_application_close(ty: u64, bytes: &[u8]) -> Result<(TypedFrame<'_>, &[u8
             frame: FrameOf::ApplicationClose { error_code, reason },
         },
         rest,
+    ))
+}
+
+fn read_handshake_done(ty: u64, bytes: &[u8]) -> Result<(TypedFrame<'_>, &[u8]), FrameFault>
+    ensures exact { Gives (λ x. (borrowed x.0.frame, x.1.now)) result (give frames.HandshakeDone bytes.now) }
+    ensures told { IfOk result (λ x. x.0.ty ≡ ty) }
+{
+    Ok((
+        TypedOf {
+            ty,
+            frame: FrameOf::HandshakeDone,
+        },
+        bytes,
     ))
 }
 
