@@ -1,7 +1,7 @@
 //! Frames read (RFC 9000, section 19; RFC 9221, section 4): one function a kind, which gives the frame
 //! with its type, and the bytes behind it.
 
-ghost use Rattle.std.specs.Prelude.{◌≡◌, ◌<◌, ◌≤◌, ◌^◌, length, IfOk};
+ghost use Rattle.std.specs.Prelude.{◌≡◌, ◌<◌, ◌≤◌, ◌^◌, length, [], Ok, Err, IfOk, MatchResult};
 ghost use Rattle.qc_base.specs.Reading.{Gives, give};
 ghost use Rattle.qc_frame.specs.Frame.{borrowed, typed};
 ghost use Rattle.qc_frame.specs.declared.frames.FrameOf.TheVariants as frames;
@@ -15,22 +15,35 @@ use qc_base::{
 };
 
 /// The frame at the front of the bytes with its type, and the bytes behind it.
-#[tactic(auto, unfolding(crate::specs::FrameReading::frame_at))]
 pub(crate) fn read_frame(bytes: &[u8]) -> Result<(TypedFrame<'_>, &[u8]), InvalidFrame>
     ensures { Gives (λ x. (typed x.0, x.1.now)) result (frame_at bytes.now) }
+{
+    let (item, behind) = read_item(bytes);
+    match item {
+        Ok(read) => Ok((read, behind)),
+        Err(invalid) => Err(invalid),
+    }
+}
+
+/// The same as an item of a payload, with the bytes that its other items are read from: none behind
+/// a fault.
+#[tactic(auto, unfolding(crate::specs::FrameReading::frame_at))]
+pub(crate) fn read_item(bytes: &[u8]) -> (Result<TypedFrame<'_>, InvalidFrame>, &[u8])
+    ensures { MatchResult result.0 (λ read. frame_at bytes.now ≡ Ok (typed read, result.1.now)) (λ invalid. (frame_at bytes.now ≡ Err invalid) × (result.1.now ≡ [])) }
 {
     let (ty, rest) = match read_varint(bytes) {
         Ok(read) => read,
         Err(_) => {
-            return Err(InvalidFrame {
+            let invalid = InvalidFrame {
                 ty: None,
                 why: FrameFault::UnexpectedEnd,
-            });
+            };
+            return (Err(invalid), &[]);
         }
     };
     match read_fields(ty, rest) {
-        Ok(read) => Ok(read),
-        Err(why) => Err(InvalidFrame { ty: Some(ty), why }),
+        Ok((read, behind)) => (Ok(read), behind),
+        Err(why) => (Err(InvalidFrame { ty: Some(ty), why }), &[]),
     }
 }
 
