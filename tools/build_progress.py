@@ -122,7 +122,11 @@ def main():
     progress = Progress(crates_of(program))
     lines = queue.Queue()
     with open(log, "wb") as kept:
-        ran = subprocess.Popen(command, stdin=subprocess.DEVNULL, stdout=subprocess.PIPE, stderr=subprocess.STDOUT)
+        try:
+            ran = subprocess.Popen(command, stdin=subprocess.DEVNULL, stdout=subprocess.PIPE, stderr=subprocess.STDOUT)
+        except OSError as error:
+            kept.write(f"{command[0]}: {error.strerror}\n".encode())
+            sys.exit(127)
 
         def read():
             for line in ran.stdout:

@@ -1,9 +1,11 @@
 -- The items of a payload, one by one
-use Rattle.std.proofs.Common.{◌≡◌, ℕ, zero, suc, ◌<◌, ◌≤◌, List, [], ◌∷◌, length, Result, Ok, Err, refl, ap, ◌∙◌, arith}
-use Rattle.qc_frame.specs.Frame.{TypedValue}
+use Rattle.std.proofs.Common.{◌≡◌, ℕ, zero, suc, ◌<◌, ◌≤◌, List, [], ◌∷◌, length, Result, Ok, Err, MatchResult, refl, ap, sym, ◌∙◌, arith}
+use Rattle.std.specs.Borrow.{Bor}
+use Rattle.qc_frame.specs.Frame.{TypedValue, typed}
 use Rattle.qc_frame.specs.FrameReading.{frame_at}
-use Rattle.qc_frame.specs.Payload.{Item, item_and, items_within, items_of}
+use Rattle.qc_frame.specs.Payload.{Item, item_and, item_view, items_within, items_of}
 use Rattle.qc_frame.specs.declared.fault.InvalidFrame.{InvalidFrame}
+use Rattle.qc_frame.specs.declared.frames.TypedOf.{TypedOf}
 use Rattle.qc_frame.proofs.FrontFrame.{frame_shorter}
 
 -- the others are the same by any two functions that agree on shorter bytes
@@ -39,6 +41,14 @@ pub items_fault : (a : List ℕ) (e : InvalidFrame) → 0 < length a → frame_a
 unfolding items_of
 items_fault [] f some e = absurd (omega arith)
 items_fault (b ∷ a) f some e = ap (λ v. item_and v (items_within (length a))) e
+
+-- an item that was read, and those that are read from the bytes behind it
+pub items_item : (a : List ℕ) (item : Result (TypedOf (Bor (List ℕ))) InvalidFrame) (z : List ℕ) → 0 < length a
+    → MatchResult item (λ read. frame_at a ≡ Ok (typed read, z)) (λ invalid. (frame_at a ≡ Err invalid) × (z ≡ []))
+    → items_of a ≡ item_view item ∷ items_of z
+items_item a (Ok read) z some e = items_frame a (typed read) z some e
+items_item a (Err invalid) z some e =
+    items_fault a invalid some e.0 ∙ ap (λ (is : List Item). Err invalid ∷ is) (sym (items_none z (ap length e.1)))
 
 ends_at : (v : Result (TypedValue × List ℕ) InvalidFrame) (others : List ℕ → List Item) (e : InvalidFrame) (rest : List Item) → item_and v others ≡ Err e ∷ rest → rest ≡ []
 ends_at (Ok x) others e rest is = cc

@@ -1,5 +1,5 @@
 -- The frames of a payload have room in their fields
-use Rattle.std.proofs.Common.{◌≡◌, ℕ, ◌<◌, List, [], ◌∷◌, length, IfOk, Result, Ok, Err, arith}
+use Rattle.std.proofs.Common.{ℕ, List, [], length, IfOk, Result, Ok, Err, arith}
 use Rattle.std.specs.List.{All}
 use Rattle.std.proofs.lemmas.List.Elements.{All-nil, All-cons}
 use Rattle.qc_base.specs.Reading.{Gives}

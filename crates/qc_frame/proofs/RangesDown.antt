@@ -1,8 +1,7 @@
 -- The ranges that an ACK acknowledges, one by one
-use Rattle.std.proofs.Common.{◌≡◌, ℕ, ◌+◌, ◌-◌, List, [], ◌∷◌, None, Some, refl, ap, ◌∙◌, arith}
-use Rattle.qc_base.specs.declared.range_set.NumberRange.{NumberRange}
+use Rattle.std.proofs.Common.{◌≡◌, ℕ, ◌+◌, ◌-◌, List, [], ◌∷◌, None, Some, refl}
 use Rattle.qc_base.specs.Reading.{varint_of}
-use Rattle.qc_frame.specs.AckRanges.{range_down, ranges_down}
+use Rattle.qc_frame.specs.AckRanges.{ranges_down}
 use Rattle.qc_frame.specs.FrameSpelling.{numbers_of}
 use Rattle.qc_frame.proofs.Numbers.{number_none, numbers_of_next}
 

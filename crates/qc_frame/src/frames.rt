@@ -142,11 +142,11 @@ pub struct NewConnectionId {
 /// A frame as it was read, whose byte strings are held as `B`.
 #[derive(Debug, Drop)]
 pub struct TypedOf<B> {
+    /// The frame.
+    pub frame: FrameOf<B>,
     /// The frame's type (RFC 9000, section 12.4). A STREAM's and a DATAGRAM's has bits that the
     /// frame does not keep, and the error that a frame causes names its type.
     pub ty: u64,
-    /// The frame.
-    pub frame: FrameOf<B>,
 }
 
 /// A frame as it was read, whose byte strings are slices of the payload that it was read from.

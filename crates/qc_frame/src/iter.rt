@@ -13,7 +13,7 @@ ghost use Rattle.qc_frame.specs.Payload.{Item, item_view, items_of, padding_item
 
 use crate::fault::InvalidFrame;
 use crate::frames::TypedFrame;
-use crate::read::read_frame;
+use crate::read::{read_frame, read_item};
 use qc_base::{TransportError, TransportErrorCode};
 use std::marker::Model;
 
@@ -109,20 +109,12 @@ impl<'a> Iterator for Iter<'a> {
 
     ghost remaining = { item_count items_of };
 
-    #[tactic(auto, using(crate::proofs::Items::items_none, crate::proofs::Items::items_frame, crate::proofs::Items::items_fault))]
     fn next(&mut self) -> Option<Result<TypedFrame<'a>, InvalidFrame>> {
         if self.bytes.is_empty() {
             return None;
         }
-        match read_frame(self.bytes) {
-            Ok((frame, rest)) => {
-                self.bytes = rest;
-                Some(Ok(frame))
-            }
-            Err(invalid) => {
-                self.bytes = &[];
-                Some(Err(invalid))
-            }
-        }
+        let (item, rest) = read_item(self.bytes);
+        self.bytes = rest;
+        Some(item)
     }
 }

@@ -1,9 +1,10 @@
 //! Frames read (RFC 9000, section 19; RFC 9221, section 4): one function a kind, which gives the frame
 //! with its type, and the bytes behind it.
 
-ghost use Rattle.std.specs.Prelude.{◌≡◌, ◌<◌, ◌≤◌, ◌^◌, length, IfOk};
-ghost use Rattle.qc_base.specs.Reading.{Gives};
+ghost use Rattle.std.specs.Prelude.{◌≡◌, ◌<◌, ◌≤◌, ◌^◌, length, [], Ok, Err, IfOk, MatchResult};
+ghost use Rattle.qc_base.specs.Reading.{Gives, give};
 ghost use Rattle.qc_frame.specs.Frame.{borrowed, typed};
+ghost use Rattle.qc_frame.specs.declared.frames.FrameOf.TheVariants as frames;
 ghost use Rattle.qc_frame.specs.FrameReading.{ack_at, application_close_at, body_at, connection_close_at, counts_at, crypto_at, data_blocked_at, datagram_at, fields_at, frame_at, max_data_at, max_stream_data_at, max_streams_at, more_ranges_at, new_connection_id_at, new_token_at, offset_at, path_challenge_at, path_response_at, ranges_at, reset_stream_at, retire_connection_id_at, stop_sending_at, stream_at, stream_data_blocked_at, streams_blocked_at, type_given};
 
 use crate::fault::{FrameFault, InvalidFrame};
@@ -14,22 +15,35 @@ use qc_base::{
 };
 
 /// The frame at the front of the bytes with its type, and the bytes behind it.
-#[tactic(auto, unfolding(crate::specs::FrameReading::frame_at))]
 pub(crate) fn read_frame(bytes: &[u8]) -> Result<(TypedFrame<'_>, &[u8]), InvalidFrame>
     ensures { Gives (λ x. (typed x.0, x.1.now)) result (frame_at bytes.now) }
+{
+    let (item, behind) = read_item(bytes);
+    match item {
+        Ok(read) => Ok((read, behind)),
+        Err(invalid) => Err(invalid),
+    }
+}
+
+/// The same as an item of a payload, with the bytes that its other items are read from: none behind
+/// a fault.
+#[tactic(auto, unfolding(crate::specs::FrameReading::frame_at))]
+pub(crate) fn read_item(bytes: &[u8]) -> (Result<TypedFrame<'_>, InvalidFrame>, &[u8])
+    ensures { MatchResult result.0 (λ read. frame_at bytes.now ≡ Ok (typed read, result.1.now)) (λ invalid. (frame_at bytes.now ≡ Err invalid) × (result.1.now ≡ [])) }
 {
     let (ty, rest) = match read_varint(bytes) {
         Ok(read) => read,
         Err(_) => {
-            return Err(InvalidFrame {
+            let invalid = InvalidFrame {
                 ty: None,
                 why: FrameFault::UnexpectedEnd,
-            });
+            };
+            return (Err(invalid), &[]);
         }
     };
     match read_fields(ty, rest) {
-        Ok(read) => Ok(read),
-        Err(why) => Err(InvalidFrame { ty: Some(ty), why }),
+        Ok((read, behind)) => (Ok(read), behind),
+        Err(why) => (Err(InvalidFrame { ty: Some(ty), why }), &[]),
     }
 }
 
@@ -39,20 +53,8 @@ fn read_fields(ty: u64, bytes: &[u8]) -> Result<(TypedFrame<'_>, &[u8]), FrameFa
     ensures told { IfOk result (λ x. x.0.ty ≡ ty) }
 {
     match ty {
-        0x00 => Ok((
-            TypedOf {
-                ty,
-                frame: FrameOf::Padding,
-            },
-            bytes,
-        )),
-        0x01 => Ok((
-            TypedOf {
-                ty,
-                frame: FrameOf::Ping,
-            },
-            bytes,
-        )),
+        0x00 => read_padding(ty, bytes),
+        0x01 => read_ping(ty, bytes),
         0x02 => read_ack(ty, false, bytes),
         0x03 => read_ack(ty, true, bytes),
         0x04 => read_reset_stream(ty, bytes),
@@ -74,17 +76,37 @@ fn read_fields(ty: u64, bytes: &[u8]) -> Result<(TypedFrame<'_>, &[u8]), FrameFa
         0x1b => read_path_response(ty, bytes),
         0x1c => read_connection_close(ty, bytes),
         0x1d => read_application_close(ty, bytes),
-        0x1e => Ok((
-            TypedOf {
-                ty,
-                frame: FrameOf::HandshakeDone,
-            },
-            bytes,
-        )),
+        0x1e => read_handshake_done(ty, bytes),
         0x30 => read_datagram(ty, false, bytes),
         0x31 => read_datagram(ty, true, bytes),
         _ => Err(FrameFault::InvalidFrameId),
     }
+}
+
+fn read_padding(ty: u64, bytes: &[u8]) -> Result<(TypedFrame<'_>, &[u8]), FrameFault>
+    ensures exact { Gives (λ x. (borrowed x.0.frame, x.1.now)) result (give frames.Padding bytes.now) }
+    ensures told { IfOk result (λ x. x.0.ty ≡ ty) }
+{
+    Ok((
+        TypedOf {
+            ty,
+            frame: FrameOf::Padding,
+        },
+        bytes,
+    ))
+}
+
+fn read_ping(ty: u64, bytes: &[u8]) -> Result<(TypedFrame<'_>, &[u8]), FrameFault>
+    ensures exact { Gives (λ x. (borrowed x.0.frame, x.1.now)) result (give frames.Ping bytes.now) }
+    ensures told { IfOk result (λ x. x.0.ty ≡ ty) }
+{
+    Ok((
+        TypedOf {
+            ty,
+            frame: FrameOf::Ping,
+        },
+        bytes,
+    ))
 }
 
 fn varint_of_number(number: u64) -> VarInt
@@ -515,6 +537,19 @@ fn read_application_close(ty: u64, bytes: &[u8]) -> Result<(TypedFrame<'_>, &[u8
             frame: FrameOf::ApplicationClose { error_code, reason },
         },
         rest,
+    ))
+}
+
+fn read_handshake_done(ty: u64, bytes: &[u8]) -> Result<(TypedFrame<'_>, &[u8]), FrameFault>
+    ensures exact { Gives (λ x. (borrowed x.0.frame, x.1.now)) result (give frames.HandshakeDone bytes.now) }
+    ensures told { IfOk result (λ x. x.0.ty ≡ ty) }
+{
+    Ok((
+        TypedOf {
+            ty,
+            frame: FrameOf::HandshakeDone,
+        },
+        bytes,
     ))
 }
 

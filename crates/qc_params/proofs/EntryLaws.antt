@@ -1,11 +1,11 @@
 -- Bytes and the entries in them
-use Rattle.std.proofs.Common.{◌≡◌, ℕ, zero, suc, ◌+◌, ◌-◌, ◌<◌, ◌≤◌, Bool, true, false, List, [], ◌∷◌, ◌++◌, length, take, drop, Option, Some, None, refl, arith, sym, ap, ◌∙◌, nat_lt, nat_eq, length-drop}
+use Rattle.std.proofs.Common.{◌≡◌, ℕ, zero, suc, ◌+◌, ◌<◌, ◌≤◌, Bool, true, false, List, [], ◌∷◌, ◌++◌, length, Option, Some, None, refl, arith, sym, ap, ◌∙◌, nat_eq, length-append}
 use Rattle.std.proofs.lemmas.Bool.Decides.{nat_tests}
 use Rattle.std.specs.Prelude.{option_to_list}
-use Rattle.std.specs.Option.{option_and_then, option_map}
-use Rattle.std.specs.Int.{byte_len, from_be_bytes}
-use Rattle.qc_base.specs.Varint.{Form, one, two, four, eight, width, mark}
-use Rattle.qc_base.specs.Reading.{varint_of, blob_of, bytes_of, form_of}
+use Rattle.std.specs.Option.{option_and_then}
+use Rattle.qc_base.specs.Reading.{varint_of, blob_of, bytes_of}
+use Rattle.qc_base.proofs.Front.{bytes_take}
+use Rattle.qc_base.proofs.Varints.{varint_shorter}
 use Rattle.qc_params.specs.ParametersReading.{entry_of, entries_within, entries_of, only_one, value_in}
 use Rattle.qc_params.specs.ParametersGrammar.{Entry, values_of}
 
@@ -14,48 +14,11 @@ use Rattle.qc_params.specs.ParametersGrammar.{Entry, values_of}
 pub in_some : {X : Type 0} (x y : X) → Some x ≡ Some y → x ≡ y
 in_some x y e = cc
 
--- the front and what is left, where the bytes are long enough
-abbrev cut_where : Bool → ℕ → List ℕ → Option (List ℕ × List ℕ)
-cut_where true n a = None
-cut_where false n a = Some (take n a, drop n a)
-
-cut_shorter : (n : ℕ) (a x z : List ℕ) (b : Bool) → nat_lt (length a) n ≡ b → cut_where b n a ≡ Some (x, z) → length z + n ≡ length a
-cut_shorter n a x z true t e = cc
-cut_shorter n a x z false t e =
-    let back : drop n a ≡ z = ap (λ (p : List ℕ × List ℕ). p.1) (in_some _ _ e) in
-    let long : n ≤ length a = grind (arith, nat_tests) in
-    rw (← back) (omega (arith, length-drop n a))
-
-cut_is : (n : ℕ) (a : List ℕ) (b : Bool) → nat_lt (length a) n ≡ b → bytes_of n a ≡ cut_where b n a
-cut_is n a true t = rw t refl
-cut_is n a false t = rw t refl
-
-pub bytes_shorter : (n : ℕ) (a x z : List ℕ) → bytes_of n a ≡ Some (x, z) → length z + n ≡ length a
+bytes_shorter : (n : ℕ) (a x z : List ℕ) → bytes_of n a ≡ Some (x, z) → length z + n ≡ length a
 bytes_shorter n a x z e =
-    cut_shorter n a x z (nat_lt (length a) n) refl (sym (cut_is n a (nat_lt (length a) n) refl) ∙ e)
-
--- the number in a form, and what stands behind it
-abbrev number_by : Form → (List ℕ × List ℕ) → ℕ × List ℕ
-number_by f x = (from_be_bytes (width f) x.0 - mark f, x.1)
-
-form_long : (f : Form) → 0 < byte_len (width f)
-form_long one = omega arith
-form_long two = omega arith
-form_long four = omega arith
-form_long eight = omega arith
-
-form_shorter : (f : Form) (a : List ℕ) (o : Option (List ℕ × List ℕ)) (n : ℕ) (z : List ℕ) → bytes_of (byte_len (width f)) a ≡ o → option_map (number_by f) o ≡ Some (n, z) → length z < length a
-form_shorter f a None n z e h = cc
-form_shorter f a (Some x) n z e h =
-    let back : x.1 ≡ z = ap (λ (p : ℕ × List ℕ). p.1) (in_some _ _ h) in
-    let long = bytes_shorter (byte_len (width f)) a x.0 x.1 e in
-    rw (← back) (omega (arith, long, form_long f))
-
-pub varint_shorter : (a : List ℕ) (n : ℕ) (z : List ℕ) → varint_of a ≡ Some (n, z) → length z < length a
-unfolding varint_of
-varint_shorter [] n z e = cc
-varint_shorter (b ∷ a) n z e =
-    form_shorter (form_of b) (b ∷ a) (bytes_of (byte_len (width (form_of b))) (b ∷ a)) n z refl e
+    let t = bytes_take n a x z e in
+    let all = ap length t.1 in
+    omega (arith, t.0, all, length-append x z)
 
 -- a reading that goes on behind another one, with its two values
 abbrev entry_after : (ℕ × List ℕ) → (List ℕ × List ℕ) → Entry × List ℕ

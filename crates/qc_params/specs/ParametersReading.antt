@@ -1,4 +1,5 @@
--- What bytes say as transport parameters (RFC 9000, section 18). `None`: they are badly formed.
+-- What bytes say as transport parameters (RFC 9000, section 18). `None`: they are badly formed. Entries and parameters
+-- are read of all bytes, so that none is left behind them.
 use Rattle.std.specs.Prelude.{◌≡◌, ℕ, zero, suc, ◌==◌, Bool, true, false, ◌&&◌, ◌||◌, not, is_some, nat_le, nat_lt, List, [], ◌∷◌, length, Option, Some, None, Result, Ok, Err, if◌then◌else◌}
 use Rattle.std.specs.Option.{option_and_then, option_map}
 use Rattle.std.specs.Int.{w16}

@@ -156,7 +156,9 @@ fn read_parameters(side: Side, bytes: &[u8]) -> Result<TransportParameters, Para
 
 impl TransportParameters {
     /// Reads the parameters that the other end sent; `side` is the reader's (RFC 9000, section 18).
-    /// Unknown ids are skipped, and an absent parameter has its default. It takes no memory.
+    /// Unknown ids are skipped, and an absent parameter has its default. It takes no memory. What is
+    /// read is what the grammar has, in any form of its numbers, and nothing that the grammar has is
+    /// read as anything else.
     ///
     /// # Errors
     ///

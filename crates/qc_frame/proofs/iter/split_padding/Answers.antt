@@ -1,5 +1,4 @@
-use Rattle.std.proofs.Common.{◌≡◌, ℕ, List, ◌∷◌, ◌++◌, replicate, sym, subst, ◌∙◌}
-use Rattle.qc_frame.specs.Payload.{items_of, padding_item}
+use Rattle.std.proofs.Common.{sym, ◌∙◌}
 use Rattle.qc_frame.proofs.PaddingRun.{padding_run, zeros_run, run_ends}
 use Rattle.qc_frame.proofs.iter.split_padding.Goals as goal
 

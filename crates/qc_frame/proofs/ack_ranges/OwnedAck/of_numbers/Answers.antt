@@ -1,4 +1,4 @@
-use Rattle.std.proofs.Common.{◌≡◌, ℕ, ◌-◌, IsTrue, true, false, not, List, length, reverse, Option, refl, sym, ap, ◌∙◌, subst, arith}
+use Rattle.std.proofs.Common.{◌≡◌, ℕ, ◌-◌, true, List, length, reverse, Option, refl, sym, ap, ◌∙◌, subst, arith}
 use Rattle.qc_base.specs.declared.range_set.NumberRange.{NumberRange}
 use Rattle.qc_base.specs.RangeSet.{Member, Normal}
 use Rattle.qc_base.specs.Varint.{IsNumber}
