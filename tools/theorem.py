@@ -15,6 +15,7 @@ import glob
 import os
 import re
 import sys
+import textwrap
 
 TOP = os.path.dirname(os.path.dirname(os.path.realpath(__file__)))
 DOCUMENT = f"{TOP}/docs/THEOREM.md"
@@ -444,6 +445,10 @@ def name_of(key, item):
     return f"`{key[2]}` ({', '.join(item.used)})" if item.used else f"`{key[2]}`"
 
 
+def wrapped(line, indent):
+    return textwrap.fill(line, 118, subsequent_indent=indent, break_long_words=False, break_on_hyphens=False)
+
+
 def rounded(count, by):
     return -(-count // by) * by
 
@@ -480,11 +485,13 @@ def table(both, parts, order, kit):
         needed = [function for (function, _), part in zip(ROOTS, parts) if any(key in part for key in keys)]
         of = "" if len(needed) == len(ROOTS) else f" (`{needed[0]}` alone)"
         names = ", ".join(name_of(key, both[key]) for key in keys)
-        lines.append(f"1. `{file.removeprefix('crates/')}`, about {rounded(size, 10)} lines{of}: {names}")
+        line = f"1. `{file.removeprefix('crates/')}`, about {rounded(size, 10)} lines{of}: {names}"
+        lines.append(wrapped(line, "   "))
     head = f"{len(both)} definitions in {len(order)} files, about {rounded(total, 100)} lines with their comments. Files stand below `crates/`."
     library = ["The words of the toolchain's library on which they stand:", ""]
     for module in sorted(kit):
-        library.append(f"- `{module}`: " + ", ".join(f"`{name}`" for name in sorted(kit[module])))
+        words = ", ".join(f"`{name}`" for name in sorted(kit[module]))
+        library.append(wrapped(f"- `{module}`: {words}", "  "))
     return "\n".join([head, "", *lines, "", *library])
 
 
