@@ -1,2 +1,5 @@
 pub mod Ring
 pub mod Keyed
+pub mod TwoRings
+pub mod InStep
+pub mod PairLaws

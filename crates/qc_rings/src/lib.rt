@@ -2,8 +2,12 @@
 #![tactic(auto)]
 
 mod key_ring;
+mod laws;
+mod pair;
 mod previous;
 mod which;
 
 pub use key_ring::KeyRing;
+pub use laws::{ends_in_step_agree, ends_stay_in_step};
+pub use pair::{PairOutcome, RingEvent};
 pub use which::Which;
