@@ -2,9 +2,11 @@
 #![tactic(auto)]
 
 mod key_ring;
+mod keyed_end;
 mod laws;
 mod pair;
 mod previous;
+mod sealed_packet;
 mod which;
 
 pub use key_ring::KeyRing;
