@@ -105,7 +105,7 @@ run_in_step (v ∷ vs) n w small h =
     let rest : InStepWithin (n + 1 + length vs) (run vs (happens w v)) = run_in_step vs (n + 1) (happens w v) (omega arith) (happens_in_step n w v (omega arith) h) in
     record { step = rest.step; client = omega (arith, rest.client); server = omega (arith, rest.server) }
 
-first_within : InStepWithin 0 first_world
+pub first_within : InStepWithin 0 first_world
 first_within = record { step = first_in_step; client = omega arith; server = omega arith }
 
 pub always_in_step : (vs : List RingEvent) (n : ℕ) → length vs < 2 ^ 64 → AreInStep (run (take n vs) first_world).client (run (take n vs) first_world).server

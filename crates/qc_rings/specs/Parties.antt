@@ -9,8 +9,11 @@ use Rattle.qc_crypto.specs.declared.keys.KeyPair.{KeyPair}
 use Rattle.qc_rings.specs.declared.sealed_packet.SealedPacket.{SealedPacket}
 use Rattle.qc_rings.specs.declared.which.Which.{Which}
 use Rattle.qc_rings.specs.declared.which.Which.TheVariants.{Current, Previous, Next}
+use Rattle.qc_rings.specs.declared.pair.RingEvent.{RingEvent}
+use Rattle.qc_rings.specs.declared.pair.RingEvent.TheVariants.{Seal, Update, Deliver, Discard}
 use Rattle.qc_rings.specs.declared.pair.PairOutcome.{PairOutcome}
 use Rattle.qc_rings.specs.declared.pair.PairOutcome.TheVariants.{Sealed, Updated, Opened, Old, Discarded, Nothing}
+use Rattle.qc_rings.specs.TwoRings.{other}
 use Rattle.qc_rings.specs.Ring.{phase_of, which_named, may_update, after_update, has_floor}
 use Rattle.qc_rings.specs.Keyed.{Keyed, first_keyed, key_of, keyed_opened, keyed_sealed, keyed_acked, keyed_updated, keyed_discarded}
 use Rattle.qc_rings.specs.Party.{Party}
@@ -98,3 +101,44 @@ party_given opening keys t (Some q) = if party_opens opening t q then party_open
 abbrev pub given_outcome : {P : Type 0} → (P → Opening) → Party P → Option SealedPacket → PairOutcome
 given_outcome opening t None = Nothing
 given_outcome opening t (Some q) = if party_opens opening t q then Opened else Old
+
+-- both ends
+pub record Parties (P : Type 0) : Type 0 where
+  pub client : Party P
+  pub server : Party P
+
+abbrev pub first_parties : {P : Type 0} → (Side → ℕ → KeyPair P) → Parties P
+first_parties keys = record { client = first_party (keys Client); server = first_party (keys Server) }
+
+abbrev pub party_of : {P : Type 0} → Parties P → Side → Party P
+party_of t Client = t.client
+party_of t Server = t.server
+
+abbrev pub with_party : {P : Type 0} → Parties P → Side → Party P → Parties P
+with_party t Client p = record t { client = p }
+with_party t Server p = record t { server = p }
+
+-- the packet of a sealer that is counted so, from 0
+abbrev pub bytes_at : {P : Type 0} → Parties P → Side → ℕ → Option SealedPacket
+bytes_at t from index = slice_get (party_of t from).sent index
+
+-- both ends after an event
+unfoldable pub parties_after : {P : Type 0} → (P → Sealing) → (P → Opening) → (Side → ℕ → KeyPair P) → Parties P → RingEvent → Parties P
+parties_after seal opening keys t (Seal from) = with_party t from (party_sealed seal (party_of t from))
+parties_after seal opening keys t (Update from) = with_party t from (party_updated (keys from) (party_of t from))
+parties_after seal opening keys t (Deliver from index) =
+    with_party t (other from) (party_given opening (keys (other from)) (party_of t (other from)) (bytes_at t from index))
+parties_after seal opening keys t (Discard at) = with_party t at (party_discarded (party_of t at))
+
+-- what comes of an event
+unfoldable pub parties_outcome : {P : Type 0} → (P → Opening) → Parties P → RingEvent → PairOutcome
+parties_outcome opening t (Seal from) = Sealed (length (party_of t from).sent) (party_of t from).keys.ring.epoch
+parties_outcome opening t (Update from) = updated_outcome (party_of t from)
+parties_outcome opening t (Deliver from index) = given_outcome opening (party_of t (other from)) (bytes_at t from index)
+parties_outcome opening t (Discard at) = discarded_outcome (party_of t at)
+
+-- what comes of each of a list of events
+abbrev pub parties_log : {P : Type 0} → (P → Sealing) → (P → Opening) → (Side → ℕ → KeyPair P) → List RingEvent → Parties P → List PairOutcome
+parties_log seal opening keys [] t = []
+parties_log seal opening keys (v ∷ vs) t =
+    parties_outcome opening t v ∷ parties_log seal opening keys vs (parties_after seal opening keys t v)

@@ -6,10 +6,12 @@ mod keyed_end;
 mod laws;
 mod pair;
 mod previous;
+mod ring_pair;
 mod sealed_packet;
 mod which;
 
 pub use key_ring::KeyRing;
 pub use laws::{ends_in_step_agree, ends_stay_in_step};
 pub use pair::{PairOutcome, RingEvent};
+pub use ring_pair::PairLog;
 pub use which::Which;
