@@ -1,6 +1,6 @@
 -- The greatest of a list of numbers stands for all of them.
-use Rattle.std.specs.Prelude.{Bool, true, false, ◌||◌, max, Option, Some, None, nat_le, if◌then◌else◌}
-use Rattle.std.proofs.Common.{◌≡◌, ℕ, ◌+◌, ◌<◌, ◌≤◌, List, [], ◌∷◌, ◌++◌, refl, sym, ap, ◌∙◌, arith}
+use Rattle.std.specs.Prelude.{true, false, ◌||◌, max, Option, Some, None, nat_le, if◌then◌else◌}
+use Rattle.std.proofs.Common.{◌≡◌, ℕ, List, [], ◌∷◌, ◌++◌, refl, ap, ◌∙◌, arith}
 use Rattle.std.proofs.lemmas.Bool.Decides.{nat_tests}
 use Rattle.qc_rings.specs.Ring.{Ring, is_from, after_acked}
 use Rattle.qc_rings.specs.TwoRings.{after_all_acked}
@@ -28,10 +28,10 @@ from_max : (first : Option ℕ) (m n : ℕ) → is_from first (max n m) ≡ (is_
 from_max None m n = refl
 from_max (Some f) m n =
     elim (nat_le f m) as (λ t. nat_le f m ≡ t → nat_le f (max n m) ≡ (t || nat_le f n)) [
-      true ↦ λ e. grind (arith, nat_tests)
-    | false ↦ λ e. elim (nat_le f n) as (λ u. nat_le f n ≡ u → nat_le f (max n m) ≡ u) [
-        true ↦ λ g. grind (arith, nat_tests)
-      | false ↦ λ g. grind (arith, nat_tests)
+      | true ↦ λ e. grind (arith, nat_tests)
+      | false ↦ λ e. elim (nat_le f n) as (λ u. nat_le f n ≡ u → nat_le f (max n m) ≡ u) [
+        | true ↦ λ g. grind (arith, nat_tests)
+        | false ↦ λ g. grind (arith, nat_tests)
       ] refl
     ] refl
 
@@ -41,8 +41,8 @@ unfolding after_acked
 acked_twice r m n =
     let f = from_max r.first m n in
     elim (is_from r.first m) as (λ t. is_from r.first (max n m) ≡ (t || is_from r.first n) → (if is_from (if t then record r { acked = true } else r).first n then record (if t then record r { acked = true } else r) { acked = true } else (if t then record r { acked = true } else r)) ≡ (if is_from r.first (max n m) then record r { acked = true } else r)) [
-      true ↦ λ e. rw e (elim (is_from r.first n) as (λ u. (if u then record r { acked = true } else record r { acked = true }) ≡ record r { acked = true }) [ true ↦ refl | false ↦ refl ])
-    | false ↦ λ e. rw e refl
+      | true ↦ λ e. rw e (elim (is_from r.first n) as (λ u. (if u then record r { acked = true } else record r { acked = true }) ≡ record r { acked = true }) [ true ↦ refl | false ↦ refl ])
+      | false ↦ λ e. rw e refl
     ] f
 
 -- a list of numbers is acknowledged as its greatest one is

@@ -1,13 +1,13 @@
 -- Each move keeps two ends in step: an update, a discard, a sealing, a packet opened by current, previous
 -- or next keys, and an acknowledgement.
-use Rattle.std.specs.Prelude.{Bool, true, false, cond, max, Option, Some, None, IsTrue, nat_le}
-use Rattle.std.proofs.Common.{◌≡◌, ℕ, ◌+◌, ◌<◌, ◌≤◌, ◌^◌, List, [], ◌∷◌, ◌++◌, refl, sym, ap, subst, ◌∙◌, arith, All}
-use Rattle.std.proofs.lemmas.List.Elements.{All-weaker, All-push, All-nil}
+use Rattle.std.specs.Prelude.{Bool, true, false, max, Option, Some, None}
+use Rattle.std.proofs.Common.{◌≡◌, ℕ, ◌+◌, ◌<◌, ◌≤◌, List, [], ◌∷◌, ◌++◌, refl, arith, All}
+use Rattle.std.proofs.lemmas.List.Elements.{All-weaker, All-push}
 use Rattle.qc_base.specs.Time.{plus}
 use Rattle.qc_rings.specs.declared.which.Which.{Which}
 use Rattle.qc_rings.specs.declared.which.Which.TheVariants.{Current, Previous, Next}
-use Rattle.qc_rings.specs.Ring.{Ring, Kept, Dropped, Open, Below, with_floor, first_with, new_epoch, after_opened, after_sealed, after_acked, after_update, after_discard, is_from, has_floor, may_update}
-use Rattle.qc_rings.specs.TwoRings.{Packet, End, bound, first_end, end_seals, end_updated, end_discarded, end_opened, after_all_acked}
+use Rattle.qc_rings.specs.Ring.{Kept, Dropped, Open, Below, with_floor, first_with, after_opened, after_sealed, after_update}
+use Rattle.qc_rings.specs.TwoRings.{Packet, End, bound, end_seals}
 use Rattle.qc_rings.specs.InStep.{start_of, start, is_open, floor_bound, Fits, FitsEnds, Keeps, AreInStep}
 
 -- an update

@@ -1,18 +1,16 @@
 -- Two ends are in step at every moment of a run, and what follows for its events.
-use Rattle.std.specs.Prelude.{Bool, true, false, Option, Some, None, slice_get, if◌then◌else◌, take}
-use Rattle.std.proofs.Common.{◌≡◌, ℕ, zero, suc, ◌+◌, ◌-◌, ◌<◌, ◌≤◌, ◌^◌, List, [], ◌∷◌, ◌++◌, length, refl, sym, ap, subst, ◌∙◌, arith}
+use Rattle.std.specs.Prelude.{true, false, Option, Some, None, if◌then◌else◌, take}
+use Rattle.std.proofs.Common.{◌≡◌, ℕ, ◌+◌, ◌<◌, ◌≤◌, ◌^◌, List, [], ◌∷◌, length, refl, ◌∙◌, arith}
 use Rattle.std.proofs.lemmas.List.{length-take}
-use Rattle.qc_base.specs.Time.{plus}
 use Rattle.qc_base.specs.declared.side.Side.{Side}
 use Rattle.qc_base.specs.declared.side.Side.TheVariants.{Client, Server}
 use Rattle.qc_rings.specs.declared.which.Which.{Which}
 use Rattle.qc_rings.specs.declared.which.Which.TheVariants.{Current, Previous, Next}
 use Rattle.qc_rings.specs.declared.pair.RingEvent.{RingEvent}
 use Rattle.qc_rings.specs.declared.pair.RingEvent.TheVariants.{Seal, Update, Deliver, Discard}
-use Rattle.qc_rings.specs.declared.pair.PairOutcome.{PairOutcome}
-use Rattle.qc_rings.specs.declared.pair.PairOutcome.TheVariants.{Opened, Old, Nothing}
-use Rattle.qc_rings.specs.Ring.{Ring, after_opened, after_sealed, after_acked, after_update, after_discard, may_update, has_floor, is_from}
-use Rattle.qc_rings.specs.TwoRings.{Packet, End, World, first_end, first_world, other, end_of, with_end, end_seals, end_sealed, end_updated, end_discarded, end_given, end_opened, after_all_acked, opens, which_of, packet_at, happens, outcome, delivered, run, Throughout, AreNear, UpdatesAreGood, CurrentOpens, OnlyOldFail}
+use Rattle.qc_rings.specs.declared.pair.PairOutcome.TheVariants.{Opened, Old}
+use Rattle.qc_rings.specs.Ring.{Ring, after_opened, after_sealed, after_acked, after_update, after_discard, may_update, is_from}
+use Rattle.qc_rings.specs.TwoRings.{Packet, End, World, first_world, other, end_of, end_seals, end_sealed, end_updated, end_discarded, end_given, end_opened, after_all_acked, opens, which_of, packet_at, happens, outcome, delivered, run, Throughout, IsGoodUpdate, AreNear, UpdatesAreGood, CurrentOpens, OnlyOldFail}
 use Rattle.qc_rings.specs.InStep.{FitsEnds, AreInStep}
 use Rattle.qc_rings.proofs.Moves.{seal}
 use Rattle.qc_rings.proofs.Steps.{all_at, first_in_step, turned, end_updated_in_step, end_given_in_step, end_discarded_in_step, update_is_good, current_opens, unopened_is_old}
@@ -52,16 +50,16 @@ unfolding end_given
 given_epoch e None = omega arith
 given_epoch e (Some p) =
     elim (opens e p) as (λ t. (if t then end_opened e (which_of e p) p else e).ring.epoch ≤ e.ring.epoch + 1) [
-      true ↦ end_opened_epoch e (which_of e p) p
-    | false ↦ omega arith
+      | true ↦ end_opened_epoch e (which_of e p) p
+      | false ↦ omega arith
     ]
 
 updated_epoch : (e : End) → (end_updated e).ring.epoch ≤ e.ring.epoch + 1
 unfolding end_updated after_update
 updated_epoch e =
     elim (may_update e.ring) as (λ t. (if t then record e { ring = after_update e.ring } else e).ring.epoch ≤ e.ring.epoch + 1) [
-      true ↦ omega arith
-    | false ↦ omega arith
+      | true ↦ omega arith
+      | false ↦ omega arith
     ]
 
 discarded_epoch : (e : End) → (end_discarded e).ring.epoch ≡ e.ring.epoch
@@ -115,39 +113,39 @@ always_in_step vs n small = (run_in_step (take n vs) 0 first_world (omega (arith
 pub in_step_near : (w : World) → AreInStep w.client w.server → AreNear w
 in_step_near w h = record { client = h.one.near; server = h.two.near }
 
-pub in_step_updates : (w : World) → AreInStep w.client w.server → UpdatesAreGood w
-in_step_updates w h Client k p at named opened = update_is_good w.server w.client p (all_at (FitsEnds w.client w.server) w.client.sent k p h.sent_one at) named opened (turned w.client w.server h)
-in_step_updates w h Server k p at named opened = update_is_good w.client w.server p (all_at (FitsEnds w.server w.client) w.server.sent k p h.sent_two at) named opened h
+in_step_updates_each : (w : World) → AreInStep w.client w.server → (from : Side) (index : ℕ) (p : Packet) → packet_at w from index ≡ Some p → which_of (end_of w (other from)) p ≡ Next → opens (end_of w (other from)) p ≡ true → IsGoodUpdate (end_of w (other from)) p
+in_step_updates_each w h Client k p at named opened = update_is_good w.server w.client p (all_at (FitsEnds w.client w.server) w.client.sent k p h.sent_one at) named opened (turned w.client w.server h)
+in_step_updates_each w h Server k p at named opened = update_is_good w.client w.server p (all_at (FitsEnds w.server w.client) w.server.sent k p h.sent_two at) named opened h
 
 opened_outcome : (e : End) (p : Packet) (o : Option Packet) → o ≡ Some p → opens e p ≡ true → delivered e o ≡ Opened
 opened_outcome e p o at t = rw (at, t) refl
 
-pub in_step_current : (w : World) → AreInStep w.client w.server → CurrentOpens w
+in_step_current_each : (w : World) → AreInStep w.client w.server → (from : Side) (index : ℕ) (p : Packet) → packet_at w from index ≡ Some p → p.epoch ≡ (end_of w from).ring.epoch → outcome w (Deliver from index) ≡ Opened
 unfolding outcome
-in_step_current w h Client k p at e = opened_outcome w.server p (packet_at w Client k) at (current_opens w.server w.client p (all_at (FitsEnds w.client w.server) w.client.sent k p h.sent_one at) e (turned w.client w.server h))
-in_step_current w h Server k p at e = opened_outcome w.client p (packet_at w Server k) at (current_opens w.client w.server p (all_at (FitsEnds w.server w.client) w.server.sent k p h.sent_two at) e h)
+in_step_current_each w h Client k p at e = opened_outcome w.server p (packet_at w Client k) at (current_opens w.server w.client p (all_at (FitsEnds w.client w.server) w.client.sent k p h.sent_one at) e (turned w.client w.server h))
+in_step_current_each w h Server k p at e = opened_outcome w.client p (packet_at w Server k) at (current_opens w.client w.server p (all_at (FitsEnds w.server w.client) w.server.sent k p h.sent_two at) e h)
 
 old_outcome : (e : End) (p : Packet) (o : Option Packet) → o ≡ Some p → delivered e o ≡ Old → opens e p ≡ false
 old_outcome e p o at d =
     elim (opens e p) as (λ t. opens e p ≡ t → t ≡ false) [
-      true ↦ λ t. let same : delivered e o ≡ Opened = opened_outcome e p o at t in cc
-    | false ↦ λ t. refl
+      | true ↦ λ t. let same : delivered e o ≡ Opened = opened_outcome e p o at t in cc
+      | false ↦ λ t. refl
     ] refl
 
-pub in_step_old : (w : World) → AreInStep w.client w.server → OnlyOldFail w
+in_step_old_each : (w : World) → AreInStep w.client w.server → (from : Side) (index : ℕ) (p : Packet) → packet_at w from index ≡ Some p → outcome w (Deliver from index) ≡ Old → p.epoch < (end_of w from).ring.epoch
 unfolding outcome
-in_step_old w h Client k p at d = unopened_is_old w.server w.client p (all_at (FitsEnds w.client w.server) w.client.sent k p h.sent_one at) (old_outcome w.server p (packet_at w Client k) at d) (turned w.client w.server h)
-in_step_old w h Server k p at d = unopened_is_old w.client w.server p (all_at (FitsEnds w.server w.client) w.server.sent k p h.sent_two at) (old_outcome w.client p (packet_at w Server k) at d) h
+in_step_old_each w h Client k p at d = unopened_is_old w.server w.client p (all_at (FitsEnds w.client w.server) w.client.sent k p h.sent_one at) (old_outcome w.server p (packet_at w Client k) at d) (turned w.client w.server h)
+in_step_old_each w h Server k p at d = unopened_is_old w.client w.server p (all_at (FitsEnds w.server w.client) w.server.sent k p h.sent_two at) (old_outcome w.client p (packet_at w Server k) at d) h
 
 -- and at every moment of a run
 pub always_near : (vs : List RingEvent) → length vs < 2 ^ 64 → Throughout AreNear vs
 always_near vs small n = in_step_near (run (take n vs) first_world) (always_in_step vs n small)
 
 pub always_updates : (vs : List RingEvent) → length vs < 2 ^ 64 → Throughout UpdatesAreGood vs
-always_updates vs small n = in_step_updates (run (take n vs) first_world) (always_in_step vs n small)
+always_updates vs small n = record { each = in_step_updates_each (run (take n vs) first_world) (always_in_step vs n small) }
 
 pub always_current : (vs : List RingEvent) → length vs < 2 ^ 64 → Throughout CurrentOpens vs
-always_current vs small n = in_step_current (run (take n vs) first_world) (always_in_step vs n small)
+always_current vs small n = record { each = in_step_current_each (run (take n vs) first_world) (always_in_step vs n small) }
 
 pub always_old : (vs : List RingEvent) → length vs < 2 ^ 64 → Throughout OnlyOldFail vs
-always_old vs small n = in_step_old (run (take n vs) first_world) (always_in_step vs n small)
+always_old vs small n = record { each = in_step_old_each (run (take n vs) first_world) (always_in_step vs n small) }

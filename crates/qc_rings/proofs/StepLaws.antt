@@ -1,7 +1,6 @@
 -- The laws of two ends in step, each as it is stated.
 use Rattle.std.proofs.Common.{◌≡◌, ℕ, ◌+◌, ◌<◌, ◌^◌, arith}
 use Rattle.qc_base.specs.Time.{plus}
-use Rattle.qc_rings.specs.TwoRings.{End}
 use Rattle.qc_rings.specs.InStep.{FitsEnds}
 use Rattle.qc_rings.specs.PairLaws.{FirstInStep, InStepTurned, SealKeepsStep, UpdateKeepsStep, DeliverKeepsStep, DiscardKeepsStep, StepIsNear, StepUpdatesWell, StepOpensCurrent, StepFailsOld}
 use Rattle.qc_rings.proofs.Moves.{seal}

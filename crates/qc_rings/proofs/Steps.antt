@@ -1,15 +1,15 @@
 -- Each event keeps two ends in step.
-use Rattle.std.specs.Prelude.{Bool, true, false, not, cond, max, Option, Some, None, nat_eq, nat_lt, nat_le, slice_get, ◌&&◌, ◌%◌, if◌then◌else◌}
-use Rattle.std.proofs.Common.{◌≡◌, ℕ, zero, suc, ◌+◌, ◌<◌, ◌≤◌, ◌^◌, ◌⊎◌, inl, inr, List, [], ◌∷◌, ◌++◌, refl, sym, ap, subst, ◌∙◌, arith, All}
+use Rattle.std.specs.Prelude.{Bool, true, false, not, max, Option, Some, None, nat_eq, nat_lt, slice_get, ◌&&◌, if◌then◌else◌}
+use Rattle.std.proofs.Common.{◌≡◌, ℕ, zero, suc, ◌+◌, ◌<◌, ◌≤◌, ◌⊎◌, inl, inr, List, [], ◌∷◌, refl, sym, ap, subst, ◌∙◌, arith, All}
 use Rattle.std.proofs.lemmas.Bool.Decides.{nat_tests}
 use Rattle.std.proofs.lemmas.List.Elements.{All-head, All-tail, All-nil}
 use Rattle.qc_base.specs.Time.{plus}
 use Rattle.qc_rings.specs.declared.which.Which.{Which}
 use Rattle.qc_rings.specs.declared.which.Which.TheVariants.{Current, Previous, Next}
-use Rattle.qc_rings.specs.Ring.{Ring, Kept, Dropped, Open, Below, is_from, is_dropped, may_update, has_floor, after_acked, after_opened, after_update, after_discard, phase_of, same_phase, serves, which_named}
+use Rattle.qc_rings.specs.Ring.{Ring, Kept, Dropped, Open, Below, is_from, is_dropped, may_update, has_floor, after_acked, after_discard, phase_of, same_phase, serves, which_named}
 use Rattle.qc_rings.specs.TwoRings.{Packet, End, bound, first_end, end_updated, end_discarded, end_given, end_opened, after_all_acked, is_of_epoch, which_of, opens, IsGoodUpdate}
-use Rattle.qc_rings.specs.InStep.{start_of, start, is_open, floor_bound, FitsEnds, Keeps, AreInStep}
-use Rattle.qc_rings.proofs.Moves.{updated, update, dropped, drop, noted, current, previous, next, flagged, flag}
+use Rattle.qc_rings.specs.InStep.{start_of, is_open, floor_bound, FitsEnds, Keeps, AreInStep}
+use Rattle.qc_rings.proofs.Moves.{updated, update, drop, noted, current, previous, next, flagged, flag}
 
 -- an element of a list of which a fact holds
 pub all_at : {X : Type 0} (P : X → Type 0) (xs : List X) (k : ℕ) (x : X) → All P xs → slice_get xs k ≡ Some x → P x
@@ -45,8 +45,8 @@ pub end_updated_in_step : (a b : End) → plus a.ring.epoch 1 ≡ a.ring.epoch +
 unfolding end_updated may_update
 end_updated_in_step a b r h =
     elim (may_update a.ring) as (λ t. may_update a.ring ≡ t → AreInStep (if t then updated a else a) b) [
-      true ↦ λ e. let two = and_true (is_dropped a.ring.kept) a.ring.acked e in update a b r (dropped_by a.ring.kept two.0) two.1 h
-    | false ↦ λ e. h
+      | true ↦ λ e. let two = and_true (is_dropped a.ring.kept) a.ring.acked e in update a b r (dropped_by a.ring.kept two.0) two.1 h
+      | false ↦ λ e. h
     ] refl
 
 -- a discard
@@ -59,8 +59,8 @@ pub end_discarded_in_step : (a b : End) → AreInStep a b → AreInStep (end_dis
 unfolding end_discarded after_discard
 end_discarded_in_step a b h =
     elim (has_floor a.ring.kept) as (λ t. has_floor a.ring.kept ≡ t → AreInStep (record a { ring = (if t then record (a.ring) { kept = Dropped } else a.ring) }) b) [
-      true ↦ λ e. drop a b (floor_closes a.ring.kept e) h
-    | false ↦ λ e. h
+      | true ↦ λ e. drop a b (floor_closes a.ring.kept e) h
+      | false ↦ λ e. h
     ] refl
 
 -- an acknowledgement changes nothing, or sets the mark by a number of this epoch
@@ -76,8 +76,8 @@ one_acked : (r : Ring) (m n : ℕ) → IsNoted r (after_acked r n) m (n + 1)
 unfolding after_acked
 one_acked r m n =
     elim (is_from r.first n) as (λ t. is_from r.first n ≡ t → IsNoted r (if t then record r { acked = true } else r) m (n + 1)) [
-      true ↦ λ e. record { mark = refl; why = λ _ _. from_first r.first m n e }
-    | false ↦ λ e. record { mark = refl; why = λ x y. cc }
+      | true ↦ λ e. record { mark = refl; why = λ _ _. from_first r.first m n e }
+      | false ↦ λ e. record { mark = refl; why = λ x y. cc }
     ] refl
 
 noted_more : (r s t : Ring) (m n k : ℕ) → IsNoted r s m n → IsNoted s t m k → IsNoted r t m (max n k)
@@ -85,9 +85,9 @@ noted_more r s t m n k f g =
     record {
       mark = g.mark ∙ ap (λ (x : Ring). record x { acked = t.acked }) f.mark;
       why = λ x y. elim s.acked as (λ b. s.acked ≡ b → start_of r.first m < max n k) [
-          true ↦ λ e. omega (arith, f.why x e)
+        | true ↦ λ e. omega (arith, f.why x e)
         | false ↦ λ e. let first : s.first ≡ r.first = ap (λ (x : Ring). x.first) f.mark in let w : start_of s.first m < k = g.why e y in omega (arith, subst (λ o. start_of o m < k) first w)
-        ] refl;
+      ] refl;
     }
 
 all_acked : (r : Ring) (m : ℕ) (ns : List ℕ) → IsNoted r (after_all_acked r ns) m (bound ns)
@@ -113,10 +113,10 @@ pub end_given_in_step : (a b : End) (k : ℕ) → plus a.ring.epoch 1 ≡ a.ring
 unfolding end_given opens
 end_given_in_step a b k r h =
     elim (slice_get b.sent k) as (λ o. slice_get b.sent k ≡ o → AreInStep (end_given a o) b) [
-      None ↦ λ e. h
-    | Some p ↦ λ at. elim (is_of_epoch a.ring (which_of a p) p.epoch) as (λ t. is_of_epoch a.ring (which_of a p) p.epoch ≡ t → AreInStep (if t then end_opened a (which_of a p) p else a) b) [
-        true ↦ λ e. end_opened_in_step a b (which_of a p) k p r e at h
-      | false ↦ λ e. h
+      | None ↦ λ e. h
+      | Some p ↦ λ at. elim (is_of_epoch a.ring (which_of a p) p.epoch) as (λ t. is_of_epoch a.ring (which_of a p) p.epoch ≡ t → AreInStep (if t then end_opened a (which_of a p) p else a) b) [
+        | true ↦ λ e. end_opened_in_step a b (which_of a p) k p r e at h
+        | false ↦ λ e. h
       ] refl
     ] refl
 
@@ -166,10 +166,10 @@ same_number m n e = grind (arith, nat_tests)
 three_cases : (x y : ℕ) → x ≤ y + 1 → y ≤ x + 1 → (x ≡ y) ⊎ ((x + 1 ≡ y) ⊎ (x ≡ y + 1))
 three_cases x y h g =
     elim (nat_eq x y) as (λ t. nat_eq x y ≡ t → (x ≡ y) ⊎ ((x + 1 ≡ y) ⊎ (x ≡ y + 1))) [
-      true ↦ λ e. inl (grind (arith, nat_tests))
-    | false ↦ λ e. elim (nat_lt x y) as (λ t. nat_lt x y ≡ t → (x ≡ y) ⊎ ((x + 1 ≡ y) ⊎ (x ≡ y + 1))) [
-        true ↦ λ l. inr (inl (grind (arith, nat_tests)))
-      | false ↦ λ l. inr (inr (grind (arith, nat_tests)))
+      | true ↦ λ e. inl (grind (arith, nat_tests))
+      | false ↦ λ e. elim (nat_lt x y) as (λ t. nat_lt x y ≡ t → (x ≡ y) ⊎ ((x + 1 ≡ y) ⊎ (x ≡ y + 1))) [
+        | true ↦ λ l. inr (inl (grind (arith, nat_tests)))
+        | false ↦ λ l. inr (inr (grind (arith, nat_tests)))
       ] refl
     ] refl
 
@@ -178,9 +178,9 @@ pub current_opens : (a b : End) (p : Packet) → FitsEnds b a p → p.epoch ≡ 
 unfolding opens
 current_opens a b p f e h =
     elim (three_cases b.ring.epoch a.ring.epoch h.two.near h.one.near) as (λ _. is_of_epoch a.ring (which_of a p) p.epoch ≡ true) [
-      inl same ↦ rw (names_current a.ring p.epoch p.number (e ∙ same)) (same_number p.epoch a.ring.epoch (e ∙ same))
-    | inr (inl ahead) ↦ let q : p.epoch + 1 ≡ a.ring.epoch = omega (arith, ahead) in rw (names_previous a.ring p.epoch p.number q (open_serves a.ring.kept p.number (h.one.ahead_open (sym ahead)))) (same_number (p.epoch + 1) a.ring.epoch q)
-    | inr (inr behind) ↦ let q : p.epoch ≡ a.ring.epoch + 1 = e ∙ behind in let over : floor_bound a.ring.kept ≤ p.number = grind (arith, f.before, h.one.older, h.one.floored) in rw (names_next a.ring p.epoch p.number q (above_floor a.ring.kept p.number (h.two.ahead_floored behind) over)) (same_number p.epoch (a.ring.epoch + 1) q)
+      | inl same ↦ rw (names_current a.ring p.epoch p.number (e ∙ same)) (same_number p.epoch a.ring.epoch (e ∙ same))
+      | inr (inl ahead) ↦ let q : p.epoch + 1 ≡ a.ring.epoch = omega (arith, ahead) in rw (names_previous a.ring p.epoch p.number q (open_serves a.ring.kept p.number (h.one.ahead_open (sym ahead)))) (same_number (p.epoch + 1) a.ring.epoch q)
+      | inr (inr behind) ↦ let q : p.epoch ≡ a.ring.epoch + 1 = e ∙ behind in let over : floor_bound a.ring.kept ≤ p.number = grind (arith, f.before, h.one.older, h.one.floored) in rw (names_next a.ring p.epoch p.number q (above_floor a.ring.kept p.number (h.two.ahead_floored behind) over)) (same_number p.epoch (a.ring.epoch + 1) q)
     ]
 
 -- an update that opens a packet is one that the peer was allowed to make
@@ -199,6 +199,6 @@ update_is_good a b p f named opened h =
 pub unopened_is_old : (a b : End) (p : Packet) → FitsEnds b a p → opens a p ≡ false → AreInStep a b → p.epoch < b.ring.epoch
 unopened_is_old a b p f o h =
     elim (nat_eq p.epoch b.ring.epoch) as (λ t. nat_eq p.epoch b.ring.epoch ≡ t → p.epoch < b.ring.epoch) [
-      true ↦ λ e. let same : p.epoch ≡ b.ring.epoch = grind (arith, nat_tests) in let opened = current_opens a b p f same h in cc
-    | false ↦ λ e. grind (arith, nat_tests, f.past)
+      | true ↦ λ e. let same : p.epoch ≡ b.ring.epoch = grind (arith, nat_tests) in let opened = current_opens a b p f same h in cc
+      | false ↦ λ e. grind (arith, nat_tests, f.past)
     ] refl

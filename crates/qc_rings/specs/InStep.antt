@@ -1,7 +1,7 @@
 -- Two ends are in step: one invariant over both ends and all packets ever sealed, which each event keeps.
 -- It holds as well where sealers pass over numbers, and where packets carry fewer numbers.
 use Rattle.std.specs.Prelude.{◌≡◌, ℕ, ◌+◌, ◌<◌, ◌≤◌, Bool, true, false, All, Option, Some, None}
-use Rattle.qc_rings.specs.Ring.{Ring, Kept, Dropped, Open, Below}
+use Rattle.qc_rings.specs.Ring.{Kept, Dropped, Open, Below}
 use Rattle.qc_rings.specs.TwoRings.{Packet, End, bound}
 
 -- where an epoch begins: its first number, or the next number while there is none

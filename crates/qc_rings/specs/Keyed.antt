@@ -1,5 +1,5 @@
 -- A key ring with its keys: each call's effect.
-use Rattle.std.specs.Prelude.{ℕ, Bool, Option, Some, None, if◌then◌else◌}
+use Rattle.std.specs.Prelude.{ℕ, Option, Some, None, if◌then◌else◌}
 use Rattle.qc_base.specs.Time.{plus}
 use Rattle.qc_crypto.specs.declared.keys.KeyPair.{KeyPair}
 use Rattle.qc_rings.specs.declared.previous.PreviousKeys.{PreviousKeys}

@@ -1,5 +1,5 @@
 -- What is proved of two ends that are in step, whatever happens to them.
-use Rattle.std.specs.Prelude.{◌≡◌, ℕ, ◌+◌, ◌<◌, ◌≤◌, ◌^◌, Bool, true, false, List, Some, slice_get}
+use Rattle.std.specs.Prelude.{◌≡◌, ℕ, ◌+◌, ◌<◌, ◌≤◌, ◌^◌, true, false, List, Some, slice_get}
 use Rattle.qc_rings.specs.declared.which.Which.TheVariants.{Next}
 use Rattle.qc_rings.specs.TwoRings.{Packet, End, bound, first_end, end_seals, end_updated, end_discarded, end_given, which_of, opens, IsGoodUpdate}
 use Rattle.qc_rings.specs.InStep.{AreInStep}

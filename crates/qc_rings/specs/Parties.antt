@@ -1,6 +1,6 @@
 -- Two ends with keys: what each event makes of them, by sealing and opening real bytes. An end keeps the
 -- greatest number that it opened in place of all, and a packet carries that one.
-use Rattle.std.specs.Prelude.{ℕ, ◌+◌, Bool, true, false, List, [], ◌∷◌, ◌++◌, length, Option, Some, None, is_some, max, if◌then◌else◌, slice_get}
+use Rattle.std.specs.Prelude.{ℕ, Bool, false, List, [], ◌∷◌, ◌++◌, length, Option, Some, None, is_some, max, if◌then◌else◌, slice_get}
 use Rattle.qc_base.specs.Time.{plus}
 use Rattle.qc_base.specs.declared.side.Side.{Side}
 use Rattle.qc_base.specs.declared.side.Side.TheVariants.{Client, Server}

@@ -1,6 +1,6 @@
 -- Two ends that seal packets, change keys and open what reaches them (RFC 9001, section 6). An end opens
 -- a packet by the epoch of the keys that the packet names; the keys themselves are left out.
-use Rattle.std.specs.Prelude.{◌≡◌, ℕ, ◌+◌, ◌<◌, ◌≤◌, Bool, true, false, List, [], ◌∷◌, ◌++◌, Option, Some, None, IfSome, nat_eq, if◌then◌else◌, slice_get, take, max}
+use Rattle.std.specs.Prelude.{◌≡◌, ℕ, ◌+◌, ◌<◌, ◌≤◌, Bool, true, false, List, [], ◌∷◌, ◌++◌, Option, Some, None, nat_eq, if◌then◌else◌, slice_get, take, max}
 use Rattle.qc_base.specs.declared.side.Side.{Side}
 use Rattle.qc_base.specs.declared.side.Side.TheVariants.{Client, Server}
 use Rattle.qc_rings.specs.declared.which.Which.{Which}
@@ -156,19 +156,16 @@ pub record IsGoodUpdate (e : End) (p : Packet) : Type 0 where
   pub above : bound e.opened ≤ p.number
   pub answered : e.ring.unanswered ≡ false
 
-abbrev pub UpdatesAreGood : World → Type 0
-UpdatesAreGood w =
-    (from : Side) (index : ℕ) (p : Packet) → packet_at w from index ≡ Some p → which_of (end_of w (other from)) p ≡ Next
-    → opens (end_of w (other from)) p ≡ true → IsGoodUpdate (end_of w (other from)) p
+pub record UpdatesAreGood (w : World) : Type 0 where
+  pub each : (from : Side) (index : ℕ) (p : Packet) → packet_at w from index ≡ Some p → which_of (end_of w (other from)) p ≡ Next
+      → opens (end_of w (other from)) p ≡ true → IsGoodUpdate (end_of w (other from)) p
 
 -- A packet of its sealer's current epoch is opened.
-abbrev pub CurrentOpens : World → Type 0
-CurrentOpens w =
-    (from : Side) (index : ℕ) (p : Packet) → packet_at w from index ≡ Some p → p.epoch ≡ (end_of w from).ring.epoch
-    → outcome w (Deliver from index) ≡ Opened
+pub record CurrentOpens (w : World) : Type 0 where
+  pub each : (from : Side) (index : ℕ) (p : Packet) → packet_at w from index ≡ Some p → p.epoch ≡ (end_of w from).ring.epoch
+      → outcome w (Deliver from index) ≡ Opened
 
 -- A packet that isn't opened is of an epoch before its sealer's.
-abbrev pub OnlyOldFail : World → Type 0
-OnlyOldFail w =
-    (from : Side) (index : ℕ) (p : Packet) → packet_at w from index ≡ Some p → outcome w (Deliver from index) ≡ Old
-    → p.epoch < (end_of w from).ring.epoch
+pub record OnlyOldFail (w : World) : Type 0 where
+  pub each : (from : Side) (index : ℕ) (p : Packet) → packet_at w from index ≡ Some p → outcome w (Deliver from index) ≡ Old
+      → p.epoch < (end_of w from).ring.epoch

@@ -31,11 +31,12 @@ impl<P> Model for KeyRing<P> {
     ghost Value = { Keyed P };
 
     ghost view = { λ r. record {
-        ring = record { epoch = r.epoch; kept = kept_of r.previous; first = r.first; acked = r.acked; unanswered = r.update_unacked };
-        count = r.count;
-        current = r.current;
-        next = r.next;
-        previous = keys_kept r.previous } };
+      ring = record { epoch = r.epoch; kept = kept_of r.previous; first = r.first; acked = r.acked; unanswered = r.update_unacked };
+      count = r.count;
+      current = r.current;
+      next = r.next;
+      previous = keys_kept r.previous;
+    } };
 }
 
 impl<P: Drop> KeyRing<P> {
@@ -107,13 +108,7 @@ impl<P: Drop> KeyRing<P> {
     /// keys as the next: the peer updated its keys, which the next packet sealed will answer. The
     /// current ones set the floor of previous keys that have none.
     #[tactic(auto, unfolding(crate::specs::Keyed::keyed_opened, crate::specs::Ring::after_opened))]
-    pub fn opened(
-        &mut self,
-        which: Which,
-        number: u64,
-        _now: Instant,
-        fresh: Option<KeyPair<P>>,
-    )
+    pub fn opened(&mut self, which: Which, number: u64, _now: Instant, fresh: Option<KeyPair<P>>)
         requires { IsSome fresh ↔ (which ≡ Which.Next) }
         ensures { self.new ≡ keyed_opened self.old which number fresh }
     {

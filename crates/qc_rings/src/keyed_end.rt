@@ -45,11 +45,7 @@ fn with_greatest(greatest: Option<u64>, number: u64) -> u64
 
 /// Whether a key opens an empty packet with this number and without header.
 #[tactic(auto, unfolding(crate::specs::Parties::opens_with))]
-fn opens<P: PacketKey>(
-    alloc: Global,
-    key: &P,
-    packet: &SealedPacket,
-) -> Result<bool, AllocError>
+fn opens<P: PacketKey>(alloc: Global, key: &P, packet: &SealedPacket) -> Result<bool, AllocError>
     ensures { IfOk result (λ opened. opened ≡ opens_with (P.opening key.now) packet.now) }
 {
     let mut payload = BytesMut::copy_from_slice(alloc, &packet.bytes)?;
@@ -141,13 +137,7 @@ impl<P: PacketKey> KeyedEnd<P> {
 
     // Notes that these keys opened a packet, and takes what it carries as acknowledged.
     #[tactic(auto, unfolding(crate::specs::Parties::party_opened))]
-    fn note<K: KeySource<P>>(
-        &mut self,
-        source: &K,
-        side: Side,
-        which: Which,
-        packet: &SealedPacket,
-    )
+    fn note<K: KeySource<P>>(&mut self, source: &K, side: Side, which: Which, packet: &SealedPacket)
         ensures { self.new ≡ party_opened (K.keys_of source.now side) self.old which packet.now }
     {
         let fresh = match which {

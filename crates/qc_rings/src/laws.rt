@@ -12,8 +12,7 @@ pub fn ends_stay_in_step()
     ensures update { UpdateKeepsStep }
     ensures deliver { DeliverKeepsStep }
     ensures discard { DiscardKeepsStep }
-{
-}
+{}
 
 /// Of two ends in step, the epochs differ by at most one; an update that is taken is one that the peer was
 /// allowed to make; a packet of its sealer's epoch is opened, and only older ones aren't.
@@ -23,5 +22,4 @@ pub fn ends_in_step_agree()
     ensures updates { StepUpdatesWell }
     ensures current { StepOpensCurrent }
     ensures old { StepFailsOld }
-{
-}
+{}

@@ -1,6 +1,6 @@
 use Rattle.std.proofs.Common.{◌≡◌, ◌++◌, drop}
 use Rattle.qc_rings.specs.Parties.{parties_log}
-use Rattle.qc_rings.proofs.ring_pair.Ends.happen_all.Given as goal
+use Rattle.qc_rings.proofs.ends.Ends.happen_all.Given as goal
 
 -- What came of the events so far, and what will come of the rest, are what comes of all.
 abbrev pub invariant-loop-event : goal.invariant-loop-event

@@ -53,6 +53,16 @@ impl<P> Model for Ends<P> {
 }
 
 impl<P: PacketKey> Ends<P> {
+    /// Two ends in epoch 0.
+    fn new<K: KeySource<P>>(alloc: Global, source: &K) -> Self
+        ensures { result ≡ first_parties (K.keys_of source.now) }
+    {
+        Ends {
+            client: KeyedEnd::new(alloc, source, Side::Client),
+            server: KeyedEnd::new(alloc, source, Side::Server),
+        }
+    }
+
     /// One event.
     #[tactic(auto, unfolding(crate::specs::Parties::parties_after, crate::specs::Parties::parties_outcome))]
     fn happen<K: KeySource<P>>(
@@ -67,8 +77,12 @@ impl<P: PacketKey> Ends<P> {
         match event {
             RingEvent::Seal { from: Side::Client } => self.client.seal(),
             RingEvent::Seal { from: Side::Server } => self.server.seal(),
-            RingEvent::Update { from: Side::Client } => Ok(self.client.update(source, Side::Client)),
-            RingEvent::Update { from: Side::Server } => Ok(self.server.update(source, Side::Server)),
+            RingEvent::Update { from: Side::Client } => Ok(
+                self.client.update(source, Side::Client),
+            ),
+            RingEvent::Update { from: Side::Server } => Ok(
+                self.server.update(source, Side::Server),
+            ),
             RingEvent::Deliver {
                 from: Side::Client,
                 index,
@@ -104,4 +118,39 @@ impl<P: PacketKey> Ends<P> {
         }
         Ok(outcomes)
     }
+}
+
+/// Two ends that begin, and a list of events.
+fn run_pair<P: PacketKey, K: KeySource<P>>(
+    alloc: Global,
+    source: &K,
+    events: &[RingEvent],
+) -> Result<PairLog, AllocError>
+    ensures { IfOk result (λ log. log ≡ log_of events.now first_world) }
+{
+    let mut ends = Ends::new(alloc, source);
+    let outcomes = ends.happen_all(alloc, source, events)?;
+    Ok(PairLog { outcomes })
+}
+
+/// Runs two ends, with the keys of a source, through a list of events, and tells what came of each. Want of
+/// memory is the only refusal. Each packet acknowledges all that its sealer had opened by then.
+///
+/// Throughout, the epochs of the ends differ by at most one; the keys of the next epoch open a packet only
+/// where its number is above all that were opened and the last update of the peer's is answered, so that no
+/// update is one that the peer wasn't allowed to make; each packet of its sealer's current epoch is opened,
+/// whenever and however often it comes; and only packets of earlier epochs aren't.
+#[tactic(auto, using(crate::proofs::Runs::always_near, crate::proofs::Runs::always_updates, crate::proofs::Runs::always_current, crate::proofs::Runs::always_old))]
+pub fn ring_pair<P: PacketKey, K: KeySource<P>>(
+    alloc: Global,
+    source: &K,
+    events: &[RingEvent],
+) -> Result<PairLog, AllocError>
+    ensures log { IfOk result (λ log. log ≡ log_of events.now first_world) }
+    ensures near { Throughout AreNear events.now }
+    ensures updates { Throughout UpdatesAreGood events.now }
+    ensures current { Throughout CurrentOpens events.now }
+    ensures old { Throughout OnlyOldFail events.now }
+{
+    run_pair(alloc, source, events)
 }
