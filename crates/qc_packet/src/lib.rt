@@ -1,6 +1,13 @@
-//! Protected packets: sealing (RFC 9001, section 5).
+//! Protected packets: opening, sealing (RFC 9001, section 5) and the keys of 1-RTT packets (section 6).
 #![tactic(auto)]
 
+mod decrypt;
 mod seal;
+mod unprotect;
 
+pub use decrypt::{DecryptPacketResult, OpenError, OpenKeys, decrypt_packet_body};
+pub use qc_rings::{
+    KeyRing, PairLog, PairOutcome, RingEvent, Which, ends_in_step_agree, ends_stay_in_step, ring_pair,
+};
 pub use seal::{NUMBER_LIMIT, seal_full};
+pub use unprotect::{UnprotectHeaderResult, unprotect_header};

@@ -8,7 +8,8 @@ use Rattle.qc_rings.specs.declared.which.Which.{Which}
 use Rattle.qc_rings.specs.declared.which.Which.TheVariants.{Current, Previous, Next}
 use Rattle.qc_rings.specs.Ring.{Kept, Dropped, Open, Below, with_floor, first_with, after_opened, after_sealed, after_update}
 use Rattle.qc_rings.specs.TwoRings.{Packet, End, bound, end_seals}
-use Rattle.qc_rings.specs.InStep.{start_of, start, is_open, floor_bound, Fits, FitsEnds, Keeps, AreInStep}
+use Rattle.qc_rings.specs.InStep.{start_of, start, floor_bound, Fits, FitsEnds, Keeps, AreInStep}
+use Rattle.qc_rings.specs.Ring.{is_open}
 
 -- an update
 abbrev pub updated : End → End

@@ -8,7 +8,8 @@ use Rattle.qc_rings.specs.declared.which.Which.{Which}
 use Rattle.qc_rings.specs.declared.which.Which.TheVariants.{Current, Previous, Next}
 use Rattle.qc_rings.specs.Ring.{Ring, Kept, Dropped, Open, Below, is_from, is_dropped, may_update, has_floor, after_acked, after_discard, phase_of, same_phase, serves, which_named}
 use Rattle.qc_rings.specs.TwoRings.{Packet, End, bound, first_end, end_updated, end_discarded, end_given, end_opened, after_all_acked, is_of_epoch, which_of, opens, IsGoodUpdate}
-use Rattle.qc_rings.specs.InStep.{start_of, is_open, floor_bound, FitsEnds, Keeps, AreInStep}
+use Rattle.qc_rings.specs.InStep.{start_of, floor_bound, FitsEnds, Keeps, AreInStep}
+use Rattle.qc_rings.specs.Ring.{is_open}
 use Rattle.qc_rings.proofs.Moves.{updated, update, drop, noted, current, previous, next, flagged, flag}
 
 -- an element of a list of which a fact holds

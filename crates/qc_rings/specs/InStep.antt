@@ -1,7 +1,7 @@
 -- Two ends are in step: one invariant over both ends and all packets ever sealed, which each event keeps.
 -- It holds as well where sealers pass over numbers, and where packets carry fewer numbers.
-use Rattle.std.specs.Prelude.{◌≡◌, ℕ, ◌+◌, ◌<◌, ◌≤◌, Bool, true, false, All, Option, Some, None}
-use Rattle.qc_rings.specs.Ring.{Kept, Dropped, Open, Below}
+use Rattle.std.specs.Prelude.{◌≡◌, ℕ, ◌+◌, ◌<◌, ◌≤◌, true, false, All, Option, Some, None}
+use Rattle.qc_rings.specs.Ring.{is_open, Kept, Dropped, Open, Below}
 use Rattle.qc_rings.specs.TwoRings.{Packet, End, bound}
 
 -- where an epoch begins: its first number, or the next number while there is none
@@ -12,12 +12,6 @@ start_of (Some first) next = first
 -- where an end's current epoch begins
 abbrev pub start : End → ℕ
 start e = start_of e.ring.first e.next
-
--- whether previous keys are kept without a floor
-abbrev pub is_open : Kept → Bool
-is_open Dropped = false
-is_open Open = true
-is_open (Below floor) = false
 
 -- one more than the floor, 0 where there is none
 abbrev pub floor_bound : Kept → ℕ

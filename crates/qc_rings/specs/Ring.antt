@@ -51,6 +51,12 @@ unfoldable pub which_named : Ring → Bool → ℕ → Which
 which_named r phase number =
     if same_phase phase (phase_of r.epoch) then Current else (if serves r.kept number then Previous else Next)
 
+-- whether previous keys are kept without a floor
+abbrev pub is_open : Kept → Bool
+is_open Dropped = false
+is_open Open = true
+is_open (Below floor) = false
+
 -- a packet of this epoch was opened: its number becomes the floor, where there was none
 abbrev pub with_floor : Kept → ℕ → Kept
 with_floor Dropped number = Dropped

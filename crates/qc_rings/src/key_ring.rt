@@ -1,7 +1,7 @@
 //! The keys that one end holds, and when it changes them.
 
 ghost use Rattle.std.specs.Prelude.{◌≡◌, ◌↔◌, IsTrue, IsSome, option_copied};
-ghost use Rattle.qc_rings.specs.Ring.{which_named, may_update, has_floor, new_epoch};
+ghost use Rattle.qc_rings.specs.Ring.{which_named, may_update, has_floor, is_open, new_epoch};
 ghost use Rattle.qc_rings.specs.Keyed.{first_keyed, floor_kept, keyed_in, key_of, keyed_opened, keyed_sealed, keyed_acked, keyed_updated, keyed_discarded};
 
 use crate::previous::PreviousKeys;
@@ -186,6 +186,23 @@ impl<P: Drop> KeyRing<P> {
             self.previous = None;
         }
         with_floor
+    }
+
+    /// Whether previous keys are kept without a floor: no packet of this epoch was opened since the update.
+    pub fn is_floor_missing(&self) -> bool
+        ensures { result ≡ is_open self.now.ring.kept }
+    {
+        match &self.previous {
+            None => false,
+            Some(previous) => previous.floor.is_none(),
+        }
+    }
+
+    /// Whether the last update of the peer's isn't answered yet by a sealed packet.
+    pub fn is_update_unanswered(&self) -> bool
+        ensures { result ≡ self.now.ring.unanswered }
+    {
+        self.update_unacked
     }
 
     /// The epoch: how many updates there were.
