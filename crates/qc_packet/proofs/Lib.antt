@@ -1,2 +1,3 @@
+pub mod Flips
 pub mod OpenedLemmas
 pub mod Sealed

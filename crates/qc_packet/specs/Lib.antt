@@ -1,3 +1,4 @@
+pub mod Building
 pub mod OpenedPacket
 pub mod PacketSpelling
 pub mod Unprotected
