@@ -10,8 +10,8 @@ one_nearest : (w low expected x y : ℕ) → IsNearest w low expected x → IsNe
 unfolding IsNearest
 one_nearest w low expected x y hx hy =
     elim (hx.1 y hy.0) as (λ _. x ≡ y) [
-      inl a ↦ elim (hy.1 x hx.0) as (λ _. x ≡ y) [ inl b ↦ omega arith | inr b ↦ omega arith ]
-    | inr a ↦ elim (hy.1 x hx.0) as (λ _. x ≡ y) [ inl b ↦ omega arith | inr b ↦ omega arith ]
+      | inl a ↦ elim (hy.1 x hx.0) as (λ _. x ≡ y) [ inl b ↦ omega arith | inr b ↦ omega arith ]
+      | inr a ↦ elim (hy.1 x hx.0) as (λ _. x ≡ y) [ inl b ↦ omega arith | inr b ↦ omega arith ]
     ]
 
 pub one_number : (low : Option PacketNumber) (rx x y : ℕ) → IsNumberOf low rx x → IsNumberOf low rx y → x ≡ y

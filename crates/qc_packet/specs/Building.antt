@@ -88,11 +88,11 @@ pub record IsReady (b : PacketBuilder) (len : ℕ) : Type 0 where
   pub tag : b.max_size + 16 < 2 ^ 64
   pub length_field : b.short_header ≡ false → b.max_size + b.pn_len ≤ b.start + b.header_len + 16367
 
--- a builder that began this header behind these bytes
-pub record HasBegun (b : PacketBuilder) (before : List ℕ) (h : Header) : Type 0 where
-  pub start : b.start ≡ length before
+-- a builder whose packet has this header
+pub record IsOf (b : PacketBuilder) (h : Header) : Type 0 where
   pub header : b.header_len ≡ header_len h
   pub number : b.pn_len ≡ pn_len h
+  pub numbered : 1 ≤ pn_len h
   pub short : b.short_header ≡ is_short h
 
 -- where the payload ends, its padding with it

@@ -111,7 +111,7 @@ unfoldable pub opening_answer : {P : Type 0} → Header → ℕ → Option (Keye
 opening_answer h first ring rx number opened =
     let which = which_in h ring number in
     if opened then
-      (if reserved_bits h first == 0 then
-        (if is_bad_update which ring rx number then Err KeyUpdate else Ok (Some (result_of which ring number)))
-      else Err Reserved)
+    (if reserved_bits h first == 0 then
+    (if is_bad_update which ring rx number then Err KeyUpdate else Ok (Some (result_of which ring number)))
+    else Err Reserved)
     else Err Unopened

@@ -36,7 +36,7 @@ with_flip true header = begun_by (first_byte header - 0x40) header
 unfoldable pub sealed_packet : (List ℕ → List ℕ) → (ℕ → List ℕ → List ℕ → List ℕ) → Bool → Header → ℕ → List ℕ → List ℕ
 sealed_packet mask seal flip h number plain =
     masked mask (length (header_bytes h plain) - len_of (header_number h))
-      (with_flip flip (header_bytes h plain) ++ seal number (with_flip flip (header_bytes h plain)) plain)
+    (with_flip flip (header_bytes h plain) ++ seal number (with_flip flip (header_bytes h plain)) plain)
 
 -- the same with its fixed bit as it is written
 abbrev pub packet_spelling : (List ℕ → List ℕ) → (ℕ → List ℕ → List ℕ → List ℕ) → Header → ℕ → List ℕ → List ℕ

@@ -228,7 +228,12 @@ fn decrypt_numbered<P: PacketKey>(
 {
     let key = named_key(&packet.header, keys, number);
     let first = first_of(packet.header_data.as_slice());
-    if !open(key, number, packet.header_data.as_slice(), &mut packet.payload) {
+    if !open(
+        key,
+        number,
+        packet.header_data.as_slice(),
+        &mut packet.payload,
+    ) {
         return Err(OpenError::Unopened);
     }
     answer(&packet.header, first, keys.ring, rx, number)
@@ -252,10 +257,10 @@ pub fn decrypt_packet_body<P: PacketKey>(
     ensures unprotected { header_number packet.old.header ≡ None → (result ≡ Ok None) × (packet.new ≡ packet.old) }
     ensures answer { (number : ℕ) → IsNumberOf (header_number packet.old.header) rx number
         → result ≡ opening_answer packet.old.header (first_byte packet.old.header_data) (option_copied keys.now.ring) rx number
-            (is_some (opened_payload P.opening packet.old keys.now number)) }
+        (is_some (opened_payload P.opening packet.old keys.now number)) }
     ensures payload { (number : ℕ) → IsNumberOf (header_number packet.old.header) rx number
         → packet.new.payload.items ≡ payload_after packet.old.payload.items
-            (opened_payload P.opening packet.old keys.now number) }
+        (opened_payload P.opening packet.old keys.now number) }
     ensures header { packet.new.header ≡ packet.old.header }
     ensures header_data { packet.new.header_data ≡ packet.old.header_data }
     ensures unopened { result ≡ Err OpenError.Unopened → packet.new ≡ packet.old }

@@ -10,7 +10,8 @@ mod unprotect;
 pub use builder::PacketBuilder;
 pub use decrypt::{DecryptPacketResult, OpenError, OpenKeys, decrypt_packet_body};
 pub use qc_rings::{
-    KeyRing, PairLog, PairOutcome, RingEvent, Which, ends_in_step_agree, ends_stay_in_step, ring_pair,
+    KeyRing, PairLog, PairOutcome, RingEvent, Which, ends_in_step_agree, ends_stay_in_step,
+    ring_pair,
 };
 pub use seal::{NUMBER_LIMIT, seal_full};
 pub use slot::{BuildError, Kill, Slot};
