@@ -121,7 +121,7 @@ field_written b h flip before plain old behind ready is_of start is_old is_behin
     let sizes : length old ≡ length before + (header_len h + length plain) = ap length is_old ∙ length-append before (with_flip flip (header_spelling h 0) ++ plain) ∙ omega (arith, length-append (with_flip flip (header_spelling h 0)) plain, flip_len flip h 0) in
     let padded : length (plain ++ replicate (b.min_size - length old) 0) ≡ length plain + (b.min_size - length old) = length-append plain (replicate (b.min_size - length old) 0) ∙ omega (arith, length-replicate {A = ℕ} (b.min_size - length old) 0) in
     let value : behind ≡ protected_len h (plain ++ replicate (b.min_size - length old) 0) = omega (arith, is_of.header, is_of.number, ready.begun) in
-    let small : is_short h ≡ false → behind ≤ 16383 = λ e. omega (arith, ready.length_field (is_of.short ∙ e), ready.sizes, ready.room, ready.begun, ready.first) in
+    let small : is_short h ≡ false → behind ≤ 16383 = λ e. omega (arith, ready.sound.length_field (is_of.short ∙ e), ready.sizes, ready.room, ready.begun, ready.sound.first) in
     field_held h behind small ∙ ap (λ (n : ℕ). header_spelling h n) value
 
 -- a buffer whose bytes were all changed in place

@@ -15,7 +15,7 @@ use Rattle.qc_header.specs.declared.header.Header.{Header}
 use Rattle.qc_header.specs.declared.header.Header.TheVariants.{Initial, Long, Retry, Short, VersionNegotiate}
 use Rattle.qc_header.specs.HeaderSpelling.{header_spelling, header_number, initial_spelling, short_spelling, long_start}
 use Rattle.qc_packet.specs.declared.builder.PacketBuilder.{PacketBuilder}
-use Rattle.qc_packet.specs.Building.{header_len, pn_len, is_short, dst_cid_of, min_size_of, max_size_of, builder_for, IsReady, IsOf}
+use Rattle.qc_packet.specs.Building.{header_len, pn_len, is_short, dst_cid_of, min_size_of, max_size_of, builder_for, IsSound, IsReady, IsOf}
 use Rattle.qc_packet.specs.PacketSpelling.{len_of, padding_len, packet_spelling, sealed_packet}
 
 number_filled : (number : PacketNumber) → 1 ≤ length (number_bytes number)
@@ -68,14 +68,16 @@ full_ready space number h size frames_len len some longer room small is_len =
     let full : max (min_size_of 0 h) (plus 0 (size - 16)) ≡ size - 16 = full_size h size frames_len room small in
     let most : IsMost h size (max_size_of 0 h size) = most_of h size longer small in
     record {
+      sound = record {
+        numbered = number_there (header_number h) some;
+        first = longer;
+        sample = omega arith;
+        tag = omega (arith, most.same);
+        length_field = λ e. omega (arith, most.long e);
+      };
       begun = omega arith;
-      numbered = number_there (header_number h) some;
-      first = longer;
-      sample = omega arith;
       sizes = omega (arith, most.same);
       room = omega (arith, most.same);
-      tag = omega (arith, most.same);
-      length_field = λ e. omega (arith, most.long e);
     }
 
 pub full_is_of : (space : SpaceId) (number : ℕ) (h : Header) (size : ℕ) → IsSome (header_number h) → IsOf (full_builder space number h size) h
@@ -94,3 +96,25 @@ full_bytes mask seal space number h fs size b items out room small is_b is_len i
     ∙ ap (λ (n : ℕ). sealed_packet mask seal false h n (frames_spelling fs ++ replicate (b.min_size - length items) 0)) (ap (λ (x : PacketBuilder). x.exact_number) is_b)
     ∙ ap (λ (n : ℕ). sealed_packet mask seal false h number (frames_spelling fs ++ replicate n 0)) pad
     ∙ ap (λ (x : List ℕ). sealed_packet mask seal false h number x) (sym spelled)
+
+-- what begins a packet is sound
+most_below : (start : ℕ) (h : Header) (capacity : ℕ) → max_size_of start h capacity ≤ capacity - 16
+unfolding max_size_of
+most_below start h capacity =
+    elim (is_short h) as (λ b. (if b then capacity - 16 else min (capacity - 16) (start + header_len h - pn_len h + 16367)) ≤ capacity - 16) [ true ↦ omega arith | false ↦ omega arith ]
+
+long_below : (start : ℕ) (h : Header) (capacity : ℕ) → pn_len h < header_len h → is_short h ≡ false → max_size_of start h capacity + pn_len h ≤ start + header_len h + 16367
+unfolding max_size_of
+long_below start h capacity longer long = rw long (omega arith)
+
+pub begun_sound : (space : SpaceId) (number : ℕ) (h : Header) (start capacity datagram_start : ℕ) (ack_eliciting : Bool) → capacity < 2 ^ 64 → pn_len h < header_len h → IsSome (header_number h)
+    → IsSound (builder_for space number h start capacity datagram_start ack_eliciting)
+unfolding min_size_of
+begun_sound space number h start capacity datagram_start ack_eliciting fits longer some =
+    record {
+      numbered = number_there (header_number h) some;
+      first = longer;
+      sample = omega arith;
+      tag = omega (arith, most_below start h capacity);
+      length_field = λ e. long_below start h capacity longer e;
+    }

@@ -76,17 +76,22 @@ builder_for space number h start capacity datagram_start ack_eliciting =
       pn_len = pn_len h;
     }
 
--- A builder that can finish its packet where its buffer has this length: the header is there, payload and
--- padding are within the sizes, and these leave room for the number, the sample, the tag and the Length field.
-pub record IsReady (b : PacketBuilder) (len : ℕ) : Type 0 where
-  pub begun : b.start + b.header_len ≤ len
+-- A builder whose sizes leave room for what sealing adds: the sample of header protection, the tag, and a Length
+-- field below 2^14.
+pub record IsSound (b : PacketBuilder) : Type 0 where
   pub numbered : 1 ≤ b.pn_len
   pub first : b.pn_len < b.header_len
   pub sample : b.start + b.header_len + 4 ≤ b.min_size + b.pn_len
-  pub sizes : b.min_size ≤ b.max_size
-  pub room : len ≤ b.max_size
   pub tag : b.max_size + 16 < 2 ^ 64
   pub length_field : b.short_header ≡ false → b.max_size + b.pn_len ≤ b.start + b.header_len + 16367
+
+-- A builder that can finish its packet where its buffer has this length: the header is there, and payload and
+-- padding are within the sizes.
+pub record IsReady (b : PacketBuilder) (len : ℕ) : Type 0 where
+  pub sound : IsSound b
+  pub begun : b.start + b.header_len ≤ len
+  pub sizes : b.min_size ≤ b.max_size
+  pub room : len ≤ b.max_size
 
 -- a builder whose packet has this header
 pub record IsOf (b : PacketBuilder) (h : Header) : Type 0 where

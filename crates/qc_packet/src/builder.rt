@@ -4,7 +4,7 @@ ghost use Rattle.std.specs.Prelude.{◌≡◌, ◌+◌, ◌-◌, ◌<◌, ◌≤
 ghost use Rattle.qc_base.specs.Time.{plus};
 ghost use Rattle.qc_header.specs.declared.header.Header.{Header};
 ghost use Rattle.qc_header.specs.HeaderSpelling.{header_spelling, header_number};
-ghost use Rattle.qc_packet.specs.Building.{dst_cid_of, is_initial, is_short, pn_len, min_size_of, max_size_of, lacks_room, kill_of, builder_for, IsReady, IsOf, end_of};
+ghost use Rattle.qc_packet.specs.Building.{dst_cid_of, is_initial, is_short, pn_len, min_size_of, max_size_of, lacks_room, kill_of, builder_for, IsSound, IsReady, IsOf, end_of};
 ghost use Rattle.qc_base.specs.Mask.{first_byte};
 ghost use Rattle.qc_packet.specs.PacketSpelling.{len_of, header_bytes, with_flip, sealed_packet};
 ghost use Rattle.qc_base.specs.Mask.{masked};
@@ -179,6 +179,7 @@ fn put_header(flip: bool, header: &Header, buf: &mut Vec<u8>) -> Result<(), Allo
 }
 
 /// Begins a packet in a buffer: writes its header.
+#[tactic(auto, using(crate::proofs::Full::begun_sound))]
 pub(crate) fn begin(
     space: SpaceId,
     number: u64,
@@ -192,6 +193,7 @@ pub(crate) fn begin(
     ensures header { OnOk result (buf.new.items ≡ buf.old.items ++ with_flip flip (header_spelling header.now 0)) }
     ensures builder { IfOk result (λ b. b ≡ builder_for space number header.now (length buf.old.items) capacity datagram_start ack_eliciting) }
     ensures longer { OnOk result (IsSome (header_number header.now) → pn_len header.now < length (header_spelling header.now 0)) }
+    ensures sound { IfOk result (λ b. IsSome (header_number header.now) → IsSound b) }
     ensures err { OnErr result (buf.new.items ≡ buf.old.items) }
 {
     let start = buf.len();
@@ -323,6 +325,7 @@ impl PacketBuilder {
         ensures refused { OnErr result (buf.new.items ≡ buf.old.items) }
         ensures header { OnOk result (buf.new.items ≡ buf.old.items ++ with_flip slot.now.flip (header_spelling header.now 0)) }
         ensures builder { IfOk result (λ b. b ≡ builder_for slot.now.space slot.now.number header.now (length buf.old.items) capacity datagram_start ack_eliciting) }
+        ensures sound { IfOk result (λ b. IsSome (header_number header.now) → IsSound b) }
     {
         if let Some(kill) = kill(slot, header, buf.len(), capacity) {
             return Err(BuildError::Kill(kill));
@@ -345,7 +348,8 @@ impl PacketBuilder {
     /// Asks for a datagram of at least `min_size` bytes, tag and all: the packet is padded so far.
     pub fn pad_to(&mut self, min_size: u16)
         requires { 16 ≤ min_size }
-        ensures { self.new ≡ record self.old { min_size = max self.old.min_size (plus self.old.datagram_start (min_size - 16)) } }
+        ensures size { self.new ≡ record self.old { min_size = max self.old.min_size (plus self.old.datagram_start (min_size - 16)) } }
+        ensures sound { IsSound self.old → IsSound self.new }
     {
         let end = self
             .datagram_start

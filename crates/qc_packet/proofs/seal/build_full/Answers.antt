@@ -14,7 +14,7 @@ pub finish-requires : goal.finish-requires
 finish-requires g c =
     let start : length c.args.buf.now.items ≡ 0 = ap (λ (x : List ℕ). length x) c.requires.empty in
     let b : c.pad_to.new.self ≡ full_builder Initial c.args.number c.args.header.now c.args.size =
-    c.pad_to.ensures ∙ ap (λ (x : PacketBuilder). record x { min_size = max x.min_size (plus x.datagram_start (c.args.size - 16)) })
+    c.pad_to.ensures.size ∙ ap (λ (x : PacketBuilder). record x { min_size = max x.min_size (plus x.datagram_start (c.args.size - 16)) })
     (c.in_ok-builder.ensures.builder ∙ ap (λ (n : ℕ). builder_for Initial c.args.number c.args.header.now n c.args.size 0 true) start) in
     let len : length c.put.new.out.items ≡ length (header_spelling c.args.header.now 0) + length (frames_spelling c.args.frames.now) =
     ap (λ (x : List ℕ). length x) (c.in_ok-put.ensures.ok ∙ ap (λ (x : List ℕ). x ++ frames_spelling c.args.frames.now) (c.in_ok-builder.ensures.header ∙ ap (λ (x : List ℕ). x ++ header_spelling c.args.header.now 0) c.requires.empty))
@@ -26,7 +26,7 @@ pub returns-clause-bytes : goal.returns-clause-bytes
 returns-clause-bytes g c =
     let start : length c.args.buf.now.items ≡ 0 = ap (λ (x : List ℕ). length x) c.requires.empty in
     let b : c.pad_to.new.self ≡ full_builder Initial c.args.number c.args.header.now c.args.size =
-    c.pad_to.ensures ∙ ap (λ (x : PacketBuilder). record x { min_size = max x.min_size (plus x.datagram_start (c.args.size - 16)) })
+    c.pad_to.ensures.size ∙ ap (λ (x : PacketBuilder). record x { min_size = max x.min_size (plus x.datagram_start (c.args.size - 16)) })
     (c.in_ok-builder.ensures.builder ∙ ap (λ (n : ℕ). builder_for Initial c.args.number c.args.header.now n c.args.size 0 true) start) in
     let bytes : c.put.new.out.items ≡ header_spelling c.args.header.now 0 ++ frames_spelling c.args.frames.now =
     c.in_ok-put.ensures.ok ∙ ap (λ (x : List ℕ). x ++ frames_spelling c.args.frames.now) (c.in_ok-builder.ensures.header ∙ ap (λ (x : List ℕ). x ++ header_spelling c.args.header.now 0) c.requires.empty) in
@@ -42,7 +42,7 @@ pub returns-clause-full : goal.returns-clause-full
 returns-clause-full g c =
     let start : length c.args.buf.now.items ≡ 0 = ap (λ (x : List ℕ). length x) c.requires.empty in
     let b : c.pad_to.new.self ≡ full_builder Initial c.args.number c.args.header.now c.args.size =
-    c.pad_to.ensures ∙ ap (λ (x : PacketBuilder). record x { min_size = max x.min_size (plus x.datagram_start (c.args.size - 16)) })
+    c.pad_to.ensures.size ∙ ap (λ (x : PacketBuilder). record x { min_size = max x.min_size (plus x.datagram_start (c.args.size - 16)) })
     (c.in_ok-builder.ensures.builder ∙ ap (λ (n : ℕ). builder_for Initial c.args.number c.args.header.now n c.args.size 0 true) start) in
     let len : length c.put.new.out.items ≡ length (header_spelling c.args.header.now 0) + length (frames_spelling c.args.frames.now) =
     ap (λ (x : List ℕ). length x) (c.in_ok-put.ensures.ok ∙ ap (λ (x : List ℕ). x ++ frames_spelling c.args.frames.now) (c.in_ok-builder.ensures.header ∙ ap (λ (x : List ℕ). x ++ header_spelling c.args.header.now 0) c.requires.empty))
@@ -54,7 +54,7 @@ pub returns-clause-padding : goal.returns-clause-padding
 returns-clause-padding g c =
     let start : length c.args.buf.now.items ≡ 0 = ap (λ (x : List ℕ). length x) c.requires.empty in
     let b : c.pad_to.new.self ≡ full_builder Initial c.args.number c.args.header.now c.args.size =
-    c.pad_to.ensures ∙ ap (λ (x : PacketBuilder). record x { min_size = max x.min_size (plus x.datagram_start (c.args.size - 16)) })
+    c.pad_to.ensures.size ∙ ap (λ (x : PacketBuilder). record x { min_size = max x.min_size (plus x.datagram_start (c.args.size - 16)) })
     (c.in_ok-builder.ensures.builder ∙ ap (λ (n : ℕ). builder_for Initial c.args.number c.args.header.now n c.args.size 0 true) start) in
     let len : length c.put.new.out.items ≡ length (header_spelling c.args.header.now 0) + length (frames_spelling c.args.frames.now) =
     ap (λ (x : List ℕ). length x) (c.in_ok-put.ensures.ok ∙ ap (λ (x : List ℕ). x ++ frames_spelling c.args.frames.now) (c.in_ok-builder.ensures.header ∙ ap (λ (x : List ℕ). x ++ header_spelling c.args.header.now 0) c.requires.empty))
