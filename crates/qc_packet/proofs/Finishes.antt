@@ -13,7 +13,8 @@ use Rattle.qc_base.specs.declared.side.LongType.TheVariants.{Handshake, ZeroRtt}
 use Rattle.qc_crypto.specs.Sealing.{sealed_in_place}
 use Rattle.qc_header.specs.declared.header.Header.{Header}
 use Rattle.qc_header.specs.declared.header.Header.TheVariants.{Initial, Long, Retry, Short, VersionNegotiate}
-use Rattle.qc_header.specs.HeaderSpelling.{header_spelling, header_number, initial_spelling, short_spelling, long_start, length_and_number, bit, number_tag}
+use Rattle.qc_base.specs.Spelling.{bit}
+use Rattle.qc_header.specs.HeaderSpelling.{header_spelling, header_number, initial_spelling, short_spelling, long_start, length_and_number, number_tag}
 use Rattle.qc_header.specs.SetLength.{begun_by}
 use Rattle.qc_packet.specs.Building.{header_len, pn_len, is_short, IsReady, IsOf}
 use Rattle.qc_packet.specs.declared.builder.PacketBuilder.{PacketBuilder}

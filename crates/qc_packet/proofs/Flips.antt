@@ -10,7 +10,8 @@ use Rattle.qc_base.specs.declared.packet_number.PacketNumber.TheVariants.{U8, U1
 use Rattle.qc_base.specs.declared.side.LongType.TheVariants.{Handshake, ZeroRtt}
 use Rattle.qc_header.specs.declared.header.Header.{Header}
 use Rattle.qc_header.specs.declared.header.Header.TheVariants.{Initial, Long, Retry, Short, VersionNegotiate}
-use Rattle.qc_header.specs.HeaderSpelling.{header_spelling, initial_spelling, short_spelling, long_start, bit, number_tag}
+use Rattle.qc_base.specs.Spelling.{bit}
+use Rattle.qc_header.specs.HeaderSpelling.{header_spelling, initial_spelling, short_spelling, long_start, number_tag}
 
 -- a header is written with its fixed bit
 pub fixed_bit : (h : Header) (n : ℕ) → 64 ≤ first_byte (header_spelling h n)

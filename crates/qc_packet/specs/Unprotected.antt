@@ -3,7 +3,7 @@ use Rattle.std.specs.Prelude.{◌≡◌, ℕ, ◌+◌, ◌-◌, Bool, true, fals
 use Rattle.std.specs.Cmp.Lexicographic.{pointwise}
 use Rattle.qc_header.specs.declared.finish.Packet.{Packet}
 use Rattle.qc_header.specs.Piece.{Piece, is_protected}
-use Rattle.qc_header.specs.Opened.{opened, header_end, header_from}
+use Rattle.qc_header.specs.Unprotected.{unprotected, header_end, header_from}
 use Rattle.qc_packet.specs.declared.unprotect.UnprotectHeaderResult.{UnprotectHeaderResult}
 
 -- whether a packet has at least 21 bytes, of which the last 16 are the reset token
@@ -13,7 +13,7 @@ is_reset bytes (Some token) = nat_le 21 (length bytes) && pointwise nat_eq token
 
 -- whether a packet is protected and has too few bytes for a sample
 abbrev pub is_cut : Piece → Bool
-is_cut p = is_protected p.header && nat_lt (length p.bytes) (p.place + 20)
+is_cut p = is_protected p.header && nat_lt (length p.bytes) (p.pn_offset + 20)
 
 -- whether a packet is protected and no key is there
 abbrev pub is_key_missing : Piece → Bool → Bool
@@ -34,6 +34,6 @@ told_in (Some told) = Some (is_some told.packet, told.stateless_reset)
 
 -- the packet of a piece, its mask taken off: the header in full, its bytes, and the payload behind them
 pub record IsUnprotected (mask_of : List ℕ → List ℕ) (piece : Piece) (p : Packet) : Type 0 where
-  pub header : p.header ≡ header_from piece.header piece.place p.header_data
-  pub header_data : p.header_data ≡ take (header_end piece (opened mask_of piece)) (opened mask_of piece)
-  pub payload : p.payload.items ≡ drop (header_end piece (opened mask_of piece)) (opened mask_of piece)
+  pub header : p.header ≡ header_from piece.header piece.pn_offset p.header_data
+  pub header_data : p.header_data ≡ take (header_end piece (unprotected mask_of piece)) (unprotected mask_of piece)
+  pub payload : p.payload.items ≡ drop (header_end piece (unprotected mask_of piece)) (unprotected mask_of piece)

@@ -2,7 +2,7 @@
 //! section 10.3).
 
 ghost use Rattle.std.specs.Prelude.{◌≡◌, ℕ, true, is_some, IfOk, IfSome};
-ghost use Rattle.qc_header.specs.Opened.{masks_of};
+ghost use Rattle.qc_header.specs.Unprotected.{masks_of};
 ghost use Rattle.qc_packet.specs.Unprotected.{is_reset, is_cut, is_key_missing, told_as, told_in, IsUnprotected};
 
 use qc_base::{HeaderMask, ResetToken};

@@ -377,7 +377,7 @@ pub source_log : {P : Type 0} (seal : P → Sealing) (opening : P → Opening) (
     → length vs < 2 ^ 64 → parties_log seal opening keys vs (first_parties keys) ≡ log_of vs first_world
 source_log {P} seal opening keys vs mates apart small =
     let sound : AreSound seal opening keys = record {
-      forth = record { mates = λ e. (mates e).forth; apart = λ a b x y d. (apart a b x y d).forth };
-      back = record { mates = λ e. (mates e).back; apart = λ a b x y d. (apart b a y x (λ e. d (sym e))).back };
+      forth = record { mates = λ e. (mates e).opens.forth; apart = λ a b x y d. (apart a b x y d).forth };
+      back = record { mates = λ e. (mates e).opens.back; apart = λ a b x y d. (apart b a y x (λ e. d (sym e))).back };
     } in
     log_alike seal opening keys vs 0 (first_parties keys) first_world sound (omega arith) first_within (record { client = mirrors_first seal (keys Client); server = mirrors_first seal (keys Server) })
