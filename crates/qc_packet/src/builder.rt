@@ -179,7 +179,7 @@ fn put_header(flip: bool, header: &Header, buf: &mut Vec<u8>) -> Result<(), Allo
 }
 
 /// Begins a packet in a buffer: writes its header.
-#[tactic(auto, using(crate::proofs::Full::begun_sound))]
+#[tactic(auto, using(crate::proofs::Finishes::flip_len))]
 pub(crate) fn begin(
     space: SpaceId,
     number: u64,
@@ -193,6 +193,7 @@ pub(crate) fn begin(
     ensures header { OnOk result (buf.new.items ≡ buf.old.items ++ with_flip flip (header_spelling header.now 0)) }
     ensures builder { IfOk result (λ b. b ≡ builder_for space number header.now (length buf.old.items) capacity datagram_start ack_eliciting) }
     ensures longer { OnOk result (IsSome (header_number header.now) → pn_len header.now < length (header_spelling header.now 0)) }
+    ensures begun { IfOk result (λ b. b.start + b.header_len ≡ length buf.new.items) }
     ensures sound { IfOk result (λ b. IsSome (header_number header.now) → IsSound b) }
     ensures err { OnErr result (buf.new.items ≡ buf.old.items) }
 {
@@ -325,6 +326,7 @@ impl PacketBuilder {
         ensures refused { OnErr result (buf.new.items ≡ buf.old.items) }
         ensures header { OnOk result (buf.new.items ≡ buf.old.items ++ with_flip slot.now.flip (header_spelling header.now 0)) }
         ensures builder { IfOk result (λ b. b ≡ builder_for slot.now.space slot.now.number header.now (length buf.old.items) capacity datagram_start ack_eliciting) }
+        ensures begun { IfOk result (λ b. b.start + b.header_len ≡ length buf.new.items) }
         ensures sound { IfOk result (λ b. IsSome (header_number header.now) → IsSound b) }
     {
         if let Some(kill) = kill(slot, header, buf.len(), capacity) {

@@ -13,7 +13,7 @@ use qc_header::{Header, Packet};
 use qc_rings::{KeyRing, Which};
 
 /// The keys that may open a packet, each where this end has it.
-#[derive(Debug)]
+#[derive(Debug, Drop)]
 pub struct OpenKeys<'a, P> {
     /// The key of an Initial or Handshake packet's space.
     pub plain: Option<&'a P>,

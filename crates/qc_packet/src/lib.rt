@@ -16,3 +16,8 @@ pub use qc_rings::{
 pub use seal::{NUMBER_LIMIT, seal_full};
 pub use slot::{BuildError, Kill, Slot};
 pub use unprotect::{UnprotectHeaderResult, unprotect_header};
+
+#[cfg(test)]
+mod ring_tests;
+#[cfg(test)]
+mod tests;

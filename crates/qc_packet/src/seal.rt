@@ -45,6 +45,29 @@ fn build_full<H: HeaderKey, P: PacketKey>(
     Ok(padding as u64)
 }
 
+/// The same, with the PADDING frames added to the list at its end.
+fn build_listed<H: HeaderKey, P: PacketKey>(
+    header_key: &H,
+    packet_key: &P,
+    number: u64,
+    header: &Header,
+    frames: &mut FrameList,
+    size: usize,
+    buf: &mut Vec<u8>,
+) -> Result<(), AllocError>
+    requires empty { buf.old.items ≡ [] }
+    requires numbered { IsSome (header_number header.now) }
+    requires room { length (header_spelling header.now 0) + length (frames_spelling frames.old) + 20 ≤ size }
+    requires small { size < 2 ^ 14 }
+    ensures frames { OnOk result (frames.new ≡ frames.old ++ replicate (padding_len header.now frames.old size) Padding) }
+    ensures bytes { OnOk result (buf.new.items ≡ packet_spelling (H.mask_of header_key.now) (P.seal packet_key.now) header.now number (frames_spelling frames.new)) }
+    ensures full { OnOk result (length buf.new.items ≡ size) }
+    ensures frames_kept { OnErr result (frames.new ≡ frames.old) }
+{
+    let padding = build_full(header_key, packet_key, number, header, frames, size, buf)?;
+    frames.push_padding(padding)
+}
+
 /// Seals a packet with these frames, filled up with PADDING to a datagram of `size` bytes, into an empty buffer
 /// (RFC 9000, section 14.1). The PADDING frames are added to the list. Want of memory is the only refusal; list
 /// and buffer are then as before.
@@ -67,16 +90,11 @@ pub fn seal_full<H: HeaderKey, P: PacketKey>(
     ensures frames_kept { OnErr result (frames.new ≡ frames.old) }
     ensures buf_kept { OnErr result (buf.new.items ≡ buf.old.items) }
 {
-    let padding = match build_full(header_key, packet_key, number, header, frames, size, buf) {
-        Ok(padding) => padding,
+    match build_listed(header_key, packet_key, number, header, frames, size, buf) {
+        Ok(()) => Ok(()),
         Err(e) => {
             buf.clear();
-            return Err(e);
+            Err(e)
         }
-    };
-    if let Err(e) = frames.push_padding(padding) {
-        buf.clear();
-        return Err(e);
     }
-    Ok(())
 }
