@@ -1,1 +1,5 @@
+pub mod Finishes
+pub mod Full
+pub mod Flips
+pub mod OpenedLemmas
 pub mod Sealed

@@ -14,7 +14,7 @@ use Rattle.qc_base.specs.declared.packet_number.PacketNumber.{PacketNumber}
 use Rattle.qc_base.specs.PacketNumber.{number_len}
 use Rattle.qc_header.specs.declared.header.Header.{Header}
 use Rattle.qc_header.specs.HeaderSpelling.{header_spelling, header_number}
-use Rattle.qc_packet.specs.PacketSpelling.{len_of, packet_spelling}
+use Rattle.qc_packet.specs.PacketSpelling.{len_of, sealed_packet, packet_spelling}
 
 -- a resize to more bytes fills up
 pub filled : (bytes : List ℕ) (end : ℕ) → length bytes ≤ end → take end bytes ++ replicate (end - length bytes) 0 ≡ bytes ++ replicate (end - length bytes) 0
@@ -35,12 +35,12 @@ sealed_full seal number hb p n len room at =
     rw (append_assoc, at, take-append_seam hb (p ++ z), drop-append_seam hb (p ++ z), total, take-append_seam p z) refl
 
 -- a packet that is written, filled up, sealed and masked is spelled
-pub sealed_packet : (mask : List ℕ → List ℕ) (seal : ℕ → List ℕ → List ℕ → List ℕ) (h : Header) (number : ℕ) (p : List ℕ) (size field len at : ℕ) (plain full out : List ℕ) →
+pub sealed_all : (mask : List ℕ → List ℕ) (seal : ℕ → List ℕ → List ℕ → List ℕ) (h : Header) (number : ℕ) (p : List ℕ) (size field len at : ℕ) (plain full out : List ℕ) →
     plain ≡ header_spelling h field ++ p → full ≡ plain ++ replicate (size - length plain) 0 → out ≡ masked mask at (sealed_in_place seal number full len) →
     len ≡ length (header_spelling h field) → length plain ≡ size - 16 → len + 20 ≤ size → len_of (header_number h) < len → at ≡ len - len_of (header_number h) → field ≡ size - at →
     out ≡ packet_spelling mask seal h number p
-unfolding packet_spelling
-sealed_packet mask seal h number p size field len at plain full out is_plain is_full is_out is_len ends room behind is_at is_field =
+unfolding sealed_packet
+sealed_all mask seal h number p size field len at plain full out is_plain is_full is_out is_len ends room behind is_at is_field =
     let sizes : length plain ≡ length (header_spelling h field) + length p = ap length is_plain ∙ length-append (header_spelling h field) p in
     let left : size - length plain ≡ 16 = omega arith in
     let value : field ≡ len_of (header_number h) + length p + 16 = omega arith in

@@ -1,10 +1,11 @@
 -- The bytes of a protected packet (RFC 9001, sections 5.3 and 5.4).
-use Rattle.std.specs.Prelude.{ℕ, ◌+◌, ◌-◌, List, length, ◌++◌, Option, Some, None}
-use Rattle.qc_base.specs.Mask.{masked}
+use Rattle.std.specs.Prelude.{ℕ, ◌+◌, ◌-◌, Bool, true, false, List, length, ◌++◌, Option, Some, None}
+use Rattle.qc_base.specs.Mask.{masked, first_byte}
 use Rattle.qc_base.specs.PacketNumber.{number_len}
 use Rattle.qc_base.specs.declared.packet_number.PacketNumber.{PacketNumber}
 use Rattle.qc_frame.specs.Frame.{FrameValue}
 use Rattle.qc_frame.specs.FrameSpelling.{frames_spelling}
+use Rattle.qc_header.specs.SetLength.{begun_by}
 use Rattle.qc_header.specs.declared.header.Header.{Header}
 use Rattle.qc_header.specs.HeaderSpelling.{header_spelling, header_number}
 
@@ -25,7 +26,18 @@ header_bytes h plain = header_spelling h (protected_len h plain)
 abbrev pub padding_len : Header → List FrameValue → ℕ → ℕ
 padding_len h fs size = size - 16 - (length (header_spelling h 0) + length (frames_spelling fs))
 
--- the header and the sealed payload, with the mask laid over the first byte and the packet number
-unfoldable pub packet_spelling : (List ℕ → List ℕ) → (ℕ → List ℕ → List ℕ → List ℕ) → Header → ℕ → List ℕ → List ℕ
-packet_spelling mask seal h number plain =
-    masked mask (length (header_bytes h plain) - len_of (header_number h)) (header_bytes h plain ++ seal number (header_bytes h plain) plain)
+-- a header's bytes with its fixed bit, which it is written with, flipped or not (RFC 9287)
+abbrev pub with_flip : Bool → List ℕ → List ℕ
+with_flip false header = header
+with_flip true header = begun_by (first_byte header - 0x40) header
+
+-- the header, its fixed bit flipped or not, and the sealed payload, with the mask laid over the first byte and
+-- the packet number
+unfoldable pub sealed_packet : (List ℕ → List ℕ) → (ℕ → List ℕ → List ℕ → List ℕ) → Bool → Header → ℕ → List ℕ → List ℕ
+sealed_packet mask seal flip h number plain =
+    masked mask (length (header_bytes h plain) - len_of (header_number h))
+    (with_flip flip (header_bytes h plain) ++ seal number (with_flip flip (header_bytes h plain)) plain)
+
+-- the same with its fixed bit as it is written
+abbrev pub packet_spelling : (List ℕ → List ℕ) → (ℕ → List ℕ → List ℕ → List ℕ) → Header → ℕ → List ℕ → List ℕ
+packet_spelling mask seal h number plain = sealed_packet mask seal false h number plain

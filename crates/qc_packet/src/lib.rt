@@ -1,6 +1,23 @@
-//! Protected packets: sealing (RFC 9001, section 5).
+//! Protected packets: opening, sealing (RFC 9001, section 5) and the keys of 1-RTT packets (section 6).
 #![tactic(auto)]
 
+mod builder;
+mod decrypt;
 mod seal;
+mod slot;
+mod unprotect;
 
+pub use builder::PacketBuilder;
+pub use decrypt::{DecryptPacketResult, OpenError, OpenKeys, decrypt_packet_body};
+pub use qc_rings::{
+    KeyRing, PairLog, PairOutcome, RingEvent, Which, ends_in_step_agree, ends_stay_in_step,
+    ring_pair,
+};
 pub use seal::{NUMBER_LIMIT, seal_full};
+pub use slot::{BuildError, Kill, Slot};
+pub use unprotect::{UnprotectHeaderResult, unprotect_header};
+
+#[cfg(test)]
+mod ring_tests;
+#[cfg(test)]
+mod tests;

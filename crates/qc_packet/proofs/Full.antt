@@ -1,0 +1,120 @@
+-- A packet that fills a datagram.
+use Rattle.std.specs.Prelude.{Bool, true, false, Option, Some, None, IsSome, max, min, replicate, if◌then◌else◌}
+use Rattle.std.proofs.Common.{◌≡◌, ℕ, ◌+◌, ◌-◌, ◌<◌, ◌≤◌, ◌^◌, List, [], ◌∷◌, ◌++◌, length, refl, sym, ap, ◌∙◌, subst, arith, length-append}
+use Rattle.std.proofs.lemmas.Grind.{flat_map-append}
+use Rattle.qc_base.specs.Time.{plus}
+use Rattle.qc_base.specs.PacketNumber.{number_bytes}
+use Rattle.qc_base.specs.declared.packet_number.PacketNumber.{PacketNumber}
+use Rattle.qc_base.specs.declared.packet_number.PacketNumber.TheVariants.{U8, U16, U24, U32}
+use Rattle.qc_base.specs.declared.side.SpaceId.{SpaceId}
+use Rattle.qc_frame.specs.Frame.{FrameValue}
+use Rattle.qc_frame.specs.FrameSpelling.{spelling, frames_spelling}
+use Rattle.qc_frame.specs.declared.frames.FrameOf.TheVariants.{Padding}
+use Rattle.qc_frame.proofs.Padded.{zeros}
+use Rattle.qc_header.specs.declared.header.Header.{Header}
+use Rattle.qc_header.specs.declared.header.Header.TheVariants.{Initial, Long, Retry, Short, VersionNegotiate}
+use Rattle.qc_header.specs.HeaderSpelling.{header_spelling, header_number, initial_spelling, short_spelling, long_start}
+use Rattle.qc_packet.specs.declared.builder.PacketBuilder.{PacketBuilder}
+use Rattle.qc_packet.specs.Building.{header_len, pn_len, is_short, dst_cid_of, min_size_of, max_size_of, builder_for, IsSound, IsReady, IsOf}
+use Rattle.qc_packet.specs.PacketSpelling.{len_of, padding_len, packet_spelling, sealed_packet}
+
+number_filled : (number : PacketNumber) → 1 ≤ length (number_bytes number)
+unfolding number_bytes
+number_filled (U8 n) = omega arith
+number_filled (U16 n) = omega arith
+number_filled (U24 n) = omega arith
+number_filled (U32 n) = omega arith
+
+-- a header has two bytes or more besides its destination id
+dst_within : (h : Header) → length (dst_cid_of h) + 2 ≤ header_len h
+unfolding header_spelling initial_spelling short_spelling long_start
+dst_within (Initial h) = simp length-append (omega arith)
+dst_within (Long ty dst_cid src_cid number version) = simp length-append (omega arith)
+dst_within (Retry dst_cid src_cid version) = simp length-append (omega arith)
+dst_within (Short spin key_phase dst_cid number) = simp length-append (omega (arith, number_filled number))
+dst_within (VersionNegotiate random src_cid dst_cid) = simp length-append (omega arith)
+
+number_there : (number : Option PacketNumber) → IsSome number → 1 ≤ len_of number
+number_there None some = cc
+number_there (Some (U8 n)) some = omega arith
+number_there (Some (U16 n)) some = omega arith
+number_there (Some (U24 n)) some = omega arith
+number_there (Some (U32 n)) some = omega arith
+
+-- a builder asked to fill a datagram of this size
+abbrev pub full_builder : SpaceId → ℕ → Header → ℕ → PacketBuilder
+full_builder space number h size = record (builder_for space number h 0 size 0 true) { min_size = max (min_size_of 0 h) (plus 0 (size - 16)) }
+
+pub full_size : (h : Header) (size frames_len : ℕ) → header_len h + frames_len + 20 ≤ size → size < 2 ^ 14 → max (min_size_of 0 h) (plus 0 (size - 16)) ≡ size - 16
+unfolding min_size_of
+full_size h size frames_len room small = omega (arith, dst_within h)
+
+-- where a packet of a datagram below 2^14 bytes may end
+record IsMost (h : Header) (size most : ℕ) : Type 0 where
+  same : most ≡ size - 16
+  long : is_short h ≡ false → most + pn_len h ≤ header_len h + 16367
+
+most_of : (h : Header) (size : ℕ) → pn_len h < header_len h → size < 2 ^ 14 → IsMost h size (max_size_of 0 h size)
+unfolding max_size_of
+most_of h size longer small =
+    elim (is_short h) as (λ b. is_short h ≡ b → IsMost h size (if b then size - 16 else min (size - 16) (0 + header_len h - pn_len h + 16367))) [
+      | true ↦ λ e. record { same = refl; long = λ f. cc }
+      | false ↦ λ e. record { same = omega arith; long = λ f. omega arith }
+    ] refl
+
+pub full_ready : (space : SpaceId) (number : ℕ) (h : Header) (size frames_len len : ℕ) → IsSome (header_number h) → pn_len h < header_len h → header_len h + frames_len + 20 ≤ size → size < 2 ^ 14
+    → len ≡ header_len h + frames_len → IsReady (full_builder space number h size) len
+full_ready space number h size frames_len len some longer room small is_len =
+    let full : max (min_size_of 0 h) (plus 0 (size - 16)) ≡ size - 16 = full_size h size frames_len room small in
+    let most : IsMost h size (max_size_of 0 h size) = most_of h size longer small in
+    record {
+      sound = record {
+        numbered = number_there (header_number h) some;
+        first = longer;
+        sample = omega arith;
+        tag = omega (arith, most.same);
+        length_field = λ e. omega (arith, most.long e);
+      };
+      begun = omega arith;
+      sizes = omega (arith, most.same);
+      room = omega (arith, most.same);
+    }
+
+pub full_is_of : (space : SpaceId) (number : ℕ) (h : Header) (size : ℕ) → IsSome (header_number h) → IsOf (full_builder space number h size) h
+full_is_of space number h size some = record { header = refl; number = refl; numbered = number_there (header_number h) some; short = refl }
+
+-- padding of zeros is so many PADDING frames
+pub full_bytes : (mask : List ℕ → List ℕ) (seal : ℕ → List ℕ → List ℕ → List ℕ) (space : SpaceId) (number : ℕ) (h : Header) (fs : List FrameValue) (size : ℕ) (b : PacketBuilder) (items out : List ℕ)
+    → header_len h + length (frames_spelling fs) + 20 ≤ size → size < 2 ^ 14 → b ≡ full_builder space number h size → length items ≡ header_len h + length (frames_spelling fs)
+    → out ≡ sealed_packet mask seal false h b.exact_number (frames_spelling fs ++ replicate (b.min_size - length items) 0)
+    → out ≡ packet_spelling mask seal h number (frames_spelling (fs ++ replicate (padding_len h fs size) Padding))
+full_bytes mask seal space number h fs size b items out room small is_b is_len is_out =
+    let full : max (min_size_of 0 h) (plus 0 (size - 16)) ≡ size - 16 = full_size h size (length (frames_spelling fs)) room small in
+    let pad : b.min_size - length items ≡ padding_len h fs size = omega (arith, ap (λ (x : PacketBuilder). x.min_size) is_b) in
+    let spelled : frames_spelling (fs ++ replicate (padding_len h fs size) Padding) ≡ frames_spelling fs ++ replicate (padding_len h fs size) 0 = rw (flat_map-append spelling fs (replicate (padding_len h fs size) Padding), zeros (padding_len h fs size)) refl in
+    is_out
+    ∙ ap (λ (n : ℕ). sealed_packet mask seal false h n (frames_spelling fs ++ replicate (b.min_size - length items) 0)) (ap (λ (x : PacketBuilder). x.exact_number) is_b)
+    ∙ ap (λ (n : ℕ). sealed_packet mask seal false h number (frames_spelling fs ++ replicate n 0)) pad
+    ∙ ap (λ (x : List ℕ). sealed_packet mask seal false h number x) (sym spelled)
+
+-- what begins a packet is sound
+most_below : (start : ℕ) (h : Header) (capacity : ℕ) → max_size_of start h capacity ≤ capacity - 16
+unfolding max_size_of
+most_below start h capacity =
+    elim (is_short h) as (λ b. (if b then capacity - 16 else min (capacity - 16) (start + header_len h - pn_len h + 16367)) ≤ capacity - 16) [ true ↦ omega arith | false ↦ omega arith ]
+
+long_below : (start : ℕ) (h : Header) (capacity : ℕ) → pn_len h < header_len h → is_short h ≡ false → max_size_of start h capacity + pn_len h ≤ start + header_len h + 16367
+unfolding max_size_of
+long_below start h capacity longer long = rw long (omega arith)
+
+pub begun_sound : (space : SpaceId) (number : ℕ) (h : Header) (start capacity datagram_start : ℕ) (ack_eliciting : Bool) → capacity < 2 ^ 64 → pn_len h < header_len h → IsSome (header_number h)
+    → IsSound (builder_for space number h start capacity datagram_start ack_eliciting)
+unfolding min_size_of
+begun_sound space number h start capacity datagram_start ack_eliciting fits longer some =
+    record {
+      numbered = number_there (header_number h) some;
+      first = longer;
+      sample = omega arith;
+      tag = omega (arith, most_below start h capacity);
+      length_field = λ e. long_below start h capacity longer e;
+    }

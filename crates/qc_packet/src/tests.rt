@@ -1,0 +1,231 @@
+//! Packets built and opened with toy keys.
+
+use crate::{
+    BuildError, DecryptPacketResult, KeyRing, Kill, OpenError, OpenKeys, PacketBuilder, Slot,
+    decrypt_packet_body, unprotect_header,
+};
+use bytes::{Bytes, BytesMut};
+use qc_base::{ConnectionId, PacketNumber, ResetToken, Side, SpaceId};
+use qc_crypto::{HeaderKey, KeySource, PacketKey, ServerConfig};
+use qc_header::{Header, InitialHeader, Packet, PartialDecode};
+use qc_toy::{ToyHeaderKey, ToyKeys, ToyPacketKey, ToyServer, ToySettings};
+use std::alloc::{AllocError, Global};
+use std::default::Default;
+use std::test::Fail;
+
+const KEYS: ToyKeys = ToyKeys { secret: [0; 5] };
+
+// The header key of a secret of zeros, which the Initial keys of an empty id have.
+fn header_key() -> Option<ToyHeaderKey> {
+    let server = ToyServer {
+        settings: ToySettings::default(),
+    };
+    let keys = server.initial_keys(1, &ConnectionId::new(b"")).ok()?;
+    Some(keys.header.local)
+}
+
+fn slot(number: u64) -> Slot {
+    Slot {
+        space: SpaceId::Data,
+        number,
+        largest_acked: 0,
+        sealed: 0,
+        limit: 10,
+        flip: false,
+    }
+}
+
+// The 1-RTT packet of the client's that has number 7 and holds a PING.
+fn ping(alloc: Global, epoch: u64) -> Result<Vec<u8>, Fail> {
+    let header = Header::Short {
+        spin: false,
+        key_phase: epoch % 2 == 1,
+        dst_cid: ConnectionId::new(b""),
+        number: PacketNumber::U8(7),
+    };
+    let mut buf = Vec::new(alloc);
+    let builder = PacketBuilder::new(&slot(7), &header, &mut buf, 1200, 0, true)
+        .ok()
+        .ok_or("refused")?;
+    buf.push(1)?;
+    if builder.min_size > builder.max_size || buf.len() > builder.max_size {
+        return Err("too long".into());
+    }
+    let header_key = header_key().ok_or("no keys")?;
+    let keys = KEYS.keys(Side::Client, epoch);
+    let (size, padded) = builder.finish(&header_key, &keys.local, &mut buf)?;
+    if size != buf.len() || !padded {
+        return Err("size".into());
+    }
+    Ok(buf)
+}
+
+// What becomes of a packet at a server in epoch 0 that received up to `rx`, and its payload afterwards.
+fn opened(
+    alloc: Global,
+    bytes: &[u8],
+    rx: u32,
+) -> Result<(Result<Option<DecryptPacketResult>, OpenError>, BytesMut), Fail> {
+    let datagram = BytesMut::copy_from_slice(alloc, bytes)?;
+    let (partial, _) = PartialDecode::new(datagram, 0, &[1], false)
+        .ok()
+        .ok_or("no header")?;
+    let key = header_key().ok_or("no keys")?;
+    let told = unprotect_header(partial, Some(&key), None)?.ok_or("cut")?;
+    let mut packet = told.packet.ok_or("cut")?;
+    let ring = KeyRing::new(KEYS.keys(Side::Server, 0), KEYS.keys(Side::Server, 1));
+    let keys = OpenKeys {
+        plain: None,
+        early: None,
+        ring: Some(&ring),
+    };
+    let answer = decrypt_packet_body(&mut packet, &keys, rx as u64);
+    let Packet { payload, .. } = packet;
+    Ok((answer, payload))
+}
+
+// A PING and padding, sealed and masked as the toy's rules say by hand.
+#[test]
+fn a_packet_is_built_and_opened(rt: HostRuntime) -> Result<(), Fail> {
+    let packet = ping(rt.alloc(), 0)?;
+    let sealed =
+        b"\x40\x5f\x01\x00\x00\x00\x58\xb0\x08\x60\xb8\x12\x68\xc0\x18\x70\xc8\x20\x78\xd0\x28\x80";
+    assert_eq!(rt; packet.as_slice(), sealed.as_slice());
+
+    let told = DecryptPacketResult {
+        number: 7,
+        outgoing_key_update_acked: false,
+        incoming_key_update: false,
+    };
+    let (answer, payload) = opened(rt.alloc(), sealed, 0)?;
+    assert_eq!(rt; answer, Ok(Some(told)));
+    assert_eq!(rt; payload.as_slice(), b"\x01\x00\x00\x00".as_slice());
+
+    let changed =
+        b"\x40\x5f\x01\x00\x00\x00\x58\xb0\x08\x60\xb8\x12\x68\xc0\x18\x70\xc8\x20\x78\xd0\x28\x81";
+    let (answer, payload) = opened(rt.alloc(), changed, 0)?;
+    assert_eq!(rt; answer, Err(OpenError::Unopened));
+    assert_eq!(rt; payload.as_slice(), &changed[2..]);
+    Ok(())
+}
+
+// A packet of the next epoch, and one with a reserved bit.
+#[test]
+fn updates_and_reserved_bits(rt: HostRuntime) -> Result<(), Fail> {
+    let packet = ping(rt.alloc(), 1)?;
+    let told = DecryptPacketResult {
+        number: 7,
+        outgoing_key_update_acked: false,
+        incoming_key_update: true,
+    };
+    let (answer, _) = opened(rt.alloc(), packet.as_slice(), 6)?;
+    assert_eq!(rt; answer, Ok(Some(told)));
+    let (answer, _) = opened(rt.alloc(), packet.as_slice(), 7)?;
+    assert_eq!(rt; answer, Err(OpenError::KeyUpdate));
+
+    let mut reserved = *b"\x48\x07\x01\0\0\0\0\0\0\0\0\0\0\0\0\0\0\0\0\0\0\0";
+    KEYS.keys(Side::Client, 0)
+        .local
+        .encrypt(7, &mut reserved, 2);
+    header_key().ok_or("no keys")?.encrypt(1, &mut reserved);
+    let (answer, payload) = opened(rt.alloc(), &reserved, 0)?;
+    assert_eq!(rt; answer, Err(OpenError::Reserved));
+    assert_eq!(rt; payload.as_slice(), b"\x01\0\0\0".as_slice());
+    Ok(())
+}
+
+// Behind an id of one byte, 21 bytes are too few for a sample, and enough for a reset.
+#[test]
+fn cut_packets_and_resets(rt: HostRuntime) -> Result<(), Fail> {
+    let bytes =
+        *b"\x40\x09\x00\x00\x00\x01\x02\x03\x04\x05\x06\x07\x08\x09\x0a\x0b\x0c\x0d\x0e\x0f\x10";
+    let token = ResetToken::from(
+        *b"\x01\x02\x03\x04\x05\x06\x07\x08\x09\x0a\x0b\x0c\x0d\x0e\x0f\x10",
+    );
+    let key = header_key().ok_or("no keys")?;
+    let datagram = BytesMut::copy_from_slice(rt.alloc(), &bytes)?;
+    let (partial, _) = PartialDecode::new(datagram, 1, &[1], false)
+        .ok()
+        .ok_or("no header")?;
+    let told = unprotect_header(partial, Some(&key), Some(token))?.ok_or("no reset")?;
+    assert_eq!(rt;
+        (told.packet.is_some(), told.stateless_reset),
+        (false, true)
+    );
+    Ok(())
+}
+
+// How many bytes an Initial packet with a token of so many has for its frames, up to a capacity of 1200.
+fn room(alloc: Global, token: usize) -> Result<Result<usize, BuildError>, AllocError> {
+    let mut bytes = Vec::new(alloc);
+    bytes.resize(token, 7)?;
+    let header = Header::Initial(InitialHeader {
+        dst_cid: ConnectionId::new(&[2; 20]),
+        src_cid: ConnectionId::new(&[1; 8]),
+        token: Bytes::copy_from_slice(alloc, bytes.as_slice())?,
+        number: PacketNumber::U8(0),
+        version: 1,
+    });
+    let slot = Slot {
+        space: SpaceId::Initial,
+        number: 0,
+        largest_acked: 0,
+        sealed: 0,
+        limit: 1,
+        flip: false,
+    };
+    let mut buf = Vec::new(alloc);
+    match PacketBuilder::new(&slot, &header, &mut buf, 1200, 0, true) {
+        Ok(builder) => Ok(Ok(builder.max_size.saturating_sub(buf.len()))),
+        Err(e) => Ok(Err(e)),
+    }
+}
+
+// The header has 40 bytes besides the token, and the tag 16.
+#[test]
+fn tokens_leave_room(rt: HostRuntime) -> Result<(), Fail> {
+    for (token, want) in [
+        (1083, Ok(61)),
+        (1084, Ok(60)),
+        (1119, Ok(25)),
+        (1120, Err(BuildError::Kill(Kill::TokenRoom))),
+    ] {
+        assert_eq!(rt; room(rt.alloc(), token)?, want, "at {token}");
+    }
+    Ok(())
+}
+
+fn refusal(alloc: Global, slot: &Slot) -> Option<BuildError> {
+    let header = Header::Short {
+        spin: false,
+        key_phase: false,
+        dst_cid: ConnectionId::new(b""),
+        number: PacketNumber::U8(0),
+    };
+    let mut buf = Vec::new(alloc);
+    PacketBuilder::new(slot, &header, &mut buf, 1200, 0, true).err()
+}
+
+#[test]
+fn limits_of_keys_and_numbers(rt: HostRuntime) {
+    let last = 0x3fff_ffff_ffff_fffe;
+    for (number, largest_acked, sealed, want) in [
+        (0, 0, 9, None),
+        (0, 0, 10, Some(BuildError::Kill(Kill::KeyLimit))),
+        (0x7fff_ffff, 0, 0, None),
+        (0x8000_0000, 0, 0, Some(BuildError::Kill(Kill::NumberLimit))),
+        (0x8000_0000, 0, 10, Some(BuildError::Kill(Kill::KeyLimit))),
+        (last, last, 0, None),
+        (last + 1, last, 0, Some(BuildError::Kill(Kill::NumberLimit))),
+    ] {
+        let slot = Slot {
+            space: SpaceId::Data,
+            number,
+            largest_acked,
+            sealed,
+            limit: 10,
+            flip: false,
+        };
+        assert_eq!(rt; refusal(rt.alloc(), &slot), want, "at {number}");
+    }
+}
