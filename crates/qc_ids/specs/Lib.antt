@@ -1,0 +1,2 @@
+pub mod HashedCid
+pub mod RandomIds
