@@ -1,1 +1,2 @@
 pub mod HashedCids
+pub mod Queues

@@ -1,2 +1,3 @@
 pub mod HashedCid
 pub mod RandomIds
+pub mod CidQueue

@@ -2,8 +2,10 @@
 //! 5.1).
 #![tactic(auto)]
 
+mod cid_queue;
 mod generator;
 mod hashed;
 
+pub use cid_queue::{CidQueue, InsertError, KeptCid};
 pub use generator::{ConnectionIdGenerator, InvalidCid, RandomConnectionIdGenerator};
 pub use hashed::HashedConnectionIdGenerator;
