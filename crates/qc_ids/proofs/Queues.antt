@@ -1,11 +1,12 @@
 -- Lists of kept ids
-use Rattle.std.proofs.Common.{◌≡◌, ℕ, ◌+◌, ◌-◌, ◌<◌, ◌≤◌, suc, zero, Bool, true, false, List, [], ◌∷◌, ◌++◌, ◌&&◌, length, drop, get_or, max, All, nat_le, nat_lt, arith, refl, ap, subst, sym, ◌∙◌, rules, append_assoc, append-nil}
+use Rattle.std.proofs.Common.{◌≡◌, Option, Some, None, IsSome, ℕ, ◌+◌, ◌-◌, ◌<◌, ◌≤◌, suc, zero, Bool, true, false, List, [], ◌∷◌, ◌++◌, ◌&&◌, length, drop, get_or, max, nat_le, nat_lt, arith, refl, ap, subst, sym, ◌∙◌, rules, append_assoc, append-nil}
 use Rattle.std.proofs.lemmas.Grind.{common_steps}
 use Rattle.std.proofs.lemmas.List.{drop_more, drop_all, length-append, length_push}
 use Rattle.std.proofs.lemmas.Bool.Decides.{nat_tests}
 use Rattle.std.specs.List.{filter}
 use Rattle.qc_ids.specs.declared.cid_queue.KeptCid.{KeptCid}
-use Rattle.qc_ids.specs.CidQueue.{Ascends, HasTokenAbove, IsQueue, IsTaken, active_seq_of, active_token_of, given_cid, is_above, is_between, kept_above, kept_between, inserted}
+use Rattle.qc_ids.specs.CidQueue.{Ascends, HasTokensAbove, IsQueue, IsTaken, active_seq_of, active_token_of, given_cid, is_above, is_between, kept_above, kept_between, inserted, renewal_of}
+use Rattle.std.specs.Option.{option_map}
 use Rattle.qc_frame.specs.declared.frames.NewConnectionId.{NewConnectionId}
 
 -- ---- one step of the walks along the ids
@@ -155,3 +156,80 @@ room_before new ids t =
       inserted_few new ids t,
       length-append (kept_between new.retire_prior_to new.sequence ids) (given_cid new ∷ kept_above new.sequence ids),
     )
+
+-- ---- the queue that is left
+
+tokens_weaker : (n m : ℕ) (ids : List KeptCid) → n ≤ m → HasTokensAbove n ids → HasTokensAbove m ids
+tokens_weaker n m [] l h = tt
+tokens_weaker n m (x ∷ ids) l h = (λ above. h.0 (omega arith), tokens_weaker n m ids l h.1)
+
+tokens_append : (n : ℕ) (xs ys : List KeptCid) → HasTokensAbove n xs → HasTokensAbove n ys → HasTokensAbove n (xs ++ ys)
+tokens_append n [] ys a b = b
+tokens_append n (x ∷ xs) ys a b = (a.0, tokens_append n xs ys a.1 b)
+
+tokens_filter : (n : ℕ) (p : KeptCid → Bool) (ids : List KeptCid) → HasTokensAbove n ids → HasTokensAbove n (filter p ids)
+tokens_filter n p [] h = tt
+tokens_filter n p (x ∷ ids) h =
+    (elim (p x) as (λ b. p x ≡ b → HasTokensAbove n (filter p (x ∷ ids))) [
+      | true ↦ λ e. rw e (h.0, tokens_filter n p ids h.1)
+      | false ↦ λ e. rw e (tokens_filter n p ids h.1)
+    ]) refl
+
+queue_tokens : (ids : List KeptCid) → IsQueue ids → HasTokensAbove (active_seq_of ids) ids
+queue_tokens [] q = absurd q
+queue_tokens (x ∷ ids) q = (λ h. absurd (omega arith), q.1)
+
+inserted_tokens : (new : NewConnectionId) (ids : List KeptCid) → IsQueue ids → HasTokensAbove (active_seq_of ids) (inserted new ids)
+unfolding inserted kept_between kept_above
+inserted_tokens new ids q =
+    let all = queue_tokens ids q in
+    tokens_append (active_seq_of ids) (kept_between new.retire_prior_to new.sequence ids) (given_cid new ∷ kept_above new.sequence ids)
+    (tokens_filter (active_seq_of ids) (is_between new.retire_prior_to new.sequence) ids all)
+    ((λ _. refl), tokens_filter (active_seq_of ids) (is_above new.sequence) ids all)
+
+-- a list that ascends from an active number on, and begins, is a queue
+queue_from : (a m : ℕ) (ids : List KeptCid) → a ≤ m → 0 < length ids → Ascends m (m + 5) ids → HasTokensAbove a ids → IsQueue ids
+queue_from a m [] l n asc tokens = absurd (omega arith)
+queue_from a m (x ∷ ids) l n asc tokens =
+    let from : m ≤ x.sequence = asc.0 in
+    (
+      weaken (x.sequence + 1) (x.sequence + 1) (m + 5) (x.sequence + 5) ids (omega arith) (omega arith) asc.2,
+      tokens_weaker a x.sequence ids (omega arith) tokens.1,
+    )
+
+inserted_some : (new : NewConnectionId) (ids : List KeptCid) → 0 < length (inserted new ids)
+unfolding inserted
+inserted_some new ids = omega (arith, length-append (kept_between new.retire_prior_to new.sequence ids) (given_cid new ∷ kept_above new.sequence ids))
+
+pub inserted_queue : (new : NewConnectionId) (ids ids' : List KeptCid) → IsTaken new ids → ids' ≡ inserted new ids → IsQueue ids'
+inserted_queue new ids ids' t e =
+    rw e (queue_from (active_seq_of ids) (max (active_seq_of ids) new.retire_prior_to) (inserted new ids) (omega arith) (inserted_some new ids) (inserted_ascends new ids t)
+    (inserted_tokens new ids t.queue))
+
+pub queue_few : (ids : List KeptCid) → IsQueue ids → length ids ≤ 5
+queue_few ids q = omega (arith, few (active_seq_of ids) (active_seq_of ids + 5) ids (omega arith) (queue_ascends ids q))
+
+-- the first of a list that begins above an active number has a token
+token_above : (a m : ℕ) (ids : List KeptCid) → a < m → 0 < length ids → Ascends m (m + 5) ids → HasTokensAbove a ids → IsSome (active_token_of ids)
+token_above a m [] l n asc tokens = absurd (omega arith)
+token_above a m (x ∷ ids) l n asc tokens = let from : m ≤ x.sequence = asc.0 in tokens.0 (omega arith)
+
+IsSome-option_map : {X Y : Type 0} (f : X → Y) (o : Option X) → IsSome o → IsSome (option_map f o)
+IsSome-option_map f None s = s
+IsSome-option_map f (Some x) s = refl
+
+pub renews : (new : NewConnectionId) (ids : List KeptCid) → IsTaken new ids → active_seq_of ids < new.retire_prior_to
+    → IsSome (renewal_of (active_seq_of ids) (inserted new ids))
+unfolding renewal_of
+renews new ids t h =
+    IsSome-option_map _ (active_token_of (inserted new ids))
+    (token_above (active_seq_of ids) (max (active_seq_of ids) new.retire_prior_to) (inserted new ids) (omega arith) (inserted_some new ids) (inserted_ascends new ids t)
+    (inserted_tokens new ids t.queue))
+
+-- the next id becomes the active one
+pub tail_queue : (ids : List KeptCid) → 1 < length ids → IsQueue ids → IsQueue (drop 1 ids)
+tail_queue [] l q = absurd (omega arith)
+tail_queue (x ∷ []) l q = absurd (omega arith)
+tail_queue (x ∷ y ∷ ids) l q =
+    let from : x.sequence + 1 ≤ y.sequence = q.0.0 in
+    (weaken (y.sequence + 1) (y.sequence + 1) (x.sequence + 5) (y.sequence + 5) ids (omega arith) (omega arith) q.0.2, tokens_weaker x.sequence y.sequence ids (omega arith) q.1.1)

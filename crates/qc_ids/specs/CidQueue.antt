@@ -1,5 +1,5 @@
 -- The ids of the other end that are kept, by ascending sequence number. The first is the active one.
-use Rattle.std.specs.Prelude.{ℕ, ◌+◌, ◌-◌, ◌<◌, ◌≤◌, ◌==◌, ◌&&◌, Bool, List, [], ◌∷◌, ◌++◌, Option, Some, None, IsSome, All, filter, min, max, nat_lt, nat_le, if◌then◌else◌}
+use Rattle.std.specs.Prelude.{ℕ, ◌+◌, ◌-◌, ◌<◌, ◌≤◌, ◌==◌, ◌&&◌, Bool, List, [], ◌∷◌, ◌++◌, Option, Some, None, IsSome, filter, min, max, nat_lt, nat_le, if◌then◌else◌}
 use Rattle.std.specs.Option.{option_map}
 use Rattle.std.specs.declared.ops.Range.{Range}
 use Rattle.qc_frame.specs.declared.frames.NewConnectionId.{NewConnectionId}
@@ -10,14 +10,15 @@ abbrev pub Ascends : ℕ → ℕ → List KeptCid → Type 0
 Ascends low high [] = Unit {0}
 Ascends low high (x ∷ xs) = (low ≤ x.sequence) × (x.sequence < high) × Ascends (x.sequence + 1) high xs
 
--- above this number each id has a token
-abbrev pub HasTokenAbove : ℕ → KeptCid → Type 0
-HasTokenAbove n x = n < x.sequence → IsSome x.reset_token
+-- each id above this number has a token
+abbrev pub HasTokensAbove : ℕ → List KeptCid → Type 0
+HasTokensAbove n [] = Unit {0}
+HasTokensAbove n (x ∷ ids) = (n < x.sequence → IsSome x.reset_token) × HasTokensAbove n ids
 
 -- one id at least, all of them less than 5 above the active one; and those that came by a frame have tokens
 abbrev pub IsQueue : List KeptCid → Type 0
 IsQueue [] = ⊥
-IsQueue (x ∷ xs) = Ascends (x.sequence + 1) (x.sequence + 5) xs × All (HasTokenAbove x.sequence) xs
+IsQueue (x ∷ ids) = Ascends (x.sequence + 1) (x.sequence + 5) ids × HasTokensAbove x.sequence ids
 
 -- the number of the active id
 abbrev pub active_seq_of : List KeptCid → ℕ
@@ -67,13 +68,14 @@ inserted new ids = kept_between new.retire_prior_to new.sequence ids ++ given_ci
 abbrev pub numbers_from : ℕ → ℕ → Range ℕ
 numbers_from start end = record { start = start; end = end }
 
--- what a frame that was taken brings about. Where it retires the active id, the numbers that are to be retired:
--- from the old active one up to the new one, and no more than 5; and the token of the new one.
+-- the numbers that are to be retired where an active number gives way to a new one: from the old one up to the
+-- new one, but no more than 5; and the token of the new one
+unfoldable pub renewal_of : ℕ → List KeptCid → Option (Range ℕ × List ℕ)
+renewal_of old ids = option_map (λ token. (numbers_from old (min (active_seq_of ids) (old + 5)), token)) (active_token_of ids)
+
+-- what a frame that was taken brings about: a renewal, where it retires the active id
 unfoldable pub insert_answer : NewConnectionId → List KeptCid → Option (Range ℕ × List ℕ)
-insert_answer new ids =
-    if nat_lt (active_seq_of ids) new.retire_prior_to
-    then option_map (λ token. (numbers_from (active_seq_of ids) (min (active_seq_of (inserted new ids)) (active_seq_of ids + 5)), token)) (active_token_of (inserted new ids))
-    else None
+insert_answer new ids = if nat_lt (active_seq_of ids) new.retire_prior_to then renewal_of (active_seq_of ids) (inserted new ids) else None
 
 -- the next id becomes the active one, where there is one
 abbrev pub after_next : List KeptCid → List KeptCid

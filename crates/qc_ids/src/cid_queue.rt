@@ -2,7 +2,7 @@
 
 ghost use Rattle.std.specs.Prelude.{◌≡◌, ◌+◌, ◌-◌, ◌<◌, ◌≤◌, ◌^◌, ◌↔◌, ◌++◌, ◌&&◌, Err, IsNone, IsSome, IfOk, OnOk, OnErr, length, nat_lt, nat_le};
 ghost use Rattle.arrayvec.specs.ArrayVec.{array_vec_len};
-ghost use Rattle.qc_ids.specs.CidQueue.{ExceedsLimit, IsTaken, active_of, active_seq_of, after_next, first_cid, insert_answer, inserted, is_above, is_between, kept_above, kept_between, next_answer, renamed};
+ghost use Rattle.qc_ids.specs.CidQueue.{ExceedsLimit, IsQueue, IsTaken, active_of, active_seq_of, after_next, first_cid, insert_answer, inserted, is_above, is_between, kept_above, kept_between, next_answer, renamed, renewal_of};
 
 use arrayvec::ArrayVec;
 use qc_base::{ConnectionId, ResetToken};
@@ -97,7 +97,8 @@ fn push_above(out: &mut ArrayVec<KeptCid, 5>, ids: &[KeptCid], sequence: u64)
 #[tactic(auto, using(crate::proofs::Queues::room_before, crate::proofs::Queues::room_behind), unfolding(crate::specs::CidQueue::inserted))]
 fn rebuilt(ids: &[KeptCid], new: &NewConnectionId) -> ArrayVec<KeptCid, 5>
     requires { IsTaken new.now ids.now }
-    ensures { result.items ≡ inserted new.now ids.now }
+    ensures value { result.items ≡ inserted new.now ids.now }
+    ensures queue { IsQueue result.items }
 {
     let mut out = ArrayVec::new();
     push_between(&mut out, ids, new.retire_prior_to, new.sequence);
@@ -108,6 +109,21 @@ fn rebuilt(ids: &[KeptCid], new: &NewConnectionId) -> ArrayVec<KeptCid, 5>
     });
     push_above(&mut out, ids, new.sequence);
     out
+}
+
+// The numbers to be retired where `active` gave way to the first of the ids, and that one's token.
+#[tactic(auto, unfolding(crate::specs::CidQueue::renewal_of))]
+fn renewal(ids: &[KeptCid], active: u64) -> Option<(Range<u64>, ResetToken)>
+    requires { active + 5 < 2 ^ 64 }
+    ensures { result ≡ renewal_of active ids.now }
+{
+    let [first, ..] = ids else {
+        return None;
+    };
+    match first.reset_token {
+        Some(token) => Some((active..first.sequence.min(active + 5), token)),
+        None => None,
+    }
 }
 
 impl CidQueue {
@@ -141,6 +157,75 @@ impl CidQueue {
         match self.ids.as_slice() {
             [] => 0,
             [first, ..] => first.sequence,
+        }
+    }
+
+    #[tactic(auto, using(crate::proofs::Queues::queue_few), unfolding(crate::specs::CidQueue::insert_answer))]
+    /// Keeps the id of a NEW_CONNECTION_ID frame (RFC 9000, section 19.15) in the stead of one under the same
+    /// number, and gives up those that the frame retires. Where the active one is among these, the least
+    /// number that is kept becomes active, and the answer is the range of numbers that the other end is to be
+    /// told of as retired, at most 5 of them, with the token of the new active id. Numbers further up haven't
+    /// come yet; they are retired when they come.
+    ///
+    /// # Errors
+    ///
+    /// `Retired` exactly where the frame's number lies below the active one. Else `ExceedsLimit` exactly where
+    /// it lies 5 or more above the active one, or above the number that the frame retires up to, where that
+    /// is greater. The queue is then as before.
+    pub fn insert(
+        &mut self,
+        cid: NewConnectionId,
+    ) -> Result<Option<(Range<u64>, ResetToken)>, InsertError>
+        requires order { cid.retire_prior_to ≤ cid.sequence }
+        requires bound { cid.sequence < 2 ^ 62 }
+        ensures retired { (result ≡ Err InsertError.Retired) ↔ (cid.sequence < active_seq_of self.old) }
+        ensures exceeds { (result ≡ Err InsertError.ExceedsLimit) ↔ ExceedsLimit cid self.old }
+        ensures answer { IfOk result (λ answer. answer ≡ insert_answer cid self.old) }
+        ensures renews { IfOk result (λ answer. IsSome answer ↔ (active_seq_of self.old < cid.retire_prior_to)) }
+        ensures kept { OnOk result (self.new ≡ inserted cid self.old) }
+        ensures most { length self.new ≤ 5 }
+        ensures err { OnErr result (self.new ≡ self.old) }
+    {
+        let active = self.active_seq();
+        if cid.sequence < active {
+            return Err(InsertError::Retired);
+        }
+        let retired = cid.retire_prior_to.saturating_sub(active);
+        if cid.sequence - active >= 5 + retired {
+            return Err(InsertError::ExceedsLimit);
+        }
+        self.ids = rebuilt(self.ids.as_slice(), &cid);
+        if retired == 0 {
+            return Ok(None);
+        }
+        Ok(renewal(self.ids.as_slice(), active))
+    }
+
+    /// Makes the next id active, and answers its token with the range of numbers that the other end is to be
+    /// told of as retired. None exactly where no other id is kept; nothing changes then.
+    pub fn next(&mut self) -> Option<(ResetToken, Range<u64>)>
+        ensures answer { result ≡ next_answer self.old }
+        ensures none { IsNone result ↔ (length self.old ≡ 1) }
+        ensures after { self.new ≡ after_next self.old }
+    {
+        let [first, second, ..] = self.ids.as_slice() else {
+            return None;
+        };
+        let retired = first.sequence..second.sequence;
+        let token = second.reset_token;
+        self.ids.remove(0);
+        match token {
+            Some(token) => Some((token, retired)),
+            None => None,
+        }
+    }
+
+    /// Puts another id in the place of the active one, as when the other end chose one of its own.
+    pub fn update_initial_cid(&mut self, cid: ConnectionId)
+        ensures { self.new ≡ renamed cid self.old }
+    {
+        if let Some(first) = self.ids.get_mut(0) {
+            first.id = cid;
         }
     }
 }
