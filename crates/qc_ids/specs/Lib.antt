@@ -1,3 +1,6 @@
 pub mod HashedCid
 pub mod RandomIds
 pub mod CidQueue
+pub mod CidState
+pub mod LocalCids
+pub mod Expiries

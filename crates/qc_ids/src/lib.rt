@@ -3,9 +3,13 @@
 #![tactic(auto)]
 
 mod cid_queue;
+mod cid_state;
+mod expiries;
 mod generator;
 mod hashed;
 
 pub use cid_queue::{CidQueue, InsertError, KeptCid};
+pub use cid_state::CidState;
+pub use expiries::CidExpiry;
 pub use generator::{ConnectionIdGenerator, InvalidCid, RandomConnectionIdGenerator};
 pub use hashed::HashedConnectionIdGenerator;
