@@ -1,2 +1,3 @@
 pub mod HashedCids
 pub mod Queues
+pub mod Numbers

@@ -1,6 +1,6 @@
 //! When the ids that this end issued expire.
 
-ghost use Rattle.std.specs.Prelude.{◌≡◌, ◌++◌, [], ◌∷◌, List, Option, drop, option_to_list, slice_get, OnOk, OnErr};
+ghost use Rattle.std.specs.Prelude.{◌≡◌, ◌++◌, [], ◌∷◌, option_to_list, IfNone, IfSome, OnOk, OnErr};
 ghost use Rattle.qc_ids.specs.Expiries.{expiry_of, oldest_time};
 
 use qc_base::{Duration, Instant};
@@ -37,12 +37,12 @@ impl Model for Expiries {
 }
 
 // The expiry of ids up to `end`, without it, where they have a lifetime.
-fn expiry(lifetime: Option<Duration>, now: Instant, end: u64) -> Option<CidExpiry>
-    ensures { option_to_list result ≡ expiry_of lifetime now end }
+fn expiry(lifetime: &Option<Duration>, now: Instant, end: u64) -> Option<CidExpiry>
+    ensures { option_to_list result ≡ expiry_of lifetime.now now end }
 {
     match lifetime {
         Some(lifetime) => Some(CidExpiry {
-            at: now.plus(lifetime),
+            at: now.plus(*lifetime),
             end,
         }),
         None => None,
@@ -53,11 +53,11 @@ impl Expiries {
     // The ids below `end` are the first ones.
     pub(crate) fn new(
         alloc: Global,
-        lifetime: Option<Duration>,
+        lifetime: &Option<Duration>,
         now: Instant,
         end: u64,
     ) -> Expiries
-        ensures { result ≡ expiry_of lifetime now end }
+        ensures { result ≡ expiry_of lifetime.now now end }
     {
         Expiries {
             oldest: expiry(lifetime, now, end),
@@ -68,11 +68,11 @@ impl Expiries {
     // One more list, where its ids have a lifetime.
     pub(crate) fn push(
         &mut self,
-        lifetime: Option<Duration>,
+        lifetime: &Option<Duration>,
         now: Instant,
         end: u64,
     ) -> Result<(), AllocError>
-        ensures ok { OnOk result (self.new ≡ self.old ++ expiry_of lifetime now end) }
+        ensures ok { OnOk result (self.new ≡ self.old ++ expiry_of lifetime.now now end) }
         ensures err { OnErr result (self.new ≡ self.old) }
     {
         let Some(expiry) = expiry(lifetime, now, end) else {
@@ -88,8 +88,9 @@ impl Expiries {
 
     // Takes the oldest list out.
     pub(crate) fn pop(&mut self) -> Option<CidExpiry>
-        ensures first { self.old ≡ option_to_list result ++ self.new }
-        ensures none { result ≡ slice_get self.old 0 }
+        ensures first { IfSome result (λ e. self.old ≡ e ∷ self.new) }
+        ensures none { IfNone result (self.old ≡ []) }
+        ensures unchanged { IfNone result (self.new ≡ []) }
     {
         let oldest = self.oldest;
         self.oldest = self.later.pop_front();
