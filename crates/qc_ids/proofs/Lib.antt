@@ -1,3 +1,4 @@
 pub mod HashedCids
 pub mod Queues
 pub mod Numbers
+pub mod QueueLaws

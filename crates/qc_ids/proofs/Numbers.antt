@@ -4,7 +4,8 @@ use Rattle.std.proofs.lemmas.Grind.{common_steps}
 use Rattle.std.proofs.lemmas.List.{drop_more, drop_all, length-append, length_push}
 use Rattle.std.proofs.lemmas.Bool.Decides.{nat_tests}
 use Rattle.std.specs.List.{filter, list_any, remove}
-use Rattle.qc_ids.specs.CidState.{Rises, EndsRise}
+use Rattle.qc_ids.specs.CidState.{EndsRise}
+use Rattle.qc_ids.specs.Numbers.{Rises, numbers_on}
 use Rattle.qc_ids.specs.LocalCids.{LocalCids, without, sequences, AreNext, numbers_up_to, count_between, issued_more, awaits_retirement, newly_asked, timed_out}
 use Rattle.qc_ids.specs.Expiries.{expiry_of}
 use Rattle.qc_ids.specs.declared.expiries.CidExpiry.{CidExpiry}
@@ -77,7 +78,7 @@ pub first_ends : (lifetime : Option ℕ) (now issued : ℕ) → EndsRise 0 issue
 first_ends None now issued = omega arith
 first_ends (Some t) now issued = (omega arith, omega arith)
 
-rises_append : (low mid high : ℕ) (ns ms : List ℕ) → Rises low mid ns → mid ≤ high → low ≤ mid → Rises mid high ms → Rises low high (ns ++ ms)
+pub rises_append : (low mid high : ℕ) (ns ms : List ℕ) → Rises low mid ns → mid ≤ high → low ≤ mid → Rises mid high ms → Rises low high (ns ++ ms)
 rises_append low mid high [] ms r m l s = rises_weaken mid low high high ms l (omega arith) s
 rises_append low mid high (n ∷ ns) ms r m l s =
     let b : n < mid = r.1 in
@@ -173,3 +174,7 @@ none_answer s none = rw none (sym (none_between s.retire_prior_to s.active))
 pub none_after : (s : LocalCids) → s.expiries ≡ [] → s ≡ timed_out s
 unfolding timed_out
 none_after s none = rw none refl
+
+pub numbers_rise : (start count high : ℕ) → start + count ≤ high → Rises start high (numbers_on start count)
+numbers_rise start zero high h = tt
+numbers_rise start (suc count) high h = (omega arith, omega arith, numbers_rise (start + 1) count high (omega arith))

@@ -3,11 +3,7 @@ use Rattle.std.specs.Prelude.{ℕ, ◌+◌, ◌<◌, ◌≤◌, List, [], ◌∷
 use Rattle.qc_ids.specs.declared.expiries.CidExpiry.{CidExpiry}
 use Rattle.qc_ids.specs.declared.cid_state.CidState.TheInside.{Inside}
 use Rattle.qc_ids.specs.LocalCids.{LocalCids}
-
--- from low up to, but without, high, in ascending order
-abbrev pub Rises : ℕ → ℕ → List ℕ → Type 0
-Rises low high [] = Unit {0}
-Rises low high (n ∷ ns) = (low ≤ n) × (n < high) × Rises (n + 1) high ns
+use Rattle.qc_ids.specs.Numbers.{Rises}
 
 -- lists that were issued later end later, from low to high
 abbrev pub EndsRise : ℕ → ℕ → List CidExpiry → Type 0

@@ -4,3 +4,5 @@ pub mod CidQueue
 pub mod CidState
 pub mod LocalCids
 pub mod Expiries
+pub mod Numbers
+pub mod QueueLaws

@@ -4,7 +4,7 @@ ghost use Rattle.std.specs.Prelude.{◌≡◌, ◌+◌, ◌<◌, ◌≤◌, ◌+
 ghost use Rattle.std.specs.List.{list_any};
 ghost use Rattle.qc_ids.specs.Expiries.{oldest_time};
 ghost use Rattle.qc_ids.specs.LocalCids.{AreNext, awaits_retirement, count_between, first_local_cids, issued_more, may_retire, newly_asked, numbers_up_to, retired, sequences, timed_out, without};
-ghost use Rattle.qc_ids.specs.CidState.{Rises};
+ghost use Rattle.qc_ids.specs.Numbers.{Rises};
 ghost use Rattle.smallvec.specs.SmallVec.{HasRoomFor};
 
 use crate::expiries::Expiries;

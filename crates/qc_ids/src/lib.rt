@@ -7,9 +7,11 @@ mod cid_state;
 mod expiries;
 mod generator;
 mod hashed;
+mod laws;
 
 pub use cid_queue::{CidQueue, InsertError, KeptCid};
 pub use cid_state::CidState;
 pub use expiries::CidExpiry;
 pub use generator::{ConnectionIdGenerator, InvalidCid, RandomConnectionIdGenerator};
 pub use hashed::HashedConnectionIdGenerator;
+pub use laws::queue_laws;
