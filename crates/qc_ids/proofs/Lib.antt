@@ -2,3 +2,4 @@ pub mod HashedCids
 pub mod Queues
 pub mod Numbers
 pub mod QueueLaws
+pub mod IssueLaws

@@ -113,10 +113,10 @@ insert_steps new ids order q =
             queue = queue;
             later = omega arith;
             rises = elim (nat_lt (active_seq_of ids) new.retire_prior_to)
-              as (λ b. Rises (active_seq_of ids) (active_seq_of (inserted new ids)) (numbers_of (option_map (λ (answer : Range ℕ × List ℕ). answer.0) (if b then renewal_of (active_seq_of ids) (inserted new ids) else None)))) [
-                | true ↦ renewal_numbers (active_seq_of ids) (inserted new ids) (omega arith)
-                | false ↦ tt
-              ];
+                as (λ b. Rises (active_seq_of ids) (active_seq_of (inserted new ids)) (numbers_of (option_map (λ (answer : Range ℕ × List ℕ). answer.0) (if b then renewal_of (active_seq_of ids) (inserted new ids) else None)))) [
+                  | true ↦ renewal_numbers (active_seq_of ids) (inserted new ids) (omega arith)
+                  | false ↦ tt
+                ];
           }
       | false ↦ λ e. record { queue = q; later = omega arith; rises = tt }
     ]) refl

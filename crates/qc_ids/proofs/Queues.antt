@@ -191,8 +191,7 @@ inserted_tokens new ids q =
 queue_from : (a m : ℕ) (ids : List KeptCid) → a ≤ m → 0 < length ids → Ascends m (m + 5) ids → HasTokensAbove a ids → IsQueue ids
 queue_from a m [] l n asc tokens = absurd (omega arith)
 queue_from a m (x ∷ ids) l n asc tokens =
-    let from : m ≤ x.sequence = asc.0 in
-    (
+    let from : m ≤ x.sequence = asc.0 in (
       weaken (x.sequence + 1) (x.sequence + 1) (m + 5) (x.sequence + 5) ids (omega arith) (omega arith) asc.2,
       tokens_weaker a x.sequence ids (omega arith) tokens.1,
     )

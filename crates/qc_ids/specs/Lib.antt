@@ -6,3 +6,4 @@ pub mod LocalCids
 pub mod Expiries
 pub mod Numbers
 pub mod QueueLaws
+pub mod IssueLaws

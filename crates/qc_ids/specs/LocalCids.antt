@@ -80,4 +80,3 @@ timed_out s = expired s.expiries s
 -- how many active ids the other end is newly asked to retire
 unfoldable pub newly_asked : LocalCids → ℕ
 newly_asked s = count_between s.retire_prior_to (timed_out s).retire_prior_to s.active
-

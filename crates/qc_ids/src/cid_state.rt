@@ -154,11 +154,7 @@ impl CidState {
     /// PROTOCOL_VIOLATION exactly where this end's ids are empty, or the number wasn't issued yet. Nothing
     /// changes then.
     #[tactic(auto, using(crate::proofs::Numbers::without_rises, crate::proofs::Numbers::rises_wide), unfolding(crate::specs::LocalCids::may_retire, crate::specs::LocalCids::retired))]
-    pub fn on_cid_retirement(
-        &mut self,
-        sequence: u64,
-        limit: u64,
-    ) -> Result<bool, TransportError>
+    pub fn on_cid_retirement(&mut self, sequence: u64, limit: u64) -> Result<bool, TransportError>
         ensures allowed { is_ok result ≡ may_retire sequence self.old }
         ensures answer { IfOk result (λ more. more ≡ nat_lt (length self.new.active) limit) }
         ensures ok { OnOk result (self.new ≡ retired sequence self.old) }

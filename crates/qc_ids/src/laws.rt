@@ -1,6 +1,8 @@
 //! What holds of the ids of both ends over any calls.
 
-ghost use Rattle.std.specs.Prelude.{ℕ, List};
+ghost use Rattle.std.specs.Prelude.{◌≡◌, ◌⊎◌, ℕ, List, Option};
+ghost use Rattle.qc_ids.specs.IssueLaws.{IssueCall, KeepsLimit, MayRun, NeverFalls, StaysRetired, issue_run};
+ghost use Rattle.qc_ids.specs.LocalCids.{LocalCids, first_local_cids, retired};
 ghost use Rattle.qc_ids.specs.QueueLaws.{AreFrames, KeepsFive, QueueCall, RetiresOnce, UsesGiven};
 
 /// Laws of a [`CidQueue`](crate::CidQueue) that was made with the id `first` and then called any number of
@@ -11,5 +13,22 @@ pub fn queue_laws()
     ensures given { (first : List ℕ) (calls : List QueueCall) → UsesGiven first calls }
     ensures once { (first : List ℕ) (calls : List QueueCall) → AreFrames calls → RetiresOnce first calls }
     ensures five { (first : List ℕ) (calls : List QueueCall) → AreFrames calls → KeepsFive first calls }
-{
-}
+{}
+
+/// Laws of a [`CidState`](crate::CidState) that was made and then called any number of times, in each case with
+/// ids that are the next ones: an id that was retired is never active again; the number below which ids are to be
+/// retired never falls; and where this end issues what its calls ask for, at once, no more ids are active than
+/// the limit, those aside that the other end is asked to retire. This function does nothing.
+#[tactic(auto, using(crate::proofs::IssueLaws::stays_retired, crate::proofs::IssueLaws::never_falls, crate::proofs::IssueLaws::keeps_limit))]
+pub fn issue_laws()
+    ensures retired { (cid_len : ℕ) (lifetime : Option ℕ) (now issued : ℕ) (before : List IssueCall) (n : ℕ) (calls : List IssueCall) → (issued ≡ 1) ⊎ (issued ≡ 2)
+        → MayRun before (first_local_cids cid_len lifetime now issued)
+        → MayRun calls (retired n (issue_run before (first_local_cids cid_len lifetime now issued)))
+        → StaysRetired (first_local_cids cid_len lifetime now issued) before n calls }
+    ensures falls { (cid_len : ℕ) (lifetime : Option ℕ) (now issued : ℕ) (before calls : List IssueCall) → (issued ≡ 1) ⊎ (issued ≡ 2)
+        → MayRun before (first_local_cids cid_len lifetime now issued)
+        → MayRun calls (issue_run before (first_local_cids cid_len lifetime now issued))
+        → NeverFalls (first_local_cids cid_len lifetime now issued) before calls }
+    ensures limit { (limit cid_len : ℕ) (lifetime : Option ℕ) (now issued : ℕ) (last : LocalCids) → (issued ≡ 1) ⊎ (issued ≡ 2)
+        → KeepsLimit limit (first_local_cids cid_len lifetime now issued) last }
+{}

@@ -14,4 +14,4 @@ pub use cid_state::CidState;
 pub use expiries::CidExpiry;
 pub use generator::{ConnectionIdGenerator, InvalidCid, RandomConnectionIdGenerator};
 pub use hashed::HashedConnectionIdGenerator;
-pub use laws::queue_laws;
+pub use laws::{issue_laws, queue_laws};
