@@ -15,3 +15,6 @@ pub use expiries::CidExpiry;
 pub use generator::{ConnectionIdGenerator, InvalidCid, RandomConnectionIdGenerator};
 pub use hashed::HashedConnectionIdGenerator;
 pub use laws::{issue_laws, queue_laws};
+
+#[cfg(test)]
+mod tests;

@@ -1,0 +1,8 @@
+//! The tokens by which a client shows that it can be reached at its address (RFC 9000, section 8.1).
+#![tactic(auto)]
+
+mod reading;
+mod token;
+mod writing;
+
+pub use token::{Token, TokenPayload};
