@@ -1,3 +1,5 @@
+ghost use Rattle.std.specs.Prelude.{◌≡◌};
+
 use crate::{
     CidQueue, CidState, ConnectionIdGenerator, HashedConnectionIdGenerator, InsertError, InvalidCid,
     RandomConnectionIdGenerator,

@@ -1,6 +1,7 @@
 //! The tokens by which a client shows that it can be reached at its address (RFC 9000, section 8.1).
 #![tactic(auto)]
 
+mod coding;
 mod reading;
 mod token;
 mod writing;
