@@ -1,0 +1,1 @@
+-- Tokens come back
