@@ -120,6 +120,7 @@ fn issued(sequence: u64) -> IssuedCid
 }
 
 #[test]
+#[tactic(auto, unfolding(crate::specs::LocalCids::first_local_cids))]
 fn ids_grow_old(rt: HostRuntime) -> Result<(), Fail> {
     let lifetime = Some(Duration::from_nanos(10));
     let mut state = CidState::new(rt.alloc(), 8, lifetime, Instant::from_nanos(5), 2);

@@ -17,7 +17,7 @@ module _ {A : Type 0} (sealed : A → List ℕ → List ℕ → List ℕ) (deriv
   unfoldable pub token_bytes : Token → List ℕ
   token_bytes t = sealed_token (payload_bytes t.payload) t.nonce
 
-  -- these bytes are that token
+  -- these bytes are that token: sealed plain bytes that say it, and its nonce
   unfoldable pub IsTokenText : Token → List ℕ → Type 0
   IsTokenText t raw = (plain : List ℕ) × IsPayloadText t.payload plain × (t.nonce < 2 ^ 128) × (raw ≡ sealed_token plain t.nonce)
 
@@ -28,3 +28,15 @@ module _ {A : Type 0} (opened : A → List ℕ → List ℕ → Option (List ℕ
       if nat_lt (length raw) 16 then None
       else option_map (λ payload. record { payload = payload; nonce = nonce_of (drop (length raw - 16) raw) })
       (option_and_then payload_of (opened (derived (drop (length raw - 16) raw)) [] (take (length raw - 16) raw)))
+
+-- these bytes are plain bytes that say this, sealed
+unfoldable pub IsSealedText : (List ℕ → List ℕ) → List ℕ → TokenPayload → Type 0
+IsSealedText sealing body p = (plain : List ℕ) × IsPayloadText p plain × (body ≡ sealing plain)
+
+-- where these bytes are something sealed, that was found
+unfoldable pub IsOnlySealed : (List ℕ → List ℕ) → List ℕ → Option TokenPayload → Type 0
+IsOnlySealed sealing body found = (p : TokenPayload) → IsSealedText sealing body p → found ≡ Some p
+
+-- where these bytes are a token, that was found: none was found exactly where they are none
+unfoldable pub IsOnlyToken : {A : Type 0} → (A → List ℕ → List ℕ → List ℕ) → (List ℕ → A) → List ℕ → Option Token → Type 0
+IsOnlyToken sealed derived raw found = (t : Token) → IsTokenText sealed derived t raw → found ≡ Some t

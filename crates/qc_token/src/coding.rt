@@ -1,12 +1,12 @@
 //! Tokens sealed and opened.
 
-ghost use Rattle.std.specs.Prelude.{◌≡◌, ◌+◌, ◌*◌, ◌/◌, ◌%◌, ◌^◌, [], length, Some, IfOk, IfSome};
+ghost use Rattle.std.specs.Prelude.{◌≡◌, ◌+◌, ◌*◌, ◌/◌, ◌%◌, ◌^◌, ◌++◌, [], length, Some, IfOk, IfSome};
 ghost use Rattle.rand_core.specs.Stream.{fill_bytes};
 ghost use Rattle.qc_token.specs.declared.token.Token.{Token};
 ghost use Rattle.qc_token.specs.Nonce.{nonce_bytes, nonce_of};
 ghost use Rattle.qc_token.specs.TokenReading.{payload_of};
-ghost use Rattle.std.specs.Option.{option_and_then};
-ghost use Rattle.qc_token.specs.Tokens.{IsTokenText, decoded, token_bytes};
+ghost use Rattle.std.specs.Option.{option_and_then, option_map};
+ghost use Rattle.qc_token.specs.Tokens.{IsOnlySealed, IsOnlyToken, IsSealedText, IsTokenText, decoded, token_bytes};
 
 use crate::reading::{read_payload, sixteen};
 use crate::writing::put_payload;
@@ -42,11 +42,30 @@ fn nonce_from_bytes(b: &[u8; 16]) -> u128
 
 // What the bytes say once they are opened.
 fn open_payload<A: AeadKey>(aead: &A, body: &mut [u8]) -> Option<TokenPayload>
-    ensures { result ≡ option_and_then payload_of (A.opened aead.now [] body.old) }
+    ensures exact { result ≡ option_and_then payload_of (A.opened aead.now [] body.old) }
+    ensures found { IfSome result (IsSealedText (A.sealed aead.now []) body.old) }
+    ensures only { IsOnlySealed (A.sealed aead.now []) body.old result }
 {
     match aead.open(body, &[]) {
         Ok(plain) => read_payload(plain),
         Err(_) => None,
+    }
+}
+
+// The token of sealed bytes and a nonce.
+fn decode_parts<K: HandshakeTokenKey>(key: &K, body: &mut [u8], nonce: &[u8]) -> Option<Token>
+    requires { length nonce.now ≡ 16 }
+    ensures exact { result ≡ option_map (λ p. record { payload = p; nonce = nonce_of nonce.now }) (option_and_then payload_of (K.Aead.opened (K.derived key.now nonce.now) [] body.old)) }
+    ensures found { IfSome result (λ t. IsTokenText K.Aead.sealed (K.derived key.now) t (body.old ++ nonce.now)) }
+    ensures only { IsOnlyToken K.Aead.sealed (K.derived key.now) (body.old ++ nonce.now) result }
+{
+    let aead = key.aead_from_hkdf(nonce);
+    match open_payload(&aead, body) {
+        Some(payload) => Some(Token {
+            payload,
+            nonce: nonce_from_bytes(&sixteen(nonce)),
+        }),
+        None => None,
     }
 }
 
@@ -85,7 +104,8 @@ impl Token {
         Ok(bytes)
     }
 
-    /// The token that these bytes are, as `key` made them; `None` exactly where they are none.
+    /// The token that these bytes are, as `key` made them: their last 16 bytes are its nonce, and the others are
+    /// sealed. `None` exactly where they are none.
     ///
     /// # Errors
     ///
@@ -96,20 +116,15 @@ impl Token {
         key: &K,
         raw: &[u8],
     ) -> Result<Option<Token>, AllocError>
-        ensures { IfOk result (λ token. token ≡ decoded K.Aead.opened (K.derived key.now) raw.now) }
+        ensures exact { IfOk result (λ token. token ≡ decoded K.Aead.opened (K.derived key.now) raw.now) }
+        ensures found { IfOk result (λ token. IfSome token (λ t. IsTokenText K.Aead.sealed (K.derived key.now) t raw.now)) }
+        ensures only { IfOk result (λ token. IsOnlyToken K.Aead.sealed (K.derived key.now) raw.now token) }
     {
         if raw.len() < 16 {
             return Ok(None);
         }
         let (sealed, nonce) = raw.split_at(raw.len() - 16);
         let mut body = Vec::from_slice(alloc, sealed)?;
-        let aead = key.aead_from_hkdf(nonce);
-        match open_payload(&aead, body.as_mut_slice()) {
-            Some(payload) => Ok(Some(Token {
-                payload,
-                nonce: nonce_from_bytes(&sixteen(nonce)),
-            })),
-            None => Ok(None),
-        }
+        Ok(decode_parts(key, body.as_mut_slice(), nonce))
     }
 }

@@ -2,8 +2,10 @@
 #![tactic(auto)]
 
 mod coding;
+mod laws;
 mod reading;
 mod token;
 mod writing;
 
+pub use laws::token_laws;
 pub use token::{Token, TokenPayload};

@@ -1,9 +1,9 @@
 //! Plain bytes read as a token.
 
-ghost use Rattle.std.specs.Prelude.{◌≡◌, ◌≤◌, ◌<◌, length, IfOk, Ok};
+ghost use Rattle.std.specs.Prelude.{◌≡◌, ◌≤◌, ◌<◌, length, IfOk, IfSome, Ok};
 ghost use Rattle.std.specs.Int.{w16};
 ghost use Rattle.qc_base.specs.Reading.{Finds, Gives, word_of};
-ghost use Rattle.qc_token.specs.TokenGrammar.{socket_of};
+ghost use Rattle.qc_token.specs.TokenGrammar.{IsPayloadText, socket_of};
 ghost use Rattle.qc_token.specs.TokenReading.{ip_at, payload_at, payload_of, retry_at, time_at, validation_at};
 
 use crate::TokenPayload;
@@ -123,9 +123,8 @@ fn read_front(bytes: &[u8]) -> Result<(TokenPayload, &[u8]), Cut>
     }
 }
 
-// The token that all of the bytes are.
 #[tactic(auto, unfolding(crate::specs::TokenReading::payload_of))]
-pub(crate) fn read_payload(bytes: &[u8]) -> Option<TokenPayload>
+fn read_all(bytes: &[u8]) -> Option<TokenPayload>
     ensures { result ≡ payload_of bytes.now }
 {
     match read_front(bytes) {
@@ -137,4 +136,12 @@ pub(crate) fn read_payload(bytes: &[u8]) -> Option<TokenPayload>
         }
         Err(_) => None,
     }
+}
+
+// The token that all of the bytes are.
+pub(crate) fn read_payload(bytes: &[u8]) -> Option<TokenPayload>
+    ensures exact { result ≡ payload_of bytes.now }
+    ensures found { IfSome result (λ p. IsPayloadText p bytes.now) }
+{
+    read_all(bytes)
 }
