@@ -1,1 +1,3 @@
 pub mod Announcement
+pub mod EndpointValues
+pub mod ServerValues

@@ -3,12 +3,25 @@
 #![tactic(auto)]
 
 mod announcement;
+mod client;
+mod config_error;
+mod endpoint;
+mod server;
 mod stateless_reset;
 mod token_store;
+mod tokens;
+mod validation_token;
 
 pub use announcement::announced;
+pub use client::ClientConfig;
+pub use config_error::ConfigError;
+pub use endpoint::EndpointConfig;
+pub use qc_token::{Token, TokenPayload};
+pub use server::ServerConfig;
 pub use stateless_reset::reset_token;
 pub use token_store::{NoneTokenStore, TokenStore};
+pub use tokens::{FixedTime, NoneTokenLog, TimeSource, TokenLog, TokenReuseError};
+pub use validation_token::ValidationTokenConfig;
 
 #[cfg(test)]
 mod tests;

@@ -1,6 +1,7 @@
 //! Where a server's times come from, and how it sees to it that a token is used once.
 
-ghost use Rattle.std.specs.Prelude.{◌≡◌, ℕ, Result, Err, OnOk, OnErr, IfOk};
+ghost use Rattle.std.specs.Prelude.{◌≡◌, ℕ, Result, OnOk, OnErr, IfOk};
+ghost use Rattle.qc_config.specs.declared.tokens.TokenReuseError.{TokenReuseError};
 
 use qc_base::{Duration, SystemTime};
 use std::alloc::AllocError;
