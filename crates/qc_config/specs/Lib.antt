@@ -1,3 +1,5 @@
 pub mod Announcement
 pub mod EndpointValues
 pub mod ServerValues
+pub mod Incoming
+pub mod Taking

@@ -1,9 +1,10 @@
 //! The settings of Validation tokens.
 
-ghost use Rattle.std.specs.Prelude.{◌≡◌};
+ghost use Rattle.std.specs.Prelude.{◌≡◌, IfOk, OnOk, OnErr};
 
-use crate::{NoneTokenLog, TokenLog};
-use qc_base::Duration;
+use crate::{NoneTokenLog, TokenLog, TokenReuseError};
+use qc_base::{Duration, SystemTime};
+use std::alloc::AllocError;
 use std::default::Default;
 use std::marker::Model;
 
@@ -38,6 +39,7 @@ impl Default for ValidationTokenConfig<NoneTokenLog> {
 /// Each setter keeps all other values, and each value has a reading call of the name `get_..`.
 impl<L: TokenLog> ValidationTokenConfig<L> {
     ghost use Rattle.qc_config.specs.ServerValues.{default_tokens};
+    ghost use Rattle.qc_config.specs.Incoming.{is_fresh};
 
     /// Tokens that are valid for two weeks. `log` sees to it that each is used once. None is sent.
     pub fn new(log: L) -> Self
@@ -96,5 +98,21 @@ impl<L: TokenLog> ValidationTokenConfig<L> {
         ensures { result ≡ self.now.sent }
     {
         self.sent
+    }
+
+    // Tells the log that a token is used, and answers whether it takes the token.
+    pub(crate) fn use_token(
+        &mut self,
+        nonce: u128,
+        issued: SystemTime,
+    ) -> Result<bool, AllocError>
+        ensures answer { IfOk result (λ taken. taken ≡ is_fresh (L.takes self.old.log nonce issued self.old.lifetime)) }
+        ensures after { OnOk result (self.new ≡ record self.old { log = L.after_token self.old.log nonce issued self.old.lifetime }) }
+        ensures err { OnErr result (self.new ≡ self.old) }
+    {
+        match self.log.check_and_insert(nonce, issued, self.lifetime)? {
+            Ok(()) => Ok(true),
+            Err(TokenReuseError) => Ok(false),
+        }
     }
 }
