@@ -40,7 +40,15 @@ impl<H: HmacKey> EndpointConfig<H> {
     pub fn new(alloc: Global, reset_key: H) -> Result<Self, AllocError>
         ensures { IfOk result (λ c. c ≡ default_endpoint reset_key) }
     {
-        let supported_versions = vec![in alloc; 1, 0xff00_001d, 0xff00_001e, 0xff00_001f, 0xff00_0020, 0xff00_0021, 0xff00_0022]?;
+        let supported_versions = vec![in alloc;
+            1,
+            0xff00_001d,
+            0xff00_001e,
+            0xff00_001f,
+            0xff00_0020,
+            0xff00_0021,
+            0xff00_0022,
+        ]?;
         Ok(EndpointConfig {
             reset_key,
             max_udp_payload_size: 1472,

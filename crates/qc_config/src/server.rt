@@ -41,9 +41,12 @@ impl<C, K, T, L> Model for ServerConfig<C, K, T, L> {
 
 /// Each setter keeps all other values, and each value that has no public field has a reading call of the name
 /// `get_..`.
-impl<C: qc_crypto::ServerConfig, K: HandshakeTokenKey, T: TimeSource, L: TokenLog>
-    ServerConfig<C, K, T, L>
-{
+impl<C: qc_crypto::ServerConfig, K: HandshakeTokenKey, T: TimeSource, L: TokenLog> ServerConfig<
+    C,
+    K,
+    T,
+    L,
+> {
     ghost use Rattle.qc_config.specs.ServerValues.{default_server};
 
     /// A server that starts its sessions with `crypto` and seals its tokens with `token_key`: tokens of Retry

@@ -101,11 +101,7 @@ impl<L: TokenLog> ValidationTokenConfig<L> {
     }
 
     // Tells the log that a token is used, and answers whether it takes the token.
-    pub(crate) fn use_token(
-        &mut self,
-        nonce: u128,
-        issued: SystemTime,
-    ) -> Result<bool, AllocError>
+    pub(crate) fn use_token(&mut self, nonce: u128, issued: SystemTime) -> Result<bool, AllocError>
         ensures answer { IfOk result (λ taken. taken ≡ is_fresh (L.takes self.old.log nonce issued self.old.lifetime)) }
         ensures after { OnOk result (self.new ≡ record self.old { log = L.after_token self.old.log nonce issued self.old.lifetime }) }
         ensures err { OnErr result (self.new ≡ self.old) }

@@ -1,8 +1,8 @@
 ghost use Rattle.std.specs.Prelude.{◌≡◌};
 
 use crate::{
-    CidQueue, CidState, ConnectionIdGenerator, HashedConnectionIdGenerator, InsertError, InvalidCid,
-    RandomConnectionIdGenerator,
+    CidQueue, CidState, ConnectionIdGenerator, HashedConnectionIdGenerator, InsertError,
+    InvalidCid, RandomConnectionIdGenerator,
 };
 use qc_base::{ConnectionId, Duration, Instant, IssuedCid, ResetToken, TransportErrorCode};
 use qc_frame::NewConnectionId;
@@ -43,7 +43,10 @@ impl Rng for OneByte {
 fn ids_are_made_and_known_again(rt: HostRuntime) -> Result<(), Fail> {
     let mut hashed = HashedConnectionIdGenerator::from_key(0);
     let id = hashed.generate_cid(&mut OneByte);
-    assert_eq!(rt; id, ConnectionId::new(&[1, 0, 0, 0xac, 0x05, 0x7d, 0xe1, 0xb9]));
+    assert_eq!(rt;
+        id,
+        ConnectionId::new(&[1, 0, 0, 0xac, 0x05, 0x7d, 0xe1, 0xb9])
+    );
     assert_eq!(rt; hashed.validate(&id), Ok(()));
     for len in [2, 7, 9] {
         let id = ConnectionId::new(&[1, 0, 0, 0xac, 0x05, 0x7d, 0xe1, 0xb9, 0][..len]);
@@ -52,7 +55,10 @@ fn ids_are_made_and_known_again(rt: HostRuntime) -> Result<(), Fail> {
     let other = ConnectionId::new(&[2, 0, 0, 0xac, 0x05, 0x7d, 0xe1, 0xb9]);
     assert_eq!(rt; hashed.validate(&other), Err(InvalidCid));
     hashed.set_lifetime(Duration::from_secs(1));
-    assert_eq!(rt; hashed.cid_lifetime(), Some(Duration::from_nanos(1_000_000_000)));
+    assert_eq!(rt;
+        hashed.cid_lifetime(),
+        Some(Duration::from_nanos(1_000_000_000))
+    );
     let mut random = RandomConnectionIdGenerator::default();
     let id = random.generate_cid(&mut OneByte);
     assert_eq!(rt; id, ConnectionId::new(&[1, 0, 0, 0, 0, 0, 0, 0]));

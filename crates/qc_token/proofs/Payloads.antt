@@ -129,8 +129,8 @@ retry_exact : Exact retry_at RetryText
 unfolding retry_at
 retry_exact =
     exact_then ip_exact (λ ip. exact_then (exact_or cut (found_word w16 word_16)) (λ port. exact_then (exact_or cut found_byte) (λ len.
-      exact_where cut (short_enough len) (exact_then (exact_or cut (found_bytes len)) (λ id. exact_then time_exact (λ issued.
-        exact_give (Retry (socket_of ip port) id issued)))))))
+    exact_where cut (short_enough len) (exact_then (exact_or cut (found_bytes len)) (λ id. exact_then time_exact (λ issued.
+    exact_give (Retry (socket_of ip port) id issued)))))))
 
 validation_exact : Exact validation_at ValidationText
 unfolding validation_at

@@ -48,11 +48,10 @@ both_halves : (l h : List ℕ) → length l ≡ 8 → length h ≡ 8 → IsBytes
     → (nonce_bytes (from_le_bytes w64 l + 2 ^ 64 * from_le_bytes w64 h) ≡ l ++ h) × (from_le_bytes w64 l + 2 ^ 64 * from_le_bytes w64 h < 2 ^ 128)
 both_halves l h a b c d =
     let low = small l c in
-    let high = small h d in
-    (
+    let high = small h d in (
       bytes_of_halves (from_le_bytes w64 l) (from_le_bytes w64 h) low
-      ∙ (ap (λ (s : List ℕ). s ++ to_le_bytes w64 (from_le_bytes w64 h)) (le_bytes_8 l (from_le_bytes w64 l) a c refl)
-      ∙ ap (λ (s : List ℕ). l ++ s) (le_bytes_8 h (from_le_bytes w64 h) b d refl)),
+          ∙ (ap (λ (s : List ℕ). s ++ to_le_bytes w64 (from_le_bytes w64 h)) (le_bytes_8 l (from_le_bytes w64 l) a c refl)
+          ∙ ap (λ (s : List ℕ). l ++ s) (le_bytes_8 h (from_le_bytes w64 h) b d refl)),
       omega arith,
     )
 

@@ -92,7 +92,11 @@ impl Token {
     ///
     /// Where there was no memory.
     #[tactic(auto, unfolding(crate::specs::Tokens::token_bytes, crate::specs::Tokens::sealed_token))]
-    pub fn encode<K: HandshakeTokenKey>(&self, alloc: Global, key: &K) -> Result<Vec<u8>, AllocError>
+    pub fn encode<K: HandshakeTokenKey>(
+        &self,
+        alloc: Global,
+        key: &K,
+    ) -> Result<Vec<u8>, AllocError>
         ensures { IfOk result (λ bytes. bytes.items ≡ token_bytes K.Aead.sealed (K.derived key.now) self.now) }
     {
         let mut bytes = Vec::new(alloc);

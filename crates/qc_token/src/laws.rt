@@ -12,5 +12,4 @@ use qc_crypto::AeadKey;
 pub fn token_laws<A: AeadKey>()
     ensures text { (derived : List ℕ → A) (t : Token) → IsWhole t.payload → t.nonce < 2 ^ 128 → IsTokenText A.sealed derived t (token_bytes A.sealed derived t) }
     ensures back { (derived : List ℕ → A) (t : Token) → IsWhole t.payload → t.nonce < 2 ^ 128 → decoded A.opened derived (token_bytes A.sealed derived t) ≡ Some t }
-{
-}
+{}
