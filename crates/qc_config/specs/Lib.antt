@@ -3,3 +3,4 @@ pub mod EndpointValues
 pub mod ServerValues
 pub mod Incoming
 pub mod Taking
+pub mod TokenCache

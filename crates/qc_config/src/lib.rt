@@ -3,6 +3,7 @@
 #![tactic(auto)]
 
 mod announcement;
+mod cache_parts;
 mod client;
 mod config_error;
 mod endpoint;
