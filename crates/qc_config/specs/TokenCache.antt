@@ -32,28 +32,37 @@ pushed most token queue = (if nat_le most (length queue) then drop 1 queue else 
 
 -- the token is put into its name's queue, and the name goes first; a new name drops the last one where there
 -- are as many as there may be
-abbrev pub with_token : List ℕ → List ℕ → CacheValues → Option (List (List ℕ)) → List (List ℕ × List (List ℕ))
-with_token name token c (Some queue) = (name, pushed c.max_tokens_per_server token queue) ∷ others name c.entries
-with_token name token c None = (name, token ∷ []) ∷ take (c.max_server_names - 1) c.entries
+abbrev pub with_token : ℕ → ℕ → List ℕ → List ℕ → List (List ℕ × List (List ℕ)) → Option (List (List ℕ)) → List (List ℕ × List (List ℕ))
+with_token names most name token entries (Some queue) = (name, pushed most token queue) ∷ others name entries
+with_token names most name token entries None = (name, token ∷ []) ∷ take (names - 1) entries
+
+unfoldable pub entries_with : ℕ → ℕ → List ℕ → List ℕ → List (List ℕ × List (List ℕ)) → List (List ℕ × List (List ℕ))
+entries_with names most name token entries = with_token names most name token entries (queue_of name entries)
 
 -- a cache that holds nothing
 abbrev pub holds_nothing : CacheValues → Bool
 holds_nothing c = c.max_server_names == 0 || c.max_tokens_per_server == 0
 
 unfoldable pub cache_inserted : CacheValues → List ℕ → List ℕ → CacheValues
-cache_inserted c name token = if holds_nothing c then c else record c { entries = with_token name token c (queue_of name c.entries) }
-
--- the oldest token of a name
-unfoldable pub cache_taken : CacheValues → List ℕ → Option (List ℕ)
-cache_taken c name = option_and_then (λ queue. slice_get queue 0) (queue_of name c.entries)
+cache_inserted c name token = if holds_nothing c then c else record c { entries = entries_with c.max_server_names c.max_tokens_per_server name token c.entries }
 
 -- the name goes first, without its oldest token; without a token it goes
-abbrev pub without_token : List ℕ → CacheValues → Option (List (List ℕ)) → List (List ℕ × List (List ℕ))
-without_token name c None = c.entries
-without_token name c (Some queue) = if nat_le (length queue) 1 then others name c.entries else (name, drop 1 queue) ∷ others name c.entries
+abbrev pub without_token : List ℕ → List (List ℕ × List (List ℕ)) → Option (List (List ℕ)) → List (List ℕ × List (List ℕ))
+without_token name entries None = entries
+without_token name entries (Some queue) = if nat_le (length queue) 1 then others name entries else (name, drop 1 queue) ∷ others name entries
+
+unfoldable pub entries_without : List ℕ → List (List ℕ × List (List ℕ)) → List (List ℕ × List (List ℕ))
+entries_without name entries = without_token name entries (queue_of name entries)
+
+-- the oldest token of a name
+unfoldable pub oldest_of : List ℕ → List (List ℕ × List (List ℕ)) → Option (List ℕ)
+oldest_of name entries = option_and_then (λ queue. slice_get queue 0) (queue_of name entries)
+
+unfoldable pub cache_taken : CacheValues → List ℕ → Option (List ℕ)
+cache_taken c name = oldest_of name c.entries
 
 unfoldable pub cache_after_take : CacheValues → List ℕ → CacheValues
-cache_after_take c name = record c { entries = without_token name c (queue_of name c.entries) }
+cache_after_take c name = record c { entries = entries_without name c.entries }
 
 -- each name has a token, and no more than it may have
 abbrev pub HaveTokens : ℕ → List (List ℕ × List (List ℕ)) → Type 0
