@@ -4,3 +4,4 @@ pub mod ServerValues
 pub mod Incoming
 pub mod Taking
 pub mod TokenCache
+pub mod CacheLaws

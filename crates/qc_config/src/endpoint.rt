@@ -1,6 +1,6 @@
 //! What an endpoint is set up with.
 
-ghost use Rattle.std.specs.Prelude.{◌≡◌, None, Some, IfOk, IfErr, is_ok};
+ghost use Rattle.std.specs.Prelude.{◌≡◌, None, Some, IfOk, IfErr, OnErr, OnOk, is_ok};
 
 use crate::ConfigError;
 use qc_base::Duration;
@@ -30,6 +30,7 @@ impl<H> Model for EndpointConfig<H> {
 /// Each setter keeps all other values, and each value has a reading call of the name `get_..`.
 impl<H: HmacKey> EndpointConfig<H> {
     ghost use Rattle.qc_config.specs.EndpointValues.{default_endpoint, is_payload_size};
+    ghost use Rattle.qc_config.specs.declared.config_error.ConfigError.{ConfigError};
 
     /// A configuration that makes its reset tokens by `reset_key`: payloads of 1472 bytes at most, version 1
     /// and drafts 29 to 34, a fixed bit that may be unset, 20 ms between stateless resets, and no seed.
@@ -76,6 +77,20 @@ impl<H: HmacKey> EndpointConfig<H> {
         &self.reset_key
     }
 
+    // Sets the greatest size of a UDP payload, where it is one.
+    fn set_payload_size(&mut self, value: u16) -> Result<(), ConfigError>
+        ensures bounds { is_ok result ≡ is_payload_size value }
+        ensures ok { OnOk result (self.new ≡ record self.old { max_udp_payload_size = value }) }
+        ensures error { IfErr result (λ e. e ≡ ConfigError.OutOfBounds) }
+        ensures unchanged { OnErr result (self.new ≡ self.old) }
+    {
+        if !(1200..=65527).contains(&value) {
+            return Err(ConfigError::OutOfBounds);
+        }
+        self.max_udp_payload_size = value;
+        Ok(())
+    }
+
     /// Sets the greatest size in bytes of a UDP payload that is taken (RFC 9000, section 18.2).
     ///
     /// # Errors
@@ -83,13 +98,11 @@ impl<H: HmacKey> EndpointConfig<H> {
     /// `OutOfBounds` exactly where it isn't from 1200 to 65527. Nothing changes then.
     pub fn max_udp_payload_size(&mut self, value: u16) -> Result<&mut Self, ConfigError>
         ensures bounds { is_ok result ≡ is_payload_size value }
+        ensures error { IfErr result (λ e. e ≡ ConfigError.OutOfBounds) }
         ensures same { IfOk result (λ c. c.ghost_name ≡ self.entry.ghost_name) }
         ensures set { IfOk result (λ c. c.now ≡ record self.old { max_udp_payload_size = value }) }
     {
-        if !(1200..=65527).contains(&value) {
-            return Err(ConfigError::OutOfBounds);
-        }
-        self.max_udp_payload_size = value;
+        self.set_payload_size(value)?;
         Ok(self)
     }
 

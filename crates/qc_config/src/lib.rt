@@ -3,6 +3,7 @@
 #![tactic(auto)]
 
 mod announcement;
+mod cache_laws;
 mod cache_parts;
 mod client;
 mod config_error;
@@ -16,6 +17,7 @@ mod tokens;
 mod validation_token;
 
 pub use announcement::announced;
+pub use cache_laws::cache_law;
 pub use client::ClientConfig;
 pub use config_error::ConfigError;
 pub use endpoint::EndpointConfig;
@@ -29,4 +31,8 @@ pub use tokens::{FixedTime, NoneTokenLog, TimeSource, TokenLog, TokenReuseError}
 pub use validation_token::ValidationTokenConfig;
 
 #[cfg(test)]
+mod cache_tests;
+#[cfg(test)]
 mod tests;
+#[cfg(test)]
+mod token_tests;
