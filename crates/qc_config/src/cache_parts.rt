@@ -103,7 +103,7 @@ impl TokenQueue {
             self.tokens.push_back(token)?;
             return Ok(());
         }
-        self.tokens.pop_front();
+        let _oldest = self.tokens.pop_front();
         self.tokens.push_back_reserved(token);
         Ok(())
     }

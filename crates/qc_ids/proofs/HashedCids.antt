@@ -1,8 +1,7 @@
 -- Nonce and check bytes, put together and taken apart again
-use Rattle.std.proofs.Common.{◌≡◌, ◌+◌, ◌<◌, ℕ, Bool, true, List, [], ◌∷◌, ◌++◌, length, slice_index, take, drop, nat_eq, ◌&&◌, ◌==◌, arith, refl, ap, rules}
-use Rattle.std.proofs.lemmas.Grind.{common_steps}
+use Rattle.std.proofs.Common.{◌≡◌, ℕ, true, List, ◌++◌, length, arith, refl}
 use Rattle.std.proofs.lemmas.List.{take_at, drop_at, length-append}
-use Rattle.std.specs.Cmp.Lexicographic.{pointwise, nat_list_eq_equiv}
+use Rattle.std.specs.Cmp.Lexicographic.{nat_list_eq_equiv}
 use Rattle.qc_ids.specs.HashedCid.{check_bytes, hashed_cid, is_hashed_cid}
 
 -- the check value has five bytes

@@ -1,6 +1,5 @@
 -- Any calls of a `CidState`
-use Rattle.std.proofs.Common.{◌≡◌, ℕ, ◌+◌, ◌-◌, ◌<◌, ◌≤◌, ◌==◌, ◌⊎◌, ◌||◌, ◌&&◌, suc, zero, inl, inr, Bool, true, false, not, List, [], ◌∷◌, ◌++◌, Option, Some, None, length, nat_eq, nat_le, nat_lt, count_by, cond, if◌then◌else◌, arith, refl, ap, subst, sym, ◌∙◌, rules, append_assoc}
-use Rattle.std.proofs.lemmas.Grind.{common_steps}
+use Rattle.std.proofs.Common.{◌≡◌, ℕ, ◌+◌, ◌<◌, ◌≤◌, ◌==◌, ◌⊎◌, ◌||◌, ◌&&◌, true, false, not, List, [], ◌∷◌, ◌++◌, Option, length, nat_eq, nat_le, nat_lt, count_by, cond, if◌then◌else◌, arith, refl, subst, sym}
 use Rattle.std.proofs.lemmas.Bool.Decides.{nat_tests}
 use Rattle.std.proofs.lemmas.List.Sums.{count_by-le-length, sum_by-append, sum_by-cons}
 use Rattle.std.proofs.lemmas.List.{length-map}
@@ -9,10 +8,9 @@ use Rattle.qc_base.specs.declared.ids.IssuedCid.{IssuedCid}
 use Rattle.qc_ids.specs.declared.expiries.CidExpiry.{CidExpiry}
 use Rattle.qc_ids.specs.CidState.{EndsRise}
 use Rattle.qc_ids.specs.Numbers.{Rises}
-use Rattle.qc_ids.specs.Expiries.{expiry_of}
-use Rattle.qc_ids.specs.LocalCids.{AreNext, LocalCids, awaits_retirement, count_between, expired, first_local_cids, issued_more, may_retire, newly_asked, numbers_up_to, retired, sequences, timed_out, without}
+use Rattle.qc_ids.specs.LocalCids.{AreNext, LocalCids, awaits_retirement, count_between, expired, first_local_cids, issued_more, may_retire, newly_asked, retired, sequences, timed_out, without}
 use Rattle.qc_ids.specs.IssueLaws.{IssueCall, Issue, Retire, Expire, KeepsLimit, MayCall, MayRun, NeverFalls, Serves, StaysRetired, in_force, is_active, issue_run, issued_after, rests, retires, expires}
-use Rattle.qc_ids.proofs.Numbers.{first_ends, first_rises, more_end, more_rise, none_between, waiting_ends, without_rises}
+use Rattle.qc_ids.proofs.Numbers.{first_ends, first_rises, more_end, more_rise, waiting_ends, without_rises}
 
 -- what is held at each moment
 pub record IsSound (s : LocalCids) : Type 0 where

@@ -1,7 +1,5 @@
 -- Ascending lists of sequence numbers
-use Rattle.std.proofs.Common.{◌≡◌, ◌≢◌, ℕ, ◌+◌, ◌-◌, ◌<◌, ◌≤◌, ◌==◌, ◌&&◌, ◌^◌, ◌⊎◌, inl, inr, suc, zero, Bool, true, false, not, List, [], ◌∷◌, ◌++◌, length, drop, take, get_or, Option, Some, None, nat_eq, nat_le, nat_lt, arith, refl, ap, subst, sym, ◌∙◌, rules, append_assoc, append-nil}
-use Rattle.std.proofs.lemmas.Grind.{common_steps}
-use Rattle.std.proofs.lemmas.List.{drop_more, drop_all, length-append, length_push}
+use Rattle.std.proofs.Common.{◌≡◌, ◌≢◌, ℕ, ◌+◌, ◌<◌, ◌≤◌, ◌==◌, ◌&&◌, ◌^◌, ◌⊎◌, inl, inr, suc, zero, true, false, not, List, [], ◌∷◌, ◌++◌, length, get_or, Option, Some, None, nat_eq, nat_le, nat_lt, arith, refl, ap, sym, ◌∙◌}
 use Rattle.std.proofs.lemmas.Bool.Decides.{nat_tests}
 use Rattle.std.specs.List.{filter, list_any, remove}
 use Rattle.qc_ids.specs.CidState.{EndsRise}

@@ -1,5 +1,5 @@
 -- Any calls of a queue
-use Rattle.std.proofs.Common.{◌≡◌, ℕ, ◌+◌, ◌-◌, ◌<◌, ◌≤◌, ◌&&◌, suc, zero, Bool, true, false, List, [], ◌∷◌, ◌++◌, Option, Some, None, length, min, max, nat_le, nat_lt, Contains, if◌then◌else◌, arith, refl, ap, subst, sym, ◌∙◌, rules, append_assoc}
+use Rattle.std.proofs.Common.{◌≡◌, ℕ, ◌+◌, ◌-◌, ◌<◌, ◌≤◌, Bool, true, false, List, [], ◌∷◌, ◌++◌, Some, None, length, min, max, nat_lt, Contains, if◌then◌else◌, arith, refl, append_assoc}
 use Rattle.std.proofs.lemmas.Grind.{common_steps}
 use Rattle.std.proofs.lemmas.Bool.Decides.{nat_tests}
 use Rattle.std.proofs.lemmas.List.Elements.{Contains-append_left, Contains-append_right}
@@ -8,10 +8,10 @@ use Rattle.std.specs.Option.{option_map}
 use Rattle.std.specs.declared.ops.Range.{Range}
 use Rattle.qc_frame.specs.declared.frames.NewConnectionId.{NewConnectionId}
 use Rattle.qc_ids.specs.declared.cid_queue.KeptCid.{KeptCid}
-use Rattle.qc_ids.specs.CidQueue.{Ascends, IsQueue, IsTaken, active_of, active_seq_of, active_token_of, after_next, first_cid, given_cid, insert_answer, inserted, is_above, is_between, kept_above, kept_between, next_answer, numbers_from, renamed, renewal_of}
-use Rattle.qc_ids.specs.Numbers.{Rises, numbers_on}
+use Rattle.qc_ids.specs.CidQueue.{Ascends, IsQueue, IsTaken, active_of, active_seq_of, active_token_of, first_cid, given_cid, insert_answer, inserted, is_above, is_between, kept_above, kept_between, numbers_from, renewal_of}
+use Rattle.qc_ids.specs.Numbers.{Rises}
 use Rattle.qc_ids.specs.QueueLaws.{AreFrames, KeepsFive, QueueCall, Insert, Next, Rename, RetiresOnce, UsesGiven, given_in, is_taken, numbers_of, queue_after, queue_run, retired_in, retires}
-use Rattle.qc_ids.proofs.Numbers.{numbers_rise, rises_append, rises_weaken}
+use Rattle.qc_ids.proofs.Numbers.{numbers_rise, rises_append}
 use Rattle.qc_ids.proofs.Queues.{inserted_ascends, inserted_queue, queue_few, tail_queue}
 
 -- ---- every id that is kept was given

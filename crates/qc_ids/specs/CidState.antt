@@ -1,5 +1,5 @@
 -- How a `CidState` holds the ids that were issued
-use Rattle.std.specs.Prelude.{ℕ, ◌+◌, ◌<◌, ◌≤◌, List, [], ◌∷◌}
+use Rattle.std.specs.Prelude.{ℕ, ◌≤◌, List, [], ◌∷◌}
 use Rattle.qc_ids.specs.declared.expiries.CidExpiry.{CidExpiry}
 use Rattle.qc_ids.specs.declared.cid_state.CidState.TheInside.{Inside}
 use Rattle.qc_ids.specs.LocalCids.{LocalCids}

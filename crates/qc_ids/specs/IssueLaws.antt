@@ -1,8 +1,8 @@
 -- What holds of the ids that this end issued, over any calls
-use Rattle.std.specs.Prelude.{◌≡◌, ℕ, ◌+◌, ◌<◌, ◌≤◌, ◌==◌, ◌⊎◌, Bool, true, false, List, [], ◌∷◌, Option, length, count_by, nat_lt, nat_le, if◌then◌else◌}
+use Rattle.std.specs.Prelude.{◌≡◌, ℕ, ◌≤◌, ◌==◌, Bool, true, false, List, [], ◌∷◌, length, count_by, nat_lt, nat_le, if◌then◌else◌}
 use Rattle.std.specs.List.{list_any}
 use Rattle.qc_base.specs.declared.ids.IssuedCid.{IssuedCid}
-use Rattle.qc_ids.specs.LocalCids.{AreNext, LocalCids, first_local_cids, issued_more, may_retire, newly_asked, retired, timed_out}
+use Rattle.qc_ids.specs.LocalCids.{AreNext, LocalCids, issued_more, may_retire, newly_asked, retired, timed_out}
 
 -- the calls that change what was issued; the first only with ids that are the next ones, as the call demands
 pub data IssueCall : Type 0 where

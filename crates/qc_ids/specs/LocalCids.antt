@@ -1,5 +1,5 @@
 -- The connection ids that this end issued, by sequence number
-use Rattle.std.specs.Prelude.{◌≡◌, ℕ, ◌+◌, ◌<◌, ◌≤◌, ◌==◌, ◌&&◌, ◌++◌, length, Bool, not, List, [], ◌∷◌, Option, Some, None, filter, count_by, map, min, nat_lt, nat_le, if◌then◌else◌}
+use Rattle.std.specs.Prelude.{◌≡◌, ℕ, ◌+◌, ◌<◌, ◌==◌, ◌&&◌, ◌++◌, length, Bool, not, List, [], ◌∷◌, Option, filter, count_by, map, nat_lt, nat_le, if◌then◌else◌}
 use Rattle.std.specs.List.{list_any}
 use Rattle.qc_base.specs.declared.ids.IssuedCid.{IssuedCid}
 use Rattle.qc_ids.specs.declared.expiries.CidExpiry.{CidExpiry}

@@ -1,5 +1,5 @@
 -- Lists of sequence numbers
-use Rattle.std.specs.Prelude.{ℕ, zero, suc, ◌+◌, ◌-◌, ◌<◌, ◌≤◌, List, [], ◌∷◌}
+use Rattle.std.specs.Prelude.{ℕ, zero, suc, ◌+◌, ◌<◌, ◌≤◌, List, [], ◌∷◌}
 
 -- from low up to, but without, high, in ascending order: none comes twice
 abbrev pub Rises : ℕ → ℕ → List ℕ → Type 0

@@ -1,5 +1,5 @@
 -- Connection ids of random bytes
-use Rattle.std.specs.Prelude.{ℕ, ◌≤◌, Option}
+use Rattle.std.specs.Prelude.{ℕ, Option}
 
 -- how long the ids are, and how long after their issue they are to be retired, in nanoseconds
 pub record RandomIds : Type 0 where

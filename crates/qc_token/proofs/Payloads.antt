@@ -1,5 +1,5 @@
 -- What is read as a token is what the grammar says, and what is written is spelled by it
-use Rattle.std.proofs.Common.{◌≡◌, ℕ, ◌+◌, ◌-◌, ◌*◌, ◌/◌, ◌%◌, ◌<◌, ◌≤◌, ◌^◌, ◌⊎◌, inl, inr, ◌==◌, suc, zero, Bool, true, false, List, [], ◌∷◌, ◌++◌, length, slice_index, Option, Some, None, Result, Ok, Err, nat_eq, nat_lt, arith, refl, ap, subst, sym, ◌∙◌, rules, if◌then◌else◌, append_assoc, append-nil}
+use Rattle.std.proofs.Common.{◌≡◌, ℕ, ◌+◌, ◌*◌, ◌/◌, ◌%◌, ◌<◌, ◌≤◌, ◌^◌, inl, inr, ◌==◌, suc, zero, Bool, true, false, List, [], ◌∷◌, ◌++◌, length, Some, Result, Ok, Err, nat_eq, nat_lt, arith, refl, ap, subst, sym, ◌∙◌, if◌then◌else◌, append_assoc, append-nil}
 use Rattle.std.proofs.lemmas.Bool.Decides.{nat_tests}
 use Rattle.std.proofs.lemmas.Nat.{be_bytes_2, from_be_bytes-to_be_bytes_2}
 use Rattle.std.specs.Int.{to_be_bytes, from_be_bytes, w16, w64}
@@ -9,8 +9,8 @@ use Rattle.std.specs.declared.net.ip_addr.IpAddr.{IpAddr}
 use Rattle.std.specs.declared.net.ip_addr.IpAddr.TheVariants as Ip
 use Rattle.std.specs.declared.net.socket_addr.SocketAddr.{SocketAddr}
 use Rattle.std.specs.declared.net.socket_addr.SocketAddr.TheVariants as Socket
-use Rattle.qc_base.specs.Reading.{Reader, read_on, give, or_fault, byte_of, bytes_of, word_of}
-use Rattle.qc_base.specs.Grammar.{Spelling, ◌>>=◌, Is, Where, Bytes, Byte, Word, IsBytes}
+use Rattle.qc_base.specs.Reading.{Reader}
+use Rattle.qc_base.specs.Grammar.{Spelling, ◌>>=◌, Is, Bytes, Byte, IsBytes}
 use Rattle.qc_base.specs.declared.reading.Cut.{Cut}
 use Rattle.qc_base.proofs.Exact.{Exact, Tests, exact_then, exact_or, exact_give, exact_where, found_byte, found_bytes}
 use Rattle.qc_base.proofs.Varints.{front_bytes}
@@ -18,7 +18,7 @@ use Rattle.qc_base.proofs.Words.{IsWord, found_word, word_64}
 use Rattle.qc_token.specs.declared.token.TokenPayload.{TokenPayload}
 use Rattle.qc_token.specs.declared.token.TokenPayload.TheVariants.{Retry, Validation}
 use Rattle.qc_token.specs.TokenGrammar.{IpText, TimeText, RetryText, ValidationText, PayloadText, IsPayloadText, socket_of}
-use Rattle.qc_token.specs.TokenReading.{cut, v4_at, v6_at, ip_of_kind, ip_at, time_at, retry_at, validation_at, payload_of_kind, payload_at, all_read, payload_of}
+use Rattle.qc_token.specs.TokenReading.{cut, v4_at, v6_at, ip_at, time_at, retry_at, validation_at, payload_at, all_read, payload_of}
 use Rattle.qc_token.specs.TokenSpelling.{ip_bytes, time_bytes, payload_bytes, IsWholeTime, IsIp, IsWhole}
 
 -- ---- octets and segments

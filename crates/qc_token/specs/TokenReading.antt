@@ -1,10 +1,10 @@
 -- What plain bytes say as a token
-use Rattle.std.specs.Prelude.{ℕ, ◌*◌, ◌==◌, Bool, List, [], ◌∷◌, length, nat_lt, if◌then◌else◌, Result, Ok, Err, Option, Some, None}
+use Rattle.std.specs.Prelude.{ℕ, ◌*◌, ◌==◌, List, [], ◌∷◌, nat_lt, if◌then◌else◌, Result, Ok, Err, Option, Some, None}
 use Rattle.std.specs.Int.{w16, w64}
 use Rattle.std.specs.Net.Addr.{segments_of}
 use Rattle.std.specs.declared.net.ip_addr.IpAddr.{IpAddr}
 use Rattle.std.specs.declared.net.ip_addr.IpAddr.TheVariants as Ip
-use Rattle.qc_base.specs.Reading.{Reader, read_on, ◌>>=◌, give, refuse, or_fault, byte_of, bytes_of, word_of}
+use Rattle.qc_base.specs.Reading.{Reader, ◌>>=◌, give, refuse, or_fault, byte_of, bytes_of, word_of}
 use Rattle.qc_base.specs.declared.reading.Cut.{Cut}
 use Rattle.qc_token.specs.declared.token.TokenPayload.{TokenPayload}
 use Rattle.qc_token.specs.declared.token.TokenPayload.TheVariants.{Retry, Validation}

@@ -1,4 +1,4 @@
-use Rattle.std.proofs.Common.{◌<◌, ◌++◌, length, arith}
+use Rattle.std.proofs.Common.{arith}
 use Rattle.std.proofs.lemmas.List.{length-append}
 use Rattle.qc_ids.specs.CidQueue.{kept_between}
 use Rattle.qc_ids.proofs.Queues.{between_room, between_end}

@@ -1,4 +1,4 @@
-use Rattle.std.proofs.Common.{◌≡◌, ◌+◌, ◌-◌, ◌≤◌, ◌++◌, take, length}
+use Rattle.std.proofs.Common.{◌≡◌, ◌-◌, ◌++◌, take, length}
 use Rattle.smallvec.specs.SmallVec.{HasRoomFor}
 use Rattle.qc_ids.specs.LocalCids.{sequences}
 use Rattle.qc_ids.proofs.cid_state.add_numbers.Given as goal

@@ -1,4 +1,4 @@
-use Rattle.std.proofs.Common.{◌^◌, arith}
+use Rattle.std.proofs.Common.{◌^◌}
 use Rattle.qc_ids.proofs.Numbers.{taken_out}
 use Rattle.qc_ids.proofs.cid_state.take_out.Goals as goal
 

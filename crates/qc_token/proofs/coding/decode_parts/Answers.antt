@@ -1,4 +1,4 @@
-use Rattle.std.proofs.Common.{◌≡◌, ◌++◌, [], Some, None, refl, rules, arith}
+use Rattle.std.proofs.Common.{◌++◌, [], Some, None, refl, arith}
 use Rattle.qc_token.specs.Tokens.{IsOnlySealed, IsSealedText}
 use Rattle.qc_token.proofs.TokenLaws.{found_token, only_token}
 use Rattle.qc_token.proofs.coding.decode_parts.Goals as goal

@@ -1,7 +1,4 @@
-use Rattle.std.proofs.Common.{◌≡◌, [], None, sym, refl, rules}
-use Rattle.std.specs.Option.{option_and_then}
-use Rattle.qc_token.specs.TokenReading.{payload_of}
-use Rattle.qc_token.specs.Tokens.{IsOnlySealed}
+use Rattle.std.proofs.Common.{[]}
 use Rattle.qc_token.proofs.TokenLaws.{found_sealed, only_sealed}
 use Rattle.qc_token.proofs.coding.open_payload.Goals as goal
 

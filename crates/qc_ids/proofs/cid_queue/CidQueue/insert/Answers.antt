@@ -1,4 +1,4 @@
-use Rattle.std.proofs.Common.{◌≡◌, ◌<◌, ◌∙◌, IsSome, arith}
+use Rattle.std.proofs.Common.{◌≡◌, IsSome, arith}
 use Rattle.qc_ids.specs.CidQueue.{IsQueue, IsTaken, active_seq_of, inserted, renewal_of}
 use Rattle.qc_ids.proofs.Queues.{renews}
 use Rattle.qc_ids.proofs.cid_queue.CidQueue.insert.Goals as goal

@@ -1,4 +1,4 @@
-use Rattle.std.proofs.Common.{◌≡◌, ◌<◌, length, ap, arith}
+use Rattle.std.proofs.Common.{length, ap, arith}
 use Rattle.qc_ids.proofs.Queues.{tail_queue}
 use Rattle.qc_ids.proofs.cid_queue.CidQueue.next.Goals as goal
 

@@ -1,4 +1,4 @@
-use Rattle.std.proofs.Common.{◌≡◌, ◌∙◌, Bool, false, true, sym, refl, rules, ap, subst}
+use Rattle.std.proofs.Common.{◌≡◌, ◌∙◌, false, true, sym, refl, ap, subst}
 use Rattle.std.specs.List.{list_any}
 use Rattle.std.specs.Prelude.{nat_lt}
 use Rattle.qc_ids.specs.CidState.{local_cids}
