@@ -1,10 +1,10 @@
 -- A cache gives no more tokens than came
-use Rattle.std.proofs.Common.{◌≡◌, ℕ, ◌+◌, ◌-◌, ◌<◌, ◌≤◌, suc, zero, Bool, true, false, cond, List, [], ◌∷◌, ◌++◌, Option, Some, None, length, take, drop, slice_get, nat_le, count_by, arith, refl, ap, subst, sym, ◌∙◌, rules, if◌then◌else◌}
+use Rattle.std.proofs.Common.{◌≡◌, ℕ, ◌+◌, ◌-◌, ◌≤◌, suc, zero, Bool, true, false, cond, List, [], ◌∷◌, ◌++◌, Some, None, length, take, drop, slice_get, nat_le, count_by, arith, refl, sym, if◌then◌else◌}
 use Rattle.std.proofs.lemmas.Bool.Decides.{nat_tests}
 use Rattle.std.proofs.lemmas.List.Sums.{sum_by-append, sum_by-cons}
 use Rattle.std.specs.Map.{lookup, remove_entry}
 use Rattle.std.specs.Option.{option_and_then}
-use Rattle.std.specs.Cmp.Lexicographic.{pointwise, same_text}
+use Rattle.std.specs.Cmp.Lexicographic.{same_text}
 use Rattle.qc_config.specs.TokenCache.{CacheValues, cache_after_take, cache_inserted, cache_taken, empty_cache, entries_with, entries_without, holds_nothing, is_name, oldest_of, others, pushed, queue_of, with_token, without_token}
 use Rattle.qc_config.specs.CacheLaws.{CacheCall, GivesOnce, Put, Take, brought_by, given_of, named}
 

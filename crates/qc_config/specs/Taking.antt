@@ -1,11 +1,8 @@
 -- What a server's settings say to a client's token
-use Rattle.std.specs.Prelude.{ℕ, Bool, Option, Result}
-use Rattle.std.specs.declared.net.ip_addr.IpAddr.{IpAddr}
-use Rattle.std.specs.declared.net.socket_addr.SocketAddr.{SocketAddr}
-use Rattle.qc_token.specs.declared.token.Token.{Token}
+use Rattle.std.specs.Prelude.{ℕ, Result}
 use Rattle.qc_config.specs.declared.tokens.TokenReuseError.{TokenReuseError}
-use Rattle.qc_config.specs.ServerValues.{ServerValues, TokenValues}
-use Rattle.qc_config.specs.Incoming.{Taker, log_after}
+use Rattle.qc_config.specs.ServerValues.{ServerValues}
+use Rattle.qc_config.specs.Incoming.{Taker}
 
 module _ {C K T L : Type 0} where
   -- what a server knows when a token comes: `time` is what its clock shows, and `takes` what its log says

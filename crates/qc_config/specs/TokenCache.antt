@@ -1,5 +1,5 @@
 -- A cache of tokens: names of servers, the most recently used first, each with a queue, the oldest token first
-use Rattle.std.specs.Prelude.{◌≡◌, ℕ, ◌+◌, ◌-◌, ◌<◌, ◌≤◌, ◌==◌, ◌||◌, Bool, List, [], ◌∷◌, ◌++◌, Option, Some, None, length, take, drop, slice_get, nat_eq, nat_le, if◌then◌else◌}
+use Rattle.std.specs.Prelude.{ℕ, ◌-◌, ◌<◌, ◌≤◌, ◌==◌, ◌||◌, Bool, List, [], ◌∷◌, ◌++◌, Option, Some, None, length, take, drop, slice_get, nat_eq, nat_le, if◌then◌else◌}
 use Rattle.std.specs.Option.{option_and_then}
 use Rattle.std.specs.Map.{lookup, remove_entry}
 use Rattle.std.specs.Cmp.Lexicographic.{pointwise}

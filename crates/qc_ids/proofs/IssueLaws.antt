@@ -9,7 +9,7 @@ use Rattle.qc_ids.specs.declared.expiries.CidExpiry.{CidExpiry}
 use Rattle.qc_ids.specs.CidState.{EndsRise}
 use Rattle.qc_ids.specs.Numbers.{Rises}
 use Rattle.qc_ids.specs.LocalCids.{AreNext, LocalCids, awaits_retirement, count_between, expired, first_local_cids, issued_more, may_retire, newly_asked, retired, sequences, timed_out, without}
-use Rattle.qc_ids.specs.IssueLaws.{IssueCall, Issue, Retire, Expire, KeepsLimit, MayCall, MayRun, NeverFalls, Serves, StaysRetired, in_force, is_active, issue_run, issued_after, rests, retires, expires}
+use Rattle.qc_ids.specs.IssueLaws.{IssueCall, Issue, Retire, Expire, AsksInTurn, KeepsLimit, MayCall, MayRun, NeverFalls, Serves, StaysRetired, floor_run, in_force, is_active, issue_run, issued_after, rests, retires, expires}
 use Rattle.qc_ids.proofs.Numbers.{first_ends, first_rises, more_end, more_rise, waiting_ends, without_rises}
 
 -- what is held at each moment
@@ -272,3 +272,104 @@ pub keeps_limit : (limit cid_len : ℕ) (lifetime : Option ℕ) (now issued : �
 unfolding KeepsLimit
 keeps_limit limit cid_len lifetime now issued last i =
     served_force limit (first_local_cids cid_len lifetime now issued) last (first_sound cid_len lifetime now issued i)
+
+-- ---- the last raise
+
+abbrev pub AllFrom : ℕ → List ℕ → Type 0
+AllFrom f [] = Unit {0}
+AllFrom f (n ∷ ns) = (f ≤ n) × AllFrom f ns
+
+from_append : (f : ℕ) (ns ms : List ℕ) → AllFrom f ns → AllFrom f ms → AllFrom f (ns ++ ms)
+from_append f [] ms a b = b
+from_append f (n ∷ ns) ms a b = (a.0, from_append f ns ms a.1 b)
+
+from_without : (f n : ℕ) (ns : List ℕ) → AllFrom f ns → AllFrom f (without n ns)
+unfolding without
+from_without f n [] h = tt
+from_without f n (k ∷ ns) h =
+    (elim (nat_eq k n) as (λ b. nat_eq k n ≡ b → AllFrom f (filter (λ j. not (j == n)) (k ∷ ns))) [
+      | true ↦ λ e. rw e (from_without f n ns h.1)
+      | false ↦ λ e. rw e (h.0, from_without f n ns h.1)
+    ]) refl
+
+from_new : (f next : ℕ) (ids : List IssuedCid) → f ≤ next → AreNext next ids → AllFrom f (sequences ids)
+from_new f next [] l h = tt
+from_new f next (id ∷ ids) l h = let here : id.sequence ≡ next = h.0 in (omega arith, from_new f (next + 1) ids (omega arith) h.2)
+
+from_none_below : (f : ℕ) (ns : List ℕ) → list_any (λ n. nat_lt n f) ns ≡ false → AllFrom f ns
+from_none_below f [] h = tt
+from_none_below f (n ∷ ns) h =
+    (elim (nat_lt n f) as (λ b. nat_lt n f ≡ b → (b || list_any (λ k. nat_lt k f) ns) ≡ false → (f ≤ n) × AllFrom f ns) [
+      | true ↦ λ e g. absurd (let wrong : true ≡ false = g in cc)
+      | false ↦ λ e g. (let above : f ≤ n = grind (arith, nat_tests) in above, from_none_below f ns g)
+    ]) refl h
+
+from_active : (f n : ℕ) (ns : List ℕ) → AllFrom f ns → list_any (λ k. k == n) ns ≡ true → f ≤ n
+from_active f n [] h a = absurd (let wrong : false ≡ true = a in cc)
+from_active f n (k ∷ ns) h a =
+    (elim (nat_eq k n) as (λ b. nat_eq k n ≡ b → (b || list_any (λ j. j == n) ns) ≡ true → f ≤ n) [
+      | true ↦ λ e g. let same : k ≡ n = grind (arith, nat_tests) in let above : f ≤ k = h.0 in omega arith
+      | false ↦ λ e g. from_active f n ns h.1 g
+    ]) refl a
+
+-- active ids lie from f on, and f is no more than what is asked for
+pub record IsFloor (f : ℕ) (s : LocalCids) : Type 0 where
+  pub above : AllFrom f s.active
+  pub asked : f ≤ s.retire_prior_to
+
+same_number : (n : ℕ) → nat_eq n n ≡ true
+same_number n = grind (arith, nat_tests)
+
+ends_last : (low high : ℕ) (es : List CidExpiry) → EndsRise low high es → low ≤ high
+ends_last low high [] h = h
+ends_last low high (e ∷ es) h = let a : low ≤ e.end = h.0 in let b = ends_last e.end high es h.1 in omega arith
+
+expire_floor : (f : ℕ) (s : LocalCids) (es : List CidExpiry) → EndsRise s.retire_prior_to s.issued es → IsFloor f s
+    → IsFloor (if (expired es s).retire_prior_to == s.retire_prior_to then f else s.retire_prior_to) (expired es s)
+unfolding awaits_retirement
+expire_floor f s [] h g = rw (same_number s.retire_prior_to) g
+expire_floor f s (e ∷ es) h g =
+    let asked = g.asked in
+    let rises : s.retire_prior_to ≤ e.end = h.0 in
+    (elim (list_any (λ n. nat_lt n s.retire_prior_to) s.active) as (λ b. list_any (λ n. nat_lt n s.retire_prior_to) s.active ≡ b
+      → IsFloor (if (if b then s.retire_prior_to else e.end) == s.retire_prior_to then f else s.retire_prior_to) (record s { expiries = es; retire_prior_to = if b then s.retire_prior_to else e.end })) [
+        | true ↦ λ t. rw (same_number s.retire_prior_to) (record { above = g.above; asked = g.asked })
+        | false ↦ λ t.
+            elim (nat_eq e.end s.retire_prior_to) as (λ b. IsFloor (if b then f else s.retire_prior_to) (record s { expiries = es; retire_prior_to = e.end })) [
+              | true ↦ record { above = g.above; asked = omega arith }
+              | false ↦ record { above = from_none_below s.retire_prior_to s.active t; asked = rises }
+            ]
+      ]) refl
+
+call_floor : (f : ℕ) (call : IssueCall) (s : LocalCids) → MayCall call s → IsSound s → IsFloor f s
+    → IsFloor (if (issued_after call s).retire_prior_to == s.retire_prior_to then f else s.retire_prior_to) (issued_after call s)
+unfolding issued_after issued_more retired timed_out
+call_floor f (Issue [] now) s m h g = rw (same_number s.retire_prior_to) g
+call_floor f (Issue (id ∷ ids) now) s m h g =
+    let asked = g.asked in
+    let issued : s.retire_prior_to ≤ s.issued = ends_last s.retire_prior_to s.issued s.expiries h.expiries in
+    rw (same_number s.retire_prior_to)
+    (record { above = from_append f s.active (sequences (id ∷ ids)) g.above (from_new f s.issued (id ∷ ids) (omega arith) m); asked = g.asked })
+call_floor f (Retire n) s m h g =
+    elim (may_retire n s) as (λ b. IsFloor (if (if b then retired n s else s).retire_prior_to == s.retire_prior_to then f else s.retire_prior_to) (if b then retired n s else s)) [
+      | true ↦ rw (same_number s.retire_prior_to) (record { above = from_without f n s.active g.above; asked = g.asked })
+      | false ↦ rw (same_number s.retire_prior_to) g
+    ]
+call_floor f Expire s m h g = expire_floor f s s.expiries h.expiries g
+
+run_floor : (f : ℕ) (calls : List IssueCall) (s : LocalCids) → MayRun calls s → IsSound s → IsFloor f s → IsFloor (floor_run calls s f) (issue_run calls s)
+run_floor f [] s m h g = g
+run_floor f (call ∷ calls) s m h g =
+    run_floor (if (issued_after call s).retire_prior_to == s.retire_prior_to then f else s.retire_prior_to) calls (issued_after call s) m.1 (call_sound call s m.0 h) (call_floor f call s m.0 h g)
+
+all_from_zero : (ns : List ℕ) → AllFrom 0 ns
+all_from_zero [] = tt
+all_from_zero (n ∷ ns) = (omega arith, all_from_zero ns)
+
+pub asks_in_turn : (cid_len : ℕ) (lifetime : Option ℕ) (now issued : ℕ) (calls : List IssueCall) → (issued ≡ 1) ⊎ (issued ≡ 2)
+    → MayRun calls (first_local_cids cid_len lifetime now issued) → AsksInTurn (first_local_cids cid_len lifetime now issued) calls
+unfolding AsksInTurn is_active
+asks_in_turn cid_len lifetime now issued calls i m = λ n active.
+    let first = first_local_cids cid_len lifetime now issued in
+    let floor = run_floor 0 calls first m (first_sound cid_len lifetime now issued i) (record { above = all_from_zero first.active; asked = omega arith }) in
+    from_active (floor_run calls first 0) n (issue_run calls first).active floor.above active

@@ -43,6 +43,19 @@ StaysRetired first before n calls =
 unfoldable pub NeverFalls : LocalCids → List IssueCall → List IssueCall → Type 0
 NeverFalls first before calls = (issue_run before first).retire_prior_to ≤ (issue_run calls (issue_run before first)).retire_prior_to
 
+-- the number that a call raises, as it was before; another call leaves the one that was raised before that
+abbrev pub floor_after : IssueCall → LocalCids → ℕ → ℕ
+floor_after call s floor = if (issued_after call s).retire_prior_to == s.retire_prior_to then floor else s.retire_prior_to
+
+-- the number as it was before its last raise; 0 where it wasn't raised
+abbrev pub floor_run : List IssueCall → LocalCids → ℕ → ℕ
+floor_run [] s floor = floor
+floor_run (call ∷ calls) s floor = floor_run calls (issued_after call s) (floor_after call s floor)
+
+-- so an active id that the other end is asked to retire is one that the last raise asked for
+unfoldable pub AsksInTurn : LocalCids → List IssueCall → Type 0
+AsksInTurn first calls = (n : ℕ) → is_active n (issue_run calls first) ≡ true → floor_run calls first 0 ≤ n
+
 -- how many active ids the other end isn't asked to retire
 unfoldable pub in_force : LocalCids → ℕ
 in_force s = count_by (nat_le s.retire_prior_to) s.active
