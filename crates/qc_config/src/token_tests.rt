@@ -1,9 +1,9 @@
 use crate::{
     FixedTime, HeaderError, IncomingToken, InvalidRetryTokenError, NoneTokenLog, ServerConfig,
-    Token, TokenPayload, ValidationTokenConfig,
+    Token, TokenLog, TokenPayload, TokenReuseError, ValidationTokenConfig,
 };
 use bytes::Bytes;
-use qc_base::{ConnectionId, PacketNumber, SystemTime};
+use qc_base::{ConnectionId, Duration, PacketNumber, SystemTime};
 use qc_crypto::{AeadKey, HandshakeTokenKey};
 use qc_header::InitialHeader;
 use qc_toy::{ToyServer, ToySettings, ToyTokenKey};
@@ -65,9 +65,31 @@ fn header(token: Bytes) -> InitialHeader {
     }
 }
 
+// A log that takes every token.
+#[derive(Clone, Copy)]
+struct OpenLog;
+
+impl TokenLog for OpenLog {
+    ghost use Rattle.std.specs.Prelude.{Ok};
+
+    ghost takes = { λ _ _ _ _. Ok tt };
+
+    ghost after_token = { λ log _ _ _. log };
+
+    fn check_and_insert(
+        &mut self,
+        _nonce: u128,
+        _issued: SystemTime,
+        _lifetime: Duration,
+    ) -> Result<Result<(), TokenReuseError>, AllocError> {
+        Ok(Ok(()))
+    }
+}
+
 // What a server says at a time to a token that came from a port of ::1.
-fn taken(
+fn taken<L: TokenLog>(
     alloc: Global,
+    log: L,
     key: &ToyTokenKey,
     token: &Token,
     now: u64,
@@ -82,7 +104,7 @@ fn taken(
         crypto,
         *key,
         FixedTime(seconds(now)),
-        ValidationTokenConfig::<NoneTokenLog>::default(),
+        ValidationTokenConfig::new(log),
     );
     let remote = SocketAddr::new(local(), port);
     Ok(IncomingToken::from_header(alloc, &header, &mut config, remote))
@@ -108,21 +130,43 @@ fn a_retry_token_comes_back(rt: HostRuntime) -> Result<(), Fail> {
         validated: true,
     };
     let bad = HeaderError::Retry(InvalidRetryTokenError);
-    assert!(rt; taken(rt.alloc(), &key, &token, 57, 4433)? == Ok(good));
-    assert!(rt; taken(rt.alloc(), &key, &token, 58, 4433)? == Err(bad));
-    assert!(rt; taken(rt.alloc(), &key, &token, 57, 4434)? == Err(bad));
-    let other = Token {
-        payload: TokenPayload::Validation {
-            ip: IpAddr::V6(Ipv6Addr::new(0, 0, 0, 0, 0, 0, 0, 2)),
-            issued: seconds(42),
-        },
-        nonce: 3,
-    };
-    let unvalidated = IncomingToken {
-        retry_src_cid: None,
-        orig_dst_cid: ConnectionId::new(&[7; 8]),
-        validated: false,
-    };
-    assert!(rt; taken(rt.alloc(), &key, &other, 57, 4433)? == Ok(unvalidated));
+    assert!(rt; taken(rt.alloc(), NoneTokenLog, &key, &token, 57, 4433)? == Ok(good));
+    assert!(rt; taken(rt.alloc(), NoneTokenLog, &key, &token, 58, 4433)? == Err(bad));
+    assert!(rt; taken(rt.alloc(), NoneTokenLog, &key, &token, 57, 4434)? == Err(bad));
+    Ok(())
+}
+
+// Each row: the last byte of the token's address, the time in seconds, whether the log takes tokens, and whether
+// the client is taken to be at its address. The token is valid for two weeks.
+#[test]
+fn a_validation_token_is_taken_once(rt: HostRuntime) -> Result<(), Fail> {
+    let key = ToyTokenKey::new([5; 16]);
+    let rows = [
+        (1, 57, true, true),
+        (1, 57, false, false),
+        (2, 57, true, false),
+        (1, 1_209_642, true, true),
+        (1, 1_209_643, true, false),
+    ];
+    for (last, now, open, validated) in rows {
+        let token = Token {
+            payload: TokenPayload::Validation {
+                ip: IpAddr::V6(Ipv6Addr::new(0, 0, 0, 0, 0, 0, 0, last)),
+                issued: seconds(42),
+            },
+            nonce: 3,
+        };
+        let expected = IncomingToken {
+            retry_src_cid: None,
+            orig_dst_cid: ConnectionId::new(&[7; 8]),
+            validated,
+        };
+        let answer = if open {
+            taken(rt.alloc(), OpenLog, &key, &token, now, 4433)?
+        } else {
+            taken(rt.alloc(), NoneTokenLog, &key, &token, now, 4433)?
+        };
+        assert!(rt; answer == Ok(expected));
+    }
     Ok(())
 }
