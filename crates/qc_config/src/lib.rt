@@ -3,12 +3,36 @@
 #![tactic(auto)]
 
 mod announcement;
+mod cache_laws;
+mod cache_parts;
+mod client;
+mod config_error;
+mod endpoint;
+mod incoming;
+mod server;
 mod stateless_reset;
+mod token_cache;
 mod token_store;
+mod tokens;
+mod validation_token;
 
 pub use announcement::announced;
+pub use cache_laws::cache_law;
+pub use client::ClientConfig;
+pub use config_error::ConfigError;
+pub use endpoint::EndpointConfig;
+pub use incoming::{HeaderError, IncomingToken, InvalidRetryTokenError};
+pub use qc_token::{Token, TokenPayload};
+pub use server::ServerConfig;
 pub use stateless_reset::reset_token;
+pub use token_cache::TokenMemoryCache;
 pub use token_store::{NoneTokenStore, TokenStore};
+pub use tokens::{FixedTime, NoneTokenLog, TimeSource, TokenLog, TokenReuseError};
+pub use validation_token::ValidationTokenConfig;
 
 #[cfg(test)]
+mod cache_tests;
+#[cfg(test)]
 mod tests;
+#[cfg(test)]
+mod token_tests;

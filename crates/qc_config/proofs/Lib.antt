@@ -1,0 +1,2 @@
+pub mod CacheEntries
+pub mod CacheLaws

@@ -1,0 +1,5 @@
+pub mod HashedCids
+pub mod Queues
+pub mod Numbers
+pub mod QueueLaws
+pub mod IssueLaws

@@ -1,0 +1,5 @@
+pub mod Nonce
+pub mod TokenGrammar
+pub mod TokenReading
+pub mod TokenSpelling
+pub mod Tokens
