@@ -1,3 +1,7 @@
 pub mod Adding
 pub mod Placing
 pub mod Past
+pub mod Segments
+pub mod Outcomes
+pub mod FirstPart
+pub mod ReadFront

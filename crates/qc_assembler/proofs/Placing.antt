@@ -5,7 +5,7 @@ use Rattle.std.specs.Map.{remove_entry, lookup}
 use Rattle.std.specs.BTreeMap.{is_at, insert_entry}
 use Rattle.std.specs.Ordering.{nat_cmp}
 use Rattle.std.specs.Prelude.{◌==◌}
-use Rattle.qc_assembler.specs.Assembly.{run, put, add}
+use Rattle.qc_assembler.specs.Assembly.{run, put, add, runs_from, part_count}
 use Rattle.qc_assembler.specs.Parts.{flat, Apart, starts_at, one, joints, first_past, undone, ends_at, part_begins, HasRoom}
 use Rattle.qc_assembler.proofs.Adding.{Beyond, add_front, add_past_run, add_within, add_split}
 
@@ -211,3 +211,44 @@ pub undone_none : (ks : List ℕ) (es : List (ℕ × List ℕ)) → length ks �
 unfolding undone
 undone_none [] es none = refl
 undone_none (k ∷ ks) es none = absurd (omega arith)
+
+-- ---- how many parts there are
+
+runs_on : (k : ℕ) (p : List ℕ) (rest : List (ℕ × ℕ)) → runs_from k (run k p ++ rest) ≡ runs_from (k + length p) rest
+unfolding runs_from run
+runs_on k [] rest = let e : k ≡ k + 0 = omega arith in ap (λ i. runs_from i rest) e
+runs_on k (q ∷ p) rest =
+    let e : suc k + length p ≡ k + suc (length p) = omega arith in
+    rw (eq-eqb k k refl, runs_on (suc k) p rest, e) (zero-add (runs_from (k + suc (length p)) rest))
+
+runs_run : (k s : ℕ) (p : List ℕ) (rest : List (ℕ × ℕ)) → 0 < length p → runs_from k (run s p ++ rest) ≡ cond (s == k) 0 1 + runs_from (s + length p) rest
+unfolding runs_from run
+runs_run k s [] rest some = absurd (omega arith)
+runs_run k s (q ∷ p) rest some =
+    let e : suc s + length p ≡ s + suc (length p) = omega arith in
+    rw (runs_on (suc s) p rest, e) refl
+
+runs_parts : (k lo : ℕ) (es : List (ℕ × List ℕ)) → Apart lo es → runs_from k (flat es) + one (starts_at k es) + joints es ≡ length es
+unfolding Apart flat runs_from starts_at joints one
+runs_parts k lo [] apart = refl
+runs_parts k lo (e ∷ es) apart =
+    let full : 0 < length e.1 = apart.0 in
+    let under : lo + length e.1 ≤ e.0 = apart.1 in
+    let end : e.0 - length e.1 + length e.1 ≡ e.0 = omega arith in
+    let here = runs_run k (e.0 - length e.1) e.1 (flat es) full in
+    let later = runs_parts e.0 e.0 es apart.2 in
+    rw (here, end) (by (e.0 - length e.1 == k) (runs_from e.0 (flat es)) (one (starts_at e.0 es)) (joints es) (length es) later)
+  where
+    by : (b : Bool) (r s j n : ℕ) → r + s + j ≡ n → cond b 0 1 + r + cond b 1 0 + (s + j) ≡ suc n
+    by true r s j n e = omega arith
+    by false r s j n e = omega arith
+
+-- parts and joints together are as many as are kept
+pub parts_counted : (es : List (ℕ × List ℕ)) → Apart 0 es → part_count (flat es) + joints es ≡ length es
+unfolding Apart flat joints part_count run
+parts_counted [] apart = refl
+parts_counted ((n, []) ∷ es) apart = absurd (omega (arith, apart.0))
+parts_counted ((n, q ∷ p) ∷ es) apart =
+    let under : suc (length p) ≤ n = omega (arith, apart.1) in
+    let end : suc (n - suc (length p)) + length p ≡ n = omega arith in
+    rw (runs_on (suc (n - suc (length p))) p (flat es), end) (omega (arith, runs_parts n n es apart.2))

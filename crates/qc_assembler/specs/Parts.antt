@@ -1,5 +1,5 @@
 -- How the bytes that came are kept: each part under the offset where it ends
-use Rattle.std.specs.Prelude.{◌≡◌, ℕ, ◌+◌, ◌-◌, ◌<◌, ◌≤◌, Bool, false, ◌==◌, nat_lt, if◌then◌else◌, List, [], ◌∷◌, ◌++◌, length, Option, None, Some, is_some}
+use Rattle.std.specs.Prelude.{◌≡◌, ℕ, ◌+◌, ◌-◌, ◌<◌, ◌≤◌, Bool, false, ◌==◌, nat_lt, if◌then◌else◌, List, [], ◌∷◌, ◌++◌, length, take, drop, Option, None, Some, is_some}
 use Rattle.std.specs.Map.{remove_entry, lookup}
 use Rattle.std.specs.BTreeMap.{is_at}
 use Rattle.std.specs.Ordering.{nat_cmp}
@@ -59,3 +59,18 @@ pub record IsKept (es : List (ℕ × List ℕ)) (joined : ℕ) : Type 0 where
   pub apart : Apart 0 es
   -- so many join
   pub count : joined ≡ joints es
+
+-- where the first part ends, and how long it is
+unfoldable pub first_part : List (ℕ × List ℕ) → Option (ℕ × ℕ)
+first_part [] = None
+first_part (e ∷ es) = Some (e.0, length e.1)
+
+-- at most so many bytes of the first part
+unfoldable pub front_bytes : ℕ → List (ℕ × List ℕ) → List ℕ
+front_bytes most [] = []
+front_bytes most (e ∷ es) = take most e.1
+
+-- without so many bytes of the first part, of which some are left
+unfoldable pub without_front : ℕ → List (ℕ × List ℕ) → List (ℕ × List ℕ)
+without_front n [] = []
+without_front n (e ∷ es) = (e.0, drop n e.1) ∷ es

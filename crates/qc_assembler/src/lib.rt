@@ -1,4 +1,11 @@
 //! Bytes that come at offsets in any order, and are read in order or as they come.
 #![tactic(auto)]
 
+mod ahead;
+mod assembler;
+mod front;
+mod insert;
 mod parts;
+
+pub use assembler::Assembler;
+pub use insert::{InsertError, MAX_PARTS};

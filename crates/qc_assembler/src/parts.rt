@@ -3,7 +3,7 @@ ghost use Rattle.std.specs.Prelude.{◌≡◌, ℕ, ◌+◌, ◌-◌, ◌^◌, �
 ghost use Rattle.std.specs.BTreeMap.{insert_entry, is_at};
 ghost use Rattle.std.specs.Map.{remove_entry};
 ghost use Rattle.std.specs.Ordering.{nat_cmp};
-ghost use Rattle.qc_assembler.specs.Assembly.{add};
+ghost use Rattle.qc_assembler.specs.Assembly.{add, part_count};
 ghost use Rattle.qc_assembler.specs.Parts.{flat, one, first_past, undone, ends_at, part_begins, HasRoom, IsKept};
 
 use bytes::{Buf, Bytes};
@@ -26,7 +26,7 @@ pub(crate) fn first_past(parts: &BTreeMap<u64, Bytes>, offset: u64) -> Option<(u
 
 /// 1 for a test that holds.
 #[tactic(auto, unfolding(crate::specs::Parts::one))]
-fn one(test: bool) -> u64
+pub(crate) fn one(test: bool) -> u64
     ensures value { result ≡ one test }
     ensures small { result ≤ 1 }
 {
@@ -143,4 +143,12 @@ fn take_out(parts: &mut BTreeMap<u64, Bytes>, end: u64)
     ensures { parts.new.entries ≡ remove_entry (is_at (nat_cmp end)) parts.old.entries }
 {
     parts.remove(&end);
+}
+
+/// How many separate parts there are.
+pub(crate) fn part_count(parts: &BTreeMap<u64, Bytes>, joined: u64) -> u64
+    requires { IsKept parts.now.entries joined }
+    ensures { result ≡ part_count (flat parts.now.entries) }
+{
+    parts.len() as u64 - joined
 }

@@ -1,0 +1,46 @@
+use Rattle.std.proofs.Common.{◌≡◌, ◌∙◌, ℕ, List, ◌+◌, ◌<◌, length, drop, arith, sym, ap, subst, Option, Some, None}
+use Rattle.qc_assembler.specs.Assembly.{Assembly, IsFirst, IsFront, bytes_of, chunk_bytes, chunk_offset, advanced}
+use Rattle.qc_assembler.specs.Parts.{flat}
+use Rattle.qc_assembler.specs.Ahead.{assembled}
+use Rattle.qc_assembler.proofs.ReadFront.{front_taken, front_missing, front_there, advance_taken, advance_none, begins_offset}
+use Rattle.qc_assembler.proofs.assembler.Assembler.read.Goals as goal
+use Rattle.qc_assembler.proofs.assembler.Assembler.read.Goals.{After-len}
+
+pub returns-then-not-begins_at-clause-front : goal.returns-then-not-begins_at-clause-front
+returns-then-not-begins_at-clause-front c =
+    rw (← c.self.view_is) (front_missing c.args.most c.self.inside.read c.self.inside.ahead.entries c.self.inside.parts.entries (sym c.if-not-begins_at.ensures))
+
+pub returns-then-not-begins_at-clause-after : goal.returns-then-not-begins_at-clause-after
+unfolding bytes_of
+returns-then-not-begins_at-clause-after c = advance_none c.args.self.now
+
+pub returns-in_default-clause-front : goal.returns-in_default-clause-front
+returns-in_default-clause-front c =
+    let none = subst (λ (x : Option (ℕ × List ℕ)). IsFirst c.args.most (flat c.self.inside.parts.entries) x) c.in_default.is c.in_ok-chunk.ensures.front in
+    absurd (front_there c.args.most c.self.inside.read c.self.inside.parts.entries (sym c.if-not-begins_at.ensures) none)
+
+pub returns-in_default-clause-after : goal.returns-in_default-clause-after
+returns-in_default-clause-after c =
+    let none = subst (λ (x : Option (ℕ × List ℕ)). IsFirst c.args.most (flat c.self.inside.parts.entries) x) c.in_default.is c.in_ok-chunk.ensures.front in
+    absurd (front_there c.args.most c.self.inside.read c.self.inside.parts.entries (sym c.if-not-begins_at.ensures) none)
+
+pub overflow_add-self : goal.overflow_add-self
+unfolding chunk_bytes chunk_offset
+overflow_add-self c =
+    let first = subst (λ (x : Option (ℕ × List ℕ)). IsFirst c.args.most (flat c.self.inside.parts.entries) x) c.in-Some.is c.in_ok-chunk.ensures.front in
+    let fits = subst (λ (x : Option (ℕ × List ℕ)). chunk_offset x + length (chunk_bytes x) < 18446744073709551616) c.in-Some.is c.in_ok-chunk.ensures.fits in
+    let at = begins_offset c.self.inside.read c.in-Some.field-0-0 (flat c.self.inside.parts.entries) (sym c.if-not-begins_at.ensures) first.place in
+    omega (arith, fits, at)
+
+pub returns-clause-front : goal.returns-clause-front
+returns-clause-front c =
+    let first = subst (λ (x : Option (ℕ × List ℕ)). IsFirst c.args.most (flat c.self.inside.parts.entries) x) c.in-Some.is c.in_ok-chunk.ensures.front in
+    rw (← c.self.view_is)
+    (front_taken c.args.most c.self.inside.read c.in-Some.field-0-0 c.self.inside.ahead.entries c.self.inside.parts.entries c.in-Some.chunk (sym c.if-not-begins_at.ensures) first)
+
+pub returns-clause-after : goal.returns-clause-after
+unfolding bytes_of chunk_bytes
+returns-clause-after c =
+    let left = subst (λ (x : Option (ℕ × List ℕ)). flat c.take_front.new.parts.entries ≡ drop (length (chunk_bytes x)) (flat c.self.inside.parts.entries)) c.in-Some.is c.in_ok-chunk.ensures.left in
+    rw (← c.self.view_is, c.len.ensures.value)
+    (advance_taken (length c.in-Some.chunk) c.self.inside.read c.self.inside.ahead.entries c.self.inside.parts.entries c.take_front.new.parts.entries left)
