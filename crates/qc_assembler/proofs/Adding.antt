@@ -1,6 +1,6 @@
 -- Bytes that are added to those that came
-use Rattle.std.proofs.Common.{◌≡◌, ◌∙◌, ap, sym, ℕ, ◌+◌, ◌-◌, ◌<◌, ◌≤◌, ◌⊎◌, suc, zero, inl, inr, List, [], ◌∷◌, ◌++◌, Bool, true, false, cond, length, take, drop, arith, refl, subst, append_assoc}
-use Rattle.std.proofs.lemmas.Bool.{cases_order, cases_lt, lt-ltb, le-ltb, eq-eqb, ne_eqb}
+use Rattle.std.proofs.Common.{◌≡◌, ◌∙◌, ap, sym, ℕ, ◌+◌, ◌<◌, ◌≤◌, suc, zero, inl, inr, List, [], ◌∷◌, ◌++◌, length, take, drop, arith, refl}
+use Rattle.std.proofs.lemmas.Bool.{cases_order, lt-ltb, le-ltb, eq-eqb, ne_eqb}
 use Rattle.qc_assembler.specs.Assembly.{run, put, add}
 
 -- the first byte is at lo or above
@@ -42,6 +42,7 @@ add_front o (b ∷ bs) v far =
     nearer : (o n : ℕ) (v : List (ℕ × ℕ)) → Beyond (o + suc n) v → Beyond (suc o) v
     nearer o n [] far = tt
     nearer o n (x ∷ xs) far = omega arith
+
     along : (o n : ℕ) (v : List (ℕ × ℕ)) → Beyond (o + suc n) v → Beyond (suc o + n) v
     along o n [] far = tt
     along o n (x ∷ xs) far = omega arith

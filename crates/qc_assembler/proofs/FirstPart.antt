@@ -1,6 +1,6 @@
 -- The first part, of which bytes are read
-use Rattle.std.proofs.Common.{◌≡◌, ◌∙◌, ap, sym, ℕ, ◌+◌, ◌-◌, ◌<◌, ◌≤◌, ◌⊎◌, suc, zero, inl, inr, List, [], ◌∷◌, ◌++◌, Bool, true, false, cond, length, take, drop, arith, refl, subst, Option, None, Some, is_some}
-use Rattle.std.proofs.lemmas.Bool.{false≢true, lt-ltb, le-ltb, eq-eqb, ne_eqb}
+use Rattle.std.proofs.Common.{◌≡◌, ◌∙◌, ap, sym, ℕ, ◌+◌, ◌-◌, ◌<◌, ◌≤◌, suc, zero, List, [], ◌∷◌, ◌++◌, true, length, take, drop, arith, refl, subst, Option, None, Some}
+use Rattle.std.proofs.lemmas.Bool.{false≢true, le-ltb, eq-eqb}
 use Rattle.std.specs.List.{slice_get}
 use Rattle.std.specs.Map.{lookup, set_value}
 use Rattle.std.specs.BTreeMap.{is_at}
@@ -157,7 +157,7 @@ front_some most n end held (x ∷ xs) apart first fits few some =
       within = omega arith;
       some = λ _ h. let more : 0 < n = some h in omega arith;
       first = split_front n end held (x ∷ xs) apart first fits
-        ∙ ap (λ (w : List (ℕ × ℕ)). run (end - held) (front_bytes n (x ∷ xs)) ++ w) (left_front n end held (x ∷ xs) apart first fits);
+          ∙ ap (λ (w : List (ℕ × ℕ)). run (end - held) (front_bytes n (x ∷ xs)) ++ w) (left_front n end held (x ∷ xs) apart first fits);
       place = offset_run (x.0 - length x.1) x.1 (flat xs) (omega arith) ∙ ap (λ (i : ℕ). Some i) s;
     }
 

@@ -5,3 +5,4 @@ pub mod Segments
 pub mod Outcomes
 pub mod FirstPart
 pub mod ReadFront
+pub mod ReadLaw

@@ -1,5 +1,5 @@
 -- The first part behind an offset is the first that a range of the map gives
-use Rattle.std.proofs.Common.{◌≡◌, ◌∙◌, ap, sym, ℕ, ◌+◌, ◌-◌, ◌<◌, ◌≤◌, ◌⊎◌, inl, inr, List, [], ◌∷◌, Bool, true, false, not, ◌&&◌, cond, length, arith, refl, Option, None, Some}
+use Rattle.std.proofs.Common.{◌≡◌, ◌∙◌, ap, sym, ℕ, ◌<◌, ◌≤◌, inl, inr, List, [], ◌∷◌, false, not, ◌&&◌, length, arith, refl, None, Some}
 use Rattle.std.proofs.lemmas.Bool.{cases_order, cases_lt, lt-ltb, le-ltb, eq-eqb, ne_eqb}
 use Rattle.std.specs.List.{filter}
 use Rattle.std.specs.Ordering.{nat_cmp, is_lt}
@@ -25,9 +25,9 @@ unfolding first_past
 past_some o [] e fs found = absurd (let no : ⊥ = cc in no)
 past_some o (x ∷ xs) e fs found = elim (cases_lt o x.0) [
   | inl less ↦
-    let all : x ∷ behind o xs ≡ e ∷ fs = sym (behind_here o x xs less) ∙ found in
-    let same : x ≡ e = cc in
-    rw (lt-ltb o x.0 less) (ap (λ (p : ℕ × List ℕ). Some (p.0, length p.1)) same)
+      let all : x ∷ behind o xs ≡ e ∷ fs = sym (behind_here o x xs less) ∙ found in
+      let same : x ≡ e = cc in
+      rw (lt-ltb o x.0 less) (ap (λ (p : ℕ × List ℕ). Some (p.0, length p.1)) same)
   | inr more ↦ rw (le-ltb o x.0 more) (past_some o xs e fs (sym (behind_later o x xs more) ∙ found))
 ]
 
@@ -36,8 +36,8 @@ unfolding first_past
 past_none o [] found = refl
 past_none o (x ∷ xs) found = elim (cases_lt o x.0) [
   | inl less ↦
-    let all : x ∷ behind o xs ≡ [] = sym (behind_here o x xs less) ∙ found in
-    absurd (let no : ⊥ = cc in no)
+      let all : x ∷ behind o xs ≡ [] = sym (behind_here o x xs less) ∙ found in
+      absurd (let no : ⊥ = cc in no)
   | inr more ↦ rw (le-ltb o x.0 more) (past_none o xs (sym (behind_later o x xs more) ∙ found))
 ]
 
@@ -61,9 +61,9 @@ unfolding range_past
 range_some o [] e fs found = absurd (let no : ⊥ = cc in no)
 range_some o (x ∷ xs) e fs found = elim (cases_lt o x.0) [
   | inl less ↦
-    let all : x ∷ ranges_behind o xs ≡ e ∷ fs = sym (range_here o x xs less) ∙ found in
-    let same : x ≡ e = cc in
-    rw (lt-ltb o x.0 less) (ap (λ (p : ℕ × ℕ). Some p) same)
+      let all : x ∷ ranges_behind o xs ≡ e ∷ fs = sym (range_here o x xs less) ∙ found in
+      let same : x ≡ e = cc in
+      rw (lt-ltb o x.0 less) (ap (λ (p : ℕ × ℕ). Some p) same)
   | inr more ↦ rw (le-ltb o x.0 more) (range_some o xs e fs (sym (range_later o x xs more) ∙ found))
 ]
 
@@ -72,7 +72,7 @@ unfolding range_past
 range_none o [] found = refl
 range_none o (x ∷ xs) found = elim (cases_lt o x.0) [
   | inl less ↦
-    let all : x ∷ ranges_behind o xs ≡ [] = sym (range_here o x xs less) ∙ found in
-    absurd (let no : ⊥ = cc in no)
+      let all : x ∷ ranges_behind o xs ≡ [] = sym (range_here o x xs less) ∙ found in
+      absurd (let no : ⊥ = cc in no)
   | inr more ↦ rw (le-ltb o x.0 more) (range_none o xs (sym (range_later o x xs more) ∙ found))
 ]

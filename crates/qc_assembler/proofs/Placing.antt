@@ -1,13 +1,13 @@
 -- A part that is placed among those that are kept
-use Rattle.std.proofs.Common.{◌≡◌, ◌∙◌, ap, sym, ℕ, ◌+◌, ◌-◌, ◌<◌, ◌≤◌, ◌⊎◌, suc, zero, inl, inr, List, [], ◌∷◌, ◌++◌, Bool, true, false, cond, length, take, drop, arith, refl, subst, zero-add, add-zero, Option, None, Some, is_some}
+use Rattle.std.proofs.Common.{◌≡◌, ◌∙◌, ap, sym, ℕ, ◌+◌, ◌-◌, ◌<◌, ◌≤◌, suc, inl, inr, List, [], ◌∷◌, ◌++◌, Bool, true, false, cond, length, drop, arith, refl, subst, zero-add, add-zero, Option, Some}
 use Rattle.std.proofs.lemmas.Bool.{cases_order, cases_lt, lt-ltb, le-ltb, eq-eqb, ne_eqb}
-use Rattle.std.specs.Map.{remove_entry, lookup}
+use Rattle.std.specs.Map.{remove_entry}
 use Rattle.std.specs.BTreeMap.{is_at, insert_entry}
 use Rattle.std.specs.Ordering.{nat_cmp}
 use Rattle.std.specs.Prelude.{◌==◌}
-use Rattle.qc_assembler.specs.Assembly.{run, put, add, runs_from, part_count}
+use Rattle.qc_assembler.specs.Assembly.{run, add, runs_from, part_count}
 use Rattle.qc_assembler.specs.Parts.{flat, Apart, starts_at, one, joints, first_past, undone, ends_at, part_begins, HasRoom}
-use Rattle.qc_assembler.proofs.Adding.{Beyond, add_front, add_past_run, add_within, add_split}
+use Rattle.qc_assembler.proofs.Adding.{Beyond, add_front, add_past_run, add_within}
 
 insert_less : (n : ℕ) (bs : List ℕ) (e : ℕ × List ℕ) (es : List (ℕ × List ℕ)) → n < e.0 → insert_entry nat_cmp (e ∷ es) n bs ≡ (n, bs) ∷ e ∷ es
 insert_less n bs e es less = rw (lt-ltb n e.0 less) refl
@@ -58,16 +58,16 @@ insert_flat lo o n bs [] apart some low end room =
     ap (λ i. run i bs ++ []) e ∙ sym (add_front o bs [] tt)
 insert_flat lo o n bs (e ∷ es) apart some low end room = elim (cases_lt o e.0) [
   | inl less ↦
-    let here : n + length e.1 ≤ e.0 = room_here o n e es less room in
-    let full : 0 < length e.1 = apart.0 in
-    let start : n - length bs ≡ o = omega arith in
-    ap flat (insert_less n bs e es (omega arith)) ∙ ap (λ i. run i bs ++ (run (e.0 - length e.1) e.1 ++ flat es)) start
-    ∙ sym (add_front o bs (flat (e ∷ es)) (beyond_run (o + length bs) (e.0 - length e.1) e.1 (flat es) full (omega arith)))
+      let here : n + length e.1 ≤ e.0 = room_here o n e es less room in
+      let full : 0 < length e.1 = apart.0 in
+      let start : n - length bs ≡ o = omega arith in
+      ap flat (insert_less n bs e es (omega arith)) ∙ ap (λ i. run i bs ++ (run (e.0 - length e.1) e.1 ++ flat es)) start
+      ∙ sym (add_front o bs (flat (e ∷ es)) (beyond_run (o + length bs) (e.0 - length e.1) e.1 (flat es) full (omega arith)))
   | inr more ↦
-    let under : lo + length e.1 ≤ e.0 = apart.1 in
-    ap flat (insert_more n bs e es (omega arith))
-    ∙ ap (λ w. run (e.0 - length e.1) e.1 ++ w) (insert_flat e.0 o n bs es apart.2 some more end (room_later o n e es more room))
-    ∙ sym (add_past_run (e.0 - length e.1) o e.1 bs (flat es) (omega arith))
+      let under : lo + length e.1 ≤ e.0 = apart.1 in
+      ap flat (insert_more n bs e es (omega arith))
+      ∙ ap (λ w. run (e.0 - length e.1) e.1 ++ w) (insert_flat e.0 o n bs es apart.2 some more end (room_later o n e es more room))
+      ∙ sym (add_past_run (e.0 - length e.1) o e.1 bs (flat es) (omega arith))
 ]
 
 pub insert_apart : (lo o n : ℕ) (bs : List ℕ) (es : List (ℕ × List ℕ)) → Apart lo es → 0 < length bs → lo ≤ o → n ≡ o + length bs → HasRoom n (first_past o es)
@@ -76,12 +76,12 @@ unfolding Apart
 insert_apart lo o n bs [] apart some low end room = (some, omega arith, tt)
 insert_apart lo o n bs (e ∷ es) apart some low end room = elim (cases_lt o e.0) [
   | inl less ↦
-    let here : n + length e.1 ≤ e.0 = room_here o n e es less room in
-    let full : 0 < length e.1 = apart.0 in
-    subst (λ (l : List (ℕ × List ℕ)). Apart lo l) (sym (insert_less n bs e es (omega arith))) (some, omega arith, (full, here, apart.2))
+      let here : n + length e.1 ≤ e.0 = room_here o n e es less room in
+      let full : 0 < length e.1 = apart.0 in
+      subst (λ (l : List (ℕ × List ℕ)). Apart lo l) (sym (insert_less n bs e es (omega arith))) (some, omega arith, (full, here, apart.2))
   | inr more ↦
-    subst (λ (l : List (ℕ × List ℕ)). Apart lo l) (sym (insert_more n bs e es (omega arith)))
-    (apart.0, apart.1, insert_apart e.0 o n bs es apart.2 some more end (room_later o n e es more room))
+      subst (λ (l : List (ℕ × List ℕ)). Apart lo l) (sym (insert_more n bs e es (omega arith)))
+      (apart.0, apart.1, insert_apart e.0 o n bs es apart.2 some more end (room_later o n e es more room))
 ]
 
 pub insert_undone : (lo o n : ℕ) (bs : List ℕ) (es : List (ℕ × List ℕ)) → Apart lo es → 0 < length bs → lo ≤ o → n ≡ o + length bs → HasRoom n (first_past o es)
@@ -90,13 +90,13 @@ unfolding Apart
 insert_undone lo o n bs [] apart some low end room = remove_here n (n, bs) [] refl
 insert_undone lo o n bs (e ∷ es) apart some low end room = elim (cases_lt o e.0) [
   | inl less ↦
-    let here : n + length e.1 ≤ e.0 = room_here o n e es less room in
-    let full : 0 < length e.1 = apart.0 in
-    ap (λ (l : List (ℕ × List ℕ)). remove_entry (is_at (nat_cmp n)) l) (insert_less n bs e es (omega arith)) ∙ remove_here n (n, bs) (e ∷ es) refl
+      let here : n + length e.1 ≤ e.0 = room_here o n e es less room in
+      let full : 0 < length e.1 = apart.0 in
+      ap (λ (l : List (ℕ × List ℕ)). remove_entry (is_at (nat_cmp n)) l) (insert_less n bs e es (omega arith)) ∙ remove_here n (n, bs) (e ∷ es) refl
   | inr more ↦
-    ap (λ (l : List (ℕ × List ℕ)). remove_entry (is_at (nat_cmp n)) l) (insert_more n bs e es (omega arith))
-    ∙ remove_later n e (insert_entry nat_cmp es n bs) (omega arith)
-    ∙ ap (λ (l : List (ℕ × List ℕ)). e ∷ l) (insert_undone e.0 o n bs es apart.2 some more end (room_later o n e es more room))
+      ap (λ (l : List (ℕ × List ℕ)). remove_entry (is_at (nat_cmp n)) l) (insert_more n bs e es (omega arith))
+      ∙ remove_later n e (insert_entry nat_cmp es n bs) (omega arith)
+      ∙ ap (λ (l : List (ℕ × List ℕ)). e ∷ l) (insert_undone e.0 o n bs es apart.2 some more end (room_later o n e es more room))
 ]
 
 -- ---- how many parts join
@@ -126,15 +126,15 @@ starts_insert k o n bs [] apart some low end room =
     rw e (sym (zero-add (one (o == k))))
 starts_insert k o n bs (f ∷ fs) apart some low end room = elim (cases_lt o f.0) [
   | inl less ↦
-    let here : n + length f.1 ≤ f.0 = room_here o n f fs less room in
-    let e : n - length bs ≡ o = omega arith in
-    ap (λ (l : List (ℕ × List ℕ)). one (starts_at k l)) (insert_less n bs f fs (omega arith))
-    ∙ rw (e, ne_eqb (f.0 - length f.1) k (λ q. omega arith)) (sym (zero-add (one (o == k))))
+      let here : n + length f.1 ≤ f.0 = room_here o n f fs less room in
+      let e : n - length bs ≡ o = omega arith in
+      ap (λ (l : List (ℕ × List ℕ)). one (starts_at k l)) (insert_less n bs f fs (omega arith))
+      ∙ rw (e, ne_eqb (f.0 - length f.1) k (λ q. omega arith)) (sym (zero-add (one (o == k))))
   | inr more ↦
-    let full : 0 < length f.1 = apart.0 in
-    let under : k + length f.1 ≤ f.0 = apart.1 in
-    ap (λ (l : List (ℕ × List ℕ)). one (starts_at k l)) (insert_more n bs f fs (omega arith))
-    ∙ rw (ne_eqb o k (λ q. omega arith)) (sym (add-zero (one (f.0 - length f.1 == k))))
+      let full : 0 < length f.1 = apart.0 in
+      let under : k + length f.1 ≤ f.0 = apart.1 in
+      ap (λ (l : List (ℕ × List ℕ)). one (starts_at k l)) (insert_more n bs f fs (omega arith))
+      ∙ rw (ne_eqb o k (λ q. omega arith)) (sym (add-zero (one (f.0 - length f.1 == k))))
 ]
 
 pub insert_joints : (lo o n : ℕ) (bs : List ℕ) (es : List (ℕ × List ℕ)) → Apart lo es → 0 < length bs → lo ≤ o → n ≡ o + length bs → HasRoom n (first_past o es)
@@ -143,16 +143,16 @@ unfolding Apart joints one starts_at first_past ends_at part_begins HasRoom
 insert_joints lo o n bs [] apart some low end room = refl
 insert_joints lo o n bs (e ∷ es) apart some low end room = elim (cases_lt o e.0) [
   | inl less ↦
-    let here : n + length e.1 ≤ e.0 = room_here o n e es less room in
-    let none : ends_at o (e ∷ es) ≡ false = rw (lt-ltb o e.0 less) (none_ends e.0 o es apart.2 (omega arith)) in
-    let begins : part_begins n (first_past o (e ∷ es)) ≡ (e.0 - length e.1 == n) = ap (λ (p : Option (ℕ × ℕ)). part_begins n p) (first_here o e es less) in
-    ap joints (insert_less n bs e es (omega arith)) ∙ rw (none, begins) (omega arith)
+      let here : n + length e.1 ≤ e.0 = room_here o n e es less room in
+      let none : ends_at o (e ∷ es) ≡ false = rw (lt-ltb o e.0 less) (none_ends e.0 o es apart.2 (omega arith)) in
+      let begins : part_begins n (first_past o (e ∷ es)) ≡ (e.0 - length e.1 == n) = ap (λ (p : Option (ℕ × ℕ)). part_begins n p) (first_here o e es less) in
+      ap joints (insert_less n bs e es (omega arith)) ∙ rw (none, begins) (omega arith)
   | inr more ↦
-    let later = insert_joints e.0 o n bs es apart.2 some more end (room_later o n e es more room) in
-    let ends = ends_more lo o e es apart more in
-    let starts = starts_insert e.0 o n bs es apart.2 some more end (room_later o n e es more room) in
-    let begins : part_begins n (first_past o (e ∷ es)) ≡ part_begins n (first_past o es) = ap (λ (p : Option (ℕ × ℕ)). part_begins n p) (first_later o e es more) in
-    ap joints (insert_more n bs e es (omega arith)) ∙ rw (begins, ends) (omega (arith, later, starts))
+      let later = insert_joints e.0 o n bs es apart.2 some more end (room_later o n e es more room) in
+      let ends = ends_more lo o e es apart more in
+      let starts = starts_insert e.0 o n bs es apart.2 some more end (room_later o n e es more room) in
+      let begins : part_begins n (first_past o (e ∷ es)) ≡ part_begins n (first_past o es) = ap (λ (p : Option (ℕ × ℕ)). part_begins n p) (first_later o e es more) in
+      ap joints (insert_more n bs e es (omega arith)) ∙ rw (begins, ends) (omega (arith, later, starts))
 ]
 
 pub joints_few : (es : List (ℕ × List ℕ)) → joints es ≤ length es
@@ -180,16 +180,16 @@ unfolding flat Apart first_past
 trim_flat lo o m e l bs [] apart found low high fits = cc
 trim_flat lo o m e l bs (x ∷ xs) apart found low high fits = elim (cases_lt o x.0) [
   | inl less ↦
-    let same = same_place x.0 (length x.1) e l (sym (first_here o x xs less) ∙ found) in
-    let end : x.0 ≡ e = same.0 in
-    let long : length x.1 ≡ l = same.1 in
-    let under : lo + length x.1 ≤ x.0 = apart.1 in
-    add_within o (x.0 - length x.1) m bs x.1 (flat xs) (omega arith) (omega arith) fits
+      let same = same_place x.0 (length x.1) e l (sym (first_here o x xs less) ∙ found) in
+      let end : x.0 ≡ e = same.0 in
+      let long : length x.1 ≡ l = same.1 in
+      let under : lo + length x.1 ≤ x.0 = apart.1 in
+      add_within o (x.0 - length x.1) m bs x.1 (flat xs) (omega arith) (omega arith) fits
   | inr more ↦
-    let under : lo + length x.1 ≤ x.0 = apart.1 in
-    let later = trim_flat x.0 o m e l bs xs apart.2 (sym (first_later o x xs more) ∙ found) low high fits in
-    add_past_run (x.0 - length x.1) o x.1 bs (flat xs) (omega arith) ∙ ap (λ w. run (x.0 - length x.1) x.1 ++ w) later
-    ∙ sym (add_past_run (x.0 - length x.1) (o + m) x.1 (drop m bs) (flat xs) (omega arith))
+      let under : lo + length x.1 ≤ x.0 = apart.1 in
+      let later = trim_flat x.0 o m e l bs xs apart.2 (sym (first_later o x xs more) ∙ found) low high fits in
+      add_past_run (x.0 - length x.1) o x.1 bs (flat xs) (omega arith) ∙ ap (λ w. run (x.0 - length x.1) x.1 ++ w) later
+      ∙ sym (add_past_run (x.0 - length x.1) (o + m) x.1 (drop m bs) (flat xs) (omega arith))
 ]
 
 -- a part behind o holds bytes, ends behind o and doesn't begin below 0
@@ -198,12 +198,12 @@ unfolding Apart first_past
 past_bounds lo o e l [] apart found = absurd (let no : ⊥ = cc in no)
 past_bounds lo o e l (x ∷ xs) apart found = elim (cases_lt o x.0) [
   | inl less ↦
-    let same = same_place x.0 (length x.1) e l (sym (first_here o x xs less) ∙ found) in
-    let end : x.0 ≡ e = same.0 in
-    let long : length x.1 ≡ l = same.1 in
-    let full : 0 < length x.1 = apart.0 in
-    let under : lo + length x.1 ≤ x.0 = apart.1 in
-    (omega arith, omega arith, omega arith)
+      let same = same_place x.0 (length x.1) e l (sym (first_here o x xs less) ∙ found) in
+      let end : x.0 ≡ e = same.0 in
+      let long : length x.1 ≡ l = same.1 in
+      let full : 0 < length x.1 = apart.0 in
+      let under : lo + length x.1 ≤ x.0 = apart.1 in
+      (omega arith, omega arith, omega arith)
   | inr more ↦ past_bounds x.0 o e l xs apart.2 (sym (first_later o x xs more) ∙ found)
 ]
 

@@ -1,6 +1,6 @@
 -- What an ordered read gives, and what it leaves
-use Rattle.std.proofs.Common.{◌≡◌, ◌∙◌, ap, sym, ℕ, ◌+◌, ◌-◌, ◌<◌, ◌≤◌, List, [], ◌∷◌, ◌++◌, Bool, true, false, length, take, drop, arith, refl, subst, Option, None, Some, is_some}
-use Rattle.std.specs.Prelude.{◌==◌, IsTrue}
+use Rattle.std.proofs.Common.{◌≡◌, ◌∙◌, ap, sym, ℕ, ◌+◌, ◌-◌, ◌<◌, List, [], ◌∷◌, ◌++◌, true, false, length, drop, arith, refl, subst, None, Some}
+use Rattle.std.specs.Prelude.{◌==◌}
 use Rattle.std.proofs.lemmas.Bool.{false≢true, eqb-true}
 use Rattle.qc_assembler.specs.Assembly.{Assembly, run, begins_at, has_bytes, first_offset, chunk_offset, chunk_bytes, bytes_of, is_readable, IsFirst, IsFront, advanced}
 use Rattle.qc_assembler.specs.Parts.{flat, Apart, starts_at}

@@ -1,6 +1,6 @@
 -- Bytes that come are kept or passed over, segment by segment
-use Rattle.std.proofs.Common.{◌≡◌, ◌∙◌, ap, sym, ℕ, ◌+◌, ◌-◌, ◌<◌, ◌≤◌, ◌⊎◌, suc, zero, inl, inr, List, [], ◌∷◌, ◌++◌, Bool, true, false, cond, length, take, drop, arith, refl, subst, Option, None, Some}
-use Rattle.std.specs.Prelude.{◌==◌, ◌||◌, nat_lt}
+use Rattle.std.proofs.Common.{◌≡◌, ◌∙◌, ap, sym, ℕ, ◌+◌, ◌-◌, ◌<◌, ◌≤◌, suc, zero, inl, inr, List, [], ◌∷◌, ◌++◌, Bool, true, false, cond, length, take, drop, arith, refl, subst, Option, None, Some}
+use Rattle.std.specs.Prelude.{◌==◌, nat_lt}
 use Rattle.std.proofs.lemmas.Bool.{cases_order, cases_lt, lt-ltb, le-ltb, eq-eqb, ne_eqb, or_from, or_left, or_right}
 use Rattle.std.proofs.lemmas.List.{length-take-le}
 use Rattle.qc_assembler.specs.Assembly.{Assembly, put, add, among, was_read, byte_came, inserted}
@@ -85,9 +85,9 @@ unfolding range_past AreRanges
 range_bounds lo o e [] ranges found = absurd (let no : ⊥ = cc in no)
 range_bounds lo o e (x ∷ xs) ranges found = elim (cases_lt o x.0) [
   | inl less ↦
-    let same = same_entry x e (sym (past_here o x xs less) ∙ found) in
-    let some : x.1 < x.0 = ranges.1 in
-    subst (λ (p : ℕ × ℕ). (o < p.0) × (p.1 < p.0)) same (less, some)
+      let same = same_entry x e (sym (past_here o x xs less) ∙ found) in
+      let some : x.1 < x.0 = ranges.1 in
+      subst (λ (p : ℕ × ℕ). (o < p.0) × (p.1 < p.0)) same (less, some)
   | inr more ↦ range_bounds x.0 o e xs ranges.2 (sym (past_later o x xs more) ∙ found)
 ]
 
@@ -96,13 +96,13 @@ unfolding listed AreRanges among range_past
 listed_inside lo o i e [] ranges found from low high = absurd (let no : ⊥ = cc in no)
 listed_inside lo o i e (x ∷ xs) ranges found from low high = elim (cases_lt o x.0) [
   | inl less ↦
-    let same = same_entry x e (sym (past_here o x xs less) ∙ found) in
-    let start : x.1 ≡ e.1 = ap (λ (p : ℕ × ℕ). p.1) same in
-    let end : x.0 ≡ e.0 = ap (λ (p : ℕ × ℕ). p.0) same in
-    among_row i x.1 (x.0 - x.1) (listed xs) (omega arith) (omega arith)
+      let same = same_entry x e (sym (past_here o x xs less) ∙ found) in
+      let start : x.1 ≡ e.1 = ap (λ (p : ℕ × ℕ). p.1) same in
+      let end : x.0 ≡ e.0 = ap (λ (p : ℕ × ℕ). p.0) same in
+      among_row i x.1 (x.0 - x.1) (listed xs) (omega arith) (omega arith)
   | inr more ↦
-    let some : x.1 < x.0 = ranges.1 in
-    among_above i x.1 (x.0 - x.1) (listed xs) (omega arith) ∙ listed_inside x.0 o i e xs ranges.2 (sym (past_later o x xs more) ∙ found) from low high
+      let some : x.1 < x.0 = ranges.1 in
+      among_above i x.1 (x.0 - x.1) (listed xs) (omega arith) ∙ listed_inside x.0 o i e xs ranges.2 (sym (past_later o x xs more) ∙ found) from low high
 ]
 
 pub listed_outside : (lo o i : ℕ) (e : ℕ × ℕ) (es : List (ℕ × ℕ)) → AreRanges lo es → range_past o es ≡ Some e → o ≤ i → i < e.1 → among i (listed es) ≡ false
@@ -110,13 +110,13 @@ unfolding listed AreRanges among range_past
 listed_outside lo o i e [] ranges found low high = refl
 listed_outside lo o i e (x ∷ xs) ranges found low high = elim (cases_lt o x.0) [
   | inl less ↦
-    let same = same_entry x e (sym (past_here o x xs less) ∙ found) in
-    let start : x.1 ≡ e.1 = ap (λ (p : ℕ × ℕ). p.1) same in
-    let some : x.1 < x.0 = ranges.1 in
-    among_below i x.1 (x.0 - x.1) (listed xs) (omega arith) ∙ none_listed i x.0 xs ranges.2 (omega arith)
+      let same = same_entry x e (sym (past_here o x xs less) ∙ found) in
+      let start : x.1 ≡ e.1 = ap (λ (p : ℕ × ℕ). p.1) same in
+      let some : x.1 < x.0 = ranges.1 in
+      among_below i x.1 (x.0 - x.1) (listed xs) (omega arith) ∙ none_listed i x.0 xs ranges.2 (omega arith)
   | inr more ↦
-    let some : x.1 < x.0 = ranges.1 in
-    among_above i x.1 (x.0 - x.1) (listed xs) (omega arith) ∙ listed_outside x.0 o i e xs ranges.2 (sym (past_later o x xs more) ∙ found) low high
+      let some : x.1 < x.0 = ranges.1 in
+      among_above i x.1 (x.0 - x.1) (listed xs) (omega arith) ∙ listed_outside x.0 o i e xs ranges.2 (sym (past_later o x xs more) ∙ found) low high
 ]
 
 pub listed_beyond : (lo o i : ℕ) (es : List (ℕ × ℕ)) → AreRanges lo es → range_past o es ≡ None → o ≤ i → among i (listed es) ≡ false
@@ -125,8 +125,8 @@ listed_beyond lo o i [] ranges found low = refl
 listed_beyond lo o i (x ∷ xs) ranges found low = elim (cases_lt o x.0) [
   | inl less ↦ absurd (no x (sym (past_here o x xs less) ∙ found))
   | inr more ↦
-    let some : x.1 < x.0 = ranges.1 in
-    among_above i x.1 (x.0 - x.1) (listed xs) (omega arith) ∙ listed_beyond x.0 o i xs ranges.2 (sym (past_later o x xs more) ∙ found) low
+      let some : x.1 < x.0 = ranges.1 in
+      among_above i x.1 (x.0 - x.1) (listed xs) (omega arith) ∙ listed_beyond x.0 o i xs ranges.2 (sym (past_later o x xs more) ∙ found) low
 ]
   where
     no : (x : ℕ × ℕ) → (let p : Option (ℕ × ℕ) = Some x in p) ≡ None → ⊥

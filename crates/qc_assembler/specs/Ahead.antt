@@ -1,5 +1,5 @@
 -- How the offsets that were read out of order are kept: ranges, each start under its end
-use Rattle.std.specs.Prelude.{ℕ, zero, suc, ◌+◌, ◌-◌, ◌<◌, ◌≤◌, nat_lt, if◌then◌else◌, List, [], ◌∷◌, ◌++◌, Option, None, Some}
+use Rattle.std.specs.Prelude.{ℕ, zero, suc, ◌-◌, ◌<◌, ◌≤◌, nat_lt, if◌then◌else◌, List, [], ◌∷◌, ◌++◌, Option, None, Some}
 use Rattle.qc_assembler.specs.Assembly.{Assembly}
 use Rattle.qc_assembler.specs.Parts.{flat}
 

@@ -27,7 +27,9 @@ pub struct Assembler {
 
 impl Model for Assembler {
     ghost use Rattle.qc_assembler.specs.Assembly.{Assembly};
+
     ghost Value = { Assembly };
+
     ghost use Rattle.qc_assembler.specs.Parts.{IsKept};
     ghost use Rattle.qc_assembler.specs.Ahead.{AreRanges, assembled};
 

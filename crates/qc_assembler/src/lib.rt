@@ -5,7 +5,12 @@ mod ahead;
 mod assembler;
 mod front;
 mod insert;
+mod laws;
 mod parts;
 
 pub use assembler::Assembler;
 pub use insert::{InsertError, MAX_PARTS};
+pub use laws::reads_what_came;
+
+#[cfg(test)]
+mod tests;

@@ -104,7 +104,14 @@ fn fill_once(
     }
     let room = (start - offset).min(len as u64) as usize;
     let piece = bytes.split_to(room)?;
-    place(parts, joined, placed, offset, piece, start == offset + room as u64)?;
+    place(
+        parts,
+        joined,
+        placed,
+        offset,
+        piece,
+        start == offset + room as u64,
+    )?;
     Ok(room)
 }
 

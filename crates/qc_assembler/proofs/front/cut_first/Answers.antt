@@ -1,8 +1,7 @@
-use Rattle.std.proofs.Common.{◌≡◌, ◌≤◌, ◌∙◌, ℕ, List, ap, sym, length, drop, arith, subst, Some}
-use Rattle.std.specs.Map.{lookup, set_value}
+use Rattle.std.proofs.Common.{◌∙◌, ℕ, List, ap, arith}
+use Rattle.std.specs.Map.{set_value}
 use Rattle.std.specs.BTreeMap.{is_at}
 use Rattle.std.specs.Ordering.{nat_cmp}
-use Rattle.qc_assembler.specs.Parts.{front_bytes, without_front}
 use Rattle.qc_assembler.proofs.Outcomes.{on_ok_map, on_err_map, if_ok_map}
 use Rattle.qc_assembler.proofs.FirstPart.{first_held, first_front, first_left, first_same, first_there}
 use Rattle.qc_assembler.proofs.front.cut_first.Goals as goal

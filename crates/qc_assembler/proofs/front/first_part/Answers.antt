@@ -1,4 +1,4 @@
-use Rattle.std.proofs.Common.{◌≡◌, ◌<◌, length, arith, sym}
+use Rattle.std.proofs.Common.{sym}
 use Rattle.std.proofs.lemmas.Bool.{false≢true}
 use Rattle.qc_assembler.proofs.FirstPart.{first_at, first_absent}
 use Rattle.qc_assembler.proofs.front.first_part.Goals as goal

@@ -1,4 +1,4 @@
-use Rattle.std.proofs.Common.{◌≡◌, ℕ, List, [], ◌∷◌, ◌<◌, length, arith, sym, ◌-◌, Some, None, refl}
+use Rattle.std.proofs.Common.{◌≡◌, ℕ, List, [], ◌∷◌, length, sym, ◌-◌, Some, None, refl}
 use Rattle.std.specs.Prelude.{◌==◌, false}
 use Rattle.qc_assembler.specs.Parts.{first_part, starts_at}
 use Rattle.qc_assembler.proofs.Placing.{same_place}

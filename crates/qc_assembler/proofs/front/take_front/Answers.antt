@@ -1,6 +1,5 @@
-use Rattle.std.proofs.Common.{◌≡◌, ◌∙◌, ℕ, List, ◌+◌, ◌-◌, ◌<◌, ◌≤◌, length, drop, arith, sym, ap, subst, refl, Option, Some, None}
-use Rattle.qc_assembler.specs.Assembly.{IsFirst, chunk_bytes, chunk_offset}
-use Rattle.qc_assembler.specs.Parts.{flat, front_bytes, without_front, IsKept}
+use Rattle.std.proofs.Common.{◌∙◌, length, arith, sym, ap, refl}
+use Rattle.qc_assembler.specs.Assembly.{chunk_bytes, chunk_offset}
 use Rattle.qc_assembler.proofs.FirstPart.{first_bounds, front_none, front_some, front_length, left_front, kept_cut}
 use Rattle.qc_assembler.proofs.front.take_front.Goals as goal
 

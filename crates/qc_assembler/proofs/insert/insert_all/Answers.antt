@@ -1,4 +1,4 @@
-use Rattle.std.proofs.Common.{◌≡◌, ◌∙◌, ap, sym, length}
+use Rattle.std.proofs.Common.{◌≡◌, ◌∙◌, sym, length}
 use Rattle.std.proofs.lemmas.Bool.{eqb-true}
 use Rattle.qc_assembler.specs.Ahead.{assembled}
 use Rattle.qc_assembler.proofs.Segments.{inserted_none}

@@ -1,7 +1,7 @@
-use Rattle.std.proofs.Common.{◌≡◌, ℕ, ◌+◌, ◌-◌, ◌<◌, ◌≤◌, ◌∙◌, List, ap, sym, subst, refl, length, take, arith, Option, None, Some}
+use Rattle.std.proofs.Common.{ℕ, ◌∙◌, List, ap, sym, arith}
 use Rattle.qc_assembler.specs.Assembly.{add}
 use Rattle.qc_assembler.specs.Parts.{flat}
-use Rattle.qc_assembler.specs.Ahead.{range_past, assembled}
+use Rattle.qc_assembler.specs.Ahead.{assembled}
 use Rattle.qc_assembler.proofs.Segments.{skip_step, fill_step, read_below, read_inside, unread_before, unread_beyond, range_bounds}
 use Rattle.qc_assembler.proofs.insert.insert_once.Goals as goal
 

@@ -1,8 +1,5 @@
-use Rattle.std.proofs.Common.{◌≡◌, ℕ, ◌<◌, ◌≤◌, ◌∙◌, List, ap, sym, subst, refl, arith, Result, Ok, Err}
-use Rattle.std.specs.Prelude.{OnOk, OnErr, IsOk}
-use Rattle.qc_assembler.specs.declared.insert.InsertError.{InsertError}
-use Rattle.qc_assembler.specs.declared.insert.InsertError.TheVariants.{TooManyParts}
-use Rattle.qc_assembler.specs.Assembly.{Assembly, inserted, part_count}
+use Rattle.std.proofs.Common.{◌≡◌, ℕ, ◌<◌, ◌≤◌, ◌∙◌, List, ap, sym, subst}
+use Rattle.qc_assembler.specs.Assembly.{Assembly, part_count}
 use Rattle.qc_assembler.specs.Parts.{flat, undone, IsKept}
 use Rattle.qc_assembler.specs.Ahead.{assembled}
 use Rattle.qc_assembler.proofs.Outcomes.{on_err, on_ok_through, at_ok}

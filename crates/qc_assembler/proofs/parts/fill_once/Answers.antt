@@ -1,6 +1,5 @@
-use Rattle.std.proofs.Common.{◌≡◌, ℕ, ◌+◌, ◌-◌, ◌<◌, ◌≤◌, ◌∙◌, ap, sym, subst, refl, length, arith, Option, None, Some}
-use Rattle.std.specs.Prelude.{◌==◌}
-use Rattle.qc_assembler.specs.Parts.{flat, first_past, HasRoom, part_begins}
+use Rattle.std.proofs.Common.{◌≡◌, ◌∙◌, ap, sym, refl, length, arith}
+use Rattle.qc_assembler.specs.Parts.{flat, HasRoom, part_begins}
 use Rattle.std.proofs.lemmas.List.{length-take-le}
 use Rattle.qc_assembler.proofs.Adding.{add_split}
 use Rattle.qc_assembler.proofs.Placing.{past_bounds, trim_flat}

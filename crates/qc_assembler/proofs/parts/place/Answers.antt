@@ -1,8 +1,7 @@
-use Rattle.std.proofs.Common.{◌≡◌, ◌+◌, ◌<◌, ◌≤◌, ◌∙◌, List, ℕ, ◌++◌, ◌∷◌, [], ap, sym, subst, refl, length, arith}
-use Rattle.std.specs.BTreeMap.{insert_entry, is_at}
-use Rattle.std.specs.Map.{remove_entry}
+use Rattle.std.proofs.Common.{◌≡◌, ◌+◌, ◌<◌, ◌≤◌, ◌∙◌, List, ℕ, ap, refl, length, arith}
+use Rattle.std.specs.BTreeMap.{insert_entry}
 use Rattle.std.specs.Ordering.{nat_cmp}
-use Rattle.qc_assembler.specs.Parts.{flat, Apart, joints, undone, ends_at, one, part_begins, first_past, HasRoom, IsKept}
+use Rattle.qc_assembler.specs.Parts.{undone, ends_at, one, part_begins, first_past, HasRoom, IsKept}
 use Rattle.qc_assembler.proofs.Placing.{joints_few, insert_flat, insert_apart, insert_joints, insert_undone, undone_push}
 use Rattle.qc_assembler.proofs.parts.place.Goals as goal
 

@@ -1,4 +1,4 @@
-use Rattle.std.proofs.Common.{◌≡◌, ℕ, List, [], ap, subst, refl, sym}
+use Rattle.std.proofs.Common.{[], refl}
 use Rattle.qc_assembler.specs.Assembly.{nothing}
 use Rattle.qc_assembler.specs.Parts.{flat, Apart, joints, IsKept}
 use Rattle.qc_assembler.specs.Ahead.{AreRanges, listed, assembled}

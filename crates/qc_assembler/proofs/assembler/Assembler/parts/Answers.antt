@@ -1,4 +1,4 @@
-use Rattle.std.proofs.Common.{◌≡◌, ◌∙◌, ap, sym}
+use Rattle.std.proofs.Common.{◌∙◌, ap}
 use Rattle.qc_assembler.specs.Assembly.{Assembly, part_count}
 use Rattle.qc_assembler.specs.Ahead.{assembled}
 use Rattle.qc_assembler.proofs.assembler.Assembler.parts.Goals as goal

@@ -1,7 +1,6 @@
-use Rattle.std.proofs.Common.{◌≡◌, ◌∙◌, ℕ, List, ◌+◌, ◌<◌, length, drop, arith, sym, ap, subst, Option, Some, None}
-use Rattle.qc_assembler.specs.Assembly.{Assembly, IsFirst, IsFront, bytes_of, chunk_bytes, chunk_offset, advanced}
+use Rattle.std.proofs.Common.{◌≡◌, ℕ, List, ◌+◌, ◌<◌, length, drop, arith, sym, subst, Option}
+use Rattle.qc_assembler.specs.Assembly.{IsFirst, bytes_of, chunk_bytes, chunk_offset}
 use Rattle.qc_assembler.specs.Parts.{flat}
-use Rattle.qc_assembler.specs.Ahead.{assembled}
 use Rattle.qc_assembler.proofs.ReadFront.{front_taken, front_missing, front_there, advance_taken, advance_none, begins_offset}
 use Rattle.qc_assembler.proofs.assembler.Assembler.read.Goals as goal
 use Rattle.qc_assembler.proofs.assembler.Assembler.read.Goals.{After-len}
