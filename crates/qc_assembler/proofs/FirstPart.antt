@@ -9,7 +9,7 @@ use Rattle.std.proofs.Common.{length-drop}
 use Rattle.std.proofs.Math.Seq.{take-length}
 use Rattle.std.proofs.lemmas.List.{length-take-le}
 use Rattle.qc_assembler.specs.Assembly.{run, has_bytes, first_offset, chunk_offset, chunk_bytes, IsFirst}
-use Rattle.qc_assembler.specs.Parts.{flat, Apart, starts_at, one, joints, first_part, front_bytes, without_front, IsKept}
+use Rattle.qc_assembler.specs.Parts.{flat, Apart, starts_at, one, joints, first_part, front_bytes, without_front, first_begin, first_length, IsKept}
 use Rattle.qc_assembler.proofs.Placing.{same_place}
 
 pub first_at : (es : List (ℕ × List ℕ)) (e : ℕ × List ℕ) → slice_get es 0 ≡ Some e → first_part es ≡ Some (e.0, length e.1)
@@ -202,3 +202,34 @@ kept_cut n end held j (x ∷ xs) first less kept =
     let long : length (drop n x.1) ≡ length x.1 - n = length-drop n x.1 in
     let under : 0 + length x.1 ≤ x.0 = kept.apart.1 in
     record { apart = (omega arith, omega arith, kept.apart.2); count = kept.count }
+
+pub whole_behind : (end j : ℕ) (p : List ℕ) (es left : List (ℕ × List ℕ)) → es ≡ (end, p) ∷ left → IsKept es j → Apart end left
+unfolding Apart
+whole_behind end j p es left split kept =
+    let apart : Apart 0 ((end, p) ∷ left) = subst (λ (l : List (ℕ × List ℕ)). Apart 0 l) split kept.apart in
+    apart.2
+
+pub cut_behind : (n end held : ℕ) (es : List (ℕ × List ℕ)) → first_part es ≡ Some (end, held) → n < held → Apart 0 es → Apart (end - held + n) (without_front n es)
+unfolding first_part without_front Apart
+cut_behind n end held [] first less apart = absurd (let no : ⊥ = cc in no)
+cut_behind n end held (x ∷ xs) first less apart =
+    let same = same_place x.0 (length x.1) end held first in
+    let e : x.0 ≡ end = same.0 in
+    let l : length x.1 ≡ held = same.1 in
+    let long : length (drop n x.1) ≡ length x.1 - n = length-drop n x.1 in
+    let under : 0 + length x.1 ≤ x.0 = apart.1 in
+    (omega arith, omega arith, apart.2)
+
+pub first_sizes : (end held : ℕ) (es : List (ℕ × List ℕ)) → first_part es ≡ Some (end, held) → (first_begin es ≡ end - held) × (first_length es ≡ held)
+unfolding first_part first_begin first_length
+first_sizes end held [] first = absurd (let no : ⊥ = cc in no)
+first_sizes end held (x ∷ xs) first =
+    let same = same_place x.0 (length x.1) end held first in
+    let e : x.0 ≡ end = same.0 in
+    let l : length x.1 ≡ held = same.1 in
+    (omega arith, l)
+
+pub no_first : (es : List (ℕ × List ℕ)) → first_part es ≡ None → (es ≡ []) × (first_length es ≡ 0)
+unfolding first_part first_length
+no_first [] first = (refl, refl)
+no_first (x ∷ xs) first = absurd (let no : ⊥ = cc in no)

@@ -6,3 +6,5 @@ pub mod Outcomes
 pub mod FirstPart
 pub mod ReadFront
 pub mod ReadLaw
+pub mod Unread
+pub mod Noting

@@ -1,7 +1,8 @@
 -- What an outcome says of another
-use Rattle.std.proofs.Common.{Result, Ok, Err}
+use Rattle.std.proofs.Common.{◌≡◌, Result, Ok, Err}
 use Rattle.std.proofs.lemmas.Bool.{false≢true}
-use Rattle.std.specs.Prelude.{OnOk, OnErr, IsOk, IfOk}
+use Rattle.std.specs.Result.{is_err}
+use Rattle.std.specs.Prelude.{false, OnOk, OnErr, IsOk, IfOk}
 
 pub on_err : {A E : Type 0} (r : Result A E) (P : Type 0) → P → OnErr r P
 on_err (Ok x) P p = tt
@@ -28,3 +29,7 @@ on_err_map (Err e) P Q p f = f p
 pub if_ok_map : {A E : Type 0} (r : Result A E) (P Q : A → Type 0) → IfOk r P → ((x : A) → P x → Q x) → IfOk r Q
 if_ok_map (Ok x) P Q p f = f x p
 if_ok_map (Err e) P Q p f = tt
+
+pub where_ok : {A E : Type 0} (r : Result A E) (P : Type 0) → false ≡ is_err r → OnOk r P → P
+where_ok (Ok x) P ok p = p
+where_ok (Err e) P ok p = absurd (false≢true ok)

@@ -69,14 +69,14 @@ none_listed i lo (e ∷ es) ranges low =
     let some : e.1 < e.0 = ranges.1 in
     among_below i e.1 (e.0 - e.1) (listed es) (omega arith) ∙ none_listed i e.0 es ranges.2 (omega arith)
 
-same_entry : (x e : ℕ × ℕ) → (let p : Option (ℕ × ℕ) = Some x in p) ≡ Some e → x ≡ e
+pub same_entry : (x e : ℕ × ℕ) → (let p : Option (ℕ × ℕ) = Some x in p) ≡ Some e → x ≡ e
 same_entry x e q = cc
 
-past_here : (o : ℕ) (e : ℕ × ℕ) (es : List (ℕ × ℕ)) → o < e.0 → range_past o (e ∷ es) ≡ Some e
+pub past_here : (o : ℕ) (e : ℕ × ℕ) (es : List (ℕ × ℕ)) → o < e.0 → range_past o (e ∷ es) ≡ Some e
 unfolding range_past
 past_here o e es less = rw (lt-ltb o e.0 less) refl
 
-past_later : (o : ℕ) (e : ℕ × ℕ) (es : List (ℕ × ℕ)) → e.0 ≤ o → range_past o (e ∷ es) ≡ range_past o es
+pub past_later : (o : ℕ) (e : ℕ × ℕ) (es : List (ℕ × ℕ)) → e.0 ≤ o → range_past o (e ∷ es) ≡ range_past o es
 unfolding range_past
 past_later o e es more = rw (le-ltb o e.0 more) refl
 

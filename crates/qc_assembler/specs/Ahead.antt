@@ -1,7 +1,7 @@
 -- How the offsets that were read out of order are kept: ranges, each start under its end
-use Rattle.std.specs.Prelude.{ℕ, zero, suc, ◌-◌, ◌<◌, ◌≤◌, nat_lt, if◌then◌else◌, List, [], ◌∷◌, ◌++◌, Option, None, Some}
-use Rattle.qc_assembler.specs.Assembly.{Assembly}
-use Rattle.qc_assembler.specs.Parts.{flat}
+use Rattle.std.specs.Prelude.{◌≡◌, false, ℕ, zero, suc, ◌-◌, ◌<◌, ◌≤◌, nat_lt, if◌then◌else◌, List, [], ◌∷◌, ◌++◌, Option, None, Some}
+use Rattle.qc_assembler.specs.Assembly.{Assembly, among}
+use Rattle.qc_assembler.specs.Parts.{flat, IsKept}
 
 -- n offsets in a row, the first at s
 unfoldable pub row : ℕ → ℕ → List ℕ
@@ -26,3 +26,22 @@ range_past o (e ∷ es) = if nat_lt o e.0 then Some e else range_past o es
 -- what is kept, as what came and what was read
 unfoldable pub assembled : ℕ → List (ℕ × ℕ) → List (ℕ × List ℕ) → Assembly
 assembled read ranges parts = record { read = read; ahead = listed ranges; came = flat parts }
+
+-- none of those bytes was read
+unfoldable pub AllUnread : ℕ → List ℕ → List (ℕ × ℕ) → Type 0
+AllUnread read ahead [] = Unit {0}
+AllUnread read ahead (x ∷ xs) = (read ≤ x.0) × (among x.0 ahead ≡ false) × AllUnread read ahead xs
+
+-- a range that ends at n has room before that one
+unfoldable pub HasGap : ℕ → Option (ℕ × ℕ) → Type 0
+HasGap n None = Unit {0}
+HasGap n (Some e) = n ≤ e.1
+
+-- What holds of all that is kept
+pub record IsSound (read : ℕ) (ranges : List (ℕ × ℕ)) (parts : List (ℕ × List ℕ)) (joined : ℕ) : Type 0 where
+  -- the parts and their count
+  pub kept : IsKept parts joined
+  -- the ranges
+  pub ascending : AreRanges 0 ranges
+  -- what waits wasn't read
+  pub unread : AllUnread read (listed ranges) (flat parts)

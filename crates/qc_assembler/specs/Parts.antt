@@ -65,6 +65,16 @@ unfoldable pub first_part : List (ℕ × List ℕ) → Option (ℕ × ℕ)
 first_part [] = None
 first_part (e ∷ es) = Some (e.0, length e.1)
 
+-- where the first part begins, 0 where there is none
+unfoldable pub first_begin : List (ℕ × List ℕ) → ℕ
+first_begin [] = 0
+first_begin (e ∷ es) = e.0 - length e.1
+
+-- how long the first part is, 0 where there is none
+unfoldable pub first_length : List (ℕ × List ℕ) → ℕ
+first_length [] = 0
+first_length (e ∷ es) = length e.1
+
 -- at most so many bytes of the first part
 unfoldable pub front_bytes : ℕ → List (ℕ × List ℕ) → List ℕ
 front_bytes most [] = []

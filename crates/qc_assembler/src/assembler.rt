@@ -1,8 +1,9 @@
 //! Bytes that come out of order, and are read once.
 ghost use Rattle.std.specs.Prelude.{◌≡◌, ℕ, ◌+◌, ◌-◌, ◌^◌, ◌<◌, ◌≤◌, IsTrue, IfOk, OnOk, OnErr, length, Err};
-ghost use Rattle.qc_assembler.specs.Assembly.{nothing, inserted, part_count, IsFront, advanced, bytes_of};
+ghost use Rattle.qc_assembler.specs.Assembly.{nothing, inserted, part_count, IsFirst, IsFront, advanced, bytes_of, chunk_bytes, chunk_offset, taken};
 
-use crate::front::{begins_at, take_front};
+use crate::ahead::note_range;
+use crate::front::{begins_at, discard_front, peek_front, take_front};
 use crate::insert::{InsertError, insert_or_undo};
 use crate::parts::part_count;
 use bytes::Bytes;
@@ -30,12 +31,11 @@ impl Model for Assembler {
 
     ghost Value = { Assembly };
 
-    ghost use Rattle.qc_assembler.specs.Parts.{IsKept};
-    ghost use Rattle.qc_assembler.specs.Ahead.{AreRanges, assembled};
+    ghost use Rattle.qc_assembler.specs.Ahead.{IsSound, assembled};
 
     ghost view = { λ a. assembled a.read a.ahead.entries a.parts.entries };
 
-    ghost invariant = { λ a. IsKept a.parts.entries a.joined × AreRanges 0 a.ahead.entries };
+    ghost invariant = { λ a. IsSound a.read a.ahead.entries a.parts.entries a.joined };
 }
 
 impl Assembler {
@@ -106,5 +106,28 @@ impl Assembler {
         };
         self.read += chunk.len() as u64;
         Ok(Some(chunk))
+    }
+
+    /// Reads at most so many bytes out of order: those at the lowest offsets that came and weren't
+    /// read, with the offset of the first. None exactly where none waits.
+    ///
+    /// # Errors
+    ///
+    /// Want of memory; everything is then as before.
+    pub fn read_unordered(&mut self, most: usize) -> Result<Option<(u64, Bytes)>, AllocError>
+        ensures first { IfOk result (λ chunk. IsFirst most self.old.came chunk) }
+        ensures after { IfOk result (λ chunk. self.new ≡ taken (chunk_offset chunk) (length (chunk_bytes chunk)) self.old) }
+        ensures err { OnErr result (self.new ≡ self.old) }
+    {
+        let Some((offset, chunk)) = peek_front(&self.parts, most)? else {
+            return Ok(None);
+        };
+        let count = chunk.len();
+        if count == 0 {
+            return Ok(Some((offset, chunk)));
+        }
+        note_range(&mut self.ahead, offset, offset + count as u64)?;
+        discard_front(&mut self.parts, &mut self.joined, count);
+        Ok(Some((offset, chunk)))
     }
 }

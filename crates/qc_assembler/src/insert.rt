@@ -1,8 +1,8 @@
 //! Bytes that come: those that were read or came before are passed over.
 ghost use Rattle.std.specs.Prelude.{◌≡◌, ℕ, ◌+◌, ◌-◌, ◌^◌, ◌<◌, ◌≤◌, IsTrue, IfOk, OnOk, OnErr, [], length, drop, Err, IsOk};
 ghost use Rattle.qc_assembler.specs.Assembly.{inserted, part_count};
-ghost use Rattle.qc_assembler.specs.Parts.{undone, joints, IsKept};
-ghost use Rattle.qc_assembler.specs.Ahead.{AreRanges, assembled};
+ghost use Rattle.qc_assembler.specs.Parts.{flat, undone, joints, IsKept};
+ghost use Rattle.qc_assembler.specs.Ahead.{AllUnread, AreRanges, assembled, listed};
 
 use crate::ahead::range_past;
 use crate::parts::{fill, part_count, undo};
@@ -101,10 +101,12 @@ pub(crate) fn insert_or_undo(
 ) -> Result<(), InsertError>
     requires kept { IsKept parts.old.entries joined.old }
     requires ranges { AreRanges 0 ranges.now.entries }
+    requires unread { AllUnread read (listed ranges.now.entries) (flat parts.old.entries) }
     requires fits { offset + length bytes < 2 ^ 64 }
     ensures came { OnOk result (assembled read ranges.now.entries parts.new.entries
         ≡ inserted offset bytes (assembled read ranges.now.entries parts.old.entries)) }
     ensures kept { IsKept parts.new.entries joined.new }
+    ensures unread { AllUnread read (listed ranges.now.entries) (flat parts.new.entries) }
     ensures err { OnErr result (parts.new.entries ≡ parts.old.entries) }
     ensures many { result ≡ Err InsertError.TooManyParts → 1024 < part_count (inserted offset bytes (assembled read ranges.now.entries parts.old.entries)).came }
     ensures few { OnOk result (part_count (inserted offset bytes (assembled read ranges.now.entries parts.old.entries)).came ≤ 1024) }

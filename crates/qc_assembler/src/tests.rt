@@ -69,3 +69,36 @@ fn parts_are_counted_before_reading(rt: HostRuntime) -> Result<(), Fail> {
     }
     Ok(())
 }
+
+// A read out of order gives what waits at the lowest offset; what it gave comes no more, neither
+// again nor in order, and what fills the gaps comes once.
+#[test]
+fn unordered_reads_give_each_byte_once(rt: HostRuntime) -> Result<(), Fail> {
+    // what comes, and what one read of at most 3 bytes gives then
+    const STEPS: [(u32, &[u8], Option<(u64, &[u8])>); 8] = [
+        (10, b"klmn", Some((10, b"klm"))),
+        (9, b"jKLMNo", Some((9, b"j"))),
+        (20, b"", Some((13, b"n"))),
+        (20, b"", Some((14, b"o"))),
+        (20, b"", None),
+        (4, b"efg", Some((4, b"efg"))),
+        (0, b"abcdEFGhiJKLMNOp", Some((0, b"abc"))),
+        (3, b"d", Some((3, b"d"))),
+    ];
+    let mut assembler = Assembler::new(rt.alloc());
+    for (offset, bytes, given) in STEPS {
+        let bytes = Bytes::copy_from_slice(rt.alloc(), bytes)?;
+        assert!(rt; assembler.insert(u64::from(offset), bytes).is_ok());
+        match (assembler.read_unordered(3)?, given) {
+            (Some((at, chunk)), Some((offset, bytes))) => {
+                assert_eq!(rt; at, offset);
+                assert_eq!(rt; &chunk[..], bytes);
+            }
+            (None, None) => {}
+            _ => assert!(rt; false),
+        }
+    }
+    // hi and p are left
+    assert_eq!(rt; assembler.parts(), 2);
+    Ok(())
+}

@@ -2,7 +2,7 @@ use Rattle.std.proofs.Common.{◌≡◌, ◌∙◌, ℕ, List, [], ◌∷◌, �
 use Rattle.std.proofs.lemmas.Bool.{false≢true}
 use Rattle.qc_assembler.specs.Parts.{first_part, starts_at, one}
 use Rattle.qc_assembler.proofs.Placing.{same_place}
-use Rattle.qc_assembler.proofs.FirstPart.{kept_left, left_whole, whole_bytes}
+use Rattle.qc_assembler.proofs.FirstPart.{kept_left, left_whole, whole_bytes, whole_behind}
 use Rattle.qc_assembler.proofs.front.take_first.Goals as goal
 
 some_there : (end held : ℕ) (es : List (ℕ × List ℕ)) → first_part es ≡ Some (end, held) → 0 < length es
@@ -51,3 +51,8 @@ returns-clause-kept c =
     (at_end c.args.end c.args.held c.in-Some.field-0-0 c.in-Some.part c.args.parts.now.entries c.pop_first.new.self.entries c.requires.first c.in-Some.ensures.removal) c.requires.kept in
     let now : c.one.result ≡ one (starts_at c.args.end c.pop_first.new.self.entries) = c.one.ensures.value ∙ ap one c.starts_at.ensures in
     record { apart = left.0; count = omega (arith, left.1, now) }
+
+pub returns-clause-behind : goal.returns-clause-behind
+returns-clause-behind c =
+    whole_behind c.args.end c.args.joined.now c.in-Some.part c.args.parts.now.entries c.pop_first.new.self.entries
+    (at_end c.args.end c.args.held c.in-Some.field-0-0 c.in-Some.part c.args.parts.now.entries c.pop_first.new.self.entries c.requires.first c.in-Some.ensures.removal) c.requires.kept
