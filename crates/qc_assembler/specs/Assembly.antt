@@ -133,3 +133,7 @@ noted o (suc n) ahead = noted (suc o) n (note o ahead)
 -- the first n bytes, whose offsets begin at o, are read out of order
 unfoldable pub taken : ℕ → ℕ → Assembly → Assembly
 taken o n a = record a { ahead = noted o n a.ahead; came = drop n a.came }
+
+-- what waits is let go
+unfoldable pub discarded : Assembly → Assembly
+discarded a = record a { came = [] }

@@ -1,6 +1,6 @@
 //! Bytes that come out of order, and are read once.
 ghost use Rattle.std.specs.Prelude.{◌≡◌, ℕ, ◌+◌, ◌-◌, ◌^◌, ◌<◌, ◌≤◌, IsTrue, IfOk, OnOk, OnErr, length, Err};
-ghost use Rattle.qc_assembler.specs.Assembly.{nothing, inserted, part_count, IsFirst, IsFront, advanced, bytes_of, chunk_bytes, chunk_offset, taken};
+ghost use Rattle.qc_assembler.specs.Assembly.{nothing, inserted, part_count, IsFirst, IsFront, advanced, bytes_of, discarded, chunk_bytes, chunk_offset, taken};
 
 use crate::ahead::note_range;
 use crate::front::{begins_at, discard_front, peek_front, take_front};
@@ -129,5 +129,13 @@ impl Assembler {
         note_range(&mut self.ahead, offset, offset + count as u64)?;
         discard_front(&mut self.parts, &mut self.joined, count);
         Ok(Some((offset, chunk)))
+    }
+
+    /// Lets go of what waits.
+    pub fn clear(&mut self)
+        ensures { self.new ≡ discarded self.old }
+    {
+        self.parts.clear();
+        self.joined = 0;
     }
 }
