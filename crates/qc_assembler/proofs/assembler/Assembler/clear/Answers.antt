@@ -1,0 +1,17 @@
+use Rattle.std.proofs.Common.{◌≡◌, ℕ, [], refl}
+use Rattle.qc_assembler.specs.Assembly.{discarded}
+use Rattle.qc_assembler.specs.Parts.{flat, Apart, joints, IsKept}
+use Rattle.qc_assembler.specs.Ahead.{AllUnread, IsSound, assembled}
+use Rattle.qc_assembler.proofs.assembler.Assembler.clear.Goals as goal
+
+none_kept : IsKept [] 0
+unfolding Apart joints
+none_kept = record { apart = tt; count = refl }
+
+pub invariant_of-self : goal.invariant_of-self
+unfolding AllUnread flat
+invariant_of-self c = rw c.clear.ensures.empty (record { kept = none_kept; ascending = c.self.invariant.ascending; unread = tt })
+
+pub returns : goal.returns
+unfolding assembled discarded flat
+returns c = rw (c.clear.ensures.empty, ← c.self.view_is) refl

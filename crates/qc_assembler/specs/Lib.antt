@@ -1,0 +1,4 @@
+pub mod Assembly
+pub mod Parts
+pub mod Ahead
+pub mod Reads

@@ -1,0 +1,141 @@
+//! Bytes that come out of order, and are read once.
+ghost use Rattle.std.specs.Prelude.{◌≡◌, ℕ, ◌+◌, ◌-◌, ◌^◌, ◌<◌, ◌≤◌, IsTrue, IfOk, OnOk, OnErr, length, Err};
+ghost use Rattle.qc_assembler.specs.Assembly.{nothing, inserted, part_count, IsFirst, IsFront, advanced, bytes_of, discarded, chunk_bytes, chunk_offset, taken};
+
+use crate::ahead::note_range;
+use crate::front::{begins_at, discard_front, peek_front, take_front};
+use crate::insert::{InsertError, insert_or_undo};
+use crate::parts::part_count;
+use bytes::Bytes;
+use std::alloc::{AllocError, Global};
+use std::collections::BTreeMap;
+use std::marker::Model;
+
+/// Bytes that came at offsets, in any order and more than once, until they are read.
+#[derive(Drop)]
+pub struct Assembler {
+    // every offset below was read
+    read: u64,
+    // further offsets that were read: ranges, each start under its end
+    ahead: BTreeMap<u64, u64>,
+    // what came and wasn't read, each part under its end
+    parts: BTreeMap<u64, Bytes>,
+    // how many parts begin where the one before ends
+    joined: u64,
+    // the ends of the parts that the last insertion placed
+    placed: Vec<u64>,
+}
+
+impl Model for Assembler {
+    ghost use Rattle.qc_assembler.specs.Assembly.{Assembly};
+
+    ghost Value = { Assembly };
+
+    ghost use Rattle.qc_assembler.specs.Ahead.{IsSound, assembled};
+
+    ghost view = { λ a. assembled a.read a.ahead.entries a.parts.entries };
+
+    ghost invariant = { λ a. IsSound a.read a.ahead.entries a.parts.entries a.joined };
+}
+
+impl Assembler {
+    /// An assembler to which nothing came.
+    pub fn new(alloc: Global) -> Self
+        ensures { result ≡ nothing }
+    {
+        Assembler {
+            read: 0,
+            ahead: BTreeMap::new(alloc),
+            parts: BTreeMap::new(alloc),
+            joined: 0,
+            placed: Vec::new(alloc),
+        }
+    }
+
+    /// Keeps the bytes that come at the offset. Those that were read are passed over; where they
+    /// overlap with bytes that came before, those that came first stay (RFC 9000, section 2.2).
+    ///
+    /// # Errors
+    ///
+    /// [`InsertError::TooManyParts`] exactly where more than [`MAX_PARTS`](crate::MAX_PARTS)
+    /// separate parts would stand afterwards, and [`InsertError::OutOfMemory`]. After both,
+    /// everything is as before.
+    pub fn insert(&mut self, offset: u64, bytes: Bytes) -> Result<(), InsertError>
+        requires { offset + length bytes < 2 ^ 64 }
+        ensures came { OnOk result (self.new ≡ inserted offset bytes self.old) }
+        ensures few { OnOk result (part_count (inserted offset bytes self.old).came ≤ 1024) }
+        ensures many { result ≡ Err InsertError.TooManyParts → 1024 < part_count (inserted offset bytes self.old).came }
+        ensures err { OnErr result (self.new ≡ self.old) }
+    {
+        insert_or_undo(
+            self.read,
+            &self.ahead,
+            &mut self.parts,
+            &mut self.joined,
+            &mut self.placed,
+            offset,
+            bytes,
+        )
+    }
+
+    /// How many separate parts came and weren't read: runs of offsets, each as long as it can be.
+    pub fn parts(&self) -> u64
+        ensures { result ≡ part_count self.now.came }
+    {
+        part_count(&self.parts, self.joined)
+    }
+}
+
+impl Assembler {
+    /// Reads at most so many bytes in order: those that came first at the offsets from the first
+    /// unread one on. None exactly where the next byte hasn't come.
+    ///
+    /// # Errors
+    ///
+    /// Want of memory; everything is then as before.
+    pub fn read(&mut self, most: usize) -> Result<Option<Bytes>, AllocError>
+        ensures front { IfOk result (λ chunk. IsFront most self.old chunk) }
+        ensures after { IfOk result (λ chunk. self.new ≡ advanced (length (bytes_of chunk)) self.old) }
+        ensures err { OnErr result (self.new ≡ self.old) }
+    {
+        if !begins_at(&self.parts, self.read) {
+            return Ok(None);
+        }
+        let Some((_, chunk)) = take_front(&mut self.parts, &mut self.joined, most)? else {
+            return Ok(None);
+        };
+        self.read += chunk.len() as u64;
+        Ok(Some(chunk))
+    }
+
+    /// Reads at most so many bytes out of order: those at the lowest offsets that came and weren't
+    /// read, with the offset of the first. None exactly where none waits.
+    ///
+    /// # Errors
+    ///
+    /// Want of memory; everything is then as before.
+    pub fn read_unordered(&mut self, most: usize) -> Result<Option<(u64, Bytes)>, AllocError>
+        ensures first { IfOk result (λ chunk. IsFirst most self.old.came chunk) }
+        ensures after { IfOk result (λ chunk. self.new ≡ taken (chunk_offset chunk) (length (chunk_bytes chunk)) self.old) }
+        ensures err { OnErr result (self.new ≡ self.old) }
+    {
+        let Some((offset, chunk)) = peek_front(&self.parts, most)? else {
+            return Ok(None);
+        };
+        let count = chunk.len();
+        if count == 0 {
+            return Ok(Some((offset, chunk)));
+        }
+        note_range(&mut self.ahead, offset, offset + count as u64)?;
+        discard_front(&mut self.parts, &mut self.joined, count);
+        Ok(Some((offset, chunk)))
+    }
+
+    /// Lets go of what waits.
+    pub fn clear(&mut self)
+        ensures { self.new ≡ discarded self.old }
+    {
+        self.parts.clear();
+        self.joined = 0;
+    }
+}

@@ -1,0 +1,16 @@
+//! Bytes that come at offsets in any order, and are read in order or as they come.
+#![tactic(auto)]
+
+mod ahead;
+mod assembler;
+mod front;
+mod insert;
+mod laws;
+mod parts;
+
+pub use assembler::Assembler;
+pub use insert::{InsertError, MAX_PARTS};
+pub use laws::reads_what_came;
+
+#[cfg(test)]
+mod tests;

@@ -1,0 +1,104 @@
+//! Parts in every order, reads in pieces, and the greatest number of parts.
+
+use crate::{Assembler, InsertError, MAX_PARTS, reads_what_came};
+use bytes::Bytes;
+use std::test::Fail;
+
+// Three parts that overlap and differ where they do, and what stays of them in each order.
+const PARTS: [(u32, &[u8]); 3] = [(0, b"abc"), (2, b"CdE"), (4, b"efg")];
+
+const ORDERS: [([usize; 3], &[u8]); 6] = [
+    ([0, 1, 2], b"abcdEfg"),
+    ([0, 2, 1], b"abcdefg"),
+    ([1, 0, 2], b"abCdEfg"),
+    ([1, 2, 0], b"abCdEfg"),
+    ([2, 0, 1], b"abcdefg"),
+    ([2, 1, 0], b"abCdefg"),
+];
+
+#[test]
+fn first_bytes_stay_in_every_order(rt: HostRuntime) -> Result<(), Fail> {
+    for (order, left) in ORDERS {
+        let mut assembler = Assembler::new(rt.alloc());
+        for at in order {
+            let (offset, part) = PARTS.get(at).ok_or("no such part")?;
+            let part = Bytes::copy_from_slice(rt.alloc(), part)?;
+            assert!(rt; assembler.insert(u64::from(*offset), part).is_ok());
+        }
+        assert_eq!(rt; assembler.parts(), 1);
+        let mut got = Vec::new(rt.alloc());
+        for most in [0, 2, 100, 100, 100, 100] {
+            if let Some(chunk) = assembler.read(most)? {
+                assert!(rt; chunk.len() <= most);
+                got.extend_from_slice(&chunk)?;
+            }
+        }
+        assert_eq!(rt; got.as_slice(), left);
+        assert!(rt; assembler.read(100)?.is_none());
+        assert_eq!(rt; assembler.parts(), 0);
+    }
+    reads_what_came();
+    Ok(())
+}
+
+#[test]
+fn parts_are_counted_before_reading(rt: HostRuntime) -> Result<(), Fail> {
+    let mut assembler = Assembler::new(rt.alloc());
+    for at in 1..MAX_PARTS + 1 {
+        let came = assembler.insert(2 * at, Bytes::copy_from_slice(rt.alloc(), b"x")?);
+        assert!(rt; came.is_ok());
+    }
+    // an offset, whether a byte that comes there is kept, and how many parts there are then
+    const STEPS: [(u32, bool, u64); 7] = [
+        (0, false, 1024),
+        (5000, false, 1024),
+        (4, true, 1024),
+        (1, true, 1024),
+        (0, true, 1024),
+        (3, true, 1023),
+        (5000, true, 1024),
+    ];
+    for (offset, kept, parts) in STEPS {
+        let byte = Bytes::copy_from_slice(rt.alloc(), b"y")?;
+        let came = assembler.insert(u64::from(offset), byte);
+        assert_eq!(rt; came.is_ok(), kept);
+        if let Err(error) = came {
+            assert!(rt; error == InsertError::TooManyParts);
+        }
+        assert_eq!(rt; assembler.parts(), parts);
+    }
+    Ok(())
+}
+
+// A read out of order gives what waits at the lowest offset; what it gave comes no more, neither
+// again nor in order, and what fills the gaps comes once.
+#[test]
+fn unordered_reads_give_each_byte_once(rt: HostRuntime) -> Result<(), Fail> {
+    // what comes, and what one read of at most 3 bytes gives then
+    const STEPS: [(u32, &[u8], Option<(u64, &[u8])>); 8] = [
+        (10, b"klmn", Some((10, b"klm"))),
+        (9, b"jKLMNo", Some((9, b"j"))),
+        (20, b"", Some((13, b"n"))),
+        (20, b"", Some((14, b"o"))),
+        (20, b"", None),
+        (4, b"efg", Some((4, b"efg"))),
+        (0, b"abcdEFGhiJKLMNOp", Some((0, b"abc"))),
+        (3, b"d", Some((3, b"d"))),
+    ];
+    let mut assembler = Assembler::new(rt.alloc());
+    for (offset, bytes, given) in STEPS {
+        let bytes = Bytes::copy_from_slice(rt.alloc(), bytes)?;
+        assert!(rt; assembler.insert(u64::from(offset), bytes).is_ok());
+        match (assembler.read_unordered(3)?, given) {
+            (Some((at, chunk)), Some((offset, bytes))) => {
+                assert_eq!(rt; at, offset);
+                assert_eq!(rt; &chunk[..], bytes);
+            }
+            (None, None) => {}
+            _ => assert!(rt; false),
+        }
+    }
+    // hi and p are left
+    assert_eq!(rt; assembler.parts(), 2);
+    Ok(())
+}
