@@ -1,7 +1,8 @@
-ghost use Rattle.std.specs.Prelude.{◌≡◌, ◌==◌, ◌<◌, ◌++◌, ◌↔◌, length, IsSome, slice_index_or};
+ghost use Rattle.std.specs.Prelude.{◌≡◌, ◌==◌, ◌<◌, ◌++◌, ◌↔◌, [], length, IsSome, slice_index_or};
 ghost use Rattle.std.specs.Option.{option_to_list};
 ghost use Rattle.qc_flight.specs.Packets.{Entry};
 
+use crate::room::Room;
 use crate::sent::SentPacket;
 use std::collections::VecDeque;
 use std::marker::Model;
@@ -27,6 +28,15 @@ impl PacketList {
         ensures { result ≡ packets.items }
     {
         PacketList { packets }
+    }
+
+    /// No packets, in room that was taken for some.
+    pub fn none(room: Room) -> PacketList
+        ensures { result ≡ [] }
+    {
+        PacketList {
+            packets: room.buffer(),
+        }
     }
 
     /// How many there are.

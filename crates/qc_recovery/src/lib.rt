@@ -2,12 +2,25 @@
 
 #![tactic(auto)]
 
+mod acking;
+mod burst;
+mod calls;
+mod ecn;
 mod idle_timeout;
+mod limits;
 mod mtu_config;
+mod path;
+mod power;
+mod recovery;
+mod space;
+mod telling;
 mod transport_config;
 
+pub use calls::{AckValues, Around, Fired, Settled};
 pub use idle_timeout::IdleTimeout;
 pub use mtu_config::MtuDiscoveryConfig;
+pub use path::PathData;
+pub use recovery::Recovery;
 pub use transport_config::TransportConfig;
 
 #[cfg(test)]
