@@ -19,3 +19,6 @@ pub use new_reno::{NewReno, NewRenoConfig};
 pub use pacer::{Pacer, PathRate};
 pub use pending_acks::{Arrival, PendingAcks, next_bundled_ack_time};
 pub use rtt::{RttEstimator, estimate_is_bounded};
+
+#[cfg(test)]
+mod tests;

@@ -1,5 +1,5 @@
 -- A walk along a list by place
-use Rattle.std.proofs.Common.{◌≡◌, ℕ, zero, suc, ◌+◌, ◌<◌, ◌≤◌, Bool, true, false, List, [], ◌∷◌, length, drop, get_or, refl, sym, ◌∙◌, ap, add-one, arith}
+use Rattle.std.proofs.Common.{◌≡◌, ℕ, zero, suc, ◌+◌, ◌<◌, ◌≤◌, Bool, true, false, List, [], ◌∷◌, ◌++◌, length, take, drop, get_or, append-nil, refl, sym, ◌∙◌, ap, add-one, arith}
 use Rattle.std.specs.List.{list_any}
 
 suc_here : {X : Type 0} (xs : List X) (place : ℕ) (x : X) → x ≡ get_or xs place x → place < length xs → drop place xs ≡ x ∷ drop (suc place) xs
@@ -29,3 +29,13 @@ any_more test xs place x is within fails = rw (here xs place x is within, fails)
 
 pub any_none : {X : Type 0} (test : X → Bool) (xs : List X) (place : ℕ) → length xs ≤ place → list_any test (drop place xs) ≡ false
 any_none test xs place le = rw (nothing_left xs place le) refl
+
+take_all : {X : Type 0} (xs : List X) (n : ℕ) → length xs ≤ n → take n xs ≡ xs
+take_all [] zero le = refl
+take_all [] (suc n) le = refl
+take_all (x ∷ xs) zero le = absurd (omega arith)
+take_all (x ∷ xs) (suc n) le = ap (λ ys. x ∷ ys) (take_all xs n (omega arith))
+
+-- elements written over all others
+pub written_over : {X : Type 0} (xs ys : List X) (n : ℕ) → n ≡ length ys → length xs ≡ length ys → take n (xs ++ drop (length xs) ys) ≡ xs
+written_over xs ys n is same = rw (nothing_left ys (length xs) (omega arith), append-nil xs) (take_all xs n (omega arith))

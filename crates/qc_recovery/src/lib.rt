@@ -2,6 +2,7 @@
 
 #![tactic(auto)]
 
+mod ack;
 mod acking;
 mod burst;
 mod calls;
@@ -19,9 +20,11 @@ mod transport_config;
 pub use calls::{AckValues, Around, Fired, Settled};
 pub use idle_timeout::IdleTimeout;
 pub use mtu_config::MtuDiscoveryConfig;
-pub use path::PathData;
+pub use path::{PathData, first_mtu};
 pub use recovery::Recovery;
 pub use transport_config::TransportConfig;
 
+#[cfg(test)]
+mod loss_tests;
 #[cfg(test)]
 mod tests;

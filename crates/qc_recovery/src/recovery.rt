@@ -4,9 +4,14 @@ ghost use Rattle.std.specs.Prelude.{◌≡◌, ◌↔◌, if◌then◌else◌, I
 ghost use Rattle.std.specs.Option.{option_copied};
 ghost use Rattle.qc_base.specs.RangeSet.{Normal};
 ghost use Rattle.qc_flight.specs.Packets.{AllBelow, PassesUpTo, first_of, is_acked};
+ghost use Rattle.qc_frame.specs.Frame.{ack_map};
+ghost use Rattle.qc_frame.specs.FrameFits.{Fits};
+ghost use Rattle.qc_frame.specs.declared.frames.FrameOf.TheVariants as frames;
+ghost use Rattle.qc_recovery.specs.Frames.{ranges_up_of, values_of};
 ghost use Rattle.qc_recovery.specs.Calls.{begun_recovery, dropped_after};
 ghost use Rattle.qc_recovery.specs.Steps.{ack_after, after_with, all_bytes, armed_at, backed_off, count_after, fired_with, is_handshake, is_quiet, later_by, loss_first, losses_fired, other_bytes, path_dropped, placed, probe_fired, probe_first, probe_in, probe_line, probe_of_nothing, probe_timeout, probes_of, sent_after, sooner, space_after, space_of, space_timed, time_of, timed, timeout_after};
 
+use crate::ack::{ranges_up, values};
 use crate::acking::{acknowledge, lose};
 use crate::burst::in_data;
 use crate::calls::{AckValues, Around, Fired, Occasion, Settled};
@@ -17,6 +22,7 @@ use crate::space::SpaceRecovery;
 use crate::transport_config::TransportConfig;
 use qc_base::{Duration, Instant, NumberRange, SpaceId};
 use qc_flight::{PacketList, SentPacket};
+use qc_frame::{Ack, ranges_lie_apart};
 use qc_path::{Controller, RttEstimator};
 use std::alloc::{AllocError, Global};
 
@@ -275,11 +281,43 @@ impl Recovery {
         }
     }
 
-    /// An ACK came, which names the numbers of `ranges`, from low to high, up to the largest one.
-    /// `next` is the number that the space seals next, and `began` the moment at which it began.
-    /// After want of memory all is as before.
-    #[tactic(auto, unfolding(crate::specs::Steps::ack_after))]
+    /// An ACK came. `next` is the number that the space seals next, and `began` the moment at which
+    /// it began. After want of memory all is as before.
+    #[tactic(auto, using(crate::proofs::AckedRanges::up_to_largest))]
     pub fn on_ack<C: Controller>(
+        &mut self,
+        alloc: Global,
+        now: Instant,
+        space: SpaceId,
+        next: u64,
+        began: Instant,
+        ack: &Ack<'_>,
+        around: &Around,
+        path: &mut PathData<C>,
+    ) -> Result<Settled, AllocError>
+        requires { Fits (frames.Ack (ack_map (λ bytes. bytes.now) ack.now)) }
+        ensures ok { IfOk result (λ s. after_with self.new path.new s.acked s.lost ≡ ack_after C.Controller now space next began (values_of (ack_map (λ bytes. bytes.now) ack.now)) (ranges_up_of (ack_map (λ bytes. bytes.now) ack.now)) around.now self.old path.old) }
+        ensures recovery { OnErr result (self.new ≡ self.old) }
+        ensures path { OnErr result (path.new ≡ path.old) }
+    {
+        ranges_lie_apart();
+        let ranges = ranges_up(alloc, ack)?;
+        let values = values(ack);
+        self.on_ranges(
+            now,
+            space,
+            next,
+            began,
+            &values,
+            ranges.as_slice(),
+            around,
+            path,
+        )
+    }
+
+    /// An ACK came, which names the numbers of `ranges`, from low to high, up to the largest one.
+    #[tactic(auto, unfolding(crate::specs::Steps::ack_after))]
+    pub(crate) fn on_ranges<C: Controller>(
         &mut self,
         now: Instant,
         space: SpaceId,
