@@ -2,13 +2,29 @@
 
 #![tactic(auto)]
 
+mod ack;
+mod acking;
+mod burst;
+mod calls;
+mod ecn;
 mod idle_timeout;
+mod limits;
 mod mtu_config;
+mod path;
+mod power;
+mod recovery;
+mod space;
+mod telling;
 mod transport_config;
 
+pub use calls::{AckValues, Around, Fired, Settled};
 pub use idle_timeout::IdleTimeout;
 pub use mtu_config::MtuDiscoveryConfig;
+pub use path::{PathData, first_mtu};
+pub use recovery::Recovery;
 pub use transport_config::TransportConfig;
 
+#[cfg(test)]
+mod loss_tests;
 #[cfg(test)]
 mod tests;

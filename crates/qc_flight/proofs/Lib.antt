@@ -1,0 +1,5 @@
+pub mod Earliest
+pub mod Fronts
+pub mod Ranges
+pub mod Sifting
+pub mod Sums

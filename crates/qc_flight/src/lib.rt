@@ -1,0 +1,17 @@
+//! The packets of a packet number space that are in flight, and how those that an ACK names, and
+//! those that are lost, are taken out of them (RFC 9002, appendix A.1).
+#![tactic(auto)]
+
+mod counts;
+mod flight;
+mod list;
+mod room;
+mod sent;
+mod sift;
+mod tests_of;
+
+pub use counts::Counts;
+pub use flight::Flight;
+pub use list::PacketList;
+pub use room::Room;
+pub use sent::SentPacket;

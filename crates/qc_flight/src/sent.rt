@@ -1,0 +1,17 @@
+use qc_base::Instant;
+use qc_frame::FrameList;
+
+/// A packet that was sent (RFC 9002, appendix A.1.1).
+#[derive(Debug, Drop)]
+pub struct SentPacket {
+    /// When it was sent.
+    pub at: Instant,
+    /// Its size in bytes.
+    pub size: u64,
+    /// Whether its size counts as in flight.
+    pub counted: bool,
+    /// Whether it asks for an acknowledgement.
+    pub ack_eliciting: bool,
+    /// Its frames, which are sent again where it is lost.
+    pub frames: FrameList,
+}

@@ -1,0 +1,145 @@
+-- The search for a larger datagram, and black holes (RFC 8899; RFC 9000, section 14.3). Sizes are bytes of UDP payload.
+use Rattle.std.specs.Prelude.{ℕ, ◌+◌, ◌-◌, ◌/◌, ◌==◌, Bool, true, false, not, ◌&&◌, nat_lt, nat_le, if◌then◌else◌, Option, Some, None, is_some, min, max}
+use Rattle.qc_base.specs.Time.{plus}
+use Rattle.qc_path.specs.declared.mtu.Phase.{Phase}
+use Rattle.qc_path.specs.declared.mtu.Phase.TheVariants.{Unbegun, Searching, Resting}
+use Rattle.qc_path.specs.declared.mtu.Search.{Search}
+use Rattle.qc_path.specs.declared.mtu.SearchSettings.{SearchSettings}
+
+-- the sizes in use, and the search, if there is one
+pub record Mtu : Type 0 where
+  pub current : ℕ  -- the size in use
+  pub least : ℕ  -- the size that every path takes
+  pub peer : Option ℕ  -- the greatest size that the peer takes, once it is known
+  pub settings : Option SearchSettings  -- how to search, if at all
+  pub phase : Phase
+  pub bursts : ℕ  -- how often in a row only packets above the least size were lost
+
+abbrev pub capped : Option ℕ → ℕ → ℕ
+capped None size = size
+capped (Some most) size = min size most
+
+-- a path's first size
+unfoldable pub first_mtu : ℕ → ℕ → Option ℕ → Option SearchSettings → Mtu
+first_mtu initial least peer settings =
+    record { current = capped peer (max initial least); least = least; peer = peer; settings = settings; phase = Unbegun; bursts = 0 }
+
+-- the peer's greatest size is known, and a search begins anew
+unfoldable pub peer_known : ℕ → Mtu → Mtu
+peer_known size m = record m { current = min m.current size; peer = Some size; phase = Unbegun }
+
+-- a search from the size in use
+unfoldable pub begun : SearchSettings → Mtu → Search
+begun s m = record { lower = m.current; upper = max m.current (capped m.peer s.upper_bound); losses = 0; probe = None }
+
+-- the search goes on while the ends differ by the least change, and by something
+abbrev pub goes_on : SearchSettings → Search → Bool
+goes_on s q = nat_le (max s.minimum_change 1) (q.upper - q.lower)
+
+-- the size in the middle, rounded up, so that it is above the lower end
+abbrev pub middle : Search → ℕ
+middle q = q.lower + (q.upper - q.lower + 1) / 2
+
+-- the search of a moment: one that goes on, or one that begins
+abbrev pub search_at : ℕ → SearchSettings → Mtu → Phase → Option Search
+search_at now s m Unbegun = Some (begun s m)
+search_at now s m (Searching q) = Some q
+search_at now s m (Resting until) = if nat_le until now then Some (begun s m) else None
+
+-- the size that a search probes next, where none is in flight
+abbrev pub size_of_probe : SearchSettings → Option Search → Option ℕ
+size_of_probe s None = None
+size_of_probe s (Some q) = if not (is_some q.probe) && goes_on s q then Some (middle q) else None
+
+abbrev pub probe_by : ℕ → Mtu → Option SearchSettings → Option ℕ
+probe_by now m None = None
+probe_by now m (Some s) = size_of_probe s (search_at now s m m.phase)
+
+-- the size of the probe that is due, if one is
+unfoldable pub probe_due : ℕ → Mtu → Option ℕ
+probe_due now m = probe_by now m m.settings
+
+abbrev pub probing : ℕ → Option Search → Mtu → Mtu
+probing number None m = m
+probing number (Some q) m = record m { phase = Searching (record q { probe = Some (number, middle q) }) }
+
+abbrev pub probe_sent_by : ℕ → ℕ → Option SearchSettings → Mtu → Mtu
+probe_sent_by now number None m = m
+probe_sent_by now number (Some s) m = probing number (search_at now s m m.phase) m
+
+-- the probe that is due was sent
+unfoldable pub probe_sent : ℕ → ℕ → Mtu → Mtu
+probe_sent now number m = probe_sent_by now number m.settings m
+
+abbrev pub probe_of : Phase → Option (ℕ × ℕ)
+probe_of (Searching q) = q.probe
+probe_of _ = None
+
+abbrev pub has_number : ℕ → Option (ℕ × ℕ) → Bool
+has_number number None = false
+has_number number (Some probe) = probe.0 == number
+
+-- the number is that of the probe in flight
+unfoldable pub is_probe : ℕ → Mtu → Bool
+is_probe number m = has_number number (probe_of m.phase)
+
+-- a search whose ends have come close rests
+abbrev pub rested : ℕ → SearchSettings → Search → Phase
+rested now s q = if goes_on s q then Searching q else Resting (plus now s.interval)
+
+abbrev pub rested_by : ℕ → Option SearchSettings → Search → Phase
+rested_by now None q = Searching q
+rested_by now (Some s) q = rested now s q
+
+-- the probe's size passed: it is the size in use, and the lower end
+abbrev pub search_raised : ℕ → Mtu → Search → Option (ℕ × ℕ) → Mtu
+search_raised now m q None = m
+search_raised now m q (Some probe) = record m {
+  current = probe.1;
+  bursts = 0;
+  phase = rested_by now m.settings (record q { lower = probe.1; losses = 0; probe = None });
+}
+
+abbrev pub raised_by : ℕ → Phase → Mtu → Mtu
+raised_by now (Searching q) m = search_raised now m q q.probe
+raised_by now _ m = m
+
+-- a packet is acknowledged: a probe raises the size, and each one above the least size ends a row of losses
+unfoldable pub mtu_acked : ℕ → ℕ → ℕ → Mtu → Mtu
+mtu_acked now number size m =
+    if is_probe number m then raised_by now m.phase m
+    else if nat_lt m.least size then record m { bursts = 0 } else m
+
+-- the probe is lost: the third time at one size, what lies below it becomes the upper end
+abbrev pub search_lowered : ℕ → Mtu → Search → Option (ℕ × ℕ) → Mtu
+search_lowered now m q None = m
+search_lowered now m q (Some probe) =
+    if nat_le 2 q.losses then record m { phase = rested_by now m.settings (record q { upper = probe.1 - 1; losses = 0; probe = None }) }
+    else record m { phase = Searching (record q { losses = q.losses + 1; probe = None }) }
+
+abbrev pub lowered_by : ℕ → Phase → Mtu → Mtu
+lowered_by now (Searching q) m = search_lowered now m q q.probe
+lowered_by now _ m = m
+
+unfoldable pub mtu_probe_lost : ℕ → Mtu → Mtu
+mtu_probe_lost now m = lowered_by now m.phase m
+
+abbrev pub cooled : ℕ → Option SearchSettings → Phase → Phase
+cooled now None phase = phase
+cooled now (Some s) phase = Resting (plus now s.black_hole_cooldown)
+
+-- packets were lost at once, probes aside, the smallest of them of this size: the fourth time in a row that all of them
+-- are above the least size, the path has a black hole
+unfoldable pub mtu_burst : ℕ → ℕ → Mtu → Mtu
+mtu_burst now smallest m =
+    if nat_le smallest m.least then m
+    else if nat_le 3 m.bursts then record m { current = m.least; bursts = 0; phase = cooled now m.settings m.phase }
+    else record m { bursts = m.bursts + 1 }
+
+-- the probe in flight is forgotten
+abbrev pub unprobed : Phase → Phase
+unprobed (Searching q) = Searching (record q { probe = None })
+unprobed phase = phase
+
+unfoldable pub mtu_forgotten : Mtu → Mtu
+mtu_forgotten m = record m { phase = unprobed m.phase }

@@ -1,0 +1,351 @@
+//! The search for a larger datagram that the path takes (RFC 8899; RFC 9000, section 14.3).
+
+ghost use Rattle.std.specs.Prelude.{◌≡◌};
+ghost use Rattle.qc_path.specs.Mtu.{begun, capped, cooled, first_mtu, goes_on, has_number, is_probe, middle, mtu_acked, mtu_burst, mtu_forgotten, mtu_probe_lost, peer_known, probe_due, probe_of, probe_sent, raised_by, rested_by, search_at, search_lowered, size_of_probe};
+
+use qc_base::{Duration, Instant};
+use std::marker::Model;
+
+/// How often one size is tried before it counts as too large.
+const TRIES: u8 = 3;
+
+/// How many bursts of losses in a row show a black hole.
+const BLACK_HOLE_BURSTS: u8 = 4;
+
+/// How a path's search goes.
+#[derive(Clone, Copy, Debug)]
+pub struct SearchSettings {
+    /// The time from the end of one search to the start of the next.
+    pub interval: Duration,
+    /// The greatest size that is tried.
+    pub upper_bound: u16,
+    /// How long no larger size is tried after a black hole.
+    pub black_hole_cooldown: Duration,
+    /// The difference below which a search ends; one of 0 counts as 1.
+    pub minimum_change: u16,
+}
+
+/// A search between the greatest size that passed and the greatest that may pass.
+#[derive(Clone, Copy, Debug)]
+pub struct Search {
+    lower: u16,
+    upper: u16,
+    losses: u8,
+    probe: Option<(u64, u16)>,
+}
+
+/// How far a search is.
+#[derive(Clone, Copy, Debug)]
+pub enum Phase {
+    /// None has begun.
+    Unbegun,
+    /// It goes on.
+    Searching(Search),
+    /// It begins again at this time.
+    Resting(Instant),
+}
+
+/// The size of a path's datagrams, and the search for a larger one.
+#[derive(Debug, Drop)]
+pub struct MtuDiscovery {
+    current: u16,
+    least: u16,
+    peer: Option<u16>,
+    settings: Option<SearchSettings>,
+    phase: Phase,
+    bursts: u8,
+}
+
+impl Model for MtuDiscovery {
+    ghost use Rattle.qc_path.specs.Mtu.{Mtu};
+
+    ghost Value = { Mtu };
+
+    ghost view = { λ m. record { current = m.current; least = m.least; peer = m.peer; settings = m.settings; phase = m.phase; bursts = m.bursts } };
+}
+
+fn cap(most: Option<u16>, size: u16) -> u16
+    ensures { result ≡ capped most size }
+{
+    match most {
+        None => size,
+        Some(most) => size.min(most),
+    }
+}
+
+fn has_next(settings: &SearchSettings, search: &Search) -> bool
+    ensures { result ≡ goes_on settings.now search.now }
+{
+    settings.minimum_change.max(1) <= search.upper.saturating_sub(search.lower)
+}
+
+fn middle_of(search: &Search) -> u16
+    ensures { result ≡ middle search.now }
+{
+    let lower = u32::from(search.lower);
+    let apart = u32::from(search.upper.saturating_sub(search.lower));
+    (lower + (apart + 1) / 2) as u16
+}
+
+fn rest(now: Instant, settings: Option<SearchSettings>, search: Search) -> Phase
+    ensures { result ≡ rested_by now settings search }
+{
+    match settings {
+        None => Phase::Searching(search),
+        Some(settings) => {
+            if has_next(&settings, &search) {
+                Phase::Searching(search)
+            } else {
+                Phase::Resting(now.plus(settings.interval))
+            }
+        }
+    }
+}
+
+fn cool(now: Instant, settings: Option<SearchSettings>, phase: Phase) -> Phase
+    ensures { result ≡ cooled now settings phase }
+{
+    match settings {
+        None => phase,
+        Some(settings) => Phase::Resting(now.plus(settings.black_hole_cooldown)),
+    }
+}
+
+fn probe_in(phase: Phase) -> Option<(u64, u16)>
+    ensures { result ≡ probe_of phase }
+{
+    match phase {
+        Phase::Searching(search) => search.probe,
+        Phase::Unbegun | Phase::Resting(_) => None,
+    }
+}
+
+fn has(probe: Option<(u64, u16)>, number: u64) -> bool
+    ensures { result ≡ has_number number probe }
+{
+    match probe {
+        None => false,
+        Some(probe) => probe.0 == number,
+    }
+}
+
+impl MtuDiscovery {
+    /// The size of a path that begins: the greater of `initial` and `least`, and at most what the
+    /// peer takes, where that is known. Without `settings` no larger size is looked for.
+    #[tactic(auto, unfolding(crate::specs::Mtu::first_mtu))]
+    pub fn new(
+        initial: u16,
+        least: u16,
+        peer: Option<u16>,
+        settings: Option<SearchSettings>,
+    ) -> MtuDiscovery
+        ensures { result ≡ first_mtu initial least peer settings }
+    {
+        MtuDiscovery {
+            current: cap(peer, initial.max(least)),
+            least,
+            peer,
+            settings,
+            phase: Phase::Unbegun,
+            bursts: 0,
+        }
+    }
+
+    /// The peer takes datagrams of at most this size (RFC 9000, section 18.2).
+    #[tactic(auto, unfolding(crate::specs::Mtu::peer_known))]
+    pub fn peer_takes(&mut self, size: u16)
+        ensures { self.new ≡ peer_known size self.old }
+    {
+        self.current = self.current.min(size);
+        self.peer = Some(size);
+        self.phase = Phase::Unbegun;
+    }
+
+    /// The size in use, in bytes of UDP payload.
+    pub fn current_mtu(&self) -> u16
+        ensures { result ≡ self.now.current }
+    {
+        self.current
+    }
+
+    #[tactic(auto, unfolding(crate::specs::Mtu::begun))]
+    fn begin(&self, settings: &SearchSettings) -> Search
+        ensures { result ≡ begun settings.now self.now }
+    {
+        Search {
+            lower: self.current,
+            upper: self.current.max(cap(self.peer, settings.upper_bound)),
+            losses: 0,
+            probe: None,
+        }
+    }
+
+    fn search(&self, now: Instant, settings: &SearchSettings) -> Option<Search>
+        ensures { result ≡ search_at now settings.now self.now self.now.phase }
+    {
+        match self.phase {
+            Phase::Unbegun => Some(self.begin(settings)),
+            Phase::Searching(search) => Some(search),
+            Phase::Resting(until) => {
+                if until.nanos() <= now.nanos() {
+                    Some(self.begin(settings))
+                } else {
+                    None
+                }
+            }
+        }
+    }
+
+    /// The size of the probe that is due, where one is: there is a search, it isn't over, and no
+    /// probe is in flight.
+    #[tactic(auto, unfolding(crate::specs::Mtu::probe_due))]
+    pub fn probe_due(&self, now: Instant) -> Option<u16>
+        ensures { result ≡ probe_due now self.now }
+    {
+        match self.settings {
+            None => None,
+            Some(settings) => due(&settings, self.search(now, &settings)),
+        }
+    }
+
+    /// The probe that is due was sent, with this number.
+    #[tactic(auto, unfolding(crate::specs::Mtu::probe_sent))]
+    pub fn probe_sent(&mut self, now: Instant, number: u64)
+        ensures { self.new ≡ probe_sent now number self.old }
+    {
+        if let Some(settings) = self.settings {
+            if let Some(search) = self.search(now, &settings) {
+                self.phase = Phase::Searching(Search {
+                    lower: search.lower,
+                    upper: search.upper,
+                    losses: search.losses,
+                    probe: Some((number, middle_of(&search))),
+                });
+            }
+        }
+    }
+
+    /// Whether a packet of the Data space is the probe in flight.
+    #[tactic(auto, unfolding(crate::specs::Mtu::is_probe))]
+    pub fn is_probe(&self, number: u64) -> bool
+        ensures { result ≡ is_probe number self.now }
+    {
+        has(probe_in(self.phase), number)
+    }
+
+    fn raise(&mut self, now: Instant)
+        ensures { self.new ≡ raised_by now self.old.phase self.old }
+    {
+        if let Phase::Searching(search) = self.phase {
+            if let Some(probe) = search.probe {
+                self.current = probe.1;
+                self.bursts = 0;
+                self.phase = rest(
+                    now,
+                    self.settings,
+                    Search {
+                        lower: probe.1,
+                        upper: search.upper,
+                        losses: 0,
+                        probe: None,
+                    },
+                );
+            }
+        }
+    }
+
+    /// A packet of the Data space was acknowledged.
+    #[tactic(auto, unfolding(crate::specs::Mtu::mtu_acked))]
+    pub fn on_acked(&mut self, now: Instant, number: u64, size: u64)
+        ensures { self.new ≡ mtu_acked now number size self.old }
+    {
+        if self.is_probe(number) {
+            self.raise(now);
+        } else if u64::from(self.least) < size {
+            self.bursts = 0;
+        }
+    }
+
+    fn lower(&mut self, now: Instant, search: Search)
+        ensures { self.new ≡ search_lowered now self.old search search.probe }
+    {
+        if let Some(probe) = search.probe {
+            if TRIES - 1 <= search.losses {
+                self.phase = rest(
+                    now,
+                    self.settings,
+                    Search {
+                        lower: search.lower,
+                        upper: probe.1.saturating_sub(1),
+                        losses: 0,
+                        probe: None,
+                    },
+                );
+            } else {
+                self.phase = Phase::Searching(Search {
+                    lower: search.lower,
+                    upper: search.upper,
+                    losses: search.losses + 1,
+                    probe: None,
+                });
+            }
+        }
+    }
+
+    /// The probe in flight was lost.
+    #[tactic(auto, unfolding(crate::specs::Mtu::mtu_probe_lost))]
+    pub fn on_probe_lost(&mut self, now: Instant)
+        ensures { self.new ≡ mtu_probe_lost now self.old }
+    {
+        if let Phase::Searching(search) = self.phase {
+            self.lower(now, search);
+        }
+    }
+
+    /// Packets were lost at once, probes aside; the smallest of them has this size.
+    #[tactic(auto, unfolding(crate::specs::Mtu::mtu_burst))]
+    pub fn on_burst_lost(&mut self, now: Instant, smallest: u64)
+        ensures { self.new ≡ mtu_burst now smallest self.old }
+    {
+        if smallest <= u64::from(self.least) {
+            return;
+        }
+        if self.bursts < BLACK_HOLE_BURSTS - 1 {
+            self.bursts += 1;
+            return;
+        }
+        self.current = self.least;
+        self.bursts = 0;
+        self.phase = cool(now, self.settings, self.phase);
+    }
+
+    /// The probe in flight left the flight, neither acknowledged nor lost.
+    #[tactic(auto, unfolding(crate::specs::Mtu::mtu_forgotten))]
+    pub fn forget_probe(&mut self)
+        ensures { self.new ≡ mtu_forgotten self.old }
+    {
+        if let Phase::Searching(search) = self.phase {
+            self.phase = Phase::Searching(Search {
+                lower: search.lower,
+                upper: search.upper,
+                losses: search.losses,
+                probe: None,
+            });
+        }
+    }
+}
+
+fn due(settings: &SearchSettings, search: Option<Search>) -> Option<u16>
+    ensures { result ≡ size_of_probe settings.now search }
+{
+    match search {
+        None => None,
+        Some(search) => {
+            if search.probe.is_none() && has_next(settings, &search) {
+                Some(middle_of(&search))
+            } else {
+                None
+            }
+        }
+    }
+}

@@ -1,0 +1,4 @@
+pub mod AckedRanges
+pub mod Places
+pub mod Powers
+pub mod Spans

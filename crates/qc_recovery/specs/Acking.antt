@@ -1,0 +1,163 @@
+-- What an ACK does (RFC 9002, sections 5 to 7, appendix A.7; ECN: RFC 9000, section 13.4)
+use Rattle.std.specs.Prelude.{ℕ, ◌+◌, ◌-◌, ◌*◌, ◌^◌, ◌==◌, Bool, true, false, not, ◌&&◌, ◌||◌, nat_lt, nat_le, if◌then◌else◌, List, [], ◌∷◌, length, slice_get, Option, Some, None, is_none, unwrap_or, min, max}
+use Rattle.qc_base.specs.Time.{plus, times}
+use Rattle.qc_base.specs.declared.range_set.NumberRange.{NumberRange}
+use Rattle.qc_base.specs.declared.side.SpaceId.{SpaceId}
+use Rattle.qc_frame.specs.declared.frames.EcnCounts.{EcnCounts}
+use Rattle.qc_flight.specs.Packets.{Entry, bytes_of, earliest_of, eliciting_of, is_acked, is_below, is_lost, others, those}
+use Rattle.qc_path.specs.Arrived.{exceeds}
+use Rattle.qc_path.specs.Mtu.{Mtu, is_probe, mtu_acked, mtu_burst, mtu_probe_lost}
+use Rattle.qc_path.specs.RoundTrips.{Rtt, sampled}
+use Rattle.qc_path.specs.declared.controller.Controller.{Ghosts as Control}
+use Rattle.qc_recovery.specs.Losses.{burst_of, congestion_span, is_data, loss_delay, marks_span, persists, start_after}
+use Rattle.qc_recovery.specs.declared.burst.Burst.{Burst}
+use Rattle.qc_recovery.specs.declared.calls.Around.{Around}
+use Rattle.qc_recovery.specs.declared.ecn.EcnVerdict.{EcnVerdict}
+use Rattle.qc_recovery.specs.declared.ecn.EcnVerdict.TheVariants as ecn
+use Rattle.qc_recovery.specs.declared.limits.Limits.{Limits}
+use Rattle.qc_recovery.specs.declared.path.PathData.{PathData}
+use Rattle.qc_recovery.specs.declared.space.SpaceRecovery.{SpaceRecovery}
+
+-- bytes in flight, held at 2^64 - 1
+abbrev pub held : ℕ → ℕ
+held bytes = min bytes 18446744073709551615
+
+-- the greatest of packets in ascending order
+abbrev pub greatest_entry : List Entry → Option Entry
+greatest_entry es = slice_get es (length es - 1)
+
+-- when a packet was sent, where it has this number
+abbrev pub sent_at : ℕ → Option Entry → Option ℕ → Option ℕ
+sent_at number None kept = kept
+sent_at number (Some e) kept = if e.0 == number then Some e.1.at else kept
+
+-- the greatest number acknowledged rises, and the time of its packet is kept where that is newly acknowledged
+unfoldable pub raised : ℕ → List Entry → SpaceRecovery → SpaceRecovery
+raised largest acked s =
+    if exceeds s.greatest largest then record s { greatest = Some largest; kept_at = sent_at largest (greatest_entry acked) s.kept_at } else s
+
+-- the greatest number acknowledged, with that of an ACK
+abbrev pub limit_with : Option ℕ → ℕ → ℕ
+limit_with None largest = largest
+limit_with (Some greatest) largest = max greatest largest
+
+-- the numbers of an ACK leave the flight
+unfoldable pub acked_of : List NumberRange → SpaceRecovery → List Entry
+acked_of ranges s = those (is_acked ranges) s.flight
+
+unfoldable pub space_acked : ℕ → List NumberRange → SpaceRecovery → SpaceRecovery
+space_acked largest ranges s = raised largest (acked_of ranges s) (record s { flight = others (is_acked ranges) s.flight })
+
+-- the time at which a packet is lost for its age, of the earliest one that may be
+abbrev pub time_of_loss : ℕ → Option ℕ → Option ℕ
+time_of_loss delay None = None
+time_of_loss delay (Some at) = Some (plus at delay)
+
+-- the packets that are lost, and the space without them
+unfoldable pub lost_of : Limits → ℕ → ℕ → ℕ → SpaceRecovery → List Entry
+lost_of l now delay largest s = those (is_lost largest l.packet_threshold now delay) s.flight
+
+unfoldable pub space_less : Limits → ℕ → ℕ → ℕ → SpaceRecovery → SpaceRecovery
+space_less l now delay largest s =
+    let rest : List Entry = others (is_lost largest l.packet_threshold now delay) s.flight in
+    record s { flight = rest; loss_time = time_of_loss delay (earliest_of (those (is_below largest) rest)) }
+
+-- for how long the peer held an ACK back: nothing outside Data, else what it says, and at most what it may
+unfoldable pub held_back : SpaceId → Around → ℕ → ℕ
+held_back space around delay =
+    if is_data space then min around.max_ack_delay (times (times delay (2 ^ min around.ack_delay_exponent 63)) 1000) else 0
+
+abbrev pub first_noted : Option (SpaceId × ℕ) → SpaceId → ℕ → Option (SpaceId × ℕ)
+first_noted None space next = Some (space, next)
+first_noted (Some sample) space next = Some sample
+
+-- ---- ECN
+
+-- counts that can't be: one falls, or that of ECT(1) rises, or the two others rise by less than what was acknowledged
+unfoldable pub are_bad : EcnCounts → EcnCounts → ℕ → Bool
+are_bad old new acked =
+    nat_lt new.ect0 old.ect0 || not (new.ect1 == old.ect1) || nat_lt new.ce old.ce || nat_lt ((new.ect0 - old.ect0) + (new.ce - old.ce)) acked
+
+-- what the counts of an ACK show, which newly acknowledges packets: one without counts ends marking; counts are looked
+-- at where it raises the greatest number acknowledged
+abbrev pub counts_show : Bool → EcnCounts → EcnCounts → ℕ → EcnVerdict
+counts_show raises old new acked =
+    if not raises then ecn.Unread
+    else if are_bad old new acked then ecn.Bad
+    else if nat_lt old.ce new.ce then ecn.Congested
+    else ecn.Good
+
+abbrev pub counts_by : Bool → EcnCounts → Option EcnCounts → ℕ → EcnVerdict
+counts_by raises old None acked = ecn.Missing
+counts_by raises old (Some new) acked = counts_show raises old new acked
+
+unfoldable pub ecn_shown : Bool → Bool → EcnCounts → Option EcnCounts → ℕ → EcnVerdict
+ecn_shown marking raises old new acked = if marking then counts_by raises old new acked else ecn.Unread
+
+abbrev pub no_counts : EcnCounts
+no_counts = record { ect0 = 0; ect1 = 0; ce = 0 }
+
+abbrev pub counts_kept : EcnVerdict → EcnCounts → Option EcnCounts → EcnCounts
+counts_kept ecn.Bad old new = no_counts
+counts_kept ecn.Good old new = unwrap_or new old
+counts_kept ecn.Congested old new = unwrap_or new old
+counts_kept _ old new = old
+
+module _ {C : Type 0} where
+  -- ---- acknowledged packets
+
+  -- the search for a larger datagram is told; where a probe passed, so is the controller
+  unfoldable pub size_told : Control C → ℕ → SpaceId → Entry → PathData C → PathData C
+  size_told m now space e p =
+      if is_data space then record p {
+        mtud = mtu_acked now e.0 e.1.size p.mtud;
+        congestion = if is_probe e.0 p.mtud then m.after_resize p.congestion (mtu_acked now e.0 e.1.size p.mtud).current else p.congestion;
+      } else p
+
+  -- the controller is told of a packet that elicits an ACK, unless the path is being validated
+  unfoldable pub ack_told : Control C → ℕ → Bool → Entry → PathData C → PathData C
+  ack_told m now limited e p =
+      if e.1.ack_eliciting && is_none p.challenge then record p { congestion = m.after_ack p.congestion now e.1.at e.1.size limited p.rtt } else p
+
+  abbrev pub acks_told : Control C → ℕ → SpaceId → Bool → List Entry → PathData C → PathData C
+  acks_told m now space limited [] p = p
+  acks_told m now space limited (e ∷ es) p = acks_told m now space limited es (ack_told m now limited e (size_told m now space e p))
+
+  unfoldable pub end_told : Control C → ℕ → ℕ → Bool → Option ℕ → PathData C → PathData C
+  end_told m now in_flight limited largest p = record p { congestion = m.after_acks p.congestion now in_flight limited largest }
+
+  -- a sample is taken: the time since the greatest packet acknowledged was sent
+  unfoldable pub sample_taken : ℕ → SpaceId → ℕ → ℕ → ℕ → PathData C → PathData C
+  sample_taken now space next delay at p = record p { rtt = sampled delay (now - at) p.rtt; first_sample = first_noted p.first_sample space next }
+
+  -- ---- lost packets
+
+  unfoldable pub hole_told : Control C → ℕ → Option ℕ → PathData C → PathData C
+  hole_told m now None p = p
+  hole_told m now (Some size) p = record p {
+    mtud = mtu_burst now size p.mtud;
+    congestion = if nat_lt (mtu_burst now size p.mtud).current p.mtud.current then m.after_resize p.congestion (mtu_burst now size p.mtud).current else p.congestion;
+  }
+
+  unfoldable pub event_told : Control C → ℕ → Bool → Burst → PathData C → PathData C
+  event_told m now persistent b p =
+      if b.counted then record p { congestion = m.after_congestion p.congestion now b.at persistent b.bytes } else p
+
+  unfoldable pub probe_told : ℕ → Burst → PathData C → PathData C
+  probe_told now b p = if b.probe then record p { mtud = mtu_probe_lost now p.mtud } else p
+
+  unfoldable pub burst_told : Control C → ℕ → Bool → Burst → PathData C → PathData C
+  burst_told m now persistent b p = probe_told now b (event_told m now persistent b (hole_told m now b.smallest p))
+
+  -- an ACK shows a persistent congestion by the packets that it shows to be lost
+  unfoldable pub is_persistent_in : Limits → SpaceId → ℕ → List Entry → PathData C → Bool
+  is_persistent_in l space max_ack_delay lost p =
+      persists (marks_span space p.mtud) (congestion_span l p.rtt max_ack_delay) (start_after space p.first_sample) lost
+
+  -- ---- ECN
+
+  unfoldable pub ecn_told : Control C → ℕ → ℕ → EcnVerdict → PathData C → PathData C
+  ecn_told m now at ecn.Missing p = record p { sending_ecn = false }
+  ecn_told m now at ecn.Bad p = record p { sending_ecn = false }
+  ecn_told m now at ecn.Congested p = record p { congestion = m.after_congestion p.congestion now at false 0 }
+  ecn_told m now at _ p = p

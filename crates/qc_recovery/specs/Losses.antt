@@ -1,0 +1,112 @@
+-- Packets lost at once: what the controller and the search for a larger datagram are told of them, and persistent
+-- congestion (RFC 9002, sections 6.1 and 7.6)
+use Rattle.std.specs.Prelude.{ℕ, ◌+◌, ◌-◌, ◌*◌, ◌/◌, ◌==◌, Bool, true, false, not, ◌&&◌, ◌||◌, nat_lt, nat_le, if◌then◌else◌, List, [], ◌∷◌, Option, Some, None, min, max}
+use Rattle.qc_base.specs.Time.{plus, times}
+use Rattle.qc_base.specs.declared.side.SpaceId.{SpaceId}
+use Rattle.qc_base.specs.declared.side.SpaceId.TheVariants.{Initial, Handshake, Data}
+use Rattle.qc_flight.specs.Packets.{Entry}
+use Rattle.qc_path.specs.Mtu.{Mtu, is_probe}
+use Rattle.qc_path.specs.RoundTrips.{Rtt, cautious, probe_base}
+use Rattle.qc_recovery.specs.declared.burst.Burst.{Burst}
+use Rattle.qc_recovery.specs.declared.limits.Limits.{Limits}
+
+abbrev pub is_data : SpaceId → Bool
+is_data Data = true
+is_data _ = false
+
+-- the order of the spaces
+abbrev pub rank : SpaceId → ℕ
+rank Initial = 0
+rank Handshake = 1
+rank Data = 2
+
+-- how long ago a packet has to be sent to be lost: a part of the round trip time, and 1 ms at least
+unfoldable pub loss_delay : Limits → Rtt → ℕ
+loss_delay l rtt = max (times (cautious rtt) l.time_numerator / max l.time_denominator 1) 1000000
+
+-- the packet is the MTU probe in flight; only a packet of the Data space can be
+abbrev pub is_probe_in : SpaceId → Mtu → Entry → Bool
+is_probe_in space m e = is_data space && is_probe e.0 m
+
+-- the smallest size with one more
+abbrev pub smaller : Option ℕ → ℕ → Option ℕ
+smaller None size = Some size
+smaller (Some least) size = Some (min least size)
+
+-- one more packet is lost: a probe is noted alone
+unfoldable pub burst_with : SpaceId → Mtu → Entry → Burst → Burst
+burst_with space m e b =
+    if is_probe_in space m e then record b { probe = true }
+    else record b { bytes = plus b.bytes e.1.size; counted = b.counted || e.1.counted; smallest = smaller b.smallest e.1.size; at = e.1.at }
+
+abbrev pub burst_from : SpaceId → Mtu → Burst → List Entry → Burst
+burst_from space m b [] = b
+burst_from space m b (e ∷ es) = burst_from space m (burst_with space m e b) es
+
+unfoldable pub no_burst : Burst
+no_burst = record { bytes = 0; counted = false; smallest = None; at = 0; probe = false }
+
+-- of packets lost at once, probes aside: their bytes, whether one counted as in flight, the smallest size, and when the
+-- greatest one was sent
+unfoldable pub burst_of : SpaceId → Mtu → List Entry → Burst
+burst_of space m es = burst_from space m no_burst es
+
+-- ---- persistent congestion
+
+-- a packet that elicits an ACK and is no MTU probe
+abbrev pub marks_span : SpaceId → Mtu → Entry → Bool
+marks_span space m e = e.1.ack_eliciting && not (is_probe_in space m e)
+
+-- the least number of a space that is after the path's first sample: one of a later space than the sample's, or of the
+-- same space and above the number that was next there
+abbrev pub start_by : Bool → Bool → ℕ → Option ℕ
+start_by true same next = Some 0
+start_by false true next = Some (plus next 1)
+start_by false false next = None
+
+abbrev pub start_after : SpaceId → Option (SpaceId × ℕ) → Option ℕ
+start_after space None = None
+start_after space (Some sample) = start_by (nat_lt (rank sample.0) (rank space)) (rank sample.0 == rank space) sample.1
+
+abbrev pub may_start : Option ℕ → ℕ → Bool
+may_start None n = false
+may_start (Some least) n = nat_le least n
+
+-- from a packet that was sent at a time and has the number before them, lost numbers run on without a gap to one that
+-- elicits an ACK and was sent more than a span later
+abbrev pub reaches : (Entry → Bool) → ℕ → ℕ → ℕ → List Entry → Bool
+reaches marks span from before [] = false
+reaches marks span from before (e ∷ es) =
+    (e.0 == before + 1) && ((marks e && nat_lt span (e.1.at - from)) || reaches marks span from e.0 es)
+
+-- one of the packets lost is such a first one, after the first sample
+abbrev pub persists : (Entry → Bool) → ℕ → Option ℕ → List Entry → Bool
+persists marks span start [] = false
+persists marks span start (e ∷ es) = (marks e && may_start start e.0 && reaches marks span e.1.at e.0 es) || persists marks span start es
+
+-- ---- the same, in one pass that keeps the earliest time of a run
+
+-- the times of a run go on only where no number is missing
+abbrev pub run_on : Bool → Option ℕ → Option ℕ
+run_on true from = from
+run_on false from = None
+
+-- the earliest time of the run, where this packet may be its first
+abbrev pub earlier_start : Bool → Option ℕ → ℕ → Option ℕ
+earlier_start false from time = from
+earlier_start true None time = Some time
+earlier_start true (Some from) time = Some (min from time)
+
+abbrev pub is_far : ℕ → Option ℕ → ℕ → Bool
+is_far span None time = false
+is_far span (Some from) time = nat_lt span (time - from)
+
+abbrev pub scans : (Entry → Bool) → ℕ → Option ℕ → ℕ → Option ℕ → List Entry → Bool
+scans marks span start before from [] = false
+scans marks span start before from (e ∷ es) =
+    (marks e && is_far span (run_on (e.0 == before + 1) from) e.1.at)
+    || scans marks span start e.0 (earlier_start (marks e && may_start start e.0) (run_on (e.0 == before + 1) from) e.1.at) es
+
+-- the probe timeout of the Data space, times the threshold
+unfoldable pub congestion_span : Limits → Rtt → ℕ → ℕ
+congestion_span l rtt max_ack_delay = times (plus (probe_base rtt) max_ack_delay) l.persistent

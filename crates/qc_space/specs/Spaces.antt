@@ -1,0 +1,30 @@
+-- What a packet number space keeps of packets that came
+use Rattle.std.specs.Prelude.{ℕ, ◌+◌, ◌-◌, Bool, true, false, min, Option, Some, None}
+use Rattle.qc_base.specs.Time.{plus}
+use Rattle.qc_base.specs.declared.ecn.EcnCodepoint.{EcnCodepoint}
+use Rattle.qc_base.specs.declared.ecn.EcnCodepoint.TheVariants.{Ect0, Ect1, Ce}
+use Rattle.qc_frame.specs.declared.frames.EcnCounts.{EcnCounts}
+use Rattle.qc_space.specs.declared.space.PacketSpace.{PacketSpace}
+
+-- one more, up to 2^62 - 1
+abbrev pub counted_marks : ℕ → ℕ
+counted_marks count = min (count + 1) 4611686018427387903
+
+-- the counts with one more packet, if it was marked
+abbrev pub marked : EcnCounts → Option EcnCodepoint → EcnCounts
+marked counts None = counts
+marked counts (Some Ect0) = record counts { ect0 = counted_marks counts.ect0 }
+marked counts (Some Ect1) = record counts { ect1 = counted_marks counts.ect1 }
+marked counts (Some Ce) = record counts { ce = counted_marks counts.ce }
+
+-- the mark says that congestion was experienced
+abbrev pub is_congested : Option EcnCodepoint → Bool
+is_congested (Some Ce) = true
+is_congested _ = false
+
+-- probes are due, and one is spent
+abbrev pub probes_added : ℕ → PacketSpace → PacketSpace
+probes_added count s = record s { probes = plus s.probes count }
+
+abbrev pub probes_spent : PacketSpace → PacketSpace
+probes_spent s = record s { probes = s.probes - 1 }

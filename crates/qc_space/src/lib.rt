@@ -1,0 +1,8 @@
+//! What a packet number space keeps of packets that came, and the timers of a connection.
+#![tactic(auto)]
+
+mod space;
+mod timers;
+
+pub use space::PacketSpace;
+pub use timers::{Timer, TimerTable};
