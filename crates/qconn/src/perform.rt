@@ -109,7 +109,8 @@ pub enum Told {
     Refused(Vec<u8>),
 }
 
-/// The text of that client's trace, driven by these inputs. Want of memory is the only refusal.
+/// The text of that client's trace, driven by these inputs, or that of the steps before the first
+/// input that can't be taken. Want of memory is the only error.
 pub fn perform(alloc: Global, inputs: &[Input]) -> Result<Told, AllocError>
     ensures { IfOk result (λ told. IsToldRun (IsToyRun ⟦<ToySession as Session>⟧ ⟦<ToyHeaderKey as HeaderMask>⟧ ⟦<ToyPacketKey as PacketKey>⟧ ⟦<ZeroRandom as Rng>⟧) (IsToyRefusal ⟦<ToySession as Session>⟧ ⟦<ToyHeaderKey as HeaderMask>⟧ ⟦<ToyPacketKey as PacketKey>⟧ ⟦<ZeroRandom as Rng>⟧) inputs.now told) }
 {

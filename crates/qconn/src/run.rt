@@ -43,9 +43,9 @@ pub enum Status {
 /// Does what the words ask for: `run` reads a script from the source and writes the text of its
 /// run to the sink.
 ///
-/// Other words end in `Usage`, a failing source in `ReadFault`, an input that is no script in
-/// `BadScript`, want of memory in `NoMemory`, an input of the script that is refused in `Refused`, in this order. Where the sink fails, the status is
-/// `WriteFault` in place of any of them.
+/// Other words end in `Usage`, a failing source in `ReadFault`, bytes that are no script in
+/// `BadScript`, want of memory in `NoMemory`, and a script one of whose inputs can't be taken in
+/// `Refused`. Where the sink fails, the status is `WriteFault` in place of any of them.
 pub fn run<So: Source, Si: Sink>(
     alloc: Global,
     words: &[String],
