@@ -1,9 +1,8 @@
 -- A packet that a builder began, finished: its Length field, its seal and its mask.
 use Rattle.std.specs.Prelude.{Bool, true, false, Option, Some, None, max, min, nat_lt, replicate}
 use Rattle.std.specs.Option.{option_map}
-use Rattle.std.proofs.Common.{◌≡◌, ℕ, ◌+◌, ◌-◌, ◌<◌, ◌≤◌, List, [], ◌∷◌, ◌++◌, length, take, drop, refl, sym, ap, ◌∙◌, subst, arith, append_assoc, length-append}
-use Rattle.std.proofs.Math.Seq.{take-append_seam, drop-append_seam}
-use Rattle.std.proofs.lemmas.List.{length-replicate, length-drop, replicate-append-replicate, take_at, drop_all}
+use Rattle.std.proofs.Common.{◌≡◌, ℕ, ◌+◌, ◌-◌, ◌<◌, ◌≤◌, List, [], ◌∷◌, ◌++◌, length, take, drop, refl, sym, ap, ◌∙◌, arith, append_assoc, length-append}
+use Rattle.std.proofs.lemmas.List.{length-replicate, length-drop, replicate-append-replicate, take_at}
 use Rattle.qc_base.specs.Mask.{first_byte, masked}
 use Rattle.qc_base.specs.PacketNumber.{number_len}
 use Rattle.qc_base.specs.declared.packet_number.PacketNumber.{PacketNumber}
@@ -15,7 +14,6 @@ use Rattle.qc_header.specs.declared.header.Header.{Header}
 use Rattle.qc_header.specs.declared.header.Header.TheVariants.{Initial, Long, Retry, Short, VersionNegotiate}
 use Rattle.qc_base.specs.Spelling.{bit}
 use Rattle.qc_header.specs.HeaderSpelling.{header_spelling, header_number, initial_spelling, short_spelling, long_start, length_and_number, number_tag}
-use Rattle.qc_header.specs.SetLength.{begun_by}
 use Rattle.qc_packet.specs.Building.{header_len, pn_len, is_short, IsReady, IsOf}
 use Rattle.qc_packet.specs.declared.builder.PacketBuilder.{PacketBuilder}
 use Rattle.qc_packet.specs.PacketSpelling.{len_of, protected_len, header_bytes, with_flip, sealed_packet}

@@ -1,17 +1,11 @@
 -- The first byte of a header, with its fixed bit flipped or not.
-use Rattle.std.specs.Prelude.{Bool, true, false, nat_lt, if◌then◌else◌}
-use Rattle.std.proofs.Common.{◌≡◌, ℕ, ◌+◌, ◌-◌, ◌<◌, ◌≤◌, List, [], ◌∷◌, ◌++◌, length, drop, refl, sym, ap, ◌∙◌, arith}
+use Rattle.std.proofs.Common.{◌≡◌, ℕ, ◌≤◌, List, ◌++◌, length, drop, arith}
 use Rattle.std.proofs.Math.Seq.{drop-append_seam}
-use Rattle.std.proofs.lemmas.Bool.Decides.{nat_tests}
 use Rattle.qc_base.specs.Mask.{first_byte}
-use Rattle.qc_base.specs.PacketNumber.{number_len}
-use Rattle.qc_base.specs.declared.packet_number.PacketNumber.{PacketNumber}
-use Rattle.qc_base.specs.declared.packet_number.PacketNumber.TheVariants.{U8, U16, U24, U32}
 use Rattle.qc_base.specs.declared.side.LongType.TheVariants.{Handshake, ZeroRtt}
 use Rattle.qc_header.specs.declared.header.Header.{Header}
 use Rattle.qc_header.specs.declared.header.Header.TheVariants.{Initial, Long, Retry, Short, VersionNegotiate}
-use Rattle.qc_base.specs.Spelling.{bit}
-use Rattle.qc_header.specs.HeaderSpelling.{header_spelling, initial_spelling, short_spelling, long_start, number_tag}
+use Rattle.qc_header.specs.HeaderSpelling.{header_spelling, initial_spelling, short_spelling, long_start}
 
 -- a header is written with its fixed bit
 pub fixed_bit : (h : Header) (n : ℕ) → 64 ≤ first_byte (header_spelling h n)

@@ -1,8 +1,8 @@
 -- A packet has one full number.
-use Rattle.std.proofs.Common.{◌≡◌, ℕ, ◌+◌, ◌<◌, ◌≤◌, arith, sym, ◌∙◌}
-use Rattle.std.specs.Prelude.{Option, Some, None, ◌⊎◌}
+use Rattle.std.proofs.Common.{◌≡◌, ℕ, ◌+◌, arith, sym, ◌∙◌}
+use Rattle.std.specs.Prelude.{Option, Some, None}
 use Rattle.std.proofs.Common.{inl, inr}
-use Rattle.qc_base.specs.PacketNumber.{IsNearest, number_window, number_low, distance}
+use Rattle.qc_base.specs.PacketNumber.{IsNearest, number_window, number_low}
 use Rattle.qc_base.specs.declared.packet_number.PacketNumber.{PacketNumber}
 use Rattle.qc_packet.specs.OpenedPacket.{IsNumberOf}
 

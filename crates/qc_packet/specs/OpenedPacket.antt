@@ -1,9 +1,7 @@
 -- Opening a packet whose header protection was taken off (RFC 9001, sections 5.5 and 6).
-use Rattle.std.specs.Prelude.{◌≡◌, ℕ, ◌+◌, ◌/◌, ◌%◌, Bool, true, false, ◌&&◌, ◌||◌, List, Option, Some, None, is_some, Result, Ok, Err, nat_le, ◌==◌, if◌then◌else◌}
-use Rattle.qc_base.specs.Mask.{first_byte}
+use Rattle.std.specs.Prelude.{ℕ, ◌+◌, ◌/◌, ◌%◌, Bool, true, false, ◌&&◌, ◌||◌, List, Option, Some, None, Result, Ok, Err, nat_le, ◌==◌, if◌then◌else◌}
 use Rattle.qc_base.specs.PacketNumber.{IsNearest, number_window, number_low}
 use Rattle.qc_base.specs.declared.packet_number.PacketNumber.{PacketNumber}
-use Rattle.qc_base.specs.declared.side.LongType.{LongType}
 use Rattle.qc_base.specs.declared.side.LongType.TheVariants.{Handshake, ZeroRtt}
 use Rattle.qc_crypto.specs.Mates.{Opening}
 use Rattle.qc_crypto.specs.declared.keys.KeyPair.{KeyPair}
@@ -16,7 +14,7 @@ use Rattle.qc_packet.specs.declared.decrypt.DecryptPacketResult.{DecryptPacketRe
 use Rattle.qc_packet.specs.declared.decrypt.OpenError.{OpenError}
 use Rattle.qc_packet.specs.declared.decrypt.OpenError.TheVariants.{Unopened, Reserved, KeyUpdate}
 use Rattle.qc_rings.specs.declared.which.Which.{Which}
-use Rattle.qc_rings.specs.declared.which.Which.TheVariants.{Current, Previous, Next}
+use Rattle.qc_rings.specs.declared.which.Which.TheVariants.{Current, Next}
 use Rattle.qc_rings.specs.Ring.{is_open, which_named}
 use Rattle.qc_rings.specs.Keyed.{Keyed, key_of}
 

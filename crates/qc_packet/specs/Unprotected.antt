@@ -1,5 +1,5 @@
 -- Taking header protection off a packet (RFC 9001, section 5.4), and stateless resets (RFC 9000, section 10.3).
-use Rattle.std.specs.Prelude.{◌≡◌, ℕ, ◌+◌, ◌-◌, Bool, true, false, ◌&&◌, not, List, length, take, drop, Option, Some, None, is_some, is_none, nat_eq, nat_lt, nat_le}
+use Rattle.std.specs.Prelude.{◌≡◌, ℕ, ◌+◌, ◌-◌, Bool, true, false, ◌&&◌, not, List, length, take, drop, Option, Some, None, is_some, nat_eq, nat_lt, nat_le}
 use Rattle.std.specs.Cmp.Lexicographic.{pointwise}
 use Rattle.qc_header.specs.declared.finish.Packet.{Packet}
 use Rattle.qc_header.specs.Piece.{Piece, is_protected}

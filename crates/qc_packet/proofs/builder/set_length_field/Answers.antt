@@ -1,4 +1,4 @@
-use Rattle.std.specs.Prelude.{Bool, true, false, Some}
+use Rattle.std.specs.Prelude.{true, false, Some}
 use Rattle.std.proofs.Common.{◌≡◌, ℕ, ◌-◌, ◌++◌, [], refl, sym, ap, ◌∙◌, arith}
 use Rattle.qc_base.specs.Mask.{first_byte}
 use Rattle.qc_header.specs.HeaderSpelling.{header_spelling, header_number}

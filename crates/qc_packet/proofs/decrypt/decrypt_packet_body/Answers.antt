@@ -2,7 +2,7 @@ use Rattle.std.proofs.Common.{◌≡◌, ℕ, is_some, subst}
 use Rattle.std.specs.Option.{option_copied}
 use Rattle.qc_base.specs.Mask.{first_byte}
 use Rattle.qc_header.specs.HeaderSpelling.{header_number}
-use Rattle.qc_packet.specs.OpenedPacket.{IsNumberOf, opened_payload, payload_after, opening_answer}
+use Rattle.qc_packet.specs.OpenedPacket.{opened_payload, payload_after, opening_answer}
 use Rattle.qc_packet.proofs.OpenedLemmas.{one_number, is_expanded}
 use Rattle.qc_packet.proofs.decrypt.decrypt_packet_body.Goals as goal
 

@@ -1,5 +1,5 @@
 use Rattle.std.specs.Prelude.{max, true, false}
-use Rattle.std.proofs.Common.{◌≡◌, ℕ, ◌+◌, ◌-◌, List, [], ◌++◌, length, refl, sym, ap, subst, ◌∙◌, arith, length-append}
+use Rattle.std.proofs.Common.{◌≡◌, ℕ, ◌+◌, ◌-◌, List, [], ◌++◌, length, sym, ap, subst, ◌∙◌, arith, length-append}
 use Rattle.qc_base.specs.Time.{plus}
 use Rattle.qc_base.specs.declared.side.SpaceId.TheVariants.{Initial}
 use Rattle.qc_frame.specs.FrameSpelling.{frames_spelling}

@@ -1,6 +1,5 @@
-use Rattle.std.proofs.Common.{◌≡◌, ℕ, ◌+◌, ◌-◌, ◌++◌, length, replicate, refl, ap, sym, ◌∙◌, arith}
+use Rattle.std.proofs.Common.{◌≡◌, ℕ, ◌+◌, ◌-◌, ◌++◌, length, replicate, refl, ap, ◌∙◌, arith}
 use Rattle.qc_header.specs.HeaderSpelling.{header_spelling}
-use Rattle.qc_packet.specs.PacketSpelling.{with_flip}
 use Rattle.qc_packet.proofs.Finishes.{all_changed, filled_up, field_written}
 use Rattle.qc_packet.proofs.builder.PacketBuilder.finish.Goals as goal
 
