@@ -18,6 +18,4 @@ pub use slot::{BuildError, Kill, Slot};
 pub use unprotect::{UnprotectHeaderResult, unprotect_header};
 
 #[cfg(test)]
-mod ring_tests;
-#[cfg(test)]
 mod tests;

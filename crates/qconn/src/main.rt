@@ -3,6 +3,8 @@
 #![tactic(auto)]
 
 mod perform;
+#[cfg(test)]
+mod ring_tests;
 mod run;
 mod script;
 mod sink;

@@ -1,7 +1,7 @@
 //! Two rings with toy keys.
 
-use crate::{PairOutcome, RingEvent, ring_pair};
 use qc_base::Side;
+use qc_packet::{PairOutcome, RingEvent, ring_pair};
 use qc_toy::{ToyKeys, ToyPacketKey};
 use std::test::Fail;
 
