@@ -1,5 +1,6 @@
 pub mod Earliest
 pub mod Fronts
+pub mod Leaving
 pub mod Ranges
 pub mod Sifting
 pub mod Sums

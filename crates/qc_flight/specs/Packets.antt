@@ -1,5 +1,5 @@
 -- Packets in flight, as a list of numbers and packets in ascending order of number
-use Rattle.std.specs.Prelude.{◌≡◌, ℕ, suc, ◌+◌, ◌-◌, ◌<◌, ◌≤◌, Bool, true, false, not, ◌&&◌, ◌||◌, nat_lt, nat_le, if◌then◌else◌, cond, List, [], ◌∷◌, ◌++◌, length, filter, sum_by, Option, Some, None, min, max}
+use Rattle.std.specs.Prelude.{◌≡◌, ℕ, suc, ◌+◌, ◌-◌, ◌<◌, ◌≤◌, ◌==◌, Bool, true, false, not, ◌&&◌, ◌||◌, nat_lt, nat_le, if◌then◌else◌, cond, List, [], ◌∷◌, ◌++◌, length, filter, sum_by, Option, Some, None, min, max}
 use Rattle.std.specs.List.{list_any}
 use Rattle.qc_base.specs.RangeSet.{Normal}
 use Rattle.qc_base.specs.declared.range_set.NumberRange.{NumberRange}
@@ -73,6 +73,10 @@ counted_of es = sum_by counted_one es
 -- the three sums
 unfoldable pub counts_of : List Entry → Counts
 counts_of es = record { bytes = bytes_of es; eliciting = eliciting_of es; counted = counted_of es }
+
+-- one of the packets has this number
+abbrev pub has_number : ℕ → List Entry → Bool
+has_number n es = list_any (λ e. e.0 == n) es
 
 -- the first packet, if there is one
 abbrev pub first_of : List Entry → Option SentPacket

@@ -4,6 +4,7 @@
 
 mod counts;
 mod flight;
+mod laws;
 mod list;
 mod room;
 mod sent;
@@ -12,6 +13,7 @@ mod tests_of;
 
 pub use counts::Counts;
 pub use flight::Flight;
+pub use laws::packets_leave_once;
 pub use list::PacketList;
 pub use room::Room;
 pub use sent::SentPacket;

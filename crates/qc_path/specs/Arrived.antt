@@ -1,11 +1,15 @@
 -- Which packet numbers came (RFC 9000, section 12.3): those at most 128 below the greatest are remembered.
-use Rattle.std.specs.Prelude.{◌≡◌, ℕ, zero, suc, ◌+◌, ◌-◌, ◌%◌, ◌==◌, Bool, true, false, not, ◌&&◌, ◌||◌, nat_lt, if◌then◌else◌, List, [], ◌∷◌, length, slice_index, slice_set, Option, Some, None, max}
+use Rattle.std.specs.Prelude.{◌≡◌, ℕ, zero, suc, ◌+◌, ◌-◌, ◌%◌, ◌==◌, Bool, true, false, not, ◌&&◌, ◌||◌, nat_lt, if◌then◌else◌, List, [], ◌∷◌, length, replicate, slice_index, slice_set, Option, Some, None, max}
 use Rattle.std.specs.List.{list_any, list_all}
 
 -- the greatest number, and for each remainder by 129 the number with it that came last; where none came, one without it
 pub record Window : Type 0 where
   pub greatest : Option ℕ
   pub slots : List ℕ
+
+-- nothing came; no slot holds a number with its own remainder
+abbrev pub nothing_came : Window
+nothing_came = record { greatest = None; slots = 1 ∷ replicate 128 0 }
 
 -- greater than the greatest number, if there is one
 abbrev pub exceeds : Option ℕ → ℕ → Bool

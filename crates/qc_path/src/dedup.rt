@@ -1,7 +1,7 @@
 //! Packet numbers that came already (RFC 9000, section 12.3).
 
-ghost use Rattle.std.specs.Prelude.{◌≡◌, ℕ, ◌+◌, ◌%◌, ◌==◌, false, not, List, [], ◌∷◌, length, slice_index, max};
-ghost use Rattle.qc_path.specs.Arrived.{Remembers, Window, arrived, exceeds, greatest_with, has_come, is_new, is_new_among, lowest, some_missing};
+ghost use Rattle.std.specs.Prelude.{◌≡◌, ℕ, ◌+◌, ◌%◌, ◌==◌, false, not, List, [], ◌∷◌, length, slice_index, max, replicate};
+ghost use Rattle.qc_path.specs.Arrived.{Remembers, Window, arrived, exceeds, greatest_with, has_come, is_new, is_new_among, lowest, nothing_came, some_missing};
 
 use std::marker::Model;
 
@@ -55,6 +55,7 @@ fn greatest_of(greatest: Option<u64>, packet: u64) -> Option<u64>
 // No slot holds a number with its own remainder.
 #[tactic(auto, using(crate::proofs::Arrivals::nothing_stands))]
 fn first_slots() -> [u64; 129]
+    ensures value { result ≡ 1 ∷ replicate 128 0 }
     ensures size { length result ≡ 129 }
     ensures none { (n : ℕ) → (slice_index result (n % 129) == n) ≡ false }
 {
@@ -67,7 +68,8 @@ impl Dedup {
     /// Nothing came yet.
     #[tactic(auto, using(crate::proofs::Arrivals::none_came))]
     pub fn new() -> Dedup
-        ensures { Remembers [] result }
+        ensures value { result ≡ nothing_came }
+        ensures none { Remembers [] result }
     {
         Dedup {
             greatest: None,

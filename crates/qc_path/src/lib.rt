@@ -15,7 +15,7 @@ pub use controller::{Controller, ControllerFactory};
 pub use dedup::{Dedup, window_remembers};
 pub use filter::PacketNumberFilter;
 pub use mtu::{MtuDiscovery, SearchSettings};
-pub use new_reno::{NewReno, NewRenoConfig};
+pub use new_reno::{NewReno, NewRenoConfig, window_keeps_room};
 pub use pacer::{Pacer, PathRate};
 pub use pending_acks::{Arrival, PendingAcks, next_bundled_ack_time};
 pub use rtt::{RttEstimator, estimate_is_bounded};

@@ -2,3 +2,4 @@ pub mod AckedRanges
 pub mod Places
 pub mod Powers
 pub mod Spans
+pub mod Unknown

@@ -8,6 +8,7 @@ mod burst;
 mod calls;
 mod ecn;
 mod idle_timeout;
+mod laws;
 mod limits;
 mod mtu_config;
 mod path;
@@ -19,6 +20,7 @@ mod transport_config;
 
 pub use calls::{AckValues, Around, Fired, Settled};
 pub use idle_timeout::IdleTimeout;
+pub use laws::unknown_numbers_change_little;
 pub use mtu_config::MtuDiscoveryConfig;
 pub use path::{PathData, first_mtu};
 pub use recovery::Recovery;

@@ -1,0 +1,24 @@
+//! What holds of recovery's steps.
+
+ghost use Rattle.std.specs.Prelude.{◌≡◌, List, []};
+ghost use Rattle.qc_base.specs.declared.range_set.NumberRange.{NumberRange};
+ghost use Rattle.qc_flight.specs.Packets.{is_acked, those};
+ghost use Rattle.qc_recovery.specs.Acking.{raised};
+ghost use Rattle.qc_recovery.specs.Steps.{space_after, space_with};
+ghost use Rattle.qc_recovery.specs.declared.calls.AckValues.{AckValues};
+ghost use Rattle.qc_recovery.specs.declared.calls.Around.{Around};
+ghost use Rattle.qc_recovery.specs.declared.calls.Occasion.{Occasion};
+ghost use Rattle.qc_recovery.specs.declared.limits.Limits.{Limits};
+ghost use Rattle.qc_recovery.specs.declared.path.PathData.{PathData};
+ghost use Rattle.qc_recovery.specs.declared.space.SpaceRecovery.{SpaceRecovery};
+
+use qc_flight::packets_leave_once;
+use qc_path::Controller;
+
+/// A law, which runs no code. An ACK of numbers none of which is in flight changes nothing but the
+/// greatest number acknowledged.
+pub fn unknown_numbers_change_little<C: Controller>()
+    ensures { (l : Limits) (o : Occasion) (a : AckValues) (ranges : List NumberRange) (around : Around) (s : SpaceRecovery) (p : PathData C) → those (is_acked ranges) s.flight ≡ [] → space_after C.Controller l o a ranges around s p ≡ space_with (raised a.largest [] s) p [] [] }
+{
+    packets_leave_once();
+}
