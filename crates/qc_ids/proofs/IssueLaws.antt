@@ -332,14 +332,14 @@ expire_floor f s (e ∷ es) h g =
     let asked = g.asked in
     let rises : s.retire_prior_to ≤ e.end = h.0 in
     (elim (list_any (λ n. nat_lt n s.retire_prior_to) s.active) as (λ b. list_any (λ n. nat_lt n s.retire_prior_to) s.active ≡ b
-      → IsFloor (if (if b then s.retire_prior_to else e.end) == s.retire_prior_to then f else s.retire_prior_to) (record s { expiries = es; retire_prior_to = if b then s.retire_prior_to else e.end })) [
-        | true ↦ λ t. rw (same_number s.retire_prior_to) (record { above = g.above; asked = g.asked })
-        | false ↦ λ t.
-            elim (nat_eq e.end s.retire_prior_to) as (λ b. IsFloor (if b then f else s.retire_prior_to) (record s { expiries = es; retire_prior_to = e.end })) [
-              | true ↦ record { above = g.above; asked = omega arith }
-              | false ↦ record { above = from_none_below s.retire_prior_to s.active t; asked = rises }
-            ]
-      ]) refl
+    → IsFloor (if (if b then s.retire_prior_to else e.end) == s.retire_prior_to then f else s.retire_prior_to) (record s { expiries = es; retire_prior_to = if b then s.retire_prior_to else e.end })) [
+      | true ↦ λ t. rw (same_number s.retire_prior_to) (record { above = g.above; asked = g.asked })
+      | false ↦ λ t.
+          elim (nat_eq e.end s.retire_prior_to) as (λ b. IsFloor (if b then f else s.retire_prior_to) (record s { expiries = es; retire_prior_to = e.end })) [
+            | true ↦ record { above = g.above; asked = omega arith }
+            | false ↦ record { above = from_none_below s.retire_prior_to s.active t; asked = rises }
+          ]
+    ]) refl
 
 call_floor : (f : ℕ) (call : IssueCall) (s : LocalCids) → MayCall call s → IsSound s → IsFloor f s
     → IsFloor (if (issued_after call s).retire_prior_to == s.retire_prior_to then f else s.retire_prior_to) (issued_after call s)
