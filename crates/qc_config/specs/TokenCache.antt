@@ -36,6 +36,7 @@ abbrev pub with_token : ℕ → ℕ → List ℕ → List ℕ → List (List ℕ
 with_token names most name token entries (Some queue) = (name, pushed most token queue) ∷ others name entries
 with_token names most name token entries None = (name, token ∷ []) ∷ take (names - 1) entries
 
+-- the names with their queues, once a token was put in
 unfoldable pub entries_with : ℕ → ℕ → List ℕ → List ℕ → List (List ℕ × List (List ℕ)) → List (List ℕ × List (List ℕ))
 entries_with names most name token entries = with_token names most name token entries (queue_of name entries)
 
@@ -43,6 +44,7 @@ entries_with names most name token entries = with_token names most name token en
 abbrev pub holds_nothing : CacheValues → Bool
 holds_nothing c = c.max_server_names == 0 || c.max_tokens_per_server == 0
 
+-- the cache once a token was put in
 unfoldable pub cache_inserted : CacheValues → List ℕ → List ℕ → CacheValues
 cache_inserted c name token = if holds_nothing c then c else record c { entries = entries_with c.max_server_names c.max_tokens_per_server name token c.entries }
 
@@ -51,6 +53,7 @@ abbrev pub without_token : List ℕ → List (List ℕ × List (List ℕ)) → O
 without_token name entries None = entries
 without_token name entries (Some queue) = if nat_le (length queue) 1 then others name entries else (name, drop 1 queue) ∷ others name entries
 
+-- the names with their queues, once the oldest token of a name was taken
 unfoldable pub entries_without : List ℕ → List (List ℕ × List (List ℕ)) → List (List ℕ × List (List ℕ))
 entries_without name entries = without_token name entries (queue_of name entries)
 
@@ -58,9 +61,11 @@ entries_without name entries = without_token name entries (queue_of name entries
 unfoldable pub oldest_of : List ℕ → List (List ℕ × List (List ℕ)) → Option (List ℕ)
 oldest_of name entries = option_and_then (λ queue. slice_get queue 0) (queue_of name entries)
 
+-- the token that is taken of a name
 unfoldable pub cache_taken : CacheValues → List ℕ → Option (List ℕ)
 cache_taken c name = oldest_of name c.entries
 
+-- the cache once a token was taken
 unfoldable pub cache_after_take : CacheValues → List ℕ → CacheValues
 cache_after_take c name = record c { entries = entries_without name c.entries }
 

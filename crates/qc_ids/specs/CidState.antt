@@ -10,6 +10,7 @@ abbrev pub EndsRise : ℕ → ℕ → List CidExpiry → Type 0
 EndsRise low high [] = low ≤ high
 EndsRise low high (e ∷ es) = (low ≤ e.end) × EndsRise e.end high es
 
+-- the ids that a state holds
 abbrev pub local_cids : Inside → LocalCids
 local_cids s = record {
   active = s.active.items;

@@ -16,6 +16,7 @@ issued_after (Issue ids now) s = issued_more ids now s
 issued_after (Retire n) s = if may_retire n s then retired n s else s
 issued_after Expire s = timed_out s
 
+-- what a list of calls leaves
 abbrev pub issue_run : List IssueCall → LocalCids → LocalCids
 issue_run [] s = s
 issue_run (call ∷ calls) s = issue_run calls (issued_after call s)
@@ -26,6 +27,7 @@ MayCall (Issue ids now) s = AreNext s.issued ids
 MayCall (Retire n) s = Unit {0}
 MayCall Expire s = Unit {0}
 
+-- each call may be made as its turn comes
 abbrev pub MayRun : List IssueCall → LocalCids → Type 0
 MayRun [] s = Unit {0}
 MayRun (call ∷ calls) s = MayCall call s × MayRun calls (issued_after call s)

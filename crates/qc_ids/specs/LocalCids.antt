@@ -74,6 +74,7 @@ abbrev pub expired : List CidExpiry → LocalCids → LocalCids
 expired [] s = s
 expired (e ∷ es) s = record s { expiries = es; retire_prior_to = if awaits_retirement s then s.retire_prior_to else e.end }
 
+-- what is left once the oldest list has expired
 unfoldable pub timed_out : LocalCids → LocalCids
 timed_out s = expired s.expiries s
 

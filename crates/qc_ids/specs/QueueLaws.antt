@@ -28,16 +28,18 @@ abbrev pub numbers_of : Option (Range ℕ) → List ℕ
 numbers_of None = []
 numbers_of (Some range) = numbers_on range.start (range.end - range.start)
 
+-- the numbers that a call tells to retire
 unfoldable pub retires : QueueCall → List KeptCid → List ℕ
 retires (Insert new) ids = if is_taken new ids then numbers_of (option_map (λ answer. answer.0) (insert_answer new ids)) else []
 retires Next ids = numbers_of (option_map (λ answer. answer.1) (next_answer ids))
 retires (Rename id) ids = []
 
--- what a list of calls leaves, and all numbers that their answers tell to retire
+-- what a list of calls leaves
 abbrev pub queue_run : List QueueCall → List KeptCid → List KeptCid
 queue_run [] ids = ids
 queue_run (call ∷ calls) ids = queue_run calls (queue_after call ids)
 
+-- all numbers that the calls of a list tell to retire
 abbrev pub retired_in : List QueueCall → List KeptCid → List ℕ
 retired_in [] ids = []
 retired_in (call ∷ calls) ids = retires call ids ++ retired_in calls (queue_after call ids)

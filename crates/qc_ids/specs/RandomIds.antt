@@ -6,5 +6,6 @@ pub record RandomIds : Type 0 where
   pub cid_len : ℕ
   pub lifetime : Option ℕ
 
+-- ids of this length and lifetime
 abbrev pub random_ids : ℕ → Option ℕ → RandomIds
 random_ids cid_len lifetime = record { cid_len = cid_len; lifetime = lifetime }

@@ -14,11 +14,13 @@ use Rattle.qc_token.specs.TokenGrammar.{socket_of}
 abbrev pub cut : Cut
 cut = record {}
 
+-- four octets
 abbrev pub v4_at : Reader Cut IpAddr
 v4_at = do
   octets ← or_fault cut (bytes_of 4)
   give (Ip.V4 (record { octets = octets }))
 
+-- sixteen octets, as eight segments
 abbrev pub v6_at : Reader Cut IpAddr
 v6_at = do
   octets ← or_fault cut (bytes_of 16)
@@ -28,6 +30,7 @@ v6_at = do
 abbrev pub ip_of_kind : ℕ → Reader Cut IpAddr
 ip_of_kind kind = if kind == 0 then v4_at else if kind == 1 then v6_at else (λ _. Err cut)
 
+-- an address kind and the octets
 unfoldable pub ip_at : Reader Cut IpAddr
 ip_at = do
   kind ← or_fault cut byte_of
@@ -39,6 +42,7 @@ time_at = do
   seconds ← or_fault cut (word_of w64)
   refuse (nat_lt 18446744073709551615 (seconds * 1000000000)) cut (give (seconds * 1000000000))
 
+-- what stands behind the type byte of a Retry token
 unfoldable pub retry_at : Reader Cut TokenPayload
 retry_at = do
   ip ← ip_at
@@ -49,6 +53,7 @@ retry_at = do
     issued ← time_at
     give (Retry (socket_of ip port) id issued))
 
+-- what stands behind the type byte of a Validation token
 unfoldable pub validation_at : Reader Cut TokenPayload
 validation_at = do
   ip ← ip_at
@@ -59,6 +64,7 @@ validation_at = do
 abbrev pub payload_of_kind : ℕ → Reader Cut TokenPayload
 payload_of_kind kind = if kind == 0 then retry_at else if kind == 1 then validation_at else (λ _. Err cut)
 
+-- a type byte, and what goes with it
 unfoldable pub payload_at : Reader Cut TokenPayload
 payload_at = do
   kind ← or_fault cut byte_of
@@ -70,5 +76,6 @@ all_read (Ok (p, [])) = Some p
 all_read (Ok (p, b ∷ bytes)) = None
 all_read (Err e) = None
 
+-- the token that all of the bytes are
 unfoldable pub payload_of : List ℕ → Option TokenPayload
 payload_of bytes = all_read (payload_at bytes)

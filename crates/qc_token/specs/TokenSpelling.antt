@@ -17,6 +17,7 @@ ip_bytes (Ip.V6 ip) = 1 ∷ ipv6_octets ip
 unfoldable pub time_bytes : ℕ → List ℕ
 time_bytes nanos = to_be_bytes w64 (nanos / 1000000000)
 
+-- the plain bytes of a token
 unfoldable pub payload_bytes : TokenPayload → List ℕ
 payload_bytes (Retry address id issued) =
     0 ∷ ip_bytes (socket_ip address) ++ to_be_bytes w16 (socket_port address) ++ length id ∷ id ++ time_bytes issued
