@@ -1,11 +1,16 @@
 -- The receiving side of a stream (RFC 9000, sections 2.2, 3.2, 4.1 and 4.5)
-use Rattle.std.specs.Prelude.{◌≡◌, ℕ, ◌+◌, ◌-◌, ◌/◌, ◌^◌, ◌<◌, ◌≤◌, Bool, true, false, not, ◌&&◌, ◌||◌, ◌==◌, nat_lt, nat_le, min, max, if◌then◌else◌, List, [], ◌∷◌, length, Option, None, Some, is_some, MatchOption}
+use Rattle.std.specs.Prelude.{◌≡◌, ℕ, ◌+◌, ◌-◌, ◌/◌, ◌^◌, ◌<◌, ◌≤◌, Bool, true, false, not, ◌&&◌, ◌||◌, ◌==◌, nat_lt, nat_le, min, max, if◌then◌else◌, List, [], ◌∷◌, ◌++◌, length, drop, Option, None, Some, is_some, Result, Ok, Err}
 use Rattle.std.specs.Option.{unwrap_or}
 use Rattle.qc_base.specs.declared.varint.VarInt.{VarInt}
-use Rattle.qc_assembler.specs.Assembly.{Assembly, nothing, inserted, discarded, advanced, taken, part_count}
+use Rattle.qc_assembler.specs.Assembly.{Assembly, nothing, inserted, discarded, advanced, taken, part_count, has_bytes, is_readable, run}
 use Rattle.qc_recv.specs.declared.recv.Recv.{Recv}
 use Rattle.qc_assembler.specs.declared.insert.InsertError.{InsertError}
 use Rattle.qc_assembler.specs.declared.insert.InsertError.TheVariants.{TooManyParts as InsertTooMany, OutOfMemory as InsertMemory}
+use Rattle.qc_recv.specs.declared.recv.Chunk.{Chunk}
+use Rattle.qc_recv.specs.declared.fault.ReadError.{ReadError}
+use Rattle.qc_recv.specs.declared.fault.ReadError.TheVariants.{Reset, Blocked, OutOfMemory as NoMemory}
+use Rattle.qc_recv.specs.declared.fault.ReadableError.{ReadableError}
+use Rattle.qc_recv.specs.declared.fault.ReadableError.TheVariants.{ClosedStream, IllegalOrderedRead}
 use Rattle.qc_recv.specs.declared.fault.FrameFault.{FrameFault}
 use Rattle.qc_recv.specs.declared.fault.FrameFault.TheVariants.{Refused, OutOfMemory}
 use Rattle.qc_recv.specs.declared.fault.Refusal.{Refusal}
@@ -126,9 +131,14 @@ chunk_given o n r =
 unfoldable pub end_told : Recv → Recv
 end_told r = record r { told = true }
 
+-- whether a size is known and so many bytes
+abbrev pub match_size : Option ℕ → ℕ → Bool
+match_size None n = false
+match_size (Some size) n = size == n
+
 -- whether all bytes up to the end were read
 unfoldable pub is_at_end : Recv → Bool
-is_at_end r = is_some r.size && unwrap_or r.size 0 == r.read
+is_at_end r = match_size r.size r.read
 
 -- the application wants no more: what waits is let go, and STOP_SENDING is owed but after a reset
 unfoldable pub stop_asked : VarInt → Recv → Recv
@@ -143,3 +153,45 @@ IsRefusal OutOfMemory refusal = Unit {0}
 abbrev pub fault_of : InsertError → FrameFault
 fault_of InsertTooMany = Refused TooManyParts
 fault_of InsertMemory = OutOfMemory
+
+-- why a read is refused, the first that holds: the stream is closed to the application, or was
+-- read out of order and is to be read in order
+unfoldable pub read_refusal : Bool → Recv → Option ReadableError
+read_refusal ordered r =
+    if r.told || is_some r.stopped then Some ClosedStream
+    else if ordered && r.unordered then Some IllegalOrderedRead else None
+
+-- reading begins: once out of order, always so
+unfoldable pub opened : Bool → Recv → Recv
+opened ordered r = record r { unordered = r.unordered || not ordered }
+
+-- whether a byte can be read: the first unread one came, or out of order any that wasn't read
+unfoldable pub has_chunk : Recv → Bool
+has_chunk r = if r.unordered then has_bytes r.assembler.came else is_readable r.assembler
+
+-- What a chunk of at most so many bytes may be: how many is free
+pub record GivesChunk (most : ℕ) (r : Recv) (c : Chunk) : Type 0 where
+  -- there is something to read
+  pub there : has_chunk r ≡ true
+  -- no more bytes than were asked for
+  pub within : length c.bytes ≤ most
+  -- at least one, where one was asked for
+  pub some : 0 < most → 0 < length c.bytes
+  -- in order it begins at the first unread byte
+  pub place : r.unordered ≡ false → c.offset ≡ r.assembler.read
+  -- its bytes are those that came first, at the lowest offsets that wait
+  pub first : r.assembler.came ≡ run c.offset c.bytes ++ drop (length c.bytes) r.assembler.came
+
+-- What a read that finds no reset leaves
+unfoldable pub ReadsChunk : ℕ → Recv → Option Chunk → Recv → Type 0
+ReadsChunk most r None s = (has_chunk r ≡ false) × (s ≡ r)
+ReadsChunk most r (Some c) s = GivesChunk most r c × (s ≡ chunk_given c.offset (length c.bytes) r)
+
+-- What a read answers, and what it leaves: a reset before all else, a chunk where there is one, the
+-- end where all was read, and nothing otherwise
+unfoldable pub IsNext : ℕ → Recv → Result (Option Chunk) ReadError → Recv → Type 0
+IsNext most r (Ok (Some c)) s = (r.reset ≡ None) × GivesChunk most r c × (s ≡ chunk_given c.offset (length c.bytes) r)
+IsNext most r (Ok None) s = (r.reset ≡ None) × (has_chunk r ≡ false) × (is_at_end r ≡ true) × (s ≡ end_told r)
+IsNext most r (Err (Reset code)) s = (r.reset ≡ Some code) × (s ≡ end_told r)
+IsNext most r (Err Blocked) s = (r.reset ≡ None) × (has_chunk r ≡ false) × (is_at_end r ≡ false) × (s ≡ r)
+IsNext most r (Err NoMemory) s = s ≡ r

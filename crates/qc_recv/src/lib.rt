@@ -2,6 +2,7 @@
 #![tactic(auto)]
 
 mod fault;
+mod read;
 mod recv;
 
 pub use fault::{FrameFault, ReadError, ReadableError, Refusal};
