@@ -18,9 +18,10 @@ pub in_order_none : (most : ℕ) (r : Recv) (s : Assembly) (c : Option (List ℕ
     → ReadsChunk most r None (record r { assembler = s })
 unfolding ReadsChunk has_chunk bytes_of
 in_order_none most r s (Some bs) ordered none front after = absurd (let no : ⊥ = cc in no)
-in_order_none most r s None ordered none front after =
-    (ap (λ (b : Bool). cond b (has_bytes r.assembler.came) (is_readable r.assembler)) ordered ∙ sym front.given,
-    ap (λ (a : Assembly). (let x : Recv = record r { assembler = a } in x)) (after ∙ advance_none r.assembler))
+in_order_none most r s None ordered none front after = (
+  ap (λ (b : Bool). cond b (has_bytes r.assembler.came) (is_readable r.assembler)) ordered ∙ sym front.given,
+  ap (λ (a : Assembly). (let x : Recv = record r { assembler = a } in x)) (after ∙ advance_none r.assembler),
+)
 
 pub in_order_some : (most : ℕ) (r new : Recv) (s : Assembly) (bs : List ℕ) (c : Option (List ℕ)) → r.unordered ≡ false → c ≡ Some bs → IsFront most r.assembler c
     → s ≡ advanced (length (bytes_of c)) r.assembler → new ≡ given (length bs) (record r { assembler = s })
@@ -32,18 +33,20 @@ in_order_some most r new s bs (Some cs) ordered some front after count =
     let f = subst (λ (l : List ℕ). IsFront most r.assembler (Some l)) same front in
     let a = subst (λ (l : List ℕ). s ≡ advanced (length l) r.assembler) same after in
     let there : cond r.unordered (has_bytes r.assembler.came) (is_readable r.assembler) ≡ true =
-        ap (λ (b : Bool). cond b (has_bytes r.assembler.came) (is_readable r.assembler)) ordered ∙ sym f.given in
-    (record { there = there; within = f.within; some = λ more. f.some (sym f.given) more; place = λ _. refl; first = f.first },
-    count ∙ ap (λ (x : Assembly). (let y : Recv = record r { assembler = x } in given (length bs) y)) (a
-        ∙ sym (ap (λ (b : Bool). cond b (taken r.assembler.read (length bs) r.assembler) (advanced (length bs) r.assembler)) ordered)))
+    ap (λ (b : Bool). cond b (has_bytes r.assembler.came) (is_readable r.assembler)) ordered ∙ sym f.given in (
+      record { there = there; within = f.within; some = λ more. f.some (sym f.given) more; place = λ _. refl; first = f.first },
+      count ∙ ap (λ (x : Assembly). (let y : Recv = record r { assembler = x } in given (length bs) y)) (a
+          ∙ sym (ap (λ (b : Bool). cond b (taken r.assembler.read (length bs) r.assembler) (advanced (length bs) r.assembler)) ordered)),
+    )
 
 pub out_of_order_none : (most : ℕ) (r : Recv) (s : Assembly) (c : Option (ℕ × List ℕ)) → r.unordered ≡ true → c ≡ None → IsFirst most r.assembler.came c
     → s ≡ taken (chunk_offset c) (length (chunk_bytes c)) r.assembler → ReadsChunk most r None (record r { assembler = s })
 unfolding ReadsChunk has_chunk chunk_offset chunk_bytes
 out_of_order_none most r s (Some x) unordered none first after = absurd (let no : ⊥ = cc in no)
-out_of_order_none most r s None unordered none first after =
-    (ap (λ (b : Bool). cond b (has_bytes r.assembler.came) (is_readable r.assembler)) unordered ∙ sym first.given,
-    ap (λ (a : Assembly). (let x : Recv = record r { assembler = a } in x)) (after ∙ take_none 0 r.assembler))
+out_of_order_none most r s None unordered none first after = (
+  ap (λ (b : Bool). cond b (has_bytes r.assembler.came) (is_readable r.assembler)) unordered ∙ sym first.given,
+  ap (λ (a : Assembly). (let x : Recv = record r { assembler = a } in x)) (after ∙ take_none 0 r.assembler),
+)
 
 pub out_of_order_some : (most o : ℕ) (r new : Recv) (s : Assembly) (bs : List ℕ) (c : Option (ℕ × List ℕ)) → r.unordered ≡ true → c ≡ Some (o, bs) → IsFirst most r.assembler.came c
     → s ≡ taken (chunk_offset c) (length (chunk_bytes c)) r.assembler → new ≡ given (length bs) (record r { assembler = s })
@@ -55,9 +58,14 @@ out_of_order_some most o r new s bs (Some x) unordered some first after count =
     let f = subst (λ (p : ℕ × List ℕ). IsFirst most r.assembler.came (Some p)) same first in
     let a = subst (λ (p : ℕ × List ℕ). s ≡ taken p.0 (length p.1) r.assembler) same after in
     let there : cond r.unordered (has_bytes r.assembler.came) (is_readable r.assembler) ≡ true =
-        ap (λ (b : Bool). cond b (has_bytes r.assembler.came) (is_readable r.assembler)) unordered ∙ sym f.given in
-    (record {
-      there = there; within = f.within; some = λ more. f.some (sym f.given) more;
-      place = λ ordered. absurd (false≢true (sym ordered ∙ unordered)); first = f.first },
-    count ∙ ap (λ (x : Assembly). (let y : Recv = record r { assembler = x } in given (length bs) y)) (a
-        ∙ sym (ap (λ (b : Bool). cond b (taken o (length bs) r.assembler) (advanced (length bs) r.assembler)) unordered)))
+    ap (λ (b : Bool). cond b (has_bytes r.assembler.came) (is_readable r.assembler)) unordered ∙ sym f.given in (
+      record {
+        there = there;
+        within = f.within;
+        some = λ more. f.some (sym f.given) more;
+        place = λ ordered. absurd (false≢true (sym ordered ∙ unordered));
+        first = f.first;
+      },
+      count ∙ ap (λ (x : Assembly). (let y : Recv = record r { assembler = x } in given (length bs) y)) (a
+          ∙ sym (ap (λ (b : Bool). cond b (taken o (length bs) r.assembler) (advanced (length bs) r.assembler)) unordered)),
+    )

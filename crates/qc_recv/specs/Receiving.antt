@@ -23,8 +23,18 @@ counted a b = min (a + b) (2 ^ 64 - 1)
 -- a stream of which nothing came, with a window
 unfoldable pub new_receiving : ℕ → Recv
 new_receiving window = record {
-  assembler = nothing; greatest = 0; size = None; reset = None; stopped = None; told = false; unordered = false;
-  read = 0; window = window; announced = window; credit_waits = false; stop_waits = false
+  assembler = nothing;
+  greatest = 0;
+  size = None;
+  reset = None;
+  stopped = None;
+  told = false;
+  unordered = false;
+  read = 0;
+  window = window;
+  announced = window;
+  credit_waits = false;
+  stop_waits = false;
 }
 
 -- whether nothing more happens on this side: the end or the reset was told, or the stream is
@@ -88,7 +98,7 @@ unfoldable pub end_taken : ℕ → Bool → Recv → Recv
 end_taken end last r = record r {
   greatest = max r.greatest end;
   size = if last then Some end else r.size;
-  credit_waits = if last then false else r.credit_waits
+  credit_waits = if last then false else r.credit_waits;
 }
 
 -- bytes that come are kept, unless the stream is stopped or reset
@@ -154,11 +164,15 @@ abbrev pub fault_of : InsertError → FrameFault
 fault_of InsertTooMany = Refused TooManyParts
 fault_of InsertMemory = OutOfMemory
 
+-- whether the application can't read any more: it stopped the stream, or was told the end or the reset
+unfoldable pub is_closed : Recv → Bool
+is_closed r = r.told || is_some r.stopped
+
 -- why a read is refused, the first that holds: the stream is closed to the application, or was
 -- read out of order and is to be read in order
 unfoldable pub read_refusal : Bool → Recv → Option ReadableError
 read_refusal ordered r =
-    if r.told || is_some r.stopped then Some ClosedStream
+    if is_closed r then Some ClosedStream
     else if ordered && r.unordered then Some IllegalOrderedRead else None
 
 -- reading begins: once out of order, always so
@@ -195,3 +209,7 @@ IsNext most r (Ok None) s = (r.reset ≡ None) × (has_chunk r ≡ false) × (is
 IsNext most r (Err (Reset code)) s = (r.reset ≡ Some code) × (s ≡ end_told r)
 IsNext most r (Err Blocked) s = (r.reset ≡ None) × (has_chunk r ≡ false) × (is_at_end r ≡ false) × (s ≡ r)
 IsNext most r (Err NoMemory) s = s ≡ r
+
+-- the application asks for a reset: it is told one that came
+unfoldable pub reset_asked : Recv → Recv
+reset_asked r = if is_some r.reset then end_told r else r

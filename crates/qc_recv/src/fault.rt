@@ -35,6 +35,10 @@ pub enum FrameFault {
     OutOfMemory,
 }
 
+/// The stream is closed to the application, or unknown.
+#[derive(Clone, Copy, Debug, PartialEq, Eq)]
+pub struct ClosedStream;
+
 /// Why a stream can't be read.
 #[derive(Clone, Copy, Debug, PartialEq, Eq)]
 pub enum ReadableError {

@@ -2,8 +2,12 @@
 #![tactic(auto)]
 
 mod fault;
+mod owed;
 mod read;
 mod recv;
 
-pub use fault::{FrameFault, ReadError, ReadableError, Refusal};
+pub use fault::{ClosedStream, FrameFault, ReadError, ReadableError, Refusal};
 pub use recv::{Chunk, Recv};
+
+#[cfg(test)]
+mod tests;

@@ -1,9 +1,9 @@
 //! Reading, stopping, and what waits to be sent for a stream that is received.
 
-ghost use Rattle.std.specs.Prelude.{◌≡◌, ℕ, ◌<◌, ◌≤◌, true, false, length, IfOk, IfErr, OnOk, OnErr, Some, None, Ok, Err, IsOk};
-ghost use Rattle.qc_recv.specs.Receiving.{is_ended, is_at_end, owes_credit, given, chunk_given, end_told, stop_asked, opened, read_refusal, ReadsChunk, IsNext};
+ghost use Rattle.std.specs.Prelude.{◌≡◌, ℕ, ◌<◌, ◌≤◌, true, false, length, IfOk, IfErr, OnOk, OnErr, Some, None, Ok, Err, is_err};
+ghost use Rattle.qc_recv.specs.Receiving.{is_ended, is_at_end, owes_credit, given, chunk_given, end_told, stop_asked, opened, is_closed, reset_asked, read_refusal, ReadsChunk, IsNext};
 
-use crate::fault::{ReadError, ReadableError};
+use crate::fault::{ClosedStream, ReadError, ReadableError};
 use crate::recv::{Chunk, Recv};
 use qc_base::VarInt;
 use std::alloc::AllocError;
@@ -57,7 +57,7 @@ impl Recv {
         ensures refused { IfErr result (λ e. read_refusal ordered self.old ≡ Some e) }
         ensures err { OnErr result (self.new ≡ self.old) }
     {
-        if self.told || self.stopped.is_some() {
+        if self.is_closed() {
             return Err(ReadableError::ClosedStream);
         }
         if !ordered {
@@ -68,19 +68,62 @@ impl Recv {
         Ok(())
     }
 
-    /// The application wants no more.
-    #[tactic(auto, unfolding(crate::specs::Receiving::stop_asked))]
-    pub fn stop(&mut self, code: VarInt)
-        ensures { self.new ≡ stop_asked code self.old }
+    /// Whether the application can't read any more: it stopped the stream, or was told the end or
+    /// the reset.
+    #[tactic(auto, unfolding(crate::specs::Receiving::is_closed))]
+    pub fn is_closed(&self) -> bool
+        ensures { result ≡ is_closed self.now }
     {
+        self.told || self.stopped.is_some()
+    }
+
+    /// The application wants no more: STOP_SENDING is owed, unless the peer reset the stream
+    /// (RFC 9000, section 3.5).
+    ///
+    /// # Errors
+    ///
+    /// Exactly where the stream is closed to the application; nothing changes then.
+    #[tactic(auto, unfolding(crate::specs::Receiving::stop_asked))]
+    pub fn stop(&mut self, code: VarInt) -> Result<(), ClosedStream>
+        ensures refused { is_err result ≡ is_closed self.old }
+        ensures stopped { OnOk result (self.new ≡ stop_asked code self.old) }
+        ensures err { OnErr result (self.new ≡ self.old) }
+    {
+        if self.is_closed() {
+            return Err(ClosedStream);
+        }
         self.assembler.clear();
         self.stopped = Some(code);
         self.stop_waits = self.reset.is_none();
+        Ok(())
+    }
+
+    /// The code with which the peer reset the stream, which is told then. None exactly where it
+    /// didn't.
+    ///
+    /// # Errors
+    ///
+    /// Exactly where the stream is closed to the application; nothing changes then.
+    #[tactic(auto, unfolding(crate::specs::Receiving::reset_asked))]
+    pub fn received_reset(&mut self) -> Result<Option<VarInt>, ClosedStream>
+        ensures refused { is_err result ≡ is_closed self.old }
+        ensures code { IfOk result (λ code. code ≡ self.old.reset) }
+        ensures told { OnOk result (self.new ≡ reset_asked self.old) }
+        ensures err { OnErr result (self.new ≡ self.old) }
+    {
+        if self.is_closed() {
+            return Err(ClosedStream);
+        }
+        let code = self.reset;
+        if code.is_some() {
+            self.tell_end();
+        }
+        Ok(code)
     }
 
     /// The application is told the end or the reset.
     #[tactic(auto, unfolding(crate::specs::Receiving::end_told))]
-    pub fn tell_end(&mut self)
+    fn tell_end(&mut self)
         ensures { self.new ≡ end_told self.old }
     {
         self.told = true;

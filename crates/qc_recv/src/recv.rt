@@ -184,7 +184,13 @@ impl Recv {
     ///
     /// A [`Refusal`], exactly by the table of the definition; want of memory. Nothing changes then.
     #[tactic(auto, unfolding(crate::specs::Receiving::stream_taken, crate::specs::Receiving::stream_refusal, crate::specs::Receiving::IsRefusal, crate::specs::Receiving::has_many_parts, crate::specs::Receiving::keeps))]
-    pub fn take_stream(&mut self, offset: u64, bytes: Bytes, last: bool, room: u64) -> Result<(), FrameFault>
+    pub fn take_stream(
+        &mut self,
+        offset: u64,
+        bytes: Bytes,
+        last: bool,
+        room: u64,
+    ) -> Result<(), FrameFault>
         requires { offset < 2 ^ 62 }
         ensures taken { OnOk result (self.new ≡ stream_taken offset bytes last self.old) }
         ensures fits { OnOk result (stream_refusal offset bytes last room self.old ≡ None) }
