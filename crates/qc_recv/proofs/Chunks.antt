@@ -1,10 +1,9 @@
 -- A chunk that the assembler gives is one that the stream gives
-use Rattle.std.proofs.Common.{◌≡◌, ◌∙◌, ap, sym, ℕ, ◌+◌, ◌<◌, ◌≤◌, List, [], Bool, true, false, cond, length, drop, arith, refl, subst, Option, None, Some}
+use Rattle.std.proofs.Common.{◌≡◌, ◌∙◌, ap, sym, ℕ, ◌+◌, List, Bool, true, false, cond, length, arith, refl, subst, Option, None, Some}
 use Rattle.std.proofs.lemmas.Bool.{false≢true}
 use Rattle.qc_assembler.specs.Assembly.{Assembly, IsFront, IsFirst, is_readable, has_bytes, bytes_of, chunk_offset, chunk_bytes, advanced, taken, noted}
 use Rattle.qc_recv.specs.declared.recv.Recv.{Recv}
-use Rattle.qc_recv.specs.declared.recv.Chunk.{Chunk}
-use Rattle.qc_recv.specs.Receiving.{given, chunk_given, has_chunk, GivesChunk, ReadsChunk}
+use Rattle.qc_recv.specs.Receiving.{given, chunk_given, has_chunk, ReadsChunk}
 
 advance_none : (a : Assembly) → advanced 0 a ≡ a
 unfolding advanced

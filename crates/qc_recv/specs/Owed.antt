@@ -1,5 +1,5 @@
 -- What waits to be sent for a stream that is received (RFC 9000, sections 3.5 and 4.1)
-use Rattle.std.specs.Prelude.{ℕ, ◌-◌, ◌^◌, Bool, true, false, not, ◌||◌, min, Option, None, Some, is_some, if◌then◌else◌}
+use Rattle.std.specs.Prelude.{ℕ, ◌-◌, ◌^◌, false, not, ◌||◌, min, is_some}
 use Rattle.qc_recv.specs.declared.recv.Recv.{Recv}
 use Rattle.qc_recv.specs.Receiving.{credit}
 

@@ -2,7 +2,7 @@
 use Rattle.std.specs.Prelude.{◌≡◌, ℕ, ◌+◌, ◌-◌, ◌/◌, ◌^◌, ◌<◌, ◌≤◌, Bool, true, false, not, ◌&&◌, ◌||◌, ◌==◌, nat_lt, nat_le, min, max, if◌then◌else◌, List, [], ◌∷◌, ◌++◌, length, drop, Option, None, Some, is_some, Result, Ok, Err}
 use Rattle.std.specs.Option.{unwrap_or}
 use Rattle.qc_base.specs.declared.varint.VarInt.{VarInt}
-use Rattle.qc_assembler.specs.Assembly.{Assembly, nothing, inserted, discarded, advanced, taken, part_count, has_bytes, is_readable, run}
+use Rattle.qc_assembler.specs.Assembly.{nothing, inserted, discarded, advanced, taken, part_count, has_bytes, is_readable, run}
 use Rattle.qc_recv.specs.declared.recv.Recv.{Recv}
 use Rattle.qc_assembler.specs.declared.insert.InsertError.{InsertError}
 use Rattle.qc_assembler.specs.declared.insert.InsertError.TheVariants.{TooManyParts as InsertTooMany, OutOfMemory as InsertMemory}

@@ -1,4 +1,4 @@
-use Rattle.std.proofs.Common.{◌≡◌, ap}
+use Rattle.std.proofs.Common.{ap}
 use Rattle.qc_assembler.specs.Assembly.{Assembly}
 use Rattle.qc_assembler.specs.Ahead.{assembled}
 use Rattle.qc_assembler.proofs.assembler.Assembler.bytes_read.Goals as goal

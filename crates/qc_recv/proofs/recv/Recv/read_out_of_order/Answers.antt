@@ -1,6 +1,6 @@
-use Rattle.std.proofs.Common.{◌≡◌, ◌∙◌, ap, sym, ℕ, length}
+use Rattle.std.proofs.Common.{◌∙◌, ap, ℕ}
 use Rattle.qc_recv.specs.declared.recv.Recv.{Recv}
-use Rattle.qc_recv.specs.Receiving.{given, ReadsChunk}
+use Rattle.qc_recv.specs.Receiving.{given}
 use Rattle.qc_recv.proofs.Chunks.{out_of_order_none, out_of_order_some}
 use Rattle.qc_recv.proofs.recv.Recv.read_out_of_order.Goals as goal
 
