@@ -1,5 +1,5 @@
 -- Offsets that are read out of order are noted
-use Rattle.std.proofs.Common.{◌≡◌, ◌∙◌, ap, sym, ℕ, ◌+◌, ◌-◌, ◌<◌, ◌≤◌, ◌⊎◌, suc, zero, inl, inr, List, [], ◌∷◌, ◌++◌, Bool, true, false, cond, length, arith, refl, subst, append_assoc, Option, None, Some}
+use Rattle.std.proofs.Common.{◌≡◌, ◌∙◌, ap, sym, ℕ, ◌+◌, ◌-◌, ◌<◌, ◌≤◌, suc, zero, inl, inr, List, [], ◌∷◌, ◌++◌, false, arith, refl, subst, Option, None, Some}
 use Rattle.std.proofs.lemmas.Bool.{cases_order, cases_lt, cases_eq, lt-ltb, le-ltb, eq-eqb, ne_eqb}
 use Rattle.std.specs.Map.{remove_entry, lookup, set_value}
 use Rattle.std.specs.BTreeMap.{is_at, insert_entry}

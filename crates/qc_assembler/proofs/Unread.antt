@@ -1,10 +1,10 @@
 -- What waits wasn't read
-use Rattle.std.proofs.Common.{◌≡◌, ◌∙◌, ap, sym, ℕ, ◌+◌, ◌-◌, ◌<◌, ◌≤◌, ◌⊎◌, suc, zero, inl, inr, List, [], ◌∷◌, ◌++◌, Bool, true, false, cond, length, take, drop, arith, refl, subst, Option, None, Some}
-use Rattle.std.specs.Prelude.{◌==◌, ◌||◌, nat_lt}
+use Rattle.std.proofs.Common.{◌≡◌, ◌∙◌, ap, sym, ℕ, ◌+◌, ◌-◌, ◌<◌, ◌≤◌, suc, zero, inl, inr, List, [], ◌∷◌, ◌++◌, Bool, true, false, cond, length, drop, arith, refl, subst, Option, None, Some}
+use Rattle.std.specs.Prelude.{nat_lt}
 use Rattle.std.proofs.lemmas.Bool.{cases_order, cases_lt, lt-ltb, le-ltb, eq-eqb, ne_eqb, ltb-false, or_parts, false≢true}
 use Rattle.qc_assembler.specs.Assembly.{Assembly, run, put, among, was_read, byte_came, inserted, note, noted}
 use Rattle.qc_assembler.specs.Parts.{flat, Apart}
-use Rattle.qc_assembler.specs.Ahead.{row, listed, AreRanges, range_past, assembled, AllUnread, HasGap}
+use Rattle.qc_assembler.specs.Ahead.{listed, AreRanges, range_past, assembled, AllUnread, HasGap}
 use Rattle.qc_assembler.proofs.Segments.{listed_inside, range_bounds}
 
 -- all bytes are at lo or above

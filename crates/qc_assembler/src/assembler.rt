@@ -138,4 +138,11 @@ impl Assembler {
         self.parts.clear();
         self.joined = 0;
     }
+
+    /// The offset up to which all bytes were read in order.
+    pub fn bytes_read(&self) -> u64
+        ensures { result ≡ self.now.read }
+    {
+        self.read
+    }
 }

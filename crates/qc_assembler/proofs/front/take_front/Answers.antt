@@ -1,4 +1,4 @@
-use Rattle.std.proofs.Common.{◌≡◌, ℕ, List, ◌+◌, ◌-◌, ◌<◌, ◌≤◌, ◌∙◌, length, arith, sym, ap, refl, subst}
+use Rattle.std.proofs.Common.{◌≡◌, ℕ, ◌+◌, ◌-◌, ◌∙◌, length, arith, sym, ap, refl, subst}
 use Rattle.qc_assembler.specs.Assembly.{chunk_bytes, chunk_offset}
 use Rattle.qc_assembler.specs.Parts.{Apart}
 use Rattle.qc_assembler.proofs.FirstPart.{cut_behind, first_bounds, front_none, front_some, front_length, left_front, kept_cut}

@@ -1,7 +1,7 @@
-use Rattle.std.proofs.Common.{◌≡◌, ℕ, [], refl}
+use Rattle.std.proofs.Common.{[], refl}
 use Rattle.qc_assembler.specs.Assembly.{discarded}
 use Rattle.qc_assembler.specs.Parts.{flat, Apart, joints, IsKept}
-use Rattle.qc_assembler.specs.Ahead.{AllUnread, IsSound, assembled}
+use Rattle.qc_assembler.specs.Ahead.{AllUnread, assembled}
 use Rattle.qc_assembler.proofs.assembler.Assembler.clear.Goals as goal
 
 none_kept : IsKept [] 0

@@ -1,0 +1,13 @@
+//! The receiving side of one stream.
+#![tactic(auto)]
+
+mod fault;
+mod owed;
+mod read;
+mod recv;
+
+pub use fault::{ClosedStream, FrameFault, ReadError, ReadableError, Refusal};
+pub use recv::{Chunk, Recv};
+
+#[cfg(test)]
+mod tests;
