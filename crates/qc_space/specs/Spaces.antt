@@ -1,10 +1,21 @@
 -- What a packet number space keeps of packets that came
-use Rattle.std.specs.Prelude.{ℕ, ◌+◌, ◌-◌, Bool, true, false, min, Option, Some, None}
+use Rattle.std.specs.Prelude.{ℕ, ◌+◌, ◌-◌, Bool, true, false, min, [], Option, Some, None}
 use Rattle.qc_base.specs.Time.{plus}
 use Rattle.qc_base.specs.declared.ecn.EcnCodepoint.{EcnCodepoint}
 use Rattle.qc_base.specs.declared.ecn.EcnCodepoint.TheVariants.{Ect0, Ect1, Ce}
 use Rattle.qc_frame.specs.declared.frames.EcnCounts.{EcnCounts}
+use Rattle.qc_path.specs.Acks.{no_marks}
+use Rattle.qc_path.specs.Arrived.{nothing_came}
 use Rattle.qc_space.specs.declared.space.PacketSpace.{PacketSpace}
+
+-- nothing came, and no probe is due
+abbrev pub no_packets : PacketSpace
+no_packets = record {
+  seen = nothing_came;
+  acks = record { ranges = []; marks = no_marks };
+  marks = record { ect0 = 0; ect1 = 0; ce = 0 };
+  probes = 0;
+}
 
 -- one more, up to 2^62 - 1
 abbrev pub counted_marks : ℕ → ℕ
@@ -22,9 +33,10 @@ abbrev pub is_congested : Option EcnCodepoint → Bool
 is_congested (Some Ce) = true
 is_congested _ = false
 
--- probes are due, and one is spent
+-- so many more probes are due
 abbrev pub probes_added : ℕ → PacketSpace → PacketSpace
 probes_added count s = record s { probes = plus s.probes count }
 
+-- a probe that was due is spent, if any was
 abbrev pub probes_spent : PacketSpace → PacketSpace
 probes_spent s = record s { probes = s.probes - 1 }

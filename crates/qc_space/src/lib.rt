@@ -2,6 +2,8 @@
 #![tactic(auto)]
 
 mod space;
+#[cfg(test)]
+mod tests;
 mod timers;
 
 pub use space::PacketSpace;

@@ -3,7 +3,7 @@
 ghost use Rattle.std.specs.Prelude.{◌≡◌, not};
 ghost use Rattle.qc_path.specs.Acks.{TakesIn, marks_received, sets_delay};
 ghost use Rattle.qc_path.specs.Arrived.{arrived, is_new};
-ghost use Rattle.qc_space.specs.Spaces.{counted_marks, is_congested, marked, probes_added, probes_spent};
+ghost use Rattle.qc_space.specs.Spaces.{counted_marks, is_congested, marked, no_packets, probes_added, probes_spent};
 
 use qc_base::{EcnCodepoint, Instant};
 use qc_frame::EcnCounts;
@@ -69,7 +69,9 @@ fn shows_congestion(mark: Option<EcnCodepoint>) -> bool
 
 impl PacketSpace {
     /// Nothing came.
-    pub fn new() -> PacketSpace {
+    pub fn new() -> PacketSpace
+        ensures { result ≡ no_packets }
+    {
         PacketSpace {
             seen: Dedup::new(),
             acks: PendingAcks::new(),

@@ -1,0 +1,61 @@
+//! Packets that came to one space, and the order of timers.
+
+use crate::{PacketSpace, Timer, TimerTable};
+use qc_base::{EcnCodepoint, Instant};
+use std::test::Fail;
+
+// Two packets that elicit an ACK are acknowledged at once in the Data space, and the first of them within a delay (RFC
+// 9000, 13.2.1 and 13.2.2). A mark is counted for each packet (RFC 9000, 13.4.1).
+#[test]
+fn packets_come(rt: HostRuntime) -> Result<(), Fail> {
+    let mut space = PacketSpace::new();
+    let rows = [
+        (0, Some(EcnCodepoint::Ect0), true, false, (1, 0, 0)),
+        (1, Some(EcnCodepoint::Ect1), false, true, (1, 1, 0)),
+        (2, None, false, true, (1, 1, 0)),
+        (3, Some(EcnCodepoint::Ce), false, true, (1, 1, 1)),
+    ];
+    for (number, mark, sets, owes, marks) in rows {
+        let at = Instant::from_nanos(number);
+        let held_back = space.received(true, number, at, true, mark);
+        assert_eq!(rt; held_back, sets, "{number}");
+        assert_eq!(rt; space.acks.owes(), owes, "{number}");
+        assert!(rt; !space.seen.is_new(number), "{number}");
+        let counts = (space.marks.ect0, space.marks.ect1, space.marks.ce);
+        assert_eq!(rt; counts, marks, "{number}");
+    }
+    Ok(())
+}
+
+#[test]
+fn probes_are_added_and_spent(rt: HostRuntime) -> Result<(), Fail> {
+    let mut space = PacketSpace::new();
+    space.add_probes(2);
+    for left in [1, 0, 0] {
+        space.spend_probe();
+        assert_eq!(rt; space.probes, left);
+    }
+    Ok(())
+}
+
+// Of two timers at one time the one that stands first in the order is told.
+#[test]
+fn the_first_timer_that_expired_is_told(rt: HostRuntime) -> Result<(), Fail> {
+    let mut table = TimerTable::new();
+    assert!(rt; table.next_timeout().is_none());
+    let rows = [
+        (Timer::MaxAckDelay, 5, 5, Timer::MaxAckDelay),
+        (Timer::Pacing, 7, 5, Timer::MaxAckDelay),
+        (Timer::Idle, 5, 5, Timer::Idle),
+        (Timer::LossDetection, 6, 5, Timer::Idle),
+        (Timer::Close, 4, 4, Timer::Close),
+    ];
+    for (timer, time, next, first) in rows {
+        table.set(timer, Some(Instant::from_nanos(time)));
+        assert_eq!(rt; table.get(timer), Some(Instant::from_nanos(time)));
+        assert_eq!(rt; table.next_timeout(), Some(Instant::from_nanos(next)));
+        assert_eq!(rt; table.expired(Instant::from_nanos(next)), Some(first));
+        assert!(rt; table.expired(Instant::from_nanos(next - 1)).is_none());
+    }
+    Ok(())
+}
