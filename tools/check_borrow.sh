@@ -31,9 +31,9 @@ fn is_ping(frame: &Frame<'_>) -> bool {
 /// Whether the payload begins with a PING.
 pub fn begins_with_ping(payload: Vec<u8>) -> bool {
     match first_frame(payload.as_slice()) {
-        Ok((frame, _)) => {
+        Ok((read, _)) => {
             drop(payload);
-            is_ping(&frame)
+            is_ping(&read.frame)
         }
         Err(_) => false,
     }
