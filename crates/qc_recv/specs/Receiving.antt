@@ -16,6 +16,13 @@ use Rattle.qc_recv.specs.declared.fault.FrameFault.TheVariants.{Refused, OutOfMe
 use Rattle.qc_recv.specs.declared.fault.Refusal.{Refusal}
 use Rattle.qc_recv.specs.declared.fault.Refusal.TheVariants.{FlowControl, FinalSize, TooManyParts}
 
+-- the number of the error that the connection closes with: FLOW_CONTROL_ERROR, FINAL_SIZE_ERROR, INTERNAL_ERROR (RFC
+-- 9000, section 20.1)
+abbrev pub code_of : Refusal → ℕ
+code_of FlowControl = 3
+code_of FinalSize = 6
+code_of TooManyParts = 1
+
 -- a count stands still at the greatest number of 64 bits
 unfoldable pub counted : ℕ → ℕ → ℕ
 counted a b = min (a + b) (2 ^ 64 - 1)

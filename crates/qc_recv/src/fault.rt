@@ -1,5 +1,8 @@
 //! Why a frame is refused, and why a read gives nothing.
 
+ghost use Rattle.std.specs.Prelude.{◌≡◌};
+ghost use Rattle.qc_recv.specs.Receiving.{code_of};
+
 use qc_base::{TransportErrorCode, VarInt};
 
 /// Why a frame is refused.
@@ -17,7 +20,9 @@ pub enum Refusal {
 
 impl Refusal {
     /// The code that the connection closes with (RFC 9000, section 20.1).
-    pub fn code(self) -> TransportErrorCode {
+    pub fn code(self) -> TransportErrorCode
+        ensures { result ≡ code_of self }
+    {
         match self {
             Refusal::FlowControl => TransportErrorCode::FLOW_CONTROL_ERROR,
             Refusal::FinalSize => TransportErrorCode::FINAL_SIZE_ERROR,
