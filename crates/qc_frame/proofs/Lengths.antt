@@ -1,12 +1,16 @@
 -- How long the spellings of frames are
-use Rattle.std.proofs.Common.{◌≡◌, ℕ, ◌+◌, ◌%◌, ◌<◌, ◌≤◌, Bool, true, false, cond, List, [], length, take, nat_lt, Option, unwrap_or, refl, sym, ap, ◌∙◌, arith, lit<}
+use Rattle.std.proofs.Common.{◌≡◌, ℕ, ◌+◌, ◌-◌, ◌*◌, ◌/◌, ◌%◌, ◌<◌, ◌≤◌, Bool, true, false, cond, List, [], ◌∷◌, ◌++◌, length, take, nat_lt, Option, None, Some, unwrap_or, refl, sym, ap, ◌∙◌, arith, lit<}
+use Rattle.std.specs.List.{flat_map}
 use Rattle.std.proofs.lemmas.Bool.Decides.{nat_tests}
 use Rattle.std.proofs.lemmas.List.{length-append, length-take-le}
 use Rattle.qc_base.specs.Varint.{varint, spelled, one, two, four, eight}
-use Rattle.qc_frame.specs.Frame.{FrameValue}
-use Rattle.qc_frame.specs.FrameSpelling.{spelling}
+use Rattle.qc_frame.specs.AckRanges.{ranges_down, ranges_of}
+use Rattle.qc_frame.specs.Frame.{FrameValue, AckValue}
+use Rattle.qc_frame.specs.FrameFits.{RangesFit, MoreRangesFit}
+use Rattle.qc_frame.specs.FrameSpelling.{spelling, ack_spelling, ack_type, ecn_spelling, numbers_of}
 use Rattle.qc_frame.specs.Sizes.{IsLongestReason}
 use Rattle.qc_frame.specs.declared.frames.FrameOf.TheVariants as frames
+use Rattle.qc_frame.specs.declared.frames.EcnCounts.{EcnCounts}
 use Rattle.qc_frame.specs.declared.frames.NewConnectionId.{NewConnectionId}
 
 less : (n m : ℕ) → n < m → nat_lt n m ≡ true
@@ -62,6 +66,53 @@ length-retire_connection_id sequence = let ty = length_type 25 (lit< tt) in simp
 pub length-datagram : (body : List ℕ) → length (spelling (frames.Datagram body)) ≡ 1 + length (varint (length body)) + length body
 unfolding spelling
 length-datagram body = let ty = length_type 49 (lit< tt) in simp length-append (omega (arith, ty))
+
+-- numbers have at most eight bytes each
+length-numbers : (ns : List ℕ) → length (flat_map varint ns) ≤ 8 * length ns
+length-numbers [] = omega arith
+length-numbers (n ∷ ns) = omega (arith, length-append (varint n) (flat_map varint ns), varint_size_max n, length-numbers ns)
+
+-- further ranges, one below the other, have two numbers each
+more_numbers : (smallest largest : ℕ) (ns : List ℕ) → MoreRangesFit smallest ns → (len : ℕ) → length ns + 2 ≡ 2 * length (ranges_down largest (len ∷ ns))
+more_numbers smallest largest [] fits len = omega arith
+more_numbers smallest largest (gap ∷ []) fits len = absurd fits
+more_numbers smallest largest (gap ∷ next ∷ ns) fits len =
+    omega (arith, more_numbers (smallest - (gap + 2) - next) (largest - len - (gap + 2)) ns fits.2 next)
+
+-- and the first one has one
+range_numbers_two : (largest : ℕ) (ns : List ℕ) → RangesFit largest ns → length ns + 1 ≡ 2 * length (ranges_down largest ns)
+range_numbers_two largest [] fits = absurd fits
+range_numbers_two largest (len ∷ ns) fits = omega (arith, more_numbers (largest - len) largest ns fits.1 len)
+
+length-ack : (ack : AckValue) → length (spelling (frames.Ack ack))
+    ≡ length (varint (ack_type ack.ecn)) + length (varint ack.largest) + length (varint ack.delay) + length (varint (length (numbers_of ack.additional) / 2))
+    + length (flat_map varint (numbers_of ack.additional)) + length (ecn_spelling ack.ecn)
+unfolding spelling ack_spelling
+length-ack ack = simp length-append (omega arith)
+
+ack_type_size : (ecn : Option EcnCounts) → length (varint (ack_type ecn)) ≡ 1
+ack_type_size None = length_type 2 (lit< tt)
+ack_type_size (Some counts) = length_type 3 (lit< tt)
+
+-- an ACK has at most 33 bytes, 16 more a further range, and its counts
+pub ack_size_max : (ack : AckValue) → RangesFit ack.largest (numbers_of ack.additional)
+    → length (spelling (frames.Ack ack)) ≤ 33 + 16 * (length (ranges_of ack) - 1) + length (ecn_spelling ack.ecn)
+ack_size_max ack fits =
+    omega (
+      arith,
+      length-ack ack,
+      ack_type_size ack.ecn,
+      varint_size_max ack.largest,
+      varint_size_max ack.delay,
+      varint_size_max (length (numbers_of ack.additional) / 2),
+      length-numbers (numbers_of ack.additional),
+      range_numbers_two ack.largest (numbers_of ack.additional) fits,
+    )
+
+-- three counts have at most 24 bytes
+pub counts_size_max : (counts : EcnCounts) → length (ecn_spelling (Some counts)) ≤ 24
+counts_size_max counts =
+    simp length-append (omega (arith, varint_size_max counts.ect0, varint_size_max counts.ect1, varint_size_max counts.ce))
 
 -- the longest front of a reason, for a frame that has `head` bytes before its count
 pub is_longest : (close : List ℕ → FrameValue) (head : ℕ) (reason : List ℕ) (room kept : ℕ)

@@ -216,6 +216,7 @@ set_ack ranges place start additional normal some small at none text =
       small = small;
       fits = subst (λ (ns : List ℕ). RangesFit largest ns) (sym numbers) said.fits;
       said = ap (λ (ns : List ℕ). ranges_down largest ns) numbers ∙ said.said;
+      shortest = text ∙ ap (λ (s : List ℕ). s ++ flat_map varint (numbers_up ranges)) none ∙ ap (λ (ns : List ℕ). flat_map varint ns) (sym numbers);
     }
 
 -- the numbers of ranges are packet numbers where the last one is

@@ -1,8 +1,9 @@
 -- The packet numbers that an ACK acknowledges (RFC 9000, section 19.3.1)
 use Rattle.std.specs.Prelude.{◌≡◌, ℕ, ◌+◌, ◌-◌, ◌<◌, List, [], ◌∷◌, ◌++◌, length, reverse}
+use Rattle.std.specs.List.{flat_map}
 use Rattle.qc_base.specs.declared.range_set.NumberRange.{NumberRange}
 use Rattle.qc_base.specs.RangeSet.{Member}
-use Rattle.qc_base.specs.Varint.{IsNumber}
+use Rattle.qc_base.specs.Varint.{IsNumber, varint}
 use Rattle.qc_frame.specs.Frame.{AckValue}
 use Rattle.qc_frame.specs.FrameFits.{RangesFit}
 use Rattle.qc_frame.specs.FrameSpelling.{numbers_of}
@@ -40,8 +41,10 @@ numbers_up (range ∷ ranges) = numbers_up ranges ++ range_numbers range ranges
 abbrev pub ArePackets : List NumberRange → Type 0
 ArePackets ranges = (0 < length ranges) × ((n : ℕ) → Member n ranges → IsNumber n)
 
--- a largest number, and the bytes behind it in an ACK, say exactly these ranges, which are given from the lowest up
+-- a largest number, and the bytes behind it in an ACK, say exactly these ranges, which are given from the lowest up,
+-- with each number in its shortest form
 pub record SaysSet (largest : ℕ) (additional : List ℕ) (ranges : List NumberRange) : Type 0 where
   pub small : IsNumber largest
   pub fits : RangesFit largest (numbers_of additional)
   pub said : ranges_down largest (numbers_of additional) ≡ reverse ranges
+  pub shortest : additional ≡ flat_map varint (numbers_of additional)

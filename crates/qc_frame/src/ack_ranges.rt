@@ -165,7 +165,7 @@ fn ack_of(
 
 impl OwnedAck {
     /// The ACK that acknowledges exactly the packets with these numbers, after a delay in units of
-    /// 2^ack_delay_exponent microseconds. None exactly where there is no number, or one that is no
+    /// 2^ack_delay_exponent microseconds, with the numbers of its ranges in their shortest form. None exactly where there is no number, or one that is no
     /// packet number since it is 2^62 or more.
     pub fn of_numbers(
         alloc: Global,
@@ -177,6 +177,7 @@ impl OwnedAck {
         ensures some { IfOk result (λ r. IfSome r (λ _. ArePackets numbers.now)) }
         ensures numbers { IfOk result (λ r. IfSome r (λ ack. (n : ℕ) → Acknowledges (ack_map (λ bytes. bytes.items) ack) n ↔ Member n numbers.now)) }
         ensures ranges { IfOk result (λ r. IfSome r (λ ack. ranges_of (ack_map (λ bytes. bytes.items) ack) ≡ reverse numbers.now)) }
+        ensures shortest { IfOk result (λ r. IfSome r (λ ack. ack.additional.items ≡ flat_map varint (numbers_of ack.additional.items))) }
         ensures others { IfOk result (λ r. IfSome r (λ ack. (ack.delay ≡ delay) × (ack.ecn ≡ ecn))) }
         ensures fits { delay < 2 ^ 62 → CountsFit ecn → IfOk result (λ r. IfSome r (λ ack. Fits (frames.Ack (ack_map (λ bytes. bytes.items) ack)))) }
     {

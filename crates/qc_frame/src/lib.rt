@@ -23,8 +23,9 @@ pub use iter::{Iter, first_frame};
 pub use laws::written_is_read;
 pub use list::{FrameList, put_frames};
 pub use size::{
-    CONNECTION_CLOSE_HEAD_MAX, CRYPTO_HEAD_MAX, DATAGRAM_HEAD_MAX, NEW_CONNECTION_ID_MAX,
-    RETIRE_CONNECTION_ID_MAX, fit_application_reason, fit_close_reason, greatest_sizes,
+    ACK_MAX, ACK_RANGE_MAX, CONNECTION_CLOSE_HEAD_MAX, CRYPTO_HEAD_MAX, DATAGRAM_HEAD_MAX,
+    ECN_COUNTS_MAX, NEW_CONNECTION_ID_MAX, RETIRE_CONNECTION_ID_MAX, fit_application_reason,
+    fit_close_reason, greatest_sizes,
 };
 pub use write::{put_frame, put_last_frame};
 

@@ -1,9 +1,13 @@
 //! How long frames get, and a reason cut so that its frame fits.
 
-ghost use Rattle.std.specs.Prelude.{◌≡◌, ℕ, ◌+◌, ◌<◌, ◌≤◌, ◌^◌, List, [], length, Option, Some};
+ghost use Rattle.std.specs.Prelude.{◌≡◌, ℕ, ◌+◌, ◌-◌, ◌*◌, ◌<◌, ◌≤◌, ◌^◌, List, [], length, Option, Some};
 ghost use Rattle.qc_base.specs.Varint.{varint};
-ghost use Rattle.qc_frame.specs.FrameSpelling.{spelling};
+ghost use Rattle.qc_frame.specs.AckRanges.{ranges_of};
+ghost use Rattle.qc_frame.specs.Frame.{AckValue};
+ghost use Rattle.qc_frame.specs.FrameFits.{Fits};
+ghost use Rattle.qc_frame.specs.FrameSpelling.{spelling, ecn_spelling};
 ghost use Rattle.qc_frame.specs.Sizes.{IsLongestReason};
+ghost use Rattle.qc_frame.specs.declared.frames.EcnCounts.{EcnCounts};
 ghost use Rattle.qc_frame.specs.declared.frames.NewConnectionId.{NewConnectionId};
 ghost use Rattle.qc_frame.specs.declared.frames.FrameOf.TheVariants as frames;
 
@@ -24,6 +28,15 @@ pub const RETIRE_CONNECTION_ID_MAX: usize = 9;
 /// The most bytes of a DATAGRAM frame before its body (RFC 9221, section 4).
 pub const DATAGRAM_HEAD_MAX: usize = 9;
 
+/// The most bytes of an ACK frame with one range, its counts of ECN left out (RFC 9000, section 19.3).
+pub const ACK_MAX: usize = 33;
+
+/// The most bytes of each further range of an ACK frame (RFC 9000, section 19.3.1).
+pub const ACK_RANGE_MAX: usize = 16;
+
+/// The most bytes of an ACK frame's counts of ECN (RFC 9000, section 19.3.2).
+pub const ECN_COUNTS_MAX: usize = 24;
+
 /// A law, which runs no code: no frame of these kinds is longer than the constants above say, and
 /// frames whose numbers take their longest form are that long.
 pub fn greatest_sizes()
@@ -33,6 +46,8 @@ pub fn greatest_sizes()
     ensures new_connection_id { (new : NewConnectionId) → length new.id ≤ 20 → length new.reset_token ≡ 16 → length (spelling (frames.NewConnectionId new)) ≤ NEW_CONNECTION_ID_MAX }
     ensures retire_connection_id { (sequence : ℕ) → length (spelling (frames.RetireConnectionId sequence)) ≤ RETIRE_CONNECTION_ID_MAX }
     ensures datagram { (body : List ℕ) → length (spelling (frames.Datagram body)) ≤ DATAGRAM_HEAD_MAX + length body }
+    ensures ack { (ack : AckValue) → Fits (frames.Ack ack) → length (spelling (frames.Ack ack)) ≤ ACK_MAX + ACK_RANGE_MAX * (length (ranges_of ack) - 1) + length (ecn_spelling ack.ecn) }
+    ensures counts { (counts : EcnCounts) → length (ecn_spelling (Some counts)) ≤ ECN_COUNTS_MAX }
     ensures crypto_reached { (offset : ℕ) (body : List ℕ) → 2 ^ 30 ≤ offset → 2 ^ 30 ≤ length body → length (spelling (frames.Crypto offset body)) ≡ CRYPTO_HEAD_MAX + length body }
     ensures connection_close_reached { (code ty : ℕ) (reason : List ℕ) → 2 ^ 30 ≤ code → 2 ^ 30 ≤ ty → 2 ^ 30 ≤ length reason → length (spelling (frames.ConnectionClose code (Some ty) reason)) ≡ CONNECTION_CLOSE_HEAD_MAX + length reason }
     ensures new_connection_id_reached { (new : NewConnectionId) → 2 ^ 30 ≤ new.sequence → 2 ^ 30 ≤ new.retire_prior_to → length new.id ≡ 20 → length new.reset_token ≡ 16 → length (spelling (frames.NewConnectionId new)) ≡ NEW_CONNECTION_ID_MAX }

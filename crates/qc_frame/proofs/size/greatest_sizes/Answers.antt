@@ -1,5 +1,6 @@
 use Rattle.std.proofs.Common.{length, unwrap_or, Some, arith}
-use Rattle.qc_frame.proofs.Lengths.{varint_size_max, varint_size_longest, length-crypto, length-connection_close, length-application_close, length-new_connection_id, length-retire_connection_id, length-datagram}
+use Rattle.qc_frame.proofs.Lengths.{varint_size_max, varint_size_longest, length-crypto, length-connection_close, length-application_close, length-new_connection_id, length-retire_connection_id, length-datagram, ack_size_max, counts_size_max}
+use Rattle.qc_frame.specs.FrameFits.{Fits}
 use Rattle.qc_frame.proofs.size.greatest_sizes.Goals as goal
 
 pub returns-clause-crypto : goal.returns-clause-crypto
@@ -25,6 +26,13 @@ returns-clause-retire_connection_id c sequence =
 pub returns-clause-datagram : goal.returns-clause-datagram
 returns-clause-datagram c body =
     omega (arith, length-datagram body, varint_size_max (length body))
+
+pub returns-clause-ack : goal.returns-clause-ack
+unfolding Fits
+returns-clause-ack c ack fits = ack_size_max ack fits.2
+
+pub returns-clause-counts : goal.returns-clause-counts
+returns-clause-counts c counts = counts_size_max counts
 
 pub returns-clause-crypto_reached : goal.returns-clause-crypto_reached
 returns-clause-crypto_reached c offset body far long =
