@@ -89,13 +89,13 @@ pub(crate) fn leading_byte(bytes: &[u8]) -> u8
 
 /// The whole header, whose number begins at `pn_offset` of the unprotected bytes `header_data`.
 fn read_header(
-    header: ProtectedHeader,
+    header: &ProtectedHeader,
     pn_offset: usize,
     header_data: &Bytes,
 ) -> Result<Header, AllocError>
     requires pn_offset { pn_offset ≤ length header_data.now }
-    requires token { token_end header ≤ pn_offset }
-    ensures { IfOk result (λ h. h ≡ header_from header pn_offset header_data.now) }
+    requires token { token_end header.now ≤ pn_offset }
+    ensures { IfOk result (λ h. h ≡ header_from header.now pn_offset header_data.now) }
 {
     let number = read_number(&header_data.as_slice()[pn_offset..]);
     match header {
@@ -106,13 +106,13 @@ fn read_header(
             token_len,
             version,
         } => {
-            let token = header_data.slice(token_start..token_start + token_len)?;
+            let token = header_data.slice(*token_start..*token_start + *token_len)?;
             Ok(Header::Initial(InitialHeader {
-                dst_cid,
-                src_cid,
+                dst_cid: *dst_cid,
+                src_cid: *src_cid,
                 token,
                 number,
-                version,
+                version: *version,
             }))
         }
         ProtectedHeader::Long {
@@ -121,25 +121,25 @@ fn read_header(
             src_cid,
             version,
         } => Ok(Header::Long {
-            ty,
-            dst_cid,
-            src_cid,
+            ty: *ty,
+            dst_cid: *dst_cid,
+            src_cid: *src_cid,
             number,
-            version,
+            version: *version,
         }),
         ProtectedHeader::Retry {
             dst_cid,
             src_cid,
             version,
         } => Ok(Header::Retry {
-            dst_cid,
-            src_cid,
-            version,
+            dst_cid: *dst_cid,
+            src_cid: *src_cid,
+            version: *version,
         }),
         ProtectedHeader::Short { spin, dst_cid } => Ok(Header::Short {
-            spin,
+            spin: *spin,
             key_phase: leading_byte(header_data.as_slice()) / 4 % 2 == 1,
-            dst_cid,
+            dst_cid: *dst_cid,
             number,
         }),
         ProtectedHeader::VersionNegotiate {
@@ -147,9 +147,9 @@ fn read_header(
             src_cid,
             dst_cid,
         } => Ok(Header::VersionNegotiate {
-            random,
-            src_cid,
-            dst_cid,
+            random: *random,
+            src_cid: *src_cid,
+            dst_cid: *dst_cid,
         }),
     }
 }
@@ -202,12 +202,12 @@ impl PartialDecode {
         } = self;
         let mut bytes = bytes;
         if space.is_none() {
-            return cut(header, pn_offset, pn_offset, bytes);
+            return cut(&header, pn_offset, pn_offset, bytes);
         }
         match key {
             Some(key) => {
                 let end = unprotect(pn_offset, &mut bytes, key)?;
-                cut(header, pn_offset, end, bytes)
+                cut(&header, pn_offset, end, bytes)
             }
             None => unreachable!(),
         }
@@ -216,16 +216,16 @@ impl PartialDecode {
 
 /// Cuts a packet without header protection where its header ends.
 fn cut(
-    header: ProtectedHeader,
+    header: &ProtectedHeader,
     pn_offset: usize,
     end: usize,
     bytes: BytesMut,
 ) -> Result<Packet, PacketDecodeError>
-    requires token { token_end header ≤ pn_offset }
+    requires token { token_end header.now ≤ pn_offset }
     requires pn_offset { pn_offset ≤ end }
     requires end { end ≤ length bytes.items }
     ensures refused { IfErr result (λ e. e ≡ PacketDecodeError.OutOfMemory) }
-    ensures header { IfOk result (λ p. p.header ≡ header_from header pn_offset p.header_data) }
+    ensures header { IfOk result (λ p. p.header ≡ header_from header.now pn_offset p.header_data) }
     ensures header_data { IfOk result (λ p. p.header_data ≡ take end bytes.items) }
     ensures payload { IfOk result (λ p. p.payload.items ≡ drop end bytes.items) }
 {
