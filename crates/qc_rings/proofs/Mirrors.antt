@@ -14,7 +14,7 @@ use Rattle.qc_rings.specs.declared.pair.RingEvent.{RingEvent}
 use Rattle.qc_rings.specs.declared.pair.RingEvent.TheVariants.{Seal, Update, Deliver, Discard}
 use Rattle.qc_rings.specs.declared.pair.PairOutcome.TheVariants.{Sealed, Updated, Opened, Old, Discarded, Nothing}
 use Rattle.qc_rings.specs.Ring.{Ring, Kept, Dropped, Open, Below, is_dropped, serves, same_phase, phase_of, which_named, may_update, has_floor, with_floor, new_epoch, after_opened, after_sealed, after_acked, after_update, after_discard, is_from}
-use Rattle.qc_rings.specs.Keyed.{key_of, keyed_opened, keyed_sealed, keyed_acked, keyed_updated, keyed_discarded}
+use Rattle.qc_rings.specs.Keyed.{key_of, keyed_in, keyed_opened, keyed_sealed, keyed_acked, keyed_updated, keyed_discarded}
 use Rattle.qc_rings.specs.TwoRings.{Packet, End, World, first_end, first_world, end_seals, end_sealed, end_updated, end_discarded, end_given, end_opened, after_all_acked, is_of_epoch, opens, which_of, packet_at, happens, outcome, delivered, log_of}
 use Rattle.qc_rings.specs.InStep.{FitsEnds}
 use Rattle.qc_rings.specs.Party.{Party}
@@ -99,8 +99,8 @@ two_more : (e : ℕ) → plus e 2 ≡ plus (plus e 1) 1
 two_more e = omega arith
 
 mirrors_risen : {P : Type 0} (seal : P → Sealing) (keys : ℕ → KeyPair P) (t : Party P) (e : End) → plus e.ring.epoch 1 ≡ e.ring.epoch + 1 → Mirrors seal keys t e
-    → Mirrors seal keys (record t { keys = keyed_updated t.keys (keys (plus t.keys.ring.epoch 2)) }) (record e { ring = after_update e.ring })
-unfolding keyed_updated after_update
+    → Mirrors seal keys (record t { keys = keyed_in (after_update t.keys.ring) t.keys (keys (plus t.keys.ring.epoch 2)) }) (record e { ring = after_update e.ring })
+unfolding after_update
 mirrors_risen {P} seal keys t e small h =
     let epoch : t.keys.ring.epoch ≡ e.ring.epoch = ap (λ (r : Ring). r.epoch) h.ring in
     record {
@@ -115,10 +115,10 @@ mirrors_risen {P} seal keys t e small h =
 
 mirrors_updated : {P : Type 0} (seal : P → Sealing) (keys : ℕ → KeyPair P) (t : Party P) (e : End) → plus e.ring.epoch 1 ≡ e.ring.epoch + 1 → Mirrors seal keys t e
     → Mirrors seal keys (party_updated keys t) (end_updated e)
-unfolding party_updated end_updated
+unfolding party_updated end_updated keyed_updated
 mirrors_updated seal keys t e small h =
     let same : may_update t.keys.ring ≡ may_update e.ring = ap may_update h.ring in
-    elim (may_update e.ring) as (λ b. may_update t.keys.ring ≡ b → Mirrors seal keys (if may_update t.keys.ring then record t { keys = keyed_updated t.keys (keys (plus t.keys.ring.epoch 2)) } else t) (if b then record e { ring = after_update e.ring } else e)) [
+    elim (may_update e.ring) as (λ b. may_update t.keys.ring ≡ b → Mirrors seal keys (record t { keys = if may_update t.keys.ring then keyed_in (after_update t.keys.ring) t.keys (keys (plus t.keys.ring.epoch 2)) else t.keys }) (if b then record e { ring = after_update e.ring } else e)) [
       | true ↦ λ y. rw y (mirrors_risen seal keys t e small h)
       | false ↦ λ y. rw y h
     ] same

@@ -5,7 +5,7 @@ use Rattle.qc_crypto.specs.declared.keys.KeyPair.{KeyPair}
 use Rattle.qc_rings.specs.declared.previous.PreviousKeys.{PreviousKeys}
 use Rattle.qc_rings.specs.declared.which.Which.{Which}
 use Rattle.qc_rings.specs.declared.which.Which.TheVariants.{Current, Previous, Next}
-use Rattle.qc_rings.specs.Ring.{Ring, Kept, Dropped, Open, Below, first_ring, after_opened, after_sealed, after_acked, after_update, after_discard, has_floor}
+use Rattle.qc_rings.specs.Ring.{Ring, Kept, Dropped, Open, Below, first_ring, after_opened, after_sealed, after_acked, may_update, after_update, after_discard, has_floor}
 
 -- a ring with its keys
 pub record Keyed (P : Type 0) : Type 0 where
@@ -25,11 +25,12 @@ abbrev pub floor_kept : Option ℕ → Kept
 floor_kept None = Open
 floor_kept (Some floor) = Below floor
 
+-- the same, where keys may be kept
 abbrev pub kept_of : {P : Type 0} → Option (PreviousKeys P) → Kept
 kept_of None = Dropped
 kept_of (Some previous) = floor_kept previous.floor
 
--- those keys alone
+-- the keys that are kept, if any are
 abbrev pub keys_kept : {P : Type 0} → Option (PreviousKeys P) → Option (KeyPair P)
 keys_kept None = None
 keys_kept (Some previous) = Some previous.keys
@@ -49,8 +50,9 @@ abbrev pub keyed_in : {P : Type 0} → Ring → Keyed P → KeyPair P → Keyed 
 keyed_in ring k fresh = record { ring = ring; count = 0; current = k.next; next = fresh; previous = Some k.current }
 
 -- a packet of this number was opened: by the next keys, which then are the current ones, with fresh
--- ones as the next, or by others
+-- ones as the next, or by others; without fresh ones the next keys stay what they are
 unfoldable pub keyed_opened : {P : Type 0} → Keyed P → Which → ℕ → Option (KeyPair P) → Keyed P
+keyed_opened k Next number None = k
 keyed_opened k Next number (Some fresh) = keyed_in (after_opened k.ring Next number) k fresh
 keyed_opened k which number fresh = record k { ring = after_opened k.ring which number }
 
@@ -62,9 +64,9 @@ keyed_sealed k number = record k { ring = after_sealed k.ring number; count = pl
 unfoldable pub keyed_acked : {P : Type 0} → Keyed P → ℕ → Keyed P
 keyed_acked k number = record k { ring = after_acked k.ring number }
 
--- a new epoch began, with fresh keys as the next ones
+-- a new epoch began, where the end may begin one, with fresh keys as the next ones
 unfoldable pub keyed_updated : {P : Type 0} → Keyed P → KeyPair P → Keyed P
-keyed_updated k fresh = keyed_in (after_update k.ring) k fresh
+keyed_updated k fresh = if may_update k.ring then keyed_in (after_update k.ring) k fresh else k
 
 -- the keys of the epoch before were dropped, where they have a floor
 unfoldable pub keyed_discarded : {P : Type 0} → Keyed P → Keyed P

@@ -4,10 +4,11 @@ use Rattle.qc_rings.specs.declared.which.Which.TheVariants.{Next}
 use Rattle.qc_rings.specs.TwoRings.{Packet, End, bound, first_end, end_seals, end_updated, end_discarded, end_given, which_of, opens, IsGoodUpdate}
 use Rattle.qc_rings.specs.InStep.{AreInStep}
 
--- two ends that begin are in step, and being in step has no order
+-- two ends that begin are in step
 abbrev pub FirstInStep : Type 0
 FirstInStep = AreInStep first_end first_end
 
+-- being in step has no order
 abbrev pub InStepTurned : Type 0
 InStepTurned = (a b : End) → AreInStep a b → AreInStep b a
 
@@ -41,11 +42,12 @@ StepUpdatesWell =
     (a b : End) (index : ℕ) (p : Packet) → slice_get b.sent index ≡ Some p → which_of a p ≡ Next → opens a p ≡ true
     → AreInStep a b → IsGoodUpdate a p
 
--- A packet of its sealer's current epoch is opened, and one that isn't is of an earlier epoch.
+-- A packet of its sealer's current epoch is opened.
 abbrev pub StepOpensCurrent : Type 0
 StepOpensCurrent =
     (a b : End) (index : ℕ) (p : Packet) → slice_get b.sent index ≡ Some p → p.epoch ≡ b.ring.epoch → AreInStep a b → opens a p ≡ true
 
+-- A packet that isn't opened is of an epoch before its sealer's.
 abbrev pub StepFailsOld : Type 0
 StepFailsOld =
     (a b : End) (index : ℕ) (p : Packet) → slice_get b.sent index ≡ Some p → opens a p ≡ false → AreInStep a b → p.epoch < b.ring.epoch

@@ -39,9 +39,9 @@ party_sealed seal t =
 
 -- an end that began a new epoch, if it may
 unfoldable pub party_updated : {P : Type 0} → (ℕ → KeyPair P) → Party P → Party P
-party_updated keys t =
-    if may_update t.keys.ring then record t { keys = keyed_updated t.keys (keys (plus t.keys.ring.epoch 2)) } else t
+party_updated keys t = record t { keys = keyed_updated t.keys (keys (plus t.keys.ring.epoch 2)) }
 
+-- what comes of it: the new epoch, if one began
 abbrev pub updated_outcome : {P : Type 0} → Party P → PairOutcome
 updated_outcome t = if may_update t.keys.ring then Updated (after_update t.keys.ring).epoch else Nothing
 
@@ -49,6 +49,7 @@ updated_outcome t = if may_update t.keys.ring then Updated (after_update t.keys.
 unfoldable pub party_discarded : {P : Type 0} → Party P → Party P
 party_discarded t = record t { keys = keyed_discarded t.keys }
 
+-- what comes of it: whether it dropped any
 abbrev pub discarded_outcome : {P : Type 0} → Party P → PairOutcome
 discarded_outcome t = if has_floor t.keys.ring.kept then Discarded else Nothing
 
@@ -98,6 +99,7 @@ unfoldable pub party_given : {P : Type 0} → (P → Opening) → (ℕ → KeyPa
 party_given opening keys t None = t
 party_given opening keys t (Some q) = if party_opens opening t q then party_opened keys t (names t q) q else t
 
+-- what comes of it: whether there was a packet, and whether it opened
 abbrev pub given_outcome : {P : Type 0} → (P → Opening) → Party P → Option SealedPacket → PairOutcome
 given_outcome opening t None = Nothing
 given_outcome opening t (Some q) = if party_opens opening t q then Opened else Old
@@ -107,13 +109,16 @@ pub record Parties (P : Type 0) : Type 0 where
   pub client : Party P
   pub server : Party P
 
+-- both in epoch 0
 abbrev pub first_parties : {P : Type 0} → (Side → ℕ → KeyPair P) → Parties P
 first_parties keys = record { client = first_party (keys Client); server = first_party (keys Server) }
 
+-- the end on this side
 abbrev pub party_of : {P : Type 0} → Parties P → Side → Party P
 party_of t Client = t.client
 party_of t Server = t.server
 
+-- both ends, the one on this side replaced
 abbrev pub with_party : {P : Type 0} → Parties P → Side → Party P → Parties P
 with_party t Client p = record t { client = p }
 with_party t Server p = record t { server = p }

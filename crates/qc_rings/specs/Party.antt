@@ -3,6 +3,7 @@ use Rattle.std.specs.Prelude.{ℕ, List, Option}
 use Rattle.qc_rings.specs.declared.sealed_packet.SealedPacket.{SealedPacket}
 use Rattle.qc_rings.specs.Keyed.{Keyed}
 
+-- an end with keys
 pub record Party (P : Type 0) : Type 0 where
   -- its ring with the keys
   pub keys : Keyed P

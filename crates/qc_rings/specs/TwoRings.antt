@@ -33,20 +33,25 @@ pub record World : Type 0 where
   pub client : End
   pub server : End
 
+-- an end that begins: it sealed and opened nothing
 abbrev pub first_end : End
 first_end = record { ring = first_ring; sent = []; opened = []; next = 0 }
 
+-- both ends as they begin
 abbrev pub first_world : World
 first_world = record { client = first_end; server = first_end }
 
+-- the other side
 abbrev pub other : Side → Side
 other Client = Server
 other Server = Client
 
+-- the end on this side
 abbrev pub end_of : World → Side → End
 end_of w Client = w.client
 end_of w Server = w.server
 
+-- both ends, the one on this side replaced
 abbrev pub with_end : World → Side → End → World
 with_end w Client e = record w { client = e }
 with_end w Server e = record w { server = e }
@@ -156,6 +161,7 @@ pub record IsGoodUpdate (e : End) (p : Packet) : Type 0 where
   pub above : bound e.opened ≤ p.number
   pub answered : e.ring.unanswered ≡ false
 
+-- the same for each packet that the other end sealed, on both sides
 pub record UpdatesAreGood (w : World) : Type 0 where
   pub each : (from : Side) (index : ℕ) (p : Packet) → packet_at w from index ≡ Some p → which_of (end_of w (other from)) p ≡ Next
       → opens (end_of w (other from)) p ≡ true → IsGoodUpdate (end_of w (other from)) p

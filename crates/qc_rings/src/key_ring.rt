@@ -1,6 +1,6 @@
 //! The keys that one end holds, and when it changes them.
 
-ghost use Rattle.std.specs.Prelude.{◌≡◌, ◌↔◌, IsTrue, IsSome, option_copied};
+ghost use Rattle.std.specs.Prelude.{◌≡◌, option_copied};
 ghost use Rattle.qc_rings.specs.Ring.{which_named, may_update, has_floor, is_open, new_epoch};
 ghost use Rattle.qc_rings.specs.Keyed.{first_keyed, floor_kept, keyed_in, key_of, keyed_opened, keyed_sealed, keyed_acked, keyed_updated, keyed_discarded};
 
@@ -105,11 +105,10 @@ impl<P: Drop> KeyRing<P> {
     }
 
     /// A packet of this number was opened by these keys. The next ones begin a new epoch, with `fresh`
-    /// keys as the next: the peer updated its keys, which the next packet sealed will answer. The
-    /// current ones set the floor of previous keys that have none.
+    /// keys as the next, without which nothing changes: the peer updated its keys, which the next packet
+    /// sealed will answer. The current ones set the floor of previous keys that have none.
     #[tactic(auto, unfolding(crate::specs::Keyed::keyed_opened, crate::specs::Ring::after_opened))]
     pub fn opened(&mut self, which: Which, number: u64, _now: Instant, fresh: Option<KeyPair<P>>)
-        requires { IsSome fresh ↔ (which ≡ Which.Next) }
         ensures { self.new ≡ keyed_opened self.old which number fresh }
     {
         match which {
@@ -163,13 +162,15 @@ impl<P: Drop> KeyRing<P> {
         self.previous.is_none() && self.acked
     }
 
-    /// Begins a new epoch, with `fresh` keys as the next. The old ones are kept, without a floor.
+    /// Begins a new epoch, where this end may, with `fresh` keys as the next. The old ones are kept, without
+    /// a floor. Where it may not, nothing changes.
     #[tactic(auto, unfolding(crate::specs::Keyed::keyed_updated, crate::specs::Ring::after_update))]
     pub fn update(&mut self, fresh: KeyPair<P>)
-        requires { IsTrue (may_update self.old.ring) }
         ensures { self.new ≡ keyed_updated self.old fresh }
     {
-        self.rise(fresh, None, false);
+        if self.may_update() {
+            self.rise(fresh, None, false);
+        }
     }
 
     /// Drops the previous keys exactly where they have a floor, and answers whether it did.
