@@ -18,18 +18,21 @@ dst_cid_of (Retry dst_cid src_cid version) = dst_cid
 dst_cid_of (Short spin key_phase dst_cid number) = dst_cid
 dst_cid_of (VersionNegotiate random src_cid dst_cid) = dst_cid
 
+-- whether it is an Initial packet's
 abbrev pub is_initial : Header → Bool
 is_initial (Initial h) = true
 is_initial _ = false
 
+-- whether it is a short one
 abbrev pub is_short : Header → Bool
 is_short (Short spin key_phase dst_cid number) = true
 is_short _ = false
 
--- how many bytes a header has, and how many its number
+-- how many bytes a header has
 abbrev pub header_len : Header → ℕ
 header_len h = length (header_spelling h 0)
 
+-- how many its number has
 abbrev pub pn_len : Header → ℕ
 pn_len h = len_of (header_number h)
 

@@ -1,5 +1,6 @@
 -- Opening a packet whose header protection was taken off (RFC 9001, sections 5.5 and 6).
 use Rattle.std.specs.Prelude.{ℕ, ◌+◌, ◌/◌, ◌%◌, Bool, true, false, ◌&&◌, ◌||◌, List, Option, Some, None, Result, Ok, Err, nat_le, ◌==◌, if◌then◌else◌}
+use Rattle.qc_base.specs.Time.{plus}
 use Rattle.qc_base.specs.PacketNumber.{IsNearest, number_window, number_low}
 use Rattle.qc_base.specs.declared.packet_number.PacketNumber.{PacketNumber}
 use Rattle.qc_base.specs.declared.side.LongType.TheVariants.{Handshake, ZeroRtt}
@@ -19,10 +20,10 @@ use Rattle.qc_rings.specs.Ring.{is_open, which_named}
 use Rattle.qc_rings.specs.Keyed.{Keyed, key_of}
 
 -- the full number of a packet, where rx is the greatest number received before: the one nearest to rx + 1
--- that ends in the bytes that the header has (RFC 9000, appendix A.3)
+-- that ends in the bytes that the header has, or to 2^64 - 1 where rx + 1 is more (RFC 9000, appendix A.3)
 abbrev pub IsNumberOf : Option PacketNumber → ℕ → ℕ → Type 0
 IsNumberOf None rx number = ⊥
-IsNumberOf (Some low) rx number = IsNearest (number_window low) (number_low low) (rx + 1) number
+IsNumberOf (Some low) rx number = IsNearest (number_window low) (number_low low) (plus rx 1) number
 
 -- the key for what the peer sends, of a pair
 abbrev pub remote_of : {P : Type 0} → Option (KeyPair P) → Option P

@@ -347,15 +347,15 @@ impl PacketBuilder {
         }
     }
 
-    /// Asks for a datagram of at least `min_size` bytes, tag and all: the packet is padded so far.
+    /// Asks for a datagram of at least `min_size` bytes, tag and all: the packet is padded so far. Below 16
+    /// bytes that is nothing.
     pub fn pad_to(&mut self, min_size: u16)
-        requires { 16 ≤ min_size }
         ensures size { self.new ≡ record self.old { min_size = max self.old.min_size (plus self.old.datagram_start (min_size - 16)) } }
         ensures sound { IsSound self.old → IsSound self.new }
     {
         let end = self
             .datagram_start
-            .saturating_add(min_size as usize - TAG_LEN);
+            .saturating_add((min_size as usize).saturating_sub(TAG_LEN));
         self.min_size = self.min_size.max(end);
     }
 

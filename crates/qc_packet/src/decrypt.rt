@@ -253,7 +253,6 @@ pub fn decrypt_packet_body<P: PacketKey>(
     keys: &OpenKeys<'_, P>,
     rx: u64,
 ) -> Result<Option<DecryptPacketResult>, OpenError>
-    requires { rx < 2 ^ 62 }
     ensures unprotected { header_number packet.old.header ≡ None → (result ≡ Ok None) × (packet.new ≡ packet.old) }
     ensures answer { (number : ℕ) → IsNumberOf (header_number packet.old.header) rx number
         → result ≡ opening_answer packet.old.header (first_byte packet.old.header_data) (option_copied keys.now.ring) rx number
@@ -267,7 +266,7 @@ pub fn decrypt_packet_body<P: PacketKey>(
 {
     let number = match packet.header.number() {
         None => return Ok(None),
-        Some(low) => low.expand(rx + 1),
+        Some(low) => low.expand(rx.saturating_add(1)),
     };
     decrypt_numbered(packet, keys, rx, number)
 }
