@@ -46,19 +46,23 @@ is_lost largest threshold now delay e = nat_lt e.0 largest && (nat_le (e.0 + thr
 unfoldable pub those : (Entry → Bool) → List Entry → List Entry
 those p es = filter p es
 
+-- the packets that don't pass a test
 unfoldable pub others : (Entry → Bool) → List Entry → List Entry
 others p es = filter (λ e. not (p e)) es
 
--- the bytes of those that count as in flight
+-- the bytes of a packet that counts as in flight
 abbrev pub counted_bytes : Entry → ℕ
 counted_bytes e = cond e.1.counted e.1.size 0
 
+-- one for a packet that asks for an acknowledgement
 abbrev pub eliciting_one : Entry → ℕ
 eliciting_one e = cond e.1.ack_eliciting 1 0
 
+-- one for a packet that counts as in flight
 abbrev pub counted_one : Entry → ℕ
 counted_one e = cond e.1.counted 1 0
 
+-- the bytes of those that count as in flight
 unfoldable pub bytes_of : List Entry → ℕ
 bytes_of es = sum_by counted_bytes es
 
@@ -88,6 +92,7 @@ abbrev pub earlier_of : Option ℕ → ℕ → Option ℕ
 earlier_of None time = Some time
 earlier_of (Some known) time = Some (min known time)
 
+-- the earliest of a time that is known, if one is, and those at which these were sent
 abbrev pub earliest_from : Option ℕ → List Entry → Option ℕ
 earliest_from known [] = known
 earliest_from known (e ∷ es) = earliest_from (earlier_of known e.1.at) es
@@ -142,6 +147,7 @@ AgreeOn (e ∷ es) p q = (p e ≡ q e) × AgreeOn es p q
 unfoldable pub counts_with : Counts → SentPacket → Counts
 counts_with c p = record { bytes = c.bytes + cond p.counted p.size 0; eliciting = c.eliciting + cond p.ack_eliciting 1 0; counted = c.counted + cond p.counted 1 0 }
 
+-- the counts with one packet less
 unfoldable pub counts_less : Counts → SentPacket → Counts
 counts_less c p = record { bytes = c.bytes - cond p.counted p.size 0; eliciting = c.eliciting - cond p.ack_eliciting 1 0; counted = c.counted - cond p.counted 1 0 }
 

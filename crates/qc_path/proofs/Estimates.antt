@@ -1,8 +1,7 @@
 -- The estimate of the round trip time lies between the samples.
-use Rattle.std.proofs.Common.{◌≡◌, ℕ, ◌+◌, ◌-◌, ◌*◌, ◌/◌, ◌^◌, ◌<◌, ◌≤◌, List, [], ◌∷◌, Option, Some, None, min, refl, sym, subst, arith}
+use Rattle.std.proofs.Common.{◌≡◌, ℕ, ◌^◌, ◌<◌, ◌≤◌, List, [], ◌∷◌, Option, Some, None, min, sym, subst, arith}
 use Rattle.std.proofs.lemmas.Bool.Decides.{nat_tests}
-use Rattle.qc_base.specs.Time.{plus, times}
-use Rattle.qc_path.specs.RoundTrips.{Rtt, AllBetween, EstimateBetween, adjusted, all_sampled, estimate, sampled, smoother}
+use Rattle.qc_path.specs.RoundTrips.{Rtt, AllBetween, EstimateBetween, adjusted, all_sampled, sampled, smoother}
 
 -- a sample that is adjusted stays above the least one and isn't greater
 adjusted_low : (low least delay sample : ℕ) → sample < 2 ^ 61 → low ≤ least → low ≤ sample → low ≤ adjusted least delay sample

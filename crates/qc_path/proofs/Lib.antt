@@ -1,3 +1,4 @@
 pub mod Arrivals
 pub mod Estimates
+pub mod RangesWith
 pub mod Windows

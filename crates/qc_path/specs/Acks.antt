@@ -1,8 +1,9 @@
 -- When packets that came are acknowledged (RFC 9000, section 13.2).
-use Rattle.std.specs.Prelude.{◌≡◌, ℕ, ◌-◌, ◌/◌, ◌==◌, Bool, true, false, not, ◌&&◌, ◌||◌, nat_lt, nat_le, if◌then◌else◌, List, [], ◌∷◌, length, Option, Some, None}
+use Rattle.std.specs.Prelude.{◌≡◌, ℕ, ◌-◌, ◌/◌, ◌==◌, Bool, false, not, ◌&&◌, ◌||◌, nat_lt, nat_le, if◌then◌else◌, List, length, Option, Some, None}
 use Rattle.qc_base.specs.Time.{plus}
 use Rattle.qc_base.specs.RangeSet.{Adds, latest}
 use Rattle.qc_base.specs.declared.range_set.NumberRange.{NumberRange}
+use Rattle.qc_path.specs.AckRanges.{from_number, with_number}
 use Rattle.qc_path.specs.Arrived.{Window, exceeds, greatest_with, some_missing}
 use Rattle.qc_path.specs.declared.pending_acks.Arrival.{Arrival}
 
@@ -62,6 +63,14 @@ unfoldable pub marks_received : Bool → Window → Arrival → AckMarks → Ack
 marks_received in_data seen p m =
     record (counted_in p (greatest_noted p m)) { owed = owed_with in_data seen p m; delay_set = m.delay_set || sets_delay in_data seen p m }
 
+-- a packet came; `seen` has its number already. The 64 highest ranges of numbers are kept
+unfoldable pub acks_received : Bool → Window → Arrival → PendingValues → PendingValues
+acks_received in_data seen p v = record { ranges = latest (with_number p.number v.ranges); marks = marks_received in_data seen p v.marks }
+
+-- an ACK with this greatest number was acknowledged: the numbers up to it needn't be acknowledged again
+unfoldable pub acks_confirmed : ℕ → PendingValues → PendingValues
+acks_confirmed largest v = record v { ranges = from_number (plus largest 1) v.ranges }
+
 -- an ACK was sent
 unfoldable pub marks_sent : AckMarks → AckMarks
 marks_sent m = record m { owed = false; eliciting = 0; silent = 0; delay_set = false }
@@ -95,7 +104,7 @@ gives_ack now bundled p = owes_ack p || joins_ack p || (not (is_clear p) && has_
 unfoldable pub ack_delay : ℕ → AckMarks → ℕ
 ack_delay now m = (now - m.came_at) / 1000 / 8
 
--- the numbers to acknowledge are the 64 highest ranges of the old ones and this one
+-- these numbers to acknowledge are the 64 highest ranges of the old ones and this one
 pub record TakesIn (n : ℕ) (old new : List NumberRange) : Type 0 where
   pub all : List NumberRange
   pub added : Adds n old all

@@ -1,5 +1,5 @@
 -- Which packet numbers came (RFC 9000, section 12.3): those at most 128 below the greatest are remembered.
-use Rattle.std.specs.Prelude.{◌≡◌, ℕ, zero, suc, ◌+◌, ◌-◌, ◌%◌, ◌==◌, Bool, true, false, not, ◌&&◌, ◌||◌, nat_lt, if◌then◌else◌, List, [], ◌∷◌, length, replicate, slice_index, slice_set, Option, Some, None, max}
+use Rattle.std.specs.Prelude.{◌≡◌, ℕ, zero, suc, ◌+◌, ◌-◌, ◌%◌, ◌==◌, Bool, true, false, not, ◌&&◌, ◌||◌, nat_lt, if◌then◌else◌, List, ◌∷◌, length, replicate, slice_index, slice_set, Option, Some, None, max}
 use Rattle.std.specs.List.{list_any, list_all}
 
 -- the greatest number, and for each remainder by 129 the number with it that came last; where none came, one without it

@@ -1,7 +1,9 @@
+pub mod AckRanges
 pub mod Acks
 pub mod Arrived
 pub mod Filter
 pub mod Mtu
 pub mod NewReno
 pub mod Pacing
+pub mod PathResponses
 pub mod RoundTrips

@@ -1,5 +1,5 @@
 -- The search for a larger datagram, and black holes (RFC 8899; RFC 9000, section 14.3). Sizes are bytes of UDP payload.
-use Rattle.std.specs.Prelude.{ℕ, ◌+◌, ◌-◌, ◌/◌, ◌==◌, Bool, true, false, not, ◌&&◌, nat_lt, nat_le, if◌then◌else◌, Option, Some, None, is_some, min, max}
+use Rattle.std.specs.Prelude.{ℕ, ◌+◌, ◌-◌, ◌/◌, ◌==◌, Bool, false, not, ◌&&◌, nat_lt, nat_le, if◌then◌else◌, Option, Some, None, is_some, min, max}
 use Rattle.qc_base.specs.Time.{plus}
 use Rattle.qc_path.specs.declared.mtu.Phase.{Phase}
 use Rattle.qc_path.specs.declared.mtu.Phase.TheVariants.{Unbegun, Searching, Resting}
@@ -15,6 +15,7 @@ pub record Mtu : Type 0 where
   pub phase : Phase
   pub bursts : ℕ  -- how often in a row only packets above the least size were lost
 
+-- a size, and at most what the peer takes, where that is known
 abbrev pub capped : Option ℕ → ℕ → ℕ
 capped None size = size
 capped (Some most) size = min size most
@@ -51,30 +52,35 @@ abbrev pub size_of_probe : SearchSettings → Option Search → Option ℕ
 size_of_probe s None = None
 size_of_probe s (Some q) = if not (is_some q.probe) && goes_on s q then Some (middle q) else None
 
-abbrev pub probe_by : ℕ → Mtu → Option SearchSettings → Option ℕ
-probe_by now m None = None
-probe_by now m (Some s) = size_of_probe s (search_at now s m m.phase)
+-- the size that is probed next by these settings
+abbrev pub probe_if_set : ℕ → Mtu → Option SearchSettings → Option ℕ
+probe_if_set now m None = None
+probe_if_set now m (Some s) = size_of_probe s (search_at now s m m.phase)
 
 -- the size of the probe that is due, if one is
 unfoldable pub probe_due : ℕ → Mtu → Option ℕ
-probe_due now m = probe_by now m m.settings
+probe_due now m = probe_if_set now m m.settings
 
+-- a search whose next size is probed by the packet with this number
 abbrev pub probing : ℕ → Option Search → Mtu → Mtu
 probing number None m = m
 probing number (Some q) m = record m { phase = Searching (record q { probe = Some (number, middle q) }) }
 
-abbrev pub probe_sent_by : ℕ → ℕ → Option SearchSettings → Mtu → Mtu
-probe_sent_by now number None m = m
-probe_sent_by now number (Some s) m = probing number (search_at now s m m.phase) m
+-- that packet was sent, by these settings
+abbrev pub probe_sent_if_set : ℕ → ℕ → Option SearchSettings → Mtu → Mtu
+probe_sent_if_set now number None m = m
+probe_sent_if_set now number (Some s) m = probing number (search_at now s m m.phase) m
 
 -- the probe that is due was sent
 unfoldable pub probe_sent : ℕ → ℕ → Mtu → Mtu
-probe_sent now number m = probe_sent_by now number m.settings m
+probe_sent now number m = probe_sent_if_set now number m.settings m
 
+-- the probe in flight: the number of its packet, and its size
 abbrev pub probe_of : Phase → Option (ℕ × ℕ)
 probe_of (Searching q) = q.probe
 probe_of _ = None
 
+-- the probe, if there is one, has this number
 abbrev pub has_number : ℕ → Option (ℕ × ℕ) → Bool
 has_number number None = false
 has_number number (Some probe) = probe.0 == number
@@ -87,9 +93,10 @@ is_probe number m = has_number number (probe_of m.phase)
 abbrev pub rested : ℕ → SearchSettings → Search → Phase
 rested now s q = if goes_on s q then Searching q else Resting (plus now s.interval)
 
-abbrev pub rested_by : ℕ → Option SearchSettings → Search → Phase
-rested_by now None q = Searching q
-rested_by now (Some s) q = rested now s q
+-- the same, where there are settings; without them a search goes on
+abbrev pub rested_if_set : ℕ → Option SearchSettings → Search → Phase
+rested_if_set now None q = Searching q
+rested_if_set now (Some s) q = rested now s q
 
 -- the probe's size passed: it is the size in use, and the lower end
 abbrev pub search_raised : ℕ → Mtu → Search → Option (ℕ × ℕ) → Mtu
@@ -97,43 +104,47 @@ search_raised now m q None = m
 search_raised now m q (Some probe) = record m {
   current = probe.1;
   bursts = 0;
-  phase = rested_by now m.settings (record q { lower = probe.1; losses = 0; probe = None });
+  phase = rested_if_set now m.settings (record q { lower = probe.1; losses = 0; probe = None });
 }
 
-abbrev pub raised_by : ℕ → Phase → Mtu → Mtu
-raised_by now (Searching q) m = search_raised now m q q.probe
-raised_by now _ m = m
+-- a path whose probe passed, where a search goes on
+abbrev pub raised_if_searching : ℕ → Phase → Mtu → Mtu
+raised_if_searching now (Searching q) m = search_raised now m q q.probe
+raised_if_searching now _ m = m
 
 -- a packet is acknowledged: a probe raises the size, and each one above the least size ends a row of losses
 unfoldable pub mtu_acked : ℕ → ℕ → ℕ → Mtu → Mtu
 mtu_acked now number size m =
-    if is_probe number m then raised_by now m.phase m
+    if is_probe number m then raised_if_searching now m.phase m
     else if nat_lt m.least size then record m { bursts = 0 } else m
 
 -- the probe is lost: the third time at one size, what lies below it becomes the upper end
 abbrev pub search_lowered : ℕ → Mtu → Search → Option (ℕ × ℕ) → Mtu
 search_lowered now m q None = m
 search_lowered now m q (Some probe) =
-    if nat_le 2 q.losses then record m { phase = rested_by now m.settings (record q { upper = probe.1 - 1; losses = 0; probe = None }) }
+    if nat_le 2 q.losses then record m { phase = rested_if_set now m.settings (record q { upper = probe.1 - 1; losses = 0; probe = None }) }
     else record m { phase = Searching (record q { losses = q.losses + 1; probe = None }) }
 
-abbrev pub lowered_by : ℕ → Phase → Mtu → Mtu
-lowered_by now (Searching q) m = search_lowered now m q q.probe
-lowered_by now _ m = m
+-- a path whose probe is lost, where a search goes on
+abbrev pub lowered_if_searching : ℕ → Phase → Mtu → Mtu
+lowered_if_searching now (Searching q) m = search_lowered now m q q.probe
+lowered_if_searching now _ m = m
 
+-- the probe in flight is lost
 unfoldable pub mtu_probe_lost : ℕ → Mtu → Mtu
-mtu_probe_lost now m = lowered_by now m.phase m
+mtu_probe_lost now m = lowered_if_searching now m.phase m
 
-abbrev pub cooled : ℕ → Option SearchSettings → Phase → Phase
-cooled now None phase = phase
-cooled now (Some s) phase = Resting (plus now s.black_hole_cooldown)
+-- after a black hole no larger size is tried for a time, where there are settings
+abbrev pub rested_after_hole : ℕ → Option SearchSettings → Phase → Phase
+rested_after_hole now None phase = phase
+rested_after_hole now (Some s) phase = Resting (plus now s.black_hole_cooldown)
 
 -- packets were lost at once, probes aside, the smallest of them of this size: the fourth time in a row that all of them
 -- are above the least size, the path has a black hole
 unfoldable pub mtu_burst : ℕ → ℕ → Mtu → Mtu
 mtu_burst now smallest m =
     if nat_le smallest m.least then m
-    else if nat_le 3 m.bursts then record m { current = m.least; bursts = 0; phase = cooled now m.settings m.phase }
+    else if nat_le 3 m.bursts then record m { current = m.least; bursts = 0; phase = rested_after_hole now m.settings m.phase }
     else record m { bursts = m.bursts + 1 }
 
 -- the probe in flight is forgotten
@@ -141,5 +152,6 @@ abbrev pub unprobed : Phase → Phase
 unprobed (Searching q) = Searching (record q { probe = None })
 unprobed phase = phase
 
+-- a path whose probe in flight is forgotten
 unfoldable pub mtu_forgotten : Mtu → Mtu
 mtu_forgotten m = record m { phase = unprobed m.phase }

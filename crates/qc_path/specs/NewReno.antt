@@ -1,5 +1,5 @@
 -- NewReno (RFC 9002, section 7). The window and the bytes counted stop at 2^64 - 1.
-use Rattle.std.specs.Prelude.{◌≡◌, ℕ, ◌-◌, ◌*◌, ◌/◌, ◌≤◌, nat_lt, nat_le, Bool, true, false, not, ◌||◌, if◌then◌else◌, Option, Some, None, max}
+use Rattle.std.specs.Prelude.{ℕ, ◌-◌, ◌*◌, ◌/◌, ◌≤◌, nat_lt, nat_le, Bool, true, not, ◌||◌, if◌then◌else◌, Option, Some, None, min, max}
 use Rattle.qc_base.specs.Time.{plus}
 
 -- a window, and what changes it
@@ -56,6 +56,6 @@ reno_congested now sent persistent r =
 unfoldable pub reno_resized : ℕ → Reno → Reno
 reno_resized mtu r = record r { mtu = mtu; window = max r.window (2 * mtu) }
 
--- the window has room for two datagrams
-abbrev pub HasRoom : Reno → Type 0
-HasRoom r = 2 * r.mtu ≤ r.window
+-- the window has room for two datagrams, or for as many bytes as it began with where these are fewer
+abbrev pub HasRoom : ℕ → Reno → Type 0
+HasRoom first r = min (2 * r.mtu) first ≤ r.window

@@ -1,5 +1,5 @@
 -- Round trip times (RFC 9002, section 5), in nanoseconds. Sums and products stop at 2^64 - 1, differences at 0.
-use Rattle.std.specs.Prelude.{ℕ, ◌+◌, ◌-◌, ◌*◌, ◌/◌, ◌^◌, ◌<◌, ◌≤◌, nat_le, if◌then◌else◌, List, [], ◌∷◌, Option, Some, None, unwrap_or, min, max}
+use Rattle.std.specs.Prelude.{ℕ, ◌+◌, ◌-◌, ◌/◌, ◌≤◌, nat_le, if◌then◌else◌, List, [], ◌∷◌, Option, Some, None, unwrap_or, min, max}
 use Rattle.qc_base.specs.Time.{plus, times}
 
 -- what is known of a path's round trips

@@ -2,12 +2,14 @@
 //! pacing, the search for a larger datagram, numbers that came, and packets in flight (RFC 9002).
 #![tactic(auto)]
 
+mod ack_set;
 mod controller;
 mod dedup;
 mod filter;
 mod mtu;
 mod new_reno;
 mod pacer;
+mod path_responses;
 mod pending_acks;
 mod rtt;
 
@@ -17,7 +19,8 @@ pub use filter::PacketNumberFilter;
 pub use mtu::{MtuDiscovery, SearchSettings};
 pub use new_reno::{NewReno, NewRenoConfig, window_keeps_room};
 pub use pacer::{Pacer, PathRate};
-pub use pending_acks::{Arrival, PendingAcks, next_bundled_ack_time};
+pub use path_responses::{PathResponse, PathResponses};
+pub use pending_acks::{Arrival, PendingAcks, next_bundled_ack_time, numbers_are_kept};
 pub use rtt::{RttEstimator, estimate_is_bounded};
 
 #[cfg(test)]

@@ -1,7 +1,7 @@
 //! The search for a larger datagram that the path takes (RFC 8899; RFC 9000, section 14.3).
 
 ghost use Rattle.std.specs.Prelude.{◌≡◌};
-ghost use Rattle.qc_path.specs.Mtu.{begun, capped, cooled, first_mtu, goes_on, has_number, is_probe, middle, mtu_acked, mtu_burst, mtu_forgotten, mtu_probe_lost, peer_known, probe_due, probe_of, probe_sent, raised_by, rested_by, search_at, search_lowered, size_of_probe};
+ghost use Rattle.qc_path.specs.Mtu.{begun, capped, rested_after_hole, first_mtu, goes_on, has_number, is_probe, middle, mtu_acked, mtu_burst, mtu_forgotten, mtu_probe_lost, peer_known, probe_due, probe_of, probe_sent, raised_if_searching, rested_if_set, search_at, search_lowered, size_of_probe};
 
 use qc_base::{Duration, Instant};
 use std::marker::Model;
@@ -88,7 +88,7 @@ fn middle_of(search: &Search) -> u16
 }
 
 fn rest(now: Instant, settings: Option<SearchSettings>, search: Search) -> Phase
-    ensures { result ≡ rested_by now settings search }
+    ensures { result ≡ rested_if_set now settings search }
 {
     match settings {
         None => Phase::Searching(search),
@@ -103,7 +103,7 @@ fn rest(now: Instant, settings: Option<SearchSettings>, search: Search) -> Phase
 }
 
 fn cool(now: Instant, settings: Option<SearchSettings>, phase: Phase) -> Phase
-    ensures { result ≡ cooled now settings phase }
+    ensures { result ≡ rested_after_hole now settings phase }
 {
     match settings {
         None => phase,
@@ -234,7 +234,7 @@ impl MtuDiscovery {
     }
 
     fn raise(&mut self, now: Instant)
-        ensures { self.new ≡ raised_by now self.old.phase self.old }
+        ensures { self.new ≡ raised_if_searching now self.old.phase self.old }
     {
         if let Phase::Searching(search) = self.phase {
             if let Some(probe) = search.probe {

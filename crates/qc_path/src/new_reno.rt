@@ -1,6 +1,6 @@
 //! The congestion controller of RFC 9002, section 7.
 
-ghost use Rattle.std.specs.Prelude.{◌≡◌, ℕ, ◌<◌, ◌≤◌, ◌^◌, Bool};
+ghost use Rattle.std.specs.Prelude.{◌≡◌, ℕ, ◌*◌, ◌<◌, ◌≤◌, ◌^◌, Bool};
 ghost use Rattle.qc_path.specs.NewReno.{Reno, HasRoom, grown_fast, grown_slowly, halved, is_after, new_reno, reno_acked, reno_congested, reno_resized};
 
 use crate::{Controller, ControllerFactory, RttEstimator};
@@ -211,11 +211,13 @@ impl ControllerFactory for NewRenoConfig {
     }
 }
 
-/// A law, which runs no code. A window with room for two datagrams keeps it, whatever is
-/// acknowledged or lost, and gets it where datagrams have another size.
-#[tactic(auto, using(crate::proofs::Windows::acked_room, crate::proofs::Windows::congested_room, crate::proofs::Windows::resized_room))]
+/// A law, which runs no code. A window never falls below two datagrams, or below the bytes with which
+/// it began where these are fewer, whatever is acknowledged or lost; and it has room for two once
+/// datagrams have another size.
+#[tactic(auto, using(crate::proofs::Windows::begun_room, crate::proofs::Windows::acked_room, crate::proofs::Windows::congested_room, crate::proofs::Windows::resized_room))]
 pub fn window_keeps_room()
-    ensures acked { (sent bytes : ℕ) (limited : Bool) (r : Reno) → r.mtu < 2 ^ 16 → HasRoom r → HasRoom (reno_acked sent bytes limited r) }
-    ensures congested { (now sent : ℕ) (persistent : Bool) (r : Reno) → HasRoom r → HasRoom (reno_congested now sent persistent r) }
-    ensures resized { (mtu : ℕ) (r : Reno) → HasRoom (reno_resized mtu r) }
+    ensures begun { (initial mtu : ℕ) → HasRoom initial (new_reno initial mtu) }
+    ensures acked { (first sent bytes : ℕ) (limited : Bool) (r : Reno) → r.mtu < 2 ^ 16 → HasRoom first r → HasRoom first (reno_acked sent bytes limited r) }
+    ensures congested { (first now sent : ℕ) (persistent : Bool) (r : Reno) → HasRoom first r → HasRoom first (reno_congested now sent persistent r) }
+    ensures resized { (mtu : ℕ) (r : Reno) → 2 * mtu ≤ (reno_resized mtu r).window }
 {}

@@ -1,11 +1,14 @@
 //! Packets to acknowledge (RFC 9000, section 13.2).
 
-ghost use Rattle.std.specs.Prelude.{◌≡◌, ◌+◌, ◌<◌, ◌^◌, ◌==◌, ◌||◌, [], length};
+ghost use Rattle.std.specs.Prelude.{◌≡◌, ℕ, ◌==◌, ◌||◌, List, [], length};
 ghost use Rattle.qc_path.specs.Arrived.{exceeds, greatest_with};
-ghost use Rattle.qc_base.specs.RangeSet.{KeepsFrom};
-ghost use Rattle.qc_path.specs.Acks.{TakesIn, ack_delay, counted_in, gives_ack, greatest_noted, has_come_by, is_due, joins_ack, makes_owed, marks_expired, marks_received, marks_sent, next_bundle, no_marks, out_of_order, owed_with, owes_ack, sets_delay};
+ghost use Rattle.qc_base.specs.RangeSet.{KeepsFrom, Normal, latest};
+ghost use Rattle.qc_base.specs.declared.range_set.NumberRange.{NumberRange};
+ghost use Rattle.qc_path.specs.AckRanges.{from_number, with_number};
+ghost use Rattle.qc_path.specs.Acks.{TakesIn, ack_delay, acks_confirmed, acks_received, counted_in, gives_ack, greatest_noted, has_come_by, is_due, joins_ack, makes_owed, marks_expired, marks_received, marks_sent, next_bundle, no_marks, out_of_order, owed_with, owes_ack, sets_delay};
 
 use crate::Dedup;
+use crate::ack_set::AckSet;
 use qc_base::{ArrayRangeSet, Duration, Instant};
 use std::marker::Model;
 
@@ -149,7 +152,7 @@ fn either(a: bool, b: bool) -> bool
 /// is owed.
 #[derive(Debug, Drop)]
 pub struct PendingAcks {
-    ranges: ArrayRangeSet,
+    numbers: AckSet,
     marks: Marks,
 }
 
@@ -158,7 +161,7 @@ impl Model for PendingAcks {
 
     ghost Value = { PendingValues };
 
-    ghost view = { λ p. record { ranges = p.ranges; marks = p.marks } };
+    ghost view = { λ p. record { ranges = p.numbers; marks = p.marks } };
 }
 
 impl PendingAcks {
@@ -168,7 +171,7 @@ impl PendingAcks {
         ensures { result ≡ record { ranges = []; marks = no_marks } }
     {
         PendingAcks {
-            ranges: ArrayRangeSet::new(),
+            numbers: AckSet::new(),
             marks: Marks {
                 owed: false,
                 eliciting: 0,
@@ -183,12 +186,12 @@ impl PendingAcks {
 
     /// A packet came, whose number `seen` has already. Answers whether the timer for an ACK that is
     /// held back (RFC 9000, section 13.2.1) is to be set.
+    #[tactic(auto, unfolding(crate::specs::Acks::acks_received))]
     pub fn received(&mut self, in_data: bool, seen: &Dedup, packet: &Arrival) -> bool
-        ensures ranges { TakesIn packet.now.number self.old.ranges self.new.ranges }
-        ensures marks { self.new.marks ≡ marks_received in_data seen.now packet.now self.old.marks }
+        ensures after { self.new ≡ acks_received in_data seen.now packet.now self.old }
         ensures timer { result ≡ sets_delay in_data seen.now packet.now self.old.marks }
     {
-        let _ = self.ranges.insert_one(packet.number);
+        self.numbers.insert(packet.number);
         self.marks.received(in_data, seen, packet)
     }
 
@@ -208,17 +211,16 @@ impl PendingAcks {
     pub fn expired(&mut self)
         ensures { self.new ≡ record self.old { marks = marks_expired (length self.old.ranges == 0) self.old.marks } }
     {
-        self.marks.owed = self.marks.owed || !self.ranges.is_empty();
+        self.marks.owed = self.marks.owed || !self.numbers.is_empty();
     }
 
     /// An ACK whose greatest number is `largest` was acknowledged: the numbers up to it needn't be
     /// acknowledged again (RFC 9000, section 13.2.4).
+    #[tactic(auto, unfolding(crate::specs::Acks::acks_confirmed))]
     pub fn acknowledged(&mut self, largest: u64)
-        requires { largest < 2 ^ 62 }
-        ensures ranges { KeepsFrom (largest + 1) self.old.ranges self.new.ranges }
-        ensures marks { self.new.marks ≡ self.old.marks }
+        ensures { self.new ≡ acks_confirmed largest self.old }
     {
-        self.ranges.subtract_below(largest + 1);
+        self.numbers.forget(largest);
     }
 
     /// Whether an ACK is owed.
@@ -226,14 +228,14 @@ impl PendingAcks {
     pub fn owes(&self) -> bool
         ensures { result ≡ owes_ack self.now }
     {
-        self.marks.owed && !self.ranges.is_empty()
+        self.marks.owed && !self.numbers.is_empty()
     }
 
     #[tactic(auto, unfolding(crate::specs::Acks::joins_ack))]
     fn joins(&self) -> bool
         ensures { result ≡ joins_ack self.now }
     {
-        SILENT_PACKETS < self.marks.silent && !self.ranges.is_empty()
+        SILENT_PACKETS < self.marks.silent && !self.numbers.is_empty()
     }
 
     /// Whether a packet of the space that is sealed at `now` holds an ACK. `bundled` is the time
@@ -242,7 +244,7 @@ impl PendingAcks {
     pub fn gives(&self, now: Instant, bundled: Option<Instant>) -> bool
         ensures { result ≡ gives_ack now bundled self.now }
     {
-        self.owes() || self.joins() || (!self.ranges.is_empty() && is_past(bundled, now))
+        self.owes() || self.joins() || (!self.numbers.is_empty() && is_past(bundled, now))
     }
 
     /// For how long the greatest number that came has waited, in units of 8 microseconds (RFC 9000,
@@ -258,7 +260,7 @@ impl PendingAcks {
     pub fn ranges(&self) -> &ArrayRangeSet
         ensures { result.now ≡ self.now.ranges }
     {
-        &self.ranges
+        self.numbers.ranges()
     }
 }
 
@@ -279,3 +281,11 @@ pub fn next_bundled_ack_time(now: Instant, rtt: Duration, peer_delay: Duration) 
 {
     now.plus(rtt.plus(peer_delay).plus(Duration::from_millis(1)))
 }
+
+/// A law, which runs no code. Ranges with a number more are those with the old numbers and this one,
+/// of which the 64 highest are kept; ranges from a number on are those with the old numbers from it on.
+#[tactic(auto, using(crate::proofs::RangesWith::with_takes_in, crate::proofs::RangesWith::from_keeps))]
+pub fn numbers_are_kept()
+    ensures more { (n : ℕ) (old : List NumberRange) → Normal old → TakesIn n old (latest (with_number n old)) }
+    ensures fewer { (n : ℕ) (old : List NumberRange) → Normal old → KeepsFrom n old (from_number n old) }
+{}

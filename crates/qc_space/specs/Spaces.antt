@@ -4,8 +4,9 @@ use Rattle.qc_base.specs.Time.{plus}
 use Rattle.qc_base.specs.declared.ecn.EcnCodepoint.{EcnCodepoint}
 use Rattle.qc_base.specs.declared.ecn.EcnCodepoint.TheVariants.{Ect0, Ect1, Ce}
 use Rattle.qc_frame.specs.declared.frames.EcnCounts.{EcnCounts}
-use Rattle.qc_path.specs.Acks.{no_marks}
-use Rattle.qc_path.specs.Arrived.{nothing_came}
+use Rattle.qc_path.specs.Acks.{acks_received, no_marks}
+use Rattle.qc_path.specs.Arrived.{arrived, nothing_came}
+use Rattle.qc_path.specs.declared.pending_acks.Arrival.{Arrival}
 use Rattle.qc_space.specs.declared.space.PacketSpace.{PacketSpace}
 
 -- nothing came, and no probe is due
@@ -32,6 +33,18 @@ marked counts (Some Ce) = record counts { ce = counted_marks counts.ce }
 abbrev pub is_congested : Option EcnCodepoint → Bool
 is_congested (Some Ce) = true
 is_congested _ = false
+
+-- a packet that came
+abbrev pub arrival_of : ℕ → ℕ → Bool → Option EcnCodepoint → Arrival
+arrival_of number at eliciting mark = record { number = number; at = at; ack_eliciting = eliciting; ce = is_congested mark }
+
+-- a packet came that was opened: its number, its arrival among those to acknowledge, and its mark
+unfoldable pub packet_received : Bool → ℕ → ℕ → Bool → Option EcnCodepoint → PacketSpace → PacketSpace
+packet_received in_data number at eliciting mark s = record s {
+  seen = arrived number s.seen;
+  acks = acks_received in_data (arrived number s.seen) (arrival_of number at eliciting mark) s.acks;
+  marks = marked s.marks mark;
+}
 
 -- so many more probes are due
 abbrev pub probes_added : ℕ → PacketSpace → PacketSpace

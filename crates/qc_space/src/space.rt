@@ -1,9 +1,9 @@
 //! What a packet number space keeps of packets that came.
 
-ghost use Rattle.std.specs.Prelude.{◌≡◌, not};
-ghost use Rattle.qc_path.specs.Acks.{TakesIn, marks_received, sets_delay};
-ghost use Rattle.qc_path.specs.Arrived.{arrived, is_new};
-ghost use Rattle.qc_space.specs.Spaces.{counted_marks, is_congested, marked, no_packets, probes_added, probes_spent};
+ghost use Rattle.std.specs.Prelude.{◌≡◌};
+ghost use Rattle.qc_path.specs.Acks.{sets_delay};
+ghost use Rattle.qc_path.specs.Arrived.{arrived};
+ghost use Rattle.qc_space.specs.Spaces.{arrival_of, counted_marks, is_congested, marked, no_packets, packet_received, probes_added, probes_spent};
 
 use qc_base::{EcnCodepoint, Instant};
 use qc_frame::EcnCounts;
@@ -86,6 +86,7 @@ impl PacketSpace {
 
     /// A packet came that was opened. Answers whether the timer for an ACK that is held back is to be
     /// set.
+    #[tactic(auto, unfolding(crate::specs::Spaces::packet_received))]
     pub fn received(
         &mut self,
         in_data: bool,
@@ -94,12 +95,8 @@ impl PacketSpace {
         ack_eliciting: bool,
         mark: Option<EcnCodepoint>,
     ) -> bool
-        ensures seen { self.new.seen ≡ arrived number self.old.seen }
-        ensures ranges { TakesIn number self.old.acks.ranges self.new.acks.ranges }
-        ensures acks { self.new.acks.marks ≡ marks_received in_data self.new.seen (record { number = number; at = at; ack_eliciting = ack_eliciting; ce = is_congested mark }) self.old.acks.marks }
-        ensures timer { result ≡ sets_delay in_data self.new.seen (record { number = number; at = at; ack_eliciting = ack_eliciting; ce = is_congested mark }) self.old.acks.marks }
-        ensures marks { self.new.marks ≡ marked self.old.marks mark }
-        ensures probes { self.new.probes ≡ self.old.probes }
+        ensures after { self.new ≡ packet_received in_data number at ack_eliciting mark self.old }
+        ensures timer { result ≡ sets_delay in_data (arrived number self.old.seen) (arrival_of number at ack_eliciting mark) self.old.acks.marks }
     {
         let _ = self.seen.insert(number);
         self.marks = with_mark(self.marks, mark);

@@ -1,4 +1,4 @@
-use Rattle.std.proofs.Common.{◌≡◌, ◌-◌, ◌≤◌}
+use Rattle.std.proofs.Common.{◌≡◌, ◌-◌}
 use Rattle.qc_path.specs.Arrived.{missing_from}
 use Rattle.qc_path.proofs.dedup.Dedup.is_missing.Given as goal
 
