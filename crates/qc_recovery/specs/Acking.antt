@@ -41,10 +41,11 @@ abbrev pub limit_with : Option ℕ → ℕ → ℕ
 limit_with None largest = largest
 limit_with (Some greatest) largest = max greatest largest
 
--- the numbers of an ACK leave the flight
+-- the packets in flight that an ACK names
 unfoldable pub acked_of : List NumberRange → SpaceRecovery → List Entry
 acked_of ranges s = those (is_acked ranges) s.flight
 
+-- the space that an ACK leaves, before loss is looked for
 unfoldable pub space_acked : ℕ → List NumberRange → SpaceRecovery → SpaceRecovery
 space_acked largest ranges s = raised largest (acked_of ranges s) (record s { flight = others (is_acked ranges) s.flight })
 
@@ -53,10 +54,11 @@ abbrev pub time_of_loss : ℕ → Option ℕ → Option ℕ
 time_of_loss delay None = None
 time_of_loss delay (Some at) = Some (plus at delay)
 
--- the packets that are lost, and the space without them
+-- the packets that are lost
 unfoldable pub lost_of : Limits → ℕ → ℕ → ℕ → SpaceRecovery → List Entry
 lost_of l now delay largest s = those (is_lost largest l.packet_threshold now delay) s.flight
 
+-- the space without the packets that are lost, and when the next one will be lost for its age
 unfoldable pub space_less : Limits → ℕ → ℕ → ℕ → SpaceRecovery → SpaceRecovery
 space_less l now delay largest s =
     let rest : List Entry = others (is_lost largest l.packet_threshold now delay) s.flight in
@@ -67,6 +69,7 @@ unfoldable pub held_back : SpaceId → Around → ℕ → ℕ
 held_back space around delay =
     if is_data space then min around.max_ack_delay (times (times delay (2 ^ min around.ack_delay_exponent 63)) 1000) else 0
 
+-- the first sample's space and the number that was next there; one that is noted stays
 abbrev pub first_noted : Option (SpaceId × ℕ) → SpaceId → ℕ → Option (SpaceId × ℕ)
 first_noted None space next = Some (space, next)
 first_noted (Some sample) space next = Some sample
@@ -87,16 +90,20 @@ counts_show raises old new acked =
     else if nat_lt old.ce new.ce then ecn.Congested
     else ecn.Good
 
-abbrev pub counts_by : Bool → EcnCounts → Option EcnCounts → ℕ → EcnVerdict
-counts_by raises old None acked = ecn.Missing
-counts_by raises old (Some new) acked = counts_show raises old new acked
+-- the same for counts that may be missing
+abbrev pub counts_or_none_show : Bool → EcnCounts → Option EcnCounts → ℕ → EcnVerdict
+counts_or_none_show raises old None acked = ecn.Missing
+counts_or_none_show raises old (Some new) acked = counts_show raises old new acked
 
+-- what an ACK shows on a path whose packets carry a mark, or no longer do
 unfoldable pub ecn_shown : Bool → Bool → EcnCounts → Option EcnCounts → ℕ → EcnVerdict
-ecn_shown marking raises old new acked = if marking then counts_by raises old new acked else ecn.Unread
+ecn_shown marking raises old new acked = if marking then counts_or_none_show raises old new acked else ecn.Unread
 
+-- no packet came with a mark
 abbrev pub no_counts : EcnCounts
 no_counts = record { ect0 = 0; ect1 = 0; ce = 0 }
 
+-- the counts that are kept of an ACK: none where they can't be, else the new ones where they were looked at
 abbrev pub counts_kept : EcnVerdict → EcnCounts → Option EcnCounts → EcnCounts
 counts_kept ecn.Bad old new = no_counts
 counts_kept ecn.Good old new = unwrap_or new old
@@ -119,10 +126,12 @@ module _ {C : Type 0} where
   ack_told m now limited e p =
       if e.1.ack_eliciting && is_none p.challenge then record p { congestion = m.after_ack p.congestion now e.1.at e.1.size limited p.rtt } else p
 
+  -- these acknowledged packets are told, one after the other
   abbrev pub acks_told : Control C → ℕ → SpaceId → Bool → List Entry → PathData C → PathData C
   acks_told m now space limited [] p = p
   acks_told m now space limited (e ∷ es) p = acks_told m now space limited es (ack_told m now limited e (size_told m now space e p))
 
+  -- the controller is told that all packets of an ACK were
   unfoldable pub end_told : Control C → ℕ → ℕ → Bool → Option ℕ → PathData C → PathData C
   end_told m now in_flight limited largest p = record p { congestion = m.after_acks p.congestion now in_flight limited largest }
 
@@ -132,6 +141,8 @@ module _ {C : Type 0} where
 
   -- ---- lost packets
 
+  -- the search is told the smallest size that was lost; where that shows a black hole, the controller is told the size
+  -- that is left
   unfoldable pub hole_told : Control C → ℕ → Option ℕ → PathData C → PathData C
   hole_told m now None p = p
   hole_told m now (Some size) p = record p {
@@ -139,13 +150,16 @@ module _ {C : Type 0} where
     congestion = if nat_lt (mtu_burst now size p.mtud).current p.mtud.current then m.after_resize p.congestion (mtu_burst now size p.mtud).current else p.congestion;
   }
 
+  -- the controller is told of the packets lost at once, where one of them counted as in flight
   unfoldable pub event_told : Control C → ℕ → Bool → Burst → PathData C → PathData C
   event_told m now persistent b p =
       if b.counted then record p { congestion = m.after_congestion p.congestion now b.at persistent b.bytes } else p
 
+  -- the search is told that its probe is lost
   unfoldable pub probe_told : ℕ → Burst → PathData C → PathData C
   probe_told now b p = if b.probe then record p { mtud = mtu_probe_lost now p.mtud } else p
 
+  -- all this is told of packets lost at once
   unfoldable pub burst_told : Control C → ℕ → Bool → Burst → PathData C → PathData C
   burst_told m now persistent b p = probe_told now b (event_told m now persistent b (hole_told m now b.smallest p))
 
@@ -156,6 +170,7 @@ module _ {C : Type 0} where
 
   -- ---- ECN
 
+  -- what the marks show is told: marking ends, or the controller learns of congestion
   unfoldable pub ecn_told : Control C → ℕ → ℕ → EcnVerdict → PathData C → PathData C
   ecn_told m now at ecn.Missing p = record p { sending_ecn = false }
   ecn_told m now at ecn.Bad p = record p { sending_ecn = false }

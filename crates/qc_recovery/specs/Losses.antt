@@ -10,6 +10,7 @@ use Rattle.qc_path.specs.RoundTrips.{Rtt, cautious, probe_base}
 use Rattle.qc_recovery.specs.declared.burst.Burst.{Burst}
 use Rattle.qc_recovery.specs.declared.limits.Limits.{Limits}
 
+-- the space of 0-RTT and 1-RTT packets
 abbrev pub is_data : SpaceId → Bool
 is_data Data = true
 is_data _ = false
@@ -39,10 +40,12 @@ burst_with space m e b =
     if is_probe_in space m e then record b { probe = true }
     else record b { bytes = plus b.bytes e.1.size; counted = b.counted || e.1.counted; smallest = smaller b.smallest e.1.size; at = e.1.at }
 
+-- these packets are lost too, one after the other
 abbrev pub burst_from : SpaceId → Mtu → Burst → List Entry → Burst
 burst_from space m b [] = b
 burst_from space m b (e ∷ es) = burst_from space m (burst_with space m e b) es
 
+-- no packet is lost
 unfoldable pub no_burst : Burst
 no_burst = record { bytes = 0; counted = false; smallest = None; at = 0; probe = false }
 
@@ -64,10 +67,12 @@ start_by true same next = Some 0
 start_by false true next = Some (plus next 1)
 start_by false false next = None
 
+-- the same for a sample that may not have been taken
 abbrev pub start_after : SpaceId → Option (SpaceId × ℕ) → Option ℕ
 start_after space None = None
 start_after space (Some sample) = start_by (nat_lt (rank sample.0) (rank space)) (rank sample.0 == rank space) sample.1
 
+-- the number may be the first of a persistent congestion
 abbrev pub may_start : Option ℕ → ℕ → Bool
 may_start None n = false
 may_start (Some least) n = nat_le least n
@@ -97,10 +102,13 @@ earlier_start false from time = from
 earlier_start true None time = Some time
 earlier_start true (Some from) time = Some (min from time)
 
+-- the time is more than a span after the earliest one, if there is one
 abbrev pub is_far : ℕ → Option ℕ → ℕ → Bool
 is_far span None time = false
 is_far span (Some from) time = nat_lt span (time - from)
 
+-- in one pass, `before` the number before these packets and `from` the earliest time of the run that ends there: a run
+-- reaches over a span
 abbrev pub scans : (Entry → Bool) → ℕ → Option ℕ → ℕ → Option ℕ → List Entry → Bool
 scans marks span start before from [] = false
 scans marks span start before from (e ∷ es) =

@@ -13,6 +13,7 @@ abbrev pub searched : Option MtuDiscoveryValues → Option SearchSettings
 searched None = None
 searched (Some c) = Some (record { interval = c.interval; upper_bound = c.upper_bound; black_hole_cooldown = c.black_hole_cooldown; minimum_change = c.minimum_change })
 
+-- no larger datagram is searched where that isn't allowed
 abbrev pub searched_if : Bool → TransportValues → Option SearchSettings
 searched_if allowed config = if allowed then searched config.mtu_discovery_config else None
 

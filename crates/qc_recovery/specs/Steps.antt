@@ -26,20 +26,23 @@ use Rattle.qc_recovery.specs.declared.space.SpaceRecovery.{SpaceRecovery}
 
 -- ---- spaces
 
+-- what is kept of a space
 abbrev pub space_of : SpaceId → Recovery → SpaceRecovery
 space_of Initial r = r.initial
 space_of Handshake r = r.handshake
 space_of Data r = r.application
 
+-- a space is put in its place
 abbrev pub with_space : SpaceId → SpaceRecovery → Recovery → Recovery
 with_space Initial s r = record r { initial = s }
 with_space Handshake s r = record r { handshake = s }
 with_space Data s r = record r { application = s }
 
--- the bytes in flight of a space, and those of the two other spaces
+-- the bytes in flight of a space
 abbrev pub space_bytes : SpaceRecovery → ℕ
 space_bytes s = held (bytes_of s.flight)
 
+-- the bytes in flight of the two other spaces
 abbrev pub other_bytes : SpaceId → Recovery → ℕ
 other_bytes Initial r = plus (space_bytes r.handshake) (space_bytes r.application)
 other_bytes Handshake r = plus (space_bytes r.initial) (space_bytes r.application)
@@ -51,9 +54,11 @@ all_bytes r = held (bytes_of r.initial.flight + bytes_of r.handshake.flight + by
 
 -- ---- sending
 
+-- a space in which nothing was sent or acknowledged
 unfoldable pub no_space : SpaceRecovery
 no_space = record { flight = []; greatest = None; kept_at = None; eliciting_at = None; loss_time = None; counts = no_counts }
 
+-- a space with one packet more in flight
 unfoldable pub space_sent : ℕ → SentPacket → SpaceRecovery → SpaceRecovery
 space_sent number packet s =
     record s { flight = s.flight ++ (number, packet) ∷ []; eliciting_at = if packet.ack_eliciting then Some packet.at else s.eliciting_at }
@@ -78,10 +83,12 @@ backed_off duration count = times duration (2 ^ min count 16)
 unfoldable pub probe_timeout : SpaceId → Around → Rtt → ℕ
 probe_timeout id around rtt = plus (probe_base rtt) (if is_data id then around.max_ack_delay else 0)
 
+-- a time, if there is one, with its space
 abbrev pub timed : SpaceId → Option ℕ → Option (ℕ × SpaceId)
 timed id None = None
 timed id (Some time) = Some (time, id)
 
+-- a time, if there is one, and a duration after it
 abbrev pub later_by : ℕ → Option ℕ → Option ℕ
 later_by duration None = None
 later_by duration (Some time) = Some (plus time duration)
@@ -98,6 +105,7 @@ probe_first around rtt r =
     sooner (sooner (probe_in Initial around rtt r.count r.initial) (probe_in Handshake around rtt r.count r.handshake))
     (if around.handshake_over then probe_in Data around rtt r.count r.application else None)
 
+-- the space of the Handshake packets
 abbrev pub is_handshake : SpaceId → Bool
 is_handshake Handshake = true
 is_handshake _ = false
@@ -125,17 +133,19 @@ probe_line now around rtt r =
     else if is_quiet r then probe_of_nothing now around rtt r
     else probe_first around rtt r
 
-abbrev pub first_of_lines : Option (ℕ × SpaceId) → Option (ℕ × SpaceId) → Option (ℕ × SpaceId)
-first_of_lines None b = b
-first_of_lines (Some a) b = Some a
+-- the first one that is there
+abbrev pub first_that_holds : Option (ℕ × SpaceId) → Option (ℕ × SpaceId) → Option (ℕ × SpaceId)
+first_that_holds None b = b
+first_that_holds (Some a) b = Some a
 
+-- the time without its space
 abbrev pub time_of : Option (ℕ × SpaceId) → Option ℕ
 time_of None = None
 time_of (Some a) = Some a.0
 
 -- the time of the loss timer: that of the first line which holds
 unfoldable pub armed_at : ℕ → Around → Rtt → Recovery → Option ℕ
-armed_at now around rtt r = time_of (first_of_lines (loss_first r) (probe_line now around rtt r))
+armed_at now around rtt r = time_of (first_that_holds (loss_first r) (probe_line now around rtt r))
 
 -- one of these elicits an ACK
 abbrev pub has_eliciting : List Entry → Bool
@@ -152,6 +162,7 @@ pub record SpaceAfter (C : Type 0) : Type 0 where
   pub acked : List Entry
   pub lost : List Entry
 
+-- these four values as what a call on one space leaves
 abbrev pub space_with : {C : Type 0} → SpaceRecovery → PathData C → List Entry → List Entry → SpaceAfter C
 space_with s p acked lost = record { space = s; path = p; acked = acked; lost = lost }
 
@@ -162,6 +173,7 @@ pub record After (C : Type 0) : Type 0 where
   pub acked : List Entry
   pub lost : List Entry
 
+-- these four values as what a call leaves
 abbrev pub after_with : {C : Type 0} → Recovery → PathData C → List Entry → List Entry → After C
 after_with r p acked lost = record { recovery = r; path = p; acked = acked; lost = lost }
 
@@ -171,6 +183,7 @@ pub record FiredAfter (C : Type 0) : Type 0 where
   pub path : PathData C
   pub fired : Fired
 
+-- these three values as what the timer leaves
 abbrev pub fired_with : {C : Type 0} → Recovery → PathData C → Fired → FiredAfter C
 fired_with r p f = record { recovery = r; path = p; fired = f }
 
@@ -189,6 +202,7 @@ probes_of r = if is_quiet r then 1 else 2
 module _ {C : Type 0} where
   -- ---- an ACK
 
+  -- a sample is taken, where one is to be
   abbrev pub sampled_if : Bool → Occasion → ℕ → ℕ → PathData C → PathData C
   sampled_if true o delay at p = sample_taken o.time o.space o.next delay at p
   sampled_if false o delay at p = p
@@ -227,6 +241,7 @@ module _ {C : Type 0} where
   abbrev pub placed : SpaceId → Recovery → SpaceAfter C → After C
   placed id r q = after_with (with_space id q.space r) q.path q.acked q.lost
 
+  -- the count falls where that call acknowledged a packet
   abbrev pub counted : Around → After C → After C
   counted around a = record a { recovery = record a.recovery { count = count_after around a.acked a.recovery.count } }
 
@@ -244,13 +259,16 @@ module _ {C : Type 0} where
       (burst_told m now false (burst_of id p.mtud (lost_of l now (loss_delay l p.rtt) (unwrap_or s.greatest 0) s)) p)
       [] (lost_of l now (loss_delay l p.rtt) (unwrap_or s.greatest 0) s)
 
+  -- the timer found these packets lost
   abbrev pub losses_fired : SpaceId → Recovery → SpaceAfter C → FiredAfter C
   losses_fired id r q = fired_with (with_space id q.space r) q.path (fired.Lost q.lost)
 
+  -- the timer makes probes due, where a line behind the first holds
   abbrev pub probe_fired : Option (ℕ × SpaceId) → Recovery → PathData C → FiredAfter C
   probe_fired None r p = fired_with r p fired.Nothing
   probe_fired (Some due) r p = fired_with (record r { count = plus r.count 1 }) p (fired.Probe due.1 (probes_of r))
 
+  -- the earliest loss time counts first, else the lines behind it
   abbrev pub timeout_by : Control C → ℕ → Around → Option (ℕ × SpaceId) → Recovery → PathData C → FiredAfter C
   timeout_by m now around None r p = probe_fired (probe_line now around p.rtt r) r p
   timeout_by m now around (Some loss) r p = losses_fired loss.1 r (space_timed m r.limits now loss.1 (space_of loss.1 r) p)

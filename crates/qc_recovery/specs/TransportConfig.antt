@@ -4,6 +4,7 @@ use Rattle.qc_recovery.specs.TransportValues.{MtuDiscoveryValues, TransportValue
 use Rattle.qc_recovery.specs.declared.mtu_config.MtuDiscoveryConfig.TheInside as mtu
 use Rattle.qc_recovery.specs.declared.transport_config.TransportConfig.TheInside as transport
 
+-- the values of a search's settings
 abbrev pub mtu_discovery_values : mtu.Inside → MtuDiscoveryValues
 mtu_discovery_values c = record {
   interval = c.interval;
@@ -16,6 +17,7 @@ mtu_discovery_values c = record {
 abbrev pub IsMtuBounded : mtu.Inside → Type 0
 IsMtuBounded c = c.upper_bound ≤ 65527
 
+-- the values of a connection's settings
 abbrev pub transport_values : transport.Inside → TransportValues
 transport_values c = record {
   max_concurrent_bidi_streams = c.max_concurrent_bidi_streams;

@@ -8,6 +8,7 @@ pub record MtuDiscoveryValues : Type 0 where
   pub black_hole_cooldown : ℕ
   pub minimum_change : ℕ
 
+-- what holds where none is set
 abbrev pub default_mtu_discovery : MtuDiscoveryValues
 default_mtu_discovery = record {
   interval = 600000000000;
@@ -40,6 +41,7 @@ pub record TransportValues : Type 0 where
   pub allow_spin : Bool
   pub enable_segmentation_offload : Bool
 
+-- what holds where none is set: RFC 9002's constants, and sizes that a path takes for certain
 abbrev pub default_transport : TransportValues
 default_transport = record {
   max_concurrent_bidi_streams = 100;

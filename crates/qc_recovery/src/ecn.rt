@@ -1,7 +1,7 @@
 //! What the counts of an ACK show of marks (RFC 9000, section 13.4.2).
 
 ghost use Rattle.std.specs.Prelude.{◌≡◌};
-ghost use Rattle.qc_recovery.specs.Acking.{are_bad, counts_by, counts_kept, counts_show, ecn_shown, no_counts};
+ghost use Rattle.qc_recovery.specs.Acking.{are_bad, counts_or_none_show, counts_kept, counts_show, ecn_shown, no_counts};
 
 use qc_frame::EcnCounts;
 
@@ -54,7 +54,7 @@ fn shown(raises: bool, old: EcnCounts, new: EcnCounts, acked: u64) -> EcnVerdict
 }
 
 fn shown_by(raises: bool, old: EcnCounts, new: Option<EcnCounts>, acked: u64) -> EcnVerdict
-    ensures { result ≡ counts_by raises old new acked }
+    ensures { result ≡ counts_or_none_show raises old new acked }
 {
     match new {
         None => EcnVerdict::Missing,

@@ -253,13 +253,12 @@ impl TransportConfig {
     }
 
     /// Sets the part `num` / `den` of a round trip after which a packet counts as lost (RFC 9002,
-    /// section 6.1.2).
+    /// section 6.1.2). A denominator of 0 counts as 1.
     pub fn time_threshold(&mut self, num: u32, den: u32) -> &mut Self
-        requires { 0 < den }
         ensures same { result.ghost_name ≡ self.entry.ghost_name }
-        ensures set { result.now ≡ record self.old { time_threshold = (num, den) } }
+        ensures set { result.now ≡ record self.old { time_threshold = (num, max den 1) } }
     {
-        self.time_threshold = (num, den);
+        self.time_threshold = (num, den.max(1));
         self
     }
 
