@@ -8,6 +8,7 @@ use std::alloc::AllocError;
 
 /// The time of the calendar, as a server sees it.
 pub trait TimeSource: Drop {
+    // The time that it shows, in nanoseconds since the start of 1970.
     ghost time_of: { Self → ℕ };
 
     /// The time now.

@@ -33,6 +33,11 @@ pub struct KeptCid {
 }
 
 impl Default for KeptCid {
+    ghost use Rattle.std.specs.Prelude.{◌≡◌, [], None};
+
+    ghost is_default = { λ c. c ≡ record { sequence = 0; id = []; reset_token = None } };
+
+    /// An empty id under number 0, without a token.
     fn default() -> Self {
         KeptCid {
             sequence: 0,

@@ -20,16 +20,19 @@ pub trait ConnectionIdGenerator: Drop {
     // The id that is made of a random source.
     ghost generated: { Self → Stream → List ℕ };
 
-    // The generator that is left, and the random source.
+    // The generator that is left.
     ghost after_generation: { Self → Stream → Self };
 
+    // What is left of the random source.
     ghost stream_after: { Self → Stream → Stream };
 
     // Whether the generator takes an id for one of its own.
     ghost accepts: { Self → List ℕ → Bool } = { λ _ _. true };
 
+    // How many bytes each id has.
     ghost id_length: { Self → ℕ };
 
+    // How long after its issue an id is to be retired, in nanoseconds; `None` where it isn't.
     ghost lifetime_of: { Self → Option ℕ };
 
     /// Makes an id. It has [`cid_len`](Self::cid_len) bytes, and [`validate`](Self::validate) takes it.
