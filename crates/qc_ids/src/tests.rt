@@ -59,10 +59,19 @@ fn ids_are_made_and_known_again(rt: HostRuntime) -> Result<(), Fail> {
         hashed.cid_lifetime(),
         Some(Duration::from_nanos(1_000_000_000))
     );
+    assert_eq!(rt; hashed.cid_len(), 8);
     let mut random = RandomConnectionIdGenerator::default();
     let id = random.generate_cid(&mut OneByte);
     assert_eq!(rt; id, ConnectionId::new(&[1, 0, 0, 0, 0, 0, 0, 0]));
     assert_eq!(rt; random.validate(&other), Ok(()));
+    random.set_lifetime(Duration::from_nanos(7));
+    assert_eq!(rt; random.cid_lifetime(), Some(Duration::from_nanos(7)));
+    let mut short = RandomConnectionIdGenerator::new(4);
+    assert_eq!(rt; short.cid_len(), 4);
+    assert_eq!(rt;
+        short.generate_cid(&mut OneByte),
+        ConnectionId::new(&[1, 0, 0, 0])
+    );
     Ok(())
 }
 
@@ -110,6 +119,10 @@ fn frames_bring_ids(rt: HostRuntime) -> Result<(), Fail> {
         }
     }
     assert!(rt; queue.next().is_none());
+    assert_eq!(rt; queue.insert(frame(14, 12)).map(range_of), Ok((0, 0)));
+    let next = queue.next().map(|(token, range)| (range, token));
+    assert_eq!(rt; range_of(next), (12, 14));
+    assert_eq!(rt; queue.active_seq(), 14);
     queue.update_initial_cid(ConnectionId::new(&[3]));
     assert_eq!(rt; queue.active(), ConnectionId::new(&[3]));
     Ok(())
@@ -131,6 +144,7 @@ fn ids_grow_old(rt: HostRuntime) -> Result<(), Fail> {
     let lifetime = Some(Duration::from_nanos(10));
     let mut state = CidState::new(rt.alloc(), 8, lifetime, Instant::from_nanos(5), 2);
     state.new_cids(&[issued(2), issued(3)], Instant::from_nanos(7))?;
+    assert_eq!(rt; state.cid_len(), 8);
     assert_eq!(rt; state.next_timeout(), Some(Instant::from_nanos(15)));
     assert_eq!(rt; state.on_cid_timeout(), 2);
     assert_eq!(rt; state.retire_prior_to(), 2);
