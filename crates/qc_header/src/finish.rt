@@ -1,6 +1,6 @@
 //! Taking header protection off (RFC 9001, section 5.4).
 
-ghost use Rattle.std.specs.Prelude.{◌≡◌, ◌≢◌, ◌+◌, ◌<◌, ◌≤◌, ◌^◌, ◌⊎◌, ◌↔◌, ℕ, length, take, drop, IfOk, IfErr, IfSome, IfNone, OnErr, IsErrOf, IsErr, OnOk, IsTrue, IsSome};
+ghost use Rattle.std.specs.Prelude.{◌≡◌, ◌≢◌, ◌+◌, ◌<◌, ◌≤◌, ◌^◌, ◌⊎◌, ◌↔◌, ℕ, length, take, drop, IfOk, IfErr, IfSome, IfNone, IsErrOf, IsTrue, IsSome, IsNone};
 ghost use Rattle.qc_base.specs.Mask.{unmasked, first_byte, number_len_in};
 ghost use Rattle.qc_header.specs.declared.header.InitialHeader.{InitialHeader};
 ghost use Rattle.qc_header.specs.Piece.{is_protected, token_end};
@@ -154,26 +154,37 @@ fn read_header(
     }
 }
 
-/// Takes header protection off a packet whose number begins at `pn_offset`, and gives where its header
-/// ends; `InvalidHeader` exactly where the packet is too short for a sample.
+/// Takes header protection off a packet, if it is protected, and gives where its header ends; None exactly
+/// where a protected packet is too short for a sample.
 fn unprotect<H: HeaderMask>(
+    header: &ProtectedHeader,
     pn_offset: usize,
     bytes: &mut BytesMut,
-    key: &H,
-) -> Result<usize, PacketDecodeError>
-    requires { pn_offset ≤ length bytes.old.items }
-    ensures cut { IsErr result ↔ (length bytes.old.items < pn_offset + 20) }
-    ensures refused { IfErr result (λ e. e ≡ PacketDecodeError.InvalidHeader) }
-    ensures unprotected { OnOk result (bytes.new.items ≡ unmasked (H.mask_of key.now) pn_offset bytes.old.items) }
-    ensures end { IfOk result (λ end. end ≡ pn_offset + number_len_in bytes.new.items) }
-    ensures fits { IfOk result (λ end. end ≤ length bytes.new.items) }
+    key: Option<&H>,
+) -> Option<usize>
+    requires key { IsTrue (is_protected header.now) → IsSome key }
+    requires fits { pn_offset ≤ length bytes.old.items }
+    ensures cut { IsNone result ↔ IsCut (record { header = header.now; pn_offset = pn_offset; bytes = bytes.old.items }) }
+    ensures unprotected { IsSome result → bytes.new.items
+        ≡ unprotected (masks_of H.mask_of key.entry) (record { header = header.now; pn_offset = pn_offset; bytes = bytes.old.items }) }
+    ensures end { IfSome result (λ end. end ≡ header_end (record { header = header.now; pn_offset = pn_offset; bytes = bytes.old.items }) bytes.new.items) }
+    ensures begins { IfSome result (λ end. pn_offset ≤ end) }
+    ensures fits { IfSome result (λ end. end ≤ length bytes.new.items) }
 {
-    if bytes.len() < pn_offset + 20 {
-        return Err(PacketDecodeError::InvalidHeader);
+    if !header.is_protected() {
+        return Some(pn_offset);
     }
-    unmask_packet(key, pn_offset, bytes.as_mut_slice());
-    let tag = leading_byte(bytes.as_slice()) % 4;
-    Ok(pn_offset + tag as usize + 1)
+    match key {
+        Some(key) => {
+            if bytes.len() < pn_offset + 20 {
+                return None;
+            }
+            unmask_packet(key, pn_offset, bytes.as_mut_slice());
+            let tag = leading_byte(bytes.as_slice()) % 4;
+            Some(pn_offset + tag as usize + 1)
+        }
+        None => unreachable!(),
+    }
 }
 
 impl PartialDecode {
@@ -194,43 +205,38 @@ impl PartialDecode {
             let bytes = unprotected (masks_of H.mask_of key.entry) self in
             p.payload.items ≡ drop (header_end self bytes) bytes) }
     {
-        let space = self.space();
         let PartialDecode {
             header,
             pn_offset,
-            bytes,
+            mut bytes,
         } = self;
-        let mut bytes = bytes;
-        if space.is_none() {
-            return cut(&header, pn_offset, pn_offset, bytes);
-        }
-        match key {
-            Some(key) => {
-                let end = unprotect(pn_offset, &mut bytes, key)?;
-                cut(&header, pn_offset, end, bytes)
-            }
-            None => unreachable!(),
-        }
+        let end = unprotect(&header, pn_offset, &mut bytes, key);
+        cut(&header, pn_offset, end, bytes)
     }
 }
 
-/// Cuts a packet without header protection where its header ends.
+/// Cuts a packet without header protection where its header ends, if the packet was long enough.
 fn cut(
     header: &ProtectedHeader,
     pn_offset: usize,
-    end: usize,
-    bytes: BytesMut,
+    end: Option<usize>,
+    mut bytes: BytesMut,
 ) -> Result<Packet, PacketDecodeError>
     requires token { token_end header.now ≤ pn_offset }
-    requires pn_offset { pn_offset ≤ end }
-    requires end { end ≤ length bytes.items }
-    ensures refused { IfErr result (λ e. e ≡ PacketDecodeError.OutOfMemory) }
+    requires pn_offset { IfSome end (λ e. pn_offset ≤ e) }
+    requires end { IfSome end (λ e. e ≤ length bytes.items) }
+    ensures cut { IsErrOf result PacketDecodeError.InvalidHeader ↔ IsNone end }
+    ensures refused { IfErr result (λ e. (e ≡ PacketDecodeError.OutOfMemory)
+        ⊎ (e ≡ PacketDecodeError.InvalidHeader)) }
     ensures header { IfOk result (λ p. p.header ≡ header_from header.now pn_offset p.header_data) }
-    ensures header_data { IfOk result (λ p. p.header_data ≡ take end bytes.items) }
-    ensures payload { IfOk result (λ p. p.payload.items ≡ drop end bytes.items) }
+    ensures header_data { IfOk result (λ p. IfSome end (λ e. p.header_data ≡ take e bytes.items)) }
+    ensures payload { IfOk result (λ p. IfSome end (λ e. p.payload.items ≡ drop e bytes.items)) }
 {
-    let mut payload = bytes;
-    let header_data = match payload.freeze_to(end) {
+    let end = match end {
+        Some(end) => end,
+        None => return Err(PacketDecodeError::InvalidHeader),
+    };
+    let header_data = match bytes.freeze_to(end) {
         Ok(header_data) => header_data,
         Err(_) => return Err(PacketDecodeError::OutOfMemory),
     };
@@ -238,7 +244,7 @@ fn cut(
         Ok(header) => Ok(Packet {
             header,
             header_data,
-            payload,
+            payload: bytes,
         }),
         Err(_) => Err(PacketDecodeError::OutOfMemory),
     }

@@ -34,7 +34,7 @@ impl Model for PartialDecode {
 
 /// The first packet of a datagram, and what is behind it.
 fn first_piece(
-    bytes: BytesMut,
+    mut bytes: BytesMut,
     local_cid_len: usize,
     versions: &[u32],
     grease_quic_bit: bool,
@@ -51,7 +51,6 @@ fn first_piece(
         → IsFollowed local_cid_len versions.now grease_quic_bit bytes.items }
 {
     let bounds = read_bounds(bytes.as_slice(), local_cid_len, versions, grease_quic_bit)?;
-    let mut bytes = bytes;
     let Bounds {
         header,
         pn_offset,

@@ -1,5 +1,8 @@
 //! What is readable of a header under header protection (RFC 9001, section 5.4).
 
+ghost use Rattle.std.specs.Prelude.{◌≡◌};
+ghost use Rattle.qc_header.specs.Piece.{is_protected};
+
 use qc_base::{ConnectionId, Cut, LongType};
 
 /// Why a packet's header cannot be read.
@@ -84,4 +87,18 @@ pub enum ProtectedHeader {
         /// The destination connection id.
         dst_cid: ConnectionId,
     },
+}
+
+impl ProtectedHeader {
+    /// Whether it is of a form that header protection covers: exactly those with a packet number.
+    pub(crate) fn is_protected(&self) -> bool
+        ensures { result ≡ is_protected self.now }
+    {
+        match self {
+            ProtectedHeader::Initial { .. }
+            | ProtectedHeader::Long { .. }
+            | ProtectedHeader::Short { .. } => true,
+            ProtectedHeader::Retry { .. } | ProtectedHeader::VersionNegotiate { .. } => false,
+        }
+    }
 }
