@@ -48,7 +48,7 @@ long_form x h = grind (arith, nat_tests)
 short_form : (x : ℕ) → x < 128 → nat_lt (x - 64) 128 ≡ nat_lt x 128
 short_form x h = grind (arith, nat_tests)
 
-tag_small : (number : PacketNumber) → number_tag number < 4
+pub tag_small : (number : PacketNumber) → number_tag number < 4
 tag_small (U8 n) = omega arith
 tag_small (U16 n) = omega arith
 tag_small (U24 n) = omega arith

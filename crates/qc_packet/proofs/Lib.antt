@@ -3,3 +3,4 @@ pub mod Full
 pub mod Flips
 pub mod OpenedLemmas
 pub mod Sealed
+pub mod Arrivals

@@ -1,3 +1,4 @@
+pub mod Arrival
 pub mod Building
 pub mod OpenedPacket
 pub mod PacketSpelling

@@ -3,12 +3,14 @@
 
 mod builder;
 mod decrypt;
+mod laws;
 mod seal;
 mod slot;
 mod unprotect;
 
 pub use builder::PacketBuilder;
 pub use decrypt::{DecryptPacketResult, OpenError, OpenKeys, decrypt_packet_body};
+pub use laws::sealed_packet_arrives;
 pub use qc_rings::{
     KeyRing, PairLog, PairOutcome, RingEvent, Which, ends_in_step_agree, ends_stay_in_step,
     ring_pair,

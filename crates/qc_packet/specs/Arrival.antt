@@ -1,0 +1,65 @@
+-- What a receiver makes of a packet that was sealed (RFC 9001, sections 5.3 to 5.5).
+use Rattle.std.specs.Prelude.{◌≡◌, ℕ, ◌+◌, ◌%◌, ◌<◌, ◌≤◌, ◌^◌, Bool, true, false, List, [], ◌++◌, Option, Some, None, Result, Ok, Err, if◌then◌else◌}
+use Rattle.std.specs.Option.{option_copied}
+use Rattle.qc_base.specs.Time.{plus}
+use Rattle.qc_base.specs.Mask.{first_byte}
+use Rattle.qc_base.specs.PacketNumber.{number_window, number_low, IsInWindow}
+use Rattle.qc_base.specs.declared.packet_number.PacketNumber.{PacketNumber}
+use Rattle.qc_crypto.specs.Mates.{Sealing, Opening}
+use Rattle.qc_header.specs.declared.finish.Packet.{Packet}
+use Rattle.qc_header.specs.declared.header.Header.{Header}
+use Rattle.qc_header.specs.HeaderReading.{piece_at}
+use Rattle.qc_header.specs.HeaderSpelling.{header_number}
+use Rattle.qc_header.specs.Piece.{Piece}
+use Rattle.qc_header.specs.RoundTrip.{IsReadable, sent_piece}
+use Rattle.qc_packet.specs.declared.decrypt.DecryptPacketResult.{DecryptPacketResult}
+use Rattle.qc_packet.specs.declared.decrypt.OpenError.{OpenError}
+use Rattle.qc_packet.specs.declared.decrypt.OpenError.TheVariants.{KeyUpdate}
+use Rattle.qc_packet.specs.declared.decrypt.OpenKeys.{OpenKeys}
+use Rattle.qc_packet.specs.Building.{is_short, pn_len}
+use Rattle.qc_packet.specs.OpenedPacket.{key_named, which_in, is_bad_update, result_of}
+use Rattle.qc_packet.specs.PacketSpelling.{header_bytes, protected_len, packet_spelling}
+use Rattle.qc_packet.specs.Unprotected.{is_cut, IsUnprotected}
+use Rattle.qc_rings.specs.Keyed.{Keyed}
+
+-- A packet with this header and plain payload, and these bytes behind it, can be told apart by a receiver: the
+-- header is one that it reads and has a number; number and payload have enough bytes for a sample; a Length field
+-- has room for them; and a short header is the last of its datagram.
+pub record CanArrive (local_cid_len : ℕ) (versions : List ℕ) (grease_quic_bit : Bool) (h : Header) (plain rest : List ℕ) : Type 0 where
+  pub readable : IsReadable local_cid_len versions grease_quic_bit h
+  pub numbered : 1 ≤ pn_len h
+  pub sample : 20 ≤ protected_len h plain
+  pub length_field : is_short h ≡ false → protected_len h plain < 2 ^ 14
+  pub last : is_short h ≡ true → rest ≡ []
+
+-- the first piece of a datagram that begins with the packet
+abbrev pub sealed_piece : (List ℕ → List ℕ) → Sealing → Header → ℕ → List ℕ → Piece
+sealed_piece mask seal h number plain = sent_piece mask h (protected_len h plain) (seal number (header_bytes h plain) plain)
+
+-- a packet without header protection that is the one sealed with this header, number and plain payload
+pub record IsSealed (seal : Sealing) (h : Header) (number : ℕ) (plain : List ℕ) (p : Packet) : Type 0 where
+  pub header : p.header ≡ h
+  pub header_data : p.header_data ≡ header_bytes h plain
+  pub payload : p.payload.items ≡ seal number (header_bytes h plain) plain
+
+-- the packet is read at the front of its datagram, is not too short for a sample, and is itself once its mask is off
+pub record Arrives (mask : List ℕ → List ℕ) (seal : Sealing) (local_cid_len : ℕ) (versions : List ℕ) (grease_quic_bit : Bool) (h : Header) (number : ℕ) (plain rest : List ℕ) : Type 0 where
+  pub read : piece_at local_cid_len versions grease_quic_bit (packet_spelling mask seal h number plain ++ rest) ≡ Ok (sealed_piece mask seal h number plain, rest)
+  pub whole : is_cut (sealed_piece mask seal h number plain) ≡ false
+  pub unprotected : (p : Packet) → IsUnprotected mask (sealed_piece mask seal h number plain) p → IsSealed seal h number plain p
+
+-- a header's low bytes are those of this number, which lies within half a window of the one after rx, the greatest
+-- received before
+abbrev pub IsInReach : Option PacketNumber → ℕ → ℕ → Type 0
+IsInReach None rx number = ⊥
+IsInReach (Some low) rx number =
+    (number % number_window low ≡ number_low low) × (number < 2 ^ 62) × IsInWindow (number_window low) (plus rx 1) number
+
+-- the receiver has this key for the packet
+abbrev pub HasKey : {P : Type 0} → OpenKeys P → Header → ℕ → P → Type 0
+HasKey keys h number key = key_named h (option_copied keys.plain) (option_copied keys.early) (option_copied keys.ring) number ≡ Some key
+
+-- what is answered once it was opened
+abbrev pub arrival_answer : {P : Type 0} → Header → Option (Keyed P) → ℕ → ℕ → Result (Option DecryptPacketResult) OpenError
+arrival_answer h ring rx number =
+    if is_bad_update (which_in h ring number) ring rx number then Err KeyUpdate else Ok (Some (result_of (which_in h ring number) ring number))
