@@ -1,3 +1,4 @@
 pub mod AskingLemmas
 pub mod MixedLemmas
 pub mod SealingLemmas
+pub mod PassingLemmas

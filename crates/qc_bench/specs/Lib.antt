@@ -1,3 +1,4 @@
 pub mod Asking
 pub mod Mixed
+pub mod Passing
 pub mod Results

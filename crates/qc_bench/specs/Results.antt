@@ -3,7 +3,7 @@ use Rattle.std.specs.Prelude.{◌≡◌, ℕ, ◌*◌, List, ◌++◌, codes, de
 use Rattle.qc_bench.specs.Asking.{Asks}
 use Rattle.qc_bench.specs.declared.frames.Tally.{Tally}
 use Rattle.qc_bench.specs.declared.job.Job.{Job}
-use Rattle.qc_bench.specs.declared.job.Job.TheVariants.{Frames, Keys}
+use Rattle.qc_bench.specs.declared.job.Job.TheVariants.{Frames, Keys, Packets}
 use Rattle.qc_bench.specs.declared.keys.Opened.{Opened}
 use Rattle.qc_bench.specs.declared.outcome.Outcome.{Outcome}
 use Rattle.qc_bench.specs.declared.outcome.Outcome.TheVariants as outcome
@@ -12,6 +12,7 @@ use Rattle.qc_bench.specs.declared.outcome.Outcome.TheVariants as outcome
 pub data IsOutcome (words : List (List ℕ)) : Outcome → Type 0 where
   read : (count times : ℕ) (tally : Tally) → Asks words (Frames count times) → tally.frames ≡ times * count → IsOutcome words (outcome.Read tally)
   sealed : (count : ℕ) (opened : Opened) → Asks words (Keys count) → opened.packets ≡ count → IsOutcome words (outcome.Sealed opened)
+  passed : (count size : ℕ) (opened : Opened) → Asks words (Packets count size) → opened.packets ≡ count → IsOutcome words (outcome.Sealed opened)
   usage : ((job : Job) → ¬ Asks words job) → IsOutcome words outcome.Usage
   no_memory : (job : Job) → Asks words job → IsOutcome words outcome.NoMemory
 
@@ -30,5 +31,5 @@ line name n = name ++ codes " " ++ decimal n ++ codes "\n"
 abbrev pub outcome_text : Outcome → List ℕ
 outcome_text (outcome.Read tally) = line (codes "frames") tally.frames ++ line (codes "bytes") tally.bytes ++ line (codes "weight") tally.weight
 outcome_text (outcome.Sealed opened) = line (codes "packets") opened.packets ++ line (codes "sum") opened.sum
-outcome_text outcome.Usage = codes "usage: qc_bench frames COUNT TIMES | qc_bench keys COUNT\n"
+outcome_text outcome.Usage = codes "usage: qc_bench frames COUNT TIMES | qc_bench keys COUNT | qc_bench packets COUNT SIZE\n"
 outcome_text outcome.NoMemory = codes "no memory\n"

@@ -19,7 +19,8 @@ const HEADER_LEN: usize = 13;
 pub struct Opened {
     /// How many packets were opened.
     pub packets: u64,
-    /// The sum of the last byte of each plain text, modulo 2^64.
+    /// A sum that depends on each of them, modulo 2^64: where the keys were used alone, of the last byte of each
+    /// plain text; where packets were built and read, of their full numbers.
     pub sum: u64,
 }
 

@@ -7,6 +7,7 @@ mod frames;
 mod job;
 mod keys;
 mod outcome;
+mod packets;
 mod run;
 mod samples;
 #[cfg(test)]

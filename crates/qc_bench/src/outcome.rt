@@ -12,7 +12,7 @@ use std::fmt;
 pub enum Outcome {
     /// Frames were read.
     Read(Tally),
-    /// Packets were sealed and opened.
+    /// Packets were sealed and opened, by their keys alone or whole.
     Sealed(Opened),
     /// The words are none that the program knows.
     Usage,
@@ -53,7 +53,7 @@ impl fmt::Display for Outcome {
             Outcome::Usage => {
                 write!(
                     f,
-                    "usage: qc_bench frames COUNT TIMES | qc_bench keys COUNT\n"
+                    "usage: qc_bench frames COUNT TIMES | qc_bench keys COUNT | qc_bench packets COUNT SIZE\n"
                 )
             }
             Outcome::NoMemory => write!(f, "no memory\n"),

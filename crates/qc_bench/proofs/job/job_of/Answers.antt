@@ -7,5 +7,5 @@ returns-in-len2 c = two_texts_ask c.args.words.now _ _ _ _ _ (omega arith) c.wor
 
 pub returns-in-len3 : goal.returns-in-len3
 returns-in-len3 c =
-    three_texts_ask c.args.words.now _ _ _ _ _ _ _ (omega arith) c.word-item-then-words-lt4.is c.count-item-then-words-lt4.is c.times-item.is
-    c.as_str-in-len3.ensures.value c.as_str-in-len3-2.ensures.value c.as_str-in-len3-3.ensures.value c.frames_job.ensures
+    three_texts_ask c.args.words.now _ _ _ _ _ _ _ (omega arith) c.word-item-then-words-lt4.is c.first-item.is c.second-item.is
+    c.as_str-in-len3.ensures.value c.as_str-in-len3-2.ensures.value c.as_str-in-len3-3.ensures.value c.long_job.ensures

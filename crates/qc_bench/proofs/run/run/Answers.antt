@@ -1,4 +1,4 @@
-use Rattle.qc_bench.specs.Results.{read, sealed, usage, no_memory}
+use Rattle.qc_bench.specs.Results.{read, sealed, passed, usage, no_memory}
 use Rattle.qc_bench.proofs.run.run.Goals as goal
 
 pub returns-in-None : goal.returns-in-None
@@ -15,3 +15,10 @@ returns-in-Ok-seal_and_open c = sealed _ c.in-Ok-seal_and_open.opened (rw c.in-S
 
 pub returns-in-Err-seal_and_open : goal.returns-in-Err-seal_and_open
 returns-in-Err-seal_and_open c = no_memory c.in-Some-Keys.field-0 c.in-Some-Keys.ensures
+
+pub returns-in-Ok-pass_toy_packets : goal.returns-in-Ok-pass_toy_packets
+returns-in-Ok-pass_toy_packets c =
+    passed _ _ c.in-Ok-pass_toy_packets.opened (rw c.in-Some-Packets.field-0-is at c.in-Some-Packets.ensures) c.in-Ok-pass_toy_packets.ensures
+
+pub returns-in-Err-pass_toy_packets : goal.returns-in-Err-pass_toy_packets
+returns-in-Err-pass_toy_packets c = no_memory c.in-Some-Packets.field-0 c.in-Some-Packets.ensures
