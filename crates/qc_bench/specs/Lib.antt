@@ -2,3 +2,4 @@ pub mod Asking
 pub mod Mixed
 pub mod Passing
 pub mod Results
+pub mod Weights
