@@ -1,6 +1,6 @@
 use crate::{ConfigError, EndpointConfig, TokenMemoryCache, TokenStore, reset_token};
 use bytes::Bytes;
-use qc_base::{ConnectionId, Duration, ResetToken};
+use qc_base::{ConnectionId, ResetToken};
 use qc_toy::ToyHmacKey;
 use std::alloc::{AllocError, Global};
 use std::test::Fail;
@@ -59,10 +59,6 @@ fn an_endpoint_is_set_up(rt: HostRuntime) -> Result<(), Fail> {
     }
     assert_eq!(rt; config.get_max_udp_payload_size(), 65527);
     assert!(rt; config.get_supported_versions().len() == 7);
-    config
-        .grease_quic_bit(false)
-        .min_reset_interval(Duration::ZERO);
-    assert_eq!(rt; config.get_grease_quic_bit(), false);
     let text = format!(in rt.alloc(); "{}", ConfigError::OutOfBounds)?;
     assert_eq!(rt; text.as_str(), "value exceeds supported bounds");
     let token = reset_token(rt.alloc(), &key, ConnectionId::new(&[1; 8]))?;

@@ -33,6 +33,8 @@ pub use validation_token::ValidationTokenConfig;
 #[cfg(test)]
 mod cache_tests;
 #[cfg(test)]
+mod setting_tests;
+#[cfg(test)]
 mod tests;
 #[cfg(test)]
 mod token_tests;

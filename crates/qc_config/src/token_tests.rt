@@ -6,7 +6,7 @@ use bytes::Bytes;
 use qc_base::{ConnectionId, Duration, PacketNumber, SystemTime};
 use qc_crypto::{AeadKey, HandshakeTokenKey};
 use qc_header::InitialHeader;
-use qc_toy::{ToyServer, ToySettings, ToyTokenKey};
+use qc_toy::{ToyServer, ToySettings, ToyTokenKey, ZeroRandom};
 use std::alloc::{AllocError, Global};
 use std::default::Default;
 use std::net::{IpAddr, Ipv6Addr, SocketAddr};
@@ -42,6 +42,7 @@ fn a_validation_token_is_sealed(rt: HostRuntime) -> Result<(), Fail> {
     let mut expected = Vec::from_slice(rt.alloc(), &PLAIN)?;
     expected.extend_from_slice(&TAG)?;
     expected.extend_from_slice(&[0; 16])?;
+    assert!(rt; Token::new(token.payload, &mut ZeroRandom) == token);
     let bytes = token.encode(rt.alloc(), &key)?;
     assert_eq!(rt; bytes.as_slice(), expected.as_slice());
     assert!(rt; Token::decode(rt.alloc(), &key, bytes.as_slice())? == Some(token));
