@@ -95,12 +95,9 @@ above_last (x ∷ y ∷ ranges) (suc i) d n normal some past =
     let out : is_within n x ≡ false = grind (arith, nat_tests) in
     (in_cons x (y ∷ ranges) n ∙ rw (out, rest.0) refl, (below, rest.1))
 
+-- no packet above the last range passes
 pub none_above_last : (ranges : List NumberRange) (d : NumberRange) → Normal ranges → 0 < length ranges → PassesUpTo (get_or ranges (length ranges - 1) d).last (is_acked ranges)
 none_above_last ranges d normal some = record { none = λ e past. (above_last ranges (length ranges - 1) d e.0 normal (omega arith) past).0 }
-
-pub none_of_none : (ranges : List NumberRange) → length ranges ≡ 0 → PassesUpTo 0 (is_acked ranges)
-none_of_none [] none = record { none = λ e past. in_nil e.0 }
-none_of_none (x ∷ ranges) none = absurd (omega arith)
 
 pub none_lost_above : (largest threshold now delay : ℕ) → PassesUpTo largest (is_lost largest threshold now delay)
 unfolding is_lost

@@ -216,6 +216,18 @@ fn repeated_numbers_show(rt: HostRuntime) -> Result<(), Fail> {
     Ok(())
 }
 
+// After 300 came alone, the window reaches down to 172.
+#[test]
+fn the_window_ends_128_below_the_greatest(rt: HostRuntime) -> Result<(), Fail> {
+    let mut seen = Dedup::new();
+    assert!(rt; !seen.insert(300));
+    for (number, new) in [(172, true), (171, false), (300, false), (301, true)] {
+        assert_eq!(rt; seen.is_new(number), new);
+    }
+    assert_eq!(rt; seen.greatest(), Some(300));
+    Ok(())
+}
+
 fn arrival(number: u64, ack_eliciting: bool) -> Arrival {
     Arrival {
         number,

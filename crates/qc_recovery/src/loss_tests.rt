@@ -288,3 +288,36 @@ fn the_clock_may_end(rt: HostRuntime) -> Result<(), Fail> {
     assert_eq!(rt; recovery.arm(end, &around(), &path), Some(end));
     Ok(())
 }
+
+// Sums of times stop at the end of the clock. On a clock that went back a round trip took no time at all,
+// so that a probe is due after the least time of 1 ms, and the 25 ms of the peer.
+#[test]
+fn the_clock_ends_and_goes_back(rt: HostRuntime) -> Result<(), Fail> {
+    let alloc = rt.alloc();
+    let mut recovery = Recovery::new(alloc, &TransportConfig::default());
+    let mut path = path();
+    let end = Instant::from_nanos(u64::MAX);
+    send(alloc, &mut recovery, SpaceId::Data, 0, end)?;
+    for _ in 0..20 {
+        assert_eq!(rt; recovery.arm(end, &around(), &path), Some(end));
+        match recovery.on_timeout(end, &around(), &mut path)? {
+            Fired::Probe { space, count } => {
+                assert_eq!(rt; space, SpaceId::Data);
+                assert_eq!(rt; count, 2);
+            }
+            Fired::Lost(_) | Fired::Nothing => assert!(rt; false),
+        }
+    }
+    let settled = acknowledge(alloc, &mut recovery, &mut path, at(0), &[0], None)?;
+    assert_eq!(rt; settled.acked.len(), 1);
+    assert!(rt; settled.lost.is_empty());
+    assert_eq!(rt; recovery.in_flight(), 0);
+    assert_eq!(rt; path.rtt.get(), Duration::ZERO);
+    assert_eq!(rt;
+        recovery.pto(SpaceId::Data, &around(), &path.rtt),
+        Duration::from_millis(26)
+    );
+    send(alloc, &mut recovery, SpaceId::Data, 1, at(0))?;
+    assert_eq!(rt; recovery.arm(end, &around(), &path), Some(at(26)));
+    Ok(())
+}

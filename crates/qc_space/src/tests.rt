@@ -59,3 +59,17 @@ fn the_first_timer_that_expired_is_told(rt: HostRuntime) -> Result<(), Fail> {
     }
     Ok(())
 }
+
+// A timer at the last moment of the clock expires then, and not before.
+#[test]
+fn a_timer_expires_at_the_end_of_the_clock(rt: HostRuntime) -> Result<(), Fail> {
+    let mut table = TimerTable::new();
+    let end = Instant::from_nanos(u64::MAX);
+    table.set(Timer::KeepAlive, Some(end));
+    assert_eq!(rt; table.next_timeout(), Some(end));
+    assert!(rt; table.expired(Instant::from_nanos(u64::MAX - 1)).is_none());
+    assert_eq!(rt; table.expired(end), Some(Timer::KeepAlive));
+    table.set(Timer::KeepAlive, None);
+    assert!(rt; table.next_timeout().is_none());
+    Ok(())
+}
