@@ -10,7 +10,7 @@ ghost use Rattle.qc_state.specs.View.{at, ideal, held};
 use crate::state::Core;
 use bytes::Bytes;
 use qc_base::{Instant, SpaceId, VarInt};
-use qc_state::{ApplicationClose, EndpointEvent, Event, Suite};
+use qc_state::{ApplicationClose, Close, EndpointEvent, Event, Suite};
 
 impl<U: Suite> Core<U> {
     /// A PING waits from now on in the highest space (RFC 9000, section 19.2).
@@ -28,7 +28,10 @@ impl<U: Suite> Core<U> {
         ensures leads { (ideal U.Random.stream self.new) ≡ (close_after now error_code reason (at (ideal U.Random.stream self.old) [])).state }
     {
         if self.life.is_open() {
-            self.do_shut(now, ApplicationClose { error_code, reason });
+            self.do_shut(
+                now,
+                Close::Application(ApplicationClose { error_code, reason }),
+            );
             return true;
         }
         false

@@ -9,8 +9,8 @@ use qc_base::{ConnectionId, Duration, Instant, Side, VarInt};
 use qc_crypto::Session;
 use qc_recovery::{IdleTimeout, TransportConfig};
 use qc_state::{
-    CryptoQueue, Fixed, KeyGroup, Life, Lower, Numbers, Paths, Setup, SpaceKeys, SpaceNumbers,
-    SpaceWaiting, Spaces, State, Suite, Timers, Waiting,
+    CryptoQueue, Fixed, Flight, KeyGroup, Life, Lower, Numbers, Paths, Setup, SpaceKeys,
+    SpaceNumbers, SpaceWaiting, Spaces, State, Suite, Timers, Waiting,
 };
 use std::alloc::{AllocError, Global};
 use std::net::{IpAddr, SocketAddr};
@@ -64,16 +64,17 @@ fn idle_limit(timeout: Option<IdleTimeout>) -> Option<Duration>
 
 /// A space in which nothing waits.
 fn nothing_waits(alloc: Global) -> SpaceWaiting
-    ensures { result ≡ record { ping = false; crypto = from_start [] } }
+    ensures { result ≡ nothing_waits [] }
 {
     SpaceWaiting {
         ping: false,
         crypto: CryptoQueue::from_vec(Vec::new(alloc)),
+        flight: Flight::new(alloc),
     }
 }
 
-ghost use Rattle.std.specs.Prelude.{[], false, length, ◌<◌, ◌^◌};
-ghost use Rattle.qc_state.specs.Unsent.{from_start};
+ghost use Rattle.std.specs.Prelude.{[], length, ◌<◌, ◌^◌};
+ghost use Rattle.qc_state.specs.First.{nothing_waits};
 
 impl<U: Suite> Core<U> {
     /// A client's connection: its hello waits in the Initial space. Want of memory is the only refusal.
@@ -85,7 +86,7 @@ impl<U: Suite> Core<U> {
     ) -> Result<Core<U>, AllocError>
         requires fresh { U.Session.is_fresh setup.session }
         requires client { U.Session.side_of setup.session ≡ Side.Client }
-        ensures made { IfOk result (λ core. core ≡ first_view (meaning U.Session.Session U.Session.HeaderKey.HeaderMask U.Session.PacketKey.PacketKey) setup.session setup.random (client_fixed setup.version setup.local_cid setup.local_ip setup.transport.max_idle_timeout) setup.remote setup.first_cid now) }
+        ensures made { IfOk result (λ core. core ≡ first_view (meaning U.Session.Session U.Session.HeaderKey.HeaderMask U.Session.PacketKey.PacketKey) setup.session setup.random (client_fixed setup.version setup.local_cid setup.local_ip setup.transport.max_idle_timeout setup.grease_quic_bit) setup.remote setup.first_cid now) }
         ensures hello { IfOk result (λ core. length core.waiting.spaces.initial.crypto.bytes < 2 ^ 62) }
     {
         let mut session = setup.session;
@@ -95,9 +96,9 @@ impl<U: Suite> Core<U> {
         Ok(Core {
             numbers: Numbers {
                 spaces: Spaces {
-                    initial: SpaceNumbers { next: 0 },
-                    handshake: SpaceNumbers { next: 0 },
-                    application: SpaceNumbers { next: 0 },
+                    initial: SpaceNumbers::new(),
+                    handshake: SpaceNumbers::new(),
+                    application: SpaceNumbers::new(),
                 },
             },
             keys: KeyGroup {
@@ -106,6 +107,7 @@ impl<U: Suite> Core<U> {
                     handshake: None,
                     application: None,
                 },
+                failures: 0,
             },
             life: Life {
                 state: State::Handshake,
@@ -117,7 +119,9 @@ impl<U: Suite> Core<U> {
             paths: Paths {
                 remote: setup.remote,
                 remote_cid: setup.first_cid,
+                peer_fixed: false,
                 sent: 0,
+                received: 0,
             },
             timers: Timers {
                 loss_detection: None,
@@ -131,6 +135,7 @@ impl<U: Suite> Core<U> {
                     initial: SpaceWaiting {
                         ping: false,
                         crypto: CryptoQueue::from_vec(hello),
+                        flight: Flight::new(alloc),
                     },
                     handshake: nothing_waits(alloc),
                     application: nothing_waits(alloc),
@@ -144,6 +149,7 @@ impl<U: Suite> Core<U> {
                     local_cid: setup.local_cid,
                     local_ip: setup.local_ip,
                     idle_limit: idle_limit(setup.transport.get_max_idle_timeout()),
+                    grease_quic_bit: setup.grease_quic_bit,
                 },
                 random: setup.random,
             },

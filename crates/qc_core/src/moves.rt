@@ -2,16 +2,19 @@
 
 ghost use Rattle.std.specs.Prelude.{◌≡◌, ◌<◌, ◌^◌, OnOk, IfOk};
 ghost use Rattle.qc_state.specs.Life.{lost_event, drained_event};
-ghost use Rattle.qc_state.specs.Moves.{Clock, Ask, Take, Seal, Shut, Raise, Give, Say, ReportLost, ReportDrained, move_to, state_move};
+ghost use Rattle.qc_frame.specs.AckRanges.{ranges_of};
+ghost use Rattle.qc_frame.specs.Frame.{ack_map};
+ghost use Rattle.qc_state.specs.Moves.{Clock, Ask, Take, Seal, Enter, Fail, Accept, Fix, Hear, Ack, Calm, Tell, Drain, Leave, Owe, Shut, Raise, Give, Say, ReportLost, ReportDrained, move_to, state_move};
 ghost use Rattle.qc_state.specs.Spaces.{space_of};
 ghost use Rattle.qc_state.specs.View.{ideal, held};
 ghost use Rattle.qc_state.specs.Waiting.{taken_part};
 
 use crate::state::Core;
-use qc_base::{Instant, SpaceId};
-use qc_frame::FrameList;
+use qc_base::{ConnectionId, Instant, SpaceId};
+use qc_frame::{Ack, FrameList};
 use qc_state::{
-    ApplicationClose, ConnectionError, Dids, EndpointEvent, Event, Quiet, State, Suite,
+    Body, Close, ConnectionError, Did, Dids, EndpointEvent, Event, Layer, Quiet, State, Suite,
+    Verdict,
 };
 use std::alloc::{AllocError, Global};
 
@@ -62,13 +65,133 @@ impl<U: Suite> Core<U> {
         self.paths.sent(size);
         self.waiting.end_close();
         if frames.elicits() {
+            self.waiting.fly(space, number)?;
             self.timers.sealed(self.setup.fixed.idle_limit, now);
         }
         did.push_sealed(space, number, frames)
     }
 
-    /// The application closes.
-    pub(crate) fn do_shut(&mut self, now: Instant, close: ApplicationClose)
+    /// A packet came once this end had closed, and is only read for a close.
+    pub(crate) fn do_enter(
+        &mut self,
+        did: &mut Dids,
+        space: SpaceId,
+        number: u64,
+    ) -> Result<(), AllocError>
+        ensures { OnOk result ((held U.Random.stream self.new did.new) ≡ move_to (Enter space number) (held U.Random.stream self.old did.old)) }
+    {
+        self.numbers.entered(space, number);
+        did.push_piece(Some(space), Some(number), Verdict::ReadForClose)
+    }
+
+    /// A packet didn't open.
+    pub(crate) fn do_fail(&mut self)
+        ensures { (ideal U.Random.stream self.new) ≡ state_move Fail (ideal U.Random.stream self.old) }
+    {
+        self.keys.failed();
+    }
+
+    /// A packet was accepted.
+    pub(crate) fn do_accept(
+        &mut self,
+        did: &mut Dids,
+        now: Instant,
+        space: SpaceId,
+        number: u64,
+        verdict: Verdict,
+    ) -> Result<(), AllocError>
+        ensures { OnOk result ((held U.Random.stream self.new did.new) ≡ move_to (Accept now space number verdict) (held U.Random.stream self.old did.old)) }
+    {
+        self.numbers.accepted(space, number);
+        self.timers.accepted(self.setup.fixed.idle_limit, now);
+        did.push_piece(Some(space), Some(number), verdict)
+    }
+
+    /// The peer has chosen its id.
+    pub(crate) fn do_fix(&mut self, cid: ConnectionId)
+        ensures { (ideal U.Random.stream self.new) ≡ state_move (Fix cid) (ideal U.Random.stream self.old) }
+    {
+        self.paths.fix(cid);
+    }
+
+    /// So many bytes came from the path's address.
+    pub(crate) fn do_hear(&mut self, bytes: u64)
+        ensures { (ideal U.Random.stream self.new) ≡ state_move (Hear bytes) (ideal U.Random.stream self.old) }
+    {
+        self.paths.received(bytes);
+    }
+
+    /// The peer acknowledged packets.
+    pub(crate) fn do_ack(
+        &mut self,
+        alloc: Global,
+        space: SpaceId,
+        ack: &Ack<'_>,
+    ) -> Result<(), AllocError>
+        ensures { OnOk result ((ideal U.Random.stream self.new) ≡ state_move (Ack space ack.now.largest (ranges_of (ack_map (λ bytes. bytes.now) ack.now))) (ideal U.Random.stream self.old)) }
+    {
+        self.numbers.acked(space, ack.largest);
+        self.waiting.settle(alloc, space, ack)
+    }
+
+    /// Nothing that elicits an acknowledgement is in flight any more.
+    pub(crate) fn do_calm(&mut self)
+        ensures { (ideal U.Random.stream self.new) ≡ state_move Calm (ideal U.Random.stream self.old) }
+    {
+        self.timers.settled();
+    }
+
+    /// A packet that enters no number is told of.
+    pub(crate) fn do_tell_piece(
+        &self,
+        did: &mut Dids,
+        space: Option<SpaceId>,
+        number: Option<u64>,
+        verdict: Verdict,
+    ) -> Result<(), AllocError>
+        ensures { OnOk result ((held U.Random.stream self.now did.new) ≡ move_to (Tell (Did.Piece space number verdict)) (held U.Random.stream self.now did.old)) }
+    {
+        did.push_piece(space, number, verdict)
+    }
+
+    /// A frame is given to a layer.
+    pub(crate) fn do_tell_gave(
+        &self,
+        did: &mut Dids,
+        layer: Layer,
+        body: Body,
+    ) -> Result<(), AllocError>
+        ensures { OnOk result ((held U.Random.stream self.now did.new) ≡ move_to (Tell (Did.Gave layer body)) (held U.Random.stream self.now did.old)) }
+    {
+        did.push_gave(layer, body)
+    }
+
+    /// The peer closed as well.
+    pub(crate) fn do_drain(&mut self, did: &mut Dids) -> Result<(), AllocError>
+        ensures { OnOk result ((held U.Random.stream self.new did.new) ≡ move_to Drain (held U.Random.stream self.old did.old)) }
+    {
+        self.life.drain();
+        did.push_rose(3)
+    }
+
+    /// The peer closed.
+    pub(crate) fn do_leave(&mut self, did: &mut Dids, now: Instant) -> Result<(), AllocError>
+        ensures { OnOk result ((held U.Random.stream self.new did.new) ≡ move_to (Leave now) (held U.Random.stream self.old did.old)) }
+    {
+        self.life.drain();
+        self.timers.closing(now);
+        did.push_rose(3)
+    }
+
+    /// A close is owed again.
+    pub(crate) fn do_owe(&mut self)
+        ensures { (ideal U.Random.stream self.new) ≡ state_move Owe (ideal U.Random.stream self.old) }
+    {
+        self.waiting.owe_close();
+    }
+
+    /// This end closes.
+    pub(crate) fn do_shut(&mut self, now: Instant, close: Close)
         ensures { (ideal U.Random.stream self.new) ≡ state_move (Shut now close) (ideal U.Random.stream self.old) }
     {
         self.life.shut(close);
@@ -89,8 +212,10 @@ impl<U: Suite> Core<U> {
     pub(crate) fn do_give(&mut self, did: &mut Dids, why: ConnectionError) -> Result<(), AllocError>
         ensures { OnOk result ((held U.Random.stream self.new did.new) ≡ move_to (Give why) (held U.Random.stream self.old did.old)) }
     {
-        self.life.give(why.copy());
-        did.push_lost(why)
+        let told = why.copy()?;
+        let report = why.copy()?;
+        self.life.give(why, report);
+        did.push_lost(told)
     }
 
     /// A transmit sends nothing, for this cause.

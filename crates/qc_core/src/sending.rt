@@ -1,14 +1,14 @@
 //! The calls that sending needs.
 
-ghost use Rattle.std.specs.Prelude.{◌≡◌, ◌+◌, ◌<◌, ◌≤◌, ◌^◌, ◌++◌, [], ◌∷◌, Some, IsSome, length, replicate, OnOk, IfOk};
+ghost use Rattle.std.specs.Prelude.{◌≡◌, ◌+◌, ◌-◌, ◌<◌, ◌≤◌, ◌^◌, ◌++◌, [], ◌∷◌, Some, IsSome, length, replicate, OnOk, IfOk};
 ghost use Rattle.qc_frame.specs.FrameSpelling.{frames_spelling};
 ghost use Rattle.qc_frame.specs.declared.frames.FrameOf.TheVariants.{Padding};
 ghost use Rattle.qc_packet.specs.PacketSpelling.{padding_len};
 ghost use Rattle.qc_header.specs.HeaderSpelling.{header_spelling, header_number};
 ghost use Rattle.qc_state.specs.Keys.{keys_of};
 ghost use Rattle.qc_state.specs.Moves.{Take, Seal, move_to, state_move};
-ghost use Rattle.qc_state.specs.Numbers.{next_number};
-ghost use Rattle.qc_state.specs.Sending.{internal_error, closing_frame, taken_now, is_silent, owes, is_used_up, may_be_quiet, given_after, killed_after, quiet_after, header_of, sealed_with, transmit_of};
+ghost use Rattle.qc_state.specs.Numbers.{next_number, acked_number};
+ghost use Rattle.qc_state.specs.Sending.{internal_error, told_code, told_type, closing_frame, taken_now, close_frame, is_silent, owes, is_used_up, may_be_quiet, given_after, killed_after, quiet_after, header_of, sealed_with, transmit_of};
 ghost use Rattle.qc_state.specs.Spaces.{space_of};
 ghost use Rattle.qc_state.specs.Types.{meaning};
 ghost use Rattle.qc_state.specs.View.{ideal, held};
@@ -20,8 +20,36 @@ use qc_base::{EcnCodepoint, Instant, PacketNumber, SpaceId, TransportError, Tran
 use qc_frame::{FrameList, FrameOf};
 use qc_header::{Header, InitialHeader};
 use qc_packet::{NUMBER_LIMIT, seal_full};
-use qc_state::{ConnectionError, DATAGRAM_SIZE, Dids, Quiet, State, Suite, Transmit};
+use qc_state::{Close, ConnectionError, DATAGRAM_SIZE, Dids, Quiet, State, Suite, Transmit};
 use std::alloc::{AllocError, Global};
+
+/// The greatest packet number, which is never used (RFC 9000, 12.3).
+const GREATEST_NUMBER: u64 = (1 << 62) - 1;
+
+/// A code as a close tells it: INTERNAL_ERROR in place of one that has no room in its field (RFC 9000, 16).
+fn code_told(code: TransportErrorCode) -> TransportErrorCode
+    ensures { result ≡ told_code code }
+{
+    if code.into_inner() < 1 << 62 {
+        return code;
+    }
+    TransportErrorCode::INTERNAL_ERROR
+}
+
+/// The type of a frame as a close tells it: none for 0, which stands for none, and for one that has no room in its field.
+fn type_told(frame_type: Option<u64>) -> Option<u64>
+    ensures { result ≡ told_type frame_type }
+{
+    match frame_type {
+        Some(number) => {
+            if number == 0 || number >= 1 << 62 {
+                return None;
+            }
+            Some(number)
+        }
+        None => None,
+    }
+}
 
 impl<U: Suite> Core<U> {
     /// Whether nothing is sent any more.
@@ -46,12 +74,15 @@ impl<U: Suite> Core<U> {
         self.waiting.close_owed || self.waiting.waits(SpaceId::Initial)
     }
 
-    /// Whether no packet can spell the next number: it lies too far above every acknowledged one (RFC 9000, 17.1).
+    /// Whether no packet can spell the next number: it lies too far above the greatest acknowledged one, or is the
+    /// greatest of all (RFC 9000, 12.3 and 17.1).
     #[tactic(auto, unfolding(qc_state::specs::Sending::is_used_up))]
     pub fn is_used_up(&self) -> bool
         ensures { result ≡ is_used_up (ideal U.Random.stream self.now) }
     {
-        self.numbers.next(SpaceId::Initial) >= NUMBER_LIMIT
+        let number = self.numbers.next(SpaceId::Initial);
+        let acked = self.numbers.acked_number(SpaceId::Initial);
+        GREATEST_NUMBER <= number || NUMBER_LIMIT <= number - acked
     }
 
     /// Whether a transmit now would send nothing.
@@ -64,7 +95,7 @@ impl<U: Suite> Core<U> {
 
     /// A reason for the end is given, unless one was given before.
     #[tactic(auto, unfolding(qc_state::specs::Sending::given_after))]
-    fn give(&mut self, did: &mut Dids, why: ConnectionError) -> Result<(), AllocError>
+    pub(crate) fn give(&mut self, did: &mut Dids, why: ConnectionError) -> Result<(), AllocError>
         ensures { OnOk result ((held U.Random.stream self.new did.new) ≡ given_after why (held U.Random.stream self.old did.old)) }
     {
         if self.life.reason.is_none() {
@@ -112,28 +143,49 @@ impl<U: Suite> Core<U> {
     /// The header of the next packet.
     #[tactic(auto, unfolding(qc_state::specs::Sending::header_of, qc_state::specs::Setup::ideal_setup))]
     pub fn header(&self) -> Header
-        requires { next_number self.now.numbers SpaceId.Initial < 2 ^ 31 }
+        requires { next_number self.now.numbers SpaceId.Initial - acked_number self.now.numbers SpaceId.Initial < 2 ^ 31 }
         ensures { result ≡ header_of (ideal U.Random.stream self.now) }
     {
         Header::Initial(InitialHeader {
             dst_cid: self.paths.remote_cid,
             src_cid: self.setup.fixed.local_cid,
             token: Bytes::new(),
-            number: PacketNumber::new(self.numbers.next(SpaceId::Initial), 0),
+            number: PacketNumber::new(
+                self.numbers.next(SpaceId::Initial),
+                self.numbers.acked_number(SpaceId::Initial),
+            ),
             version: self.setup.fixed.version,
         })
     }
 
-    /// The close that is owed, in a list of its own.
-    #[tactic(auto, using(qc_state::proofs::Seals::close_taken))]
-    fn take_close(&mut self, alloc: Global) -> Result<FrameList, AllocError>
-        ensures frames { IfOk result (λ frames. frames ≡ closing_frame ∷ []) }
-        ensures rest { OnOk result (self.new ≡ self.old) }
+    /// The code of the close that is sent, and the type of the frame that it names: those of this end's own close until
+    /// the peer has closed too, and then none.
+    fn close_told(&self) -> (TransportErrorCode, Option<u64>)
+        ensures { close_frame result.0 result.1 ≡ closing_frame self.now.life }
     {
+        match self.life.state {
+            State::Closed => match &self.life.close {
+                None => (TransportErrorCode::NO_ERROR, None),
+                Some(Close::Connection(close)) => {
+                    (code_told(close.error_code), type_told(close.frame_type))
+                }
+                Some(Close::Application(_)) => (TransportErrorCode::APPLICATION_ERROR, None),
+            },
+            State::Handshake | State::Established | State::Draining | State::Drained => {
+                (TransportErrorCode::NO_ERROR, None)
+            }
+        }
+    }
+
+    /// The close that is owed, in a list of its own.
+    fn take_close(&self, alloc: Global) -> Result<FrameList, AllocError>
+        ensures { IfOk result (λ frames. frames ≡ closing_frame self.now.life ∷ []) }
+    {
+        let (error_code, frame_type) = self.close_told();
         let mut frames = FrameList::new(alloc);
         frames.push(FrameOf::ConnectionClose {
-            error_code: TransportErrorCode::APPLICATION_ERROR,
-            frame_type: None,
+            error_code,
+            frame_type,
             reason: Vec::new(alloc),
         })?;
         Ok(frames)

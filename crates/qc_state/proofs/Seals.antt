@@ -1,5 +1,6 @@
 -- What a transmit seals: from what the calls of the core say, to what a transmit may do.
-use Rattle.std.proofs.Common.{◌≡◌, ℕ, ◌+◌, ◌-◌, ◌≤◌, List, [], ◌∷◌, ◌++◌, length, replicate, refl, ap, sym, ◌∙◌, subst, Bool, true, false, ◌&&◌, ◌||◌, not, if◌then◌else◌, Some, None, is_some, IsSome, nat_le, ◌<◌, ◌^◌, arith}
+use Rattle.std.proofs.Common.{◌≡◌, ℕ, ◌+◌, ◌-◌, ◌≤◌, List, [], ◌∷◌, ◌++◌, length, length-append, replicate, refl, ap, sym, ◌∙◌, subst, Bool, true, false, ◌&&◌, ◌||◌, not, if◌then◌else◌, Option, Some, None, is_some, IsSome, nat_le, ◌<◌, ◌^◌, arith}
+use Rattle.std.specs.Prelude.{unwrap_or}
 use Rattle.std.proofs.lemmas.Bool.Decides.{nat_tests}
 use Rattle.std.specs.List.{list_any}
 use Rattle.qc_base.specs.declared.side.SpaceId.{SpaceId}
@@ -7,7 +8,11 @@ use Rattle.qc_base.specs.declared.side.SpaceId.TheVariants.{Initial}
 use Rattle.qc_frame.specs.Frame.{FrameValue}
 use Rattle.qc_frame.specs.FrameSpelling.{elicits, spelling, frames_spelling}
 use Rattle.qc_frame.specs.declared.frames.FrameOf.TheVariants.{Padding}
-use Rattle.qc_base.specs.Varint.{varint}
+use Rattle.qc_frame.proofs.Lengths.{varint_size_max, length_type, length-connection_close}
+use Rattle.qc_state.specs.Life.{is_closed}
+use Rattle.qc_state.specs.declared.life.Close.{Close}
+use Rattle.qc_state.specs.declared.life.Close.TheVariants.{Connection, Application}
+use Rattle.qc_state.specs.declared.life.Life.{Life}
 use Rattle.qc_frame.proofs.BeforePadding.{any_before_padding}
 use Rattle.qc_header.specs.declared.header.Header.{Header}
 use Rattle.qc_header.specs.HeaderSpelling.{header_spelling, header_number, header_most}
@@ -16,8 +21,8 @@ use Rattle.qc_state.specs.declared.transmit.Transmit.{Transmit}
 use Rattle.qc_state.specs.declared.waiting.SpaceWaiting.{SpaceWaiting}
 use Rattle.qc_state.specs.Keys.{keys_of}
 use Rattle.qc_state.specs.Moves.{Take, Seal, state_move, move_to, numbers_move, keys_move, life_move, paths_move, timers_move, waiting_move, deeds_move}
-use Rattle.qc_state.specs.Numbers.{next_number}
-use Rattle.qc_state.specs.Sending.{closing_frame, Carries, taken_now, owes, is_used_up, may_be_quiet, header_of, sealed_with, packet_bytes, packet_after, quiet_after, transmit_after, MayTransmit, transmit_bytes, transmit_of, SealsOne, Transmits}
+use Rattle.qc_state.specs.Numbers.{next_number, acked_number}
+use Rattle.qc_state.specs.Sending.{close_frame, told_code, told_type, told_close, closing_frame, Carries, taken_now, owes, is_used_up, may_be_quiet, header_of, sealed_with, packet_bytes, packet_after, quiet_after, transmit_after, MayTransmit, transmit_bytes, transmit_of, SealsOne, Transmits}
 use Rattle.qc_state.specs.Spaces.{space_of, with_space}
 use Rattle.qc_state.specs.Types.{Types, Meaning}
 use Rattle.qc_state.specs.View.{View, At, at}
@@ -47,9 +52,25 @@ or_right : (a b : Bool) → a ≡ false → (a || b) ≡ true → b ≡ true
 or_right true b h k = cc
 or_right false b h k = k
 
+neither_left : (a b : Bool) → (a || b) ≡ false → a ≡ false
+neither_left true b h = cc
+neither_left false b h = refl
+
+neither_right : (a b : Bool) → (a || b) ≡ false → b ≡ false
+neither_right true b h = cc
+neither_right false b h = h
+
 and_left : (a b : Bool) → (a && b) ≡ true → a ≡ true
 and_left true b h = refl
 and_left false b h = cc
+
+-- a close is sealed without leaving what waits
+close_stays : (w : SpaceWaiting) (b : Bool) (c : Option Close) → without w (if b then told_close c else close_frame 0x00 None) ≡ w
+unfolding without
+close_stays w true None = refl
+close_stays w true (Some (Connection c)) = refl
+close_stays w true (Some (Application c)) = refl
+close_stays w false c = refl
 
 module _ {t : Types} where
   -- PADDING changes nothing of what waits
@@ -58,9 +79,9 @@ module _ {t : Types} where
   take_padded id fs n s = ap (λ (w : SpaceWaiting). record s { waiting = record s.waiting { spaces = with_space s.waiting.spaces id w } }) (without_padded (space_of s.waiting.spaces id) fs n)
 
   -- taking a close changes nothing
-  pub close_taken : (s : View t) → state_move (Take Initial (closing_frame ∷ [])) s ≡ s
-  unfolding state_move numbers_move keys_move life_move paths_move timers_move waiting_move waiting_without without_all without
-  close_taken s = refl
+  pub close_taken : (s : View t) → state_move (Take Initial (closing_frame s.life ∷ [])) s ≡ s
+  unfolding state_move numbers_move keys_move life_move paths_move timers_move waiting_move waiting_without without_all
+  close_taken s = ap (λ (w : SpaceWaiting). record s { waiting = record s.waiting { spaces = record s.waiting.spaces { initial = w } } }) (close_stays s.waiting.spaces.initial (is_closed s.life.state) s.life.close)
 
   -- what is owed waits, where it is no close
   owed_waits : (s : View t) → s.waiting.close_owed ≡ false → owes s ≡ true → waits_here (space_of s.waiting.spaces Initial) ≡ true
@@ -69,7 +90,7 @@ module _ {t : Types} where
 
   -- the frames that are taken, with PADDING behind them, are what a packet may carry
   carries_by : (s : View t) (room n : ℕ) (gs : List FrameValue) (b : Bool) → s.waiting.close_owed ≡ b → owes s ≡ true → 19 ≤ room →
-      gs ≡ (if b then closing_frame ∷ [] else taken_part (space_of s.waiting.spaces Initial) room) ++ replicate n Padding → Carries s gs
+      gs ≡ (if b then closing_frame s.life ∷ [] else taken_part (space_of s.waiting.spaces Initial) room) ++ replicate n Padding → Carries s gs
   carries_by s room n gs true e owed wide is_gs = Carries.a_close e n is_gs
   carries_by s room n gs false e owed wide is_gs =
       let w : SpaceWaiting = space_of s.waiting.spaces Initial in
@@ -116,9 +137,13 @@ module _ {t : Types} where
   transmits_quiet m time a b buffer q l e = record { packets = []; may = q; leads = l; answer = refl; bytes = e; full = ap length e }
 
   -- what stands where a packet may be sealed
-  pub loud_low : (s : View t) → may_be_quiet s ≡ false → next_number s.numbers Initial < 2 ^ 31
+  pub loud_low : (s : View t) → may_be_quiet s ≡ false → next_number s.numbers Initial < 2 ^ 62 - 1
   unfolding may_be_quiet is_used_up
-  loud_low s h = let below : nat_le (2 ^ 31) (next_number s.numbers Initial) ≡ false = not_quiet_3 _ _ _ h in grind (arith, nat_tests)
+  loud_low s h = let below : nat_le (2 ^ 62 - 1) (next_number s.numbers Initial) ≡ false = neither_left _ _ (not_quiet_3 _ _ _ h) in grind (arith, nat_tests)
+
+  pub loud_near : (s : View t) → may_be_quiet s ≡ false → next_number s.numbers Initial - acked_number s.numbers Initial < 2 ^ 31
+  unfolding may_be_quiet is_used_up
+  loud_near s h = let below : nat_le (2 ^ 31) (next_number s.numbers Initial - acked_number s.numbers Initial) ≡ false = neither_right _ _ (not_quiet_3 _ _ _ h) in grind (arith, nat_tests)
 
   pub loud_keyed : (s mid : View t) (fs : List FrameValue) → may_be_quiet s ≡ false → mid ≡ state_move (Take Initial fs) s → IsSome (keys_of mid.keys Initial)
   unfolding may_be_quiet owes state_move keys_move
@@ -134,19 +159,24 @@ module _ {t : Types} where
   header_has_number s h e = ap (λ (x : Header). is_some (header_number x)) e
 
 -- a close in an Initial packet is short
-close_len : length (frames_spelling (closing_frame ∷ [])) ≡ 4
-unfolding spelling varint
-close_len = refl
+close_short : (code : ℕ) (type : Option ℕ) → length (frames_spelling (close_frame code type ∷ [])) ≤ 18
+close_short code type = omega (arith, length-append (spelling (close_frame code type)) [], length-connection_close code type [], varint_size_max code, varint_size_max (unwrap_or type 0), length_type 0 (omega arith))
 
-now_fits_by : (w : SpaceWaiting) (room : ℕ) (b : Bool) → 18 ≤ room → length (frames_spelling (if b then closing_frame ∷ [] else taken_part w room)) ≤ room
-now_fits_by w room true r = omega (arith, close_len)
-now_fits_by w room false r = taken_fits w room r
+closing_short : (b : Bool) (c : Option Close) → length (frames_spelling ((if b then told_close c else close_frame 0x00 None) ∷ [])) ≤ 18
+closing_short true None = close_short 0x00 None
+closing_short true (Some (Connection c)) = close_short (told_code c.error_code) (told_type c.frame_type)
+closing_short true (Some (Application c)) = close_short 0x0c None
+closing_short false c = close_short 0x00 None
+
+now_fits_by : (w : SpaceWaiting) (v : Life) (room : ℕ) (b : Bool) → 18 ≤ room → length (frames_spelling (if b then closing_frame v ∷ [] else taken_part w room)) ≤ room
+now_fits_by w v room true r = omega (arith, closing_short (is_closed v.state) v.close)
+now_fits_by w v room false r = taken_fits w room r
 
 -- the frames that are taken fit behind it
 pub taken_room : {t : Types} (s : View t) (h : Header) (fs : List FrameValue) (n room : ℕ) → n ≡ length (header_spelling h 0) → n ≤ 61 → room ≡ 1180 - n → fs ≡ taken_now s room →
     length (header_spelling h 0) + length (frames_spelling fs) + 20 ≤ DATAGRAM_SIZE
 unfolding taken_now
 taken_room s h fs n room is_n most is_room is_fs =
-    let fits : length (frames_spelling (taken_now s room)) ≤ room = now_fits_by (space_of s.waiting.spaces Initial) room s.waiting.close_owed (omega arith) in
+    let fits : length (frames_spelling (taken_now s room)) ≤ room = now_fits_by (space_of s.waiting.spaces Initial) s.life room s.waiting.close_owed (omega arith) in
     let same : length (frames_spelling fs) ≡ length (frames_spelling (taken_now s room)) = ap (λ (x : List FrameValue). length (frames_spelling x)) is_fs in
     omega arith

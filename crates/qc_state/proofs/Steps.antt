@@ -2,35 +2,28 @@
 use Rattle.std.proofs.Common.{◌≡◌, ℕ, ◌+◌, ◌≤◌, List, [], ◌∷◌, ◌++◌, length, take, get_or, ◌<◌, refl, ap, sym, ◌∙◌, subst, Bool, true, false, Option, if◌then◌else◌, arith, length-append}
 use Rattle.std.proofs.lemmas.List.{take_more}
 use Rattle.std.specs.Prelude.{option_to_list}
-use Rattle.std.specs.List.{list_any}
+use Rattle.std.specs.declared.net.SocketAddr.{SocketAddr}
+use Rattle.qc_base.specs.declared.ecn.EcnCodepoint.{EcnCodepoint}
 use Rattle.qc_frame.specs.Frame.{FrameValue}
-use Rattle.qc_frame.specs.FrameSpelling.{elicits}
-use Rattle.qc_state.specs.declared.timers.Timers.{Timers}
 use Rattle.qc_state.specs.declared.deeds.Did.{Did}
 use Rattle.qc_state.specs.declared.deeds.Quiet.TheVariants.{NothingOwed, Silent, Killed}
 use Rattle.qc_state.specs.declared.life.State.TheVariants.{Drained}
 use Rattle.qc_base.specs.declared.side.SpaceId.TheVariants.{Initial}
 use Rattle.qc_state.specs.declared.input.Input.{Input}
 use Rattle.qc_state.specs.declared.input.Input.TheVariants as input
-use Rattle.qc_state.specs.declared.life.ApplicationClose.{ApplicationClose}
 use Rattle.qc_state.specs.declared.life.ConnectionError.{ConnectionError}
 use Rattle.qc_state.specs.declared.trace.Answer.{Answer}
-use Rattle.qc_state.specs.declared.trace.Answer.TheVariants.{Done}
+use Rattle.qc_state.specs.declared.trace.Answer.TheVariants.{Done, Dropped}
 use Rattle.qc_state.specs.declared.trace.Step.{Step}
 use Rattle.qc_state.specs.declared.transmit.Transmit.{Transmit}
 use Rattle.qc_state.specs.Life.{lost_event, lost_reported, drained_event}
-use Rattle.qc_state.specs.Moves.{Ask, Clock, Shut, Raise, Give, Say, ReportLost, ReportDrained, state_move, move_to, deeds_move, life_move, timers_move}
+use Rattle.qc_state.specs.Moves.{Ask, Clock, Raise, Give, Say, ReportLost, ReportDrained, state_move, move_to, deeds_move, life_move}
 use Rattle.qc_state.specs.Run.{time_of, word_of, packets_of, began, close_after, input_after, called, reported, step_after, IsAllowed, out_of, answer_of, IsStep, Run, Calls, Ran, Adds}
+use Rattle.qc_state.specs.Receiving.{is_readable, datagram_after}
 use Rattle.qc_state.specs.Sending.{internal_error, given_after, killed_after, quiet_after, packet_after, transmit_after, MayTransmit, transmit_bytes, transmit_of, Transmits}
-use Rattle.qc_state.specs.Timers.{next_timeout, timers_sealed, timers_stopped, timers_closing, clock_set}
+use Rattle.qc_state.specs.Timers.{next_timeout}
 use Rattle.qc_state.specs.Types.{Types, Meaning}
 use Rattle.qc_state.specs.View.{View, At, at}
-
--- the clock stands at the input's time after a step
-sealed_time : (timers : Timers) (limit : Option ℕ) (time : ℕ) (b : Bool) → (if b then timers_sealed timers limit time else timers).greatest ≡ timers.greatest
-unfolding timers_sealed
-sealed_time timers limit time true = refl
-sealed_time timers limit time false = refl
 
 module _ {t : Types} where
   -- deeds that seal nothing name no packets, whichever they are
@@ -80,6 +73,15 @@ module _ {t : Types} where
     answers = e;
   }
 
+  pub calls_datagram : (m : Meaning t) (s mid : View t) (time : ℕ) (remote : SocketAddr) (ecn : Option EcnCodepoint) (bytes copy : List ℕ) (ds : List Did) (b : At t) (begins : Bool) (answer : Answer) →
+      mid ≡ state_move (Clock time) s → ds ≡ [] → copy ≡ bytes → b ≡ datagram_after m time remote copy (at mid ds) → begins ≡ is_readable mid copy → answer ≡ (if begins then Done else Dropped) → Calls m s (input.Datagram time remote ecn bytes) b answer
+  unfolding began input_after called IsAllowed answer_of
+  calls_datagram m s mid time remote ecn bytes copy ds b begins answer is_mid is_ds is_copy is_b is_begins e = record {
+    leads = is_b ∙ ap (λ (x : List ℕ). datagram_after m time remote x (at mid ds)) is_copy ∙ ap (λ (x : List Did). datagram_after m time remote bytes (at mid x)) is_ds ∙ ap (λ (x : View t). datagram_after m time remote bytes (at x [])) is_mid;
+    allowed = tt;
+    answers = e ∙ ap (λ (x : Bool). if x then Done else Dropped) (is_begins ∙ ap (is_readable mid) is_copy ∙ ap (λ (x : View t). is_readable x bytes) is_mid);
+  }
+
   -- the report of the reason leaves that of the end as it was
   same_end : (s : View t) → drained_event (state_move ReportLost s).life ≡ drained_event s.life
   unfolding drained_event state_move life_move lost_reported
@@ -92,8 +94,8 @@ module _ {t : Types} where
       x.timeout ≡ next_timeout s'.timers → x.at ≡ k → x.word ≡ word_of i → x.now ≡ time_of i → IsStep m k s i x s'
   unfolding reported step_after
   is_step m k s i x b s' forward h is_did is_s' is_events is_endpoint is_timeout is_at is_word is_now =
-      let same : b ≡ called s i x.did = h.leads ∙ ap (λ (ds : List Did). called s i ds) (sym is_did) in
-      let state : s' ≡ step_after s i x.did = is_s' ∙ ap (λ (y : At t). state_move ReportDrained (state_move ReportLost y.state)) same in
+      let same : b ≡ called m s i x.did = h.leads ∙ ap (λ (ds : List Did). called m s i ds) (sym is_did) in
+      let state : s' ≡ step_after m s i x.did = is_s' ∙ ap (λ (y : At t). state_move ReportDrained (state_move ReportLost y.state)) same in
       record {
         numbers = ap (λ (v : View t). v.numbers) state;
         keys = ap (λ (v : View t). v.keys) state;
@@ -149,35 +151,6 @@ module _ {t : Types} where
   is_step_by m k s i x ds s2 s3 s4 forward h is_did is_s3 is_s4 is_events is_endpoint is_timeout is_at is_word is_now =
       is_step m k s i x (at s2 ds) s4 forward h is_did (is_s4 ∙ ap (λ (v : View t). state_move ReportDrained v) is_s3) is_events
       (is_endpoint ∙ ap (λ (v : View t). option_to_list (drained_event v.life)) is_s3) is_timeout is_at is_word is_now
-
-  quiet_time : (a : At t) (why : ConnectionError) (x y z : Bool) →
-      let b : At t = move_to (Raise Drained) a in
-      (if x then move_to (Say Silent) a else if y then move_to (Say Killed) (if z then move_to (Give why) b else b) else move_to (Say NothingOwed) a).state.timers.greatest ≡ a.state.timers.greatest
-  unfolding move_to state_move timers_move timers_stopped
-  quiet_time a why true y z = refl
-  quiet_time a why false true true = refl
-  quiet_time a why false true false = refl
-  quiet_time a why false false z = refl
-
-  transmit_time : (time : ℕ) (ps : List (List FrameValue)) (a : At t) → (transmit_after time ps a).state.timers.greatest ≡ a.state.timers.greatest
-  unfolding transmit_after quiet_after killed_after given_after packet_after move_to state_move timers_move
-  transmit_time time [] a = quiet_time a internal_error _ _ _
-  transmit_time time (fs ∷ rest) a = sealed_time a.state.timers a.state.setup.fixed.idle_limit time (list_any elicits fs)
-
-  close_time : (time : ℕ) (close : ApplicationClose) (a : At t) (b : Bool) → (if b then move_to (Shut time close) a else a).state.timers.greatest ≡ a.state.timers.greatest
-  unfolding move_to state_move timers_move timers_closing
-  close_time time close a true = refl
-  close_time time close a false = refl
-
-  input_time : (i : Input) (ds : List Did) (a : At t) → (input_after i ds a).state.timers.greatest ≡ a.state.timers.greatest
-  unfolding input_after close_after move_to state_move timers_move
-  input_time (input.Transmit time max) ds a = transmit_time time (packets_of ds) a
-  input_time (input.Close time code reason) ds a = close_time time _ a _
-  input_time (input.Ping time) ds a = refl
-
-  pub step_time : (m : Meaning t) (k : ℕ) (s : View t) (i : Input) (x : Step) (s' : View t) → IsStep m k s i x s' → s'.timers.greatest ≡ time_of i
-  unfolding called began step_after reported state_move timers_move clock_set
-  step_time m k s i x s' h = ap (λ v. v.greatest) h.timers ∙ input_time i x.did (began s (time_of i))
 
   -- the empty trace
   pub ran_none : (m : Meaning t) (k : ℕ) (s : View t) (is : List Input) (xs : List Step) → xs ≡ [] → Ran m k s is xs

@@ -1,16 +1,18 @@
 -- Laws over whole runs, said of the deeds of a trace.
-use Rattle.std.specs.Prelude.{◌≡◌, ℕ, ◌+◌, ◌<◌, ◌≤◌, Bool, true, false, if◌then◌else◌, List, [], ◌∷◌, ◌++◌, length, Option, Some, None, option_to_list}
+use Rattle.std.specs.Prelude.{◌≡◌, ℕ, ◌+◌, ◌<◌, ◌≤◌, Bool, true, false, ◌&&◌, IfSome, if◌then◌else◌, List, [], ◌∷◌, ◌++◌, length, Option, Some, None, option_to_list}
 use Rattle.qc_base.specs.declared.side.SpaceId.{SpaceId}
 use Rattle.qc_base.specs.declared.side.SpaceId.TheVariants.{Initial, Handshake, «Data»}
 use Rattle.qc_state.specs.declared.deeds.Did.{Did}
-use Rattle.qc_state.specs.declared.deeds.Did.TheVariants.{Sealed, Rose, Lost, Quiet}
+use Rattle.qc_state.specs.declared.deeds.Did.TheVariants.{Piece, Gave, Sealed, Rose, Lost, Quiet}
 use Rattle.qc_state.specs.declared.life.ConnectionError.{ConnectionError}
 use Rattle.qc_state.specs.declared.life.Life.{Life}
 use Rattle.qc_state.specs.declared.numbers.Numbers.{Numbers}
 use Rattle.qc_state.specs.declared.trace.Step.{Step}
 use Rattle.qc_state.specs.Life.{rank_of}
-use Rattle.qc_state.specs.Moves.{ClosesOnly}
-use Rattle.qc_state.specs.Numbers.{next_number}
+use Rattle.qc_path.specs.Arrived.{Window, is_among, is_new, arrived}
+use Rattle.qc_state.specs.declared.deeds.Verdict.{Verdict}
+use Rattle.qc_state.specs.Moves.{ClosesOnly, enters}
+use Rattle.qc_state.specs.Numbers.{next_number, came_in}
 use Rattle.qc_state.specs.Types.{Types}
 use Rattle.qc_state.specs.View.{View}
 
@@ -29,6 +31,8 @@ is_space _ _ = false
 abbrev pub sealed_in : SpaceId → List Did → List ℕ
 sealed_in id [] = []
 sealed_in id (Sealed space number epoch early frames ∷ ds) = if is_space id space then number ∷ sealed_in id ds else sealed_in id ds
+sealed_in id (Piece space number verdict ∷ ds) = sealed_in id ds
+sealed_in id (Gave layer body ∷ ds) = sealed_in id ds
 sealed_in id (Rose life ∷ ds) = sealed_in id ds
 sealed_in id (Lost why ∷ ds) = sealed_in id ds
 sealed_in id (Quiet why ∷ ds) = sealed_in id ds
@@ -37,6 +41,8 @@ sealed_in id (Quiet why ∷ ds) = sealed_in id ds
 abbrev pub reasons_in : List Did → List ConnectionError
 reasons_in [] = []
 reasons_in (Sealed space number epoch early frames ∷ ds) = reasons_in ds
+reasons_in (Piece space number verdict ∷ ds) = reasons_in ds
+reasons_in (Gave layer body ∷ ds) = reasons_in ds
 reasons_in (Rose life ∷ ds) = reasons_in ds
 reasons_in (Lost why ∷ ds) = why ∷ reasons_in ds
 reasons_in (Quiet why ∷ ds) = reasons_in ds
@@ -45,14 +51,45 @@ reasons_in (Quiet why ∷ ds) = reasons_in ds
 abbrev pub lives_in : List Did → List ℕ
 lives_in [] = []
 lives_in (Sealed space number epoch early frames ∷ ds) = lives_in ds
+lives_in (Piece space number verdict ∷ ds) = lives_in ds
+lives_in (Gave layer body ∷ ds) = lives_in ds
 lives_in (Rose life ∷ ds) = life ∷ lives_in ds
 lives_in (Lost why ∷ ds) = lives_in ds
 lives_in (Quiet why ∷ ds) = lives_in ds
+
+-- the number of a packet that counts as come in a space from then on, where a deed tells of one
+abbrev pub entered_number : SpaceId → Option SpaceId → Option ℕ → Verdict → Option ℕ
+entered_number id None number verdict = None
+entered_number id (Some space) None verdict = None
+entered_number id (Some space) (Some number) verdict = if is_space id space && enters verdict then Some number else None
+
+-- the numbers that came in a space and counted, in order: those of packets that were admitted, of those that were only
+-- acknowledged, and of those that were only read for a close
+abbrev pub entered_in : SpaceId → List Did → List ℕ
+entered_in id [] = []
+entered_in id (Piece space number verdict ∷ ds) = option_to_list (entered_number id space number verdict) ++ entered_in id ds
+entered_in id (Sealed space number epoch early frames ∷ ds) = entered_in id ds
+entered_in id (Gave layer body ∷ ds) = entered_in id ds
+entered_in id (Rose life ∷ ds) = entered_in id ds
+entered_in id (Lost why ∷ ds) = entered_in id ds
+entered_in id (Quiet why ∷ ds) = entered_in id ds
+
+-- each number is new as its turn comes
+abbrev pub EachNew : Window → List ℕ → Type 0
+EachNew w [] = Unit {0}
+EachNew w (n ∷ ns) = (is_new w n ≡ true) × EachNew (arrived n w) ns
+
+-- no number stands in the list twice
+abbrev pub NoneTwice : List ℕ → Type 0
+NoneTwice [] = Unit {0}
+NoneTwice (n ∷ ns) = (is_among ns n ≡ false) × NoneTwice ns
 
 -- from this rank of the life on, each packet that is sealed once the life has risen to Closed holds a close
 abbrev pub CloseFrom : ℕ → List Did → Type 0
 CloseFrom rank [] = Unit {0}
 CloseFrom rank (Sealed space number epoch early frames ∷ ds) = ClosesOnly rank frames × CloseFrom rank ds
+CloseFrom rank (Piece space number verdict ∷ ds) = CloseFrom rank ds
+CloseFrom rank (Gave layer body ∷ ds) = CloseFrom rank ds
 CloseFrom rank (Rose life ∷ ds) = CloseFrom life ds
 CloseFrom rank (Lost why ∷ ds) = CloseFrom rank ds
 CloseFrom rank (Quiet why ∷ ds) = CloseFrom rank ds
@@ -62,26 +99,36 @@ abbrev pub RisesFrom : ℕ → List ℕ → Type 0
 RisesFrom least [] = Unit {0}
 RisesFrom least (n ∷ ns) = (least ≤ n) × RisesFrom (n + 1) ns
 
--- what the laws speak of: a space's next number, the reason, and the rank of the life
+-- what the laws speak of: a space's next number, what came in it, the reason, and the rank of the life
 pub record Kernel : Type 0 where
   pub next : ℕ
+  pub came : Window
   pub reason : Option ConnectionError
   pub rank : ℕ
 
 abbrev pub kernel_of : SpaceId → Numbers → Life → Kernel
-kernel_of id numbers life = record { next = next_number numbers id; reason = life.reason; rank = rank_of life.state }
+kernel_of id numbers life = record { next = next_number numbers id; came = came_in numbers id; reason = life.reason; rank = rank_of life.state }
+
+-- what came, with one more where there is one
+abbrev pub came_with : Option ℕ → Window → Window
+came_with None w = w
+came_with (Some n) w = arrived n w
 
 -- what a deed makes of it
 abbrev pub kernel_after : SpaceId → Kernel → Did → Kernel
 kernel_after id k (Sealed space number epoch early frames) = if is_space id space then record k { next = number + 1 } else k
+kernel_after id k (Piece space number verdict) = record k { came = came_with (entered_number id space number verdict) k.came }
+kernel_after id k (Gave layer body) = k
 kernel_after id k (Rose life) = record k { rank = life }
 kernel_after id k (Lost why) = record k { reason = Some why }
 kernel_after id k (Quiet why) = k
 
--- where a deed may come: a packet with the space's next number, which holds a close from the rise to Closed on; a rise of
+-- where a deed may come: a packet with the space's next number; a number that came and is new; which holds a close from the rise to Closed on; a rise of
 -- the life that rises; a reason after none
 abbrev pub IsRight : SpaceId → Kernel → Did → Type 0
 IsRight id k (Sealed space number epoch early frames) = (is_space id space ≡ true → number ≡ k.next) × ClosesOnly k.rank frames
+IsRight id k (Piece space number verdict) = IfSome (entered_number id space number verdict) (λ n. is_new k.came n ≡ true)
+IsRight id k (Gave layer body) = Unit {0}
 IsRight id k (Rose life) = k.rank < life
 IsRight id k (Lost why) = k.reason ≡ None
 IsRight id k (Quiet why) = Unit {0}
@@ -95,6 +142,10 @@ module _ {t : Types} where
   -- in each space, no packet number is used twice: the sealed numbers rise strictly from the space's next number on
   unfoldable pub EachRises : View t → List Step → Type 0
   EachRises s xs = (id : SpaceId) → RisesFrom (next_number s.numbers id) (sealed_in id (deeds_of xs))
+
+  -- in each space, no packet number that came counts twice, as far as they are remembered
+  unfoldable pub EachAdmitted : View t → List Step → Type 0
+  EachAdmitted s xs = (id : SpaceId) → EachNew (came_in s.numbers id) (entered_in id (deeds_of xs))
 
   -- the life never falls, and no rank is risen to twice
   unfoldable pub LifeRises : View t → List Step → Type 0

@@ -19,3 +19,7 @@ module _ {H P : Type 0} where
   -- a packet was sealed in the space
   unfoldable pub key_used : KeyGroup H P → SpaceId → KeyGroup H P
   key_used v id = record v { spaces = with_space v.spaces id (count_one (space_of v.spaces id)) }
+
+  -- a packet didn't open
+  unfoldable pub failure_counted : KeyGroup H P → KeyGroup H P
+  failure_counted v = record v { failures = plus v.failures 1 }

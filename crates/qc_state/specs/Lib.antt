@@ -1,11 +1,14 @@
-pub mod AckRanges
+pub mod Expansion
 pub mod First
+pub mod Flight
 pub mod Headline
 pub mod Keys
 pub mod Life
 pub mod Moves
 pub mod Numbers
+pub mod Opening
 pub mod Paths
+pub mod Receiving
 pub mod Run
 pub mod Sending
 pub mod Setup
@@ -13,5 +16,6 @@ pub mod Spaces
 pub mod Timers
 pub mod Types
 pub mod Unsent
+pub mod Verdicts
 pub mod View
 pub mod Waiting

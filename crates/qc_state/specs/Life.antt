@@ -3,7 +3,7 @@ use Rattle.std.specs.Prelude.{ℕ, Bool, true, false, ◌||◌, ◌==◌, if◌t
 use Rattle.qc_state.specs.declared.life.State.{State}
 use Rattle.qc_state.specs.declared.life.State.TheVariants.{Handshake, Established, Closed, Draining, Drained}
 use Rattle.qc_state.specs.declared.life.ConnectionError.{ConnectionError}
-use Rattle.qc_state.specs.declared.life.ApplicationClose.{ApplicationClose}
+use Rattle.qc_state.specs.declared.life.Close.{Close}
 use Rattle.qc_state.specs.declared.life.Life.{Life}
 use Rattle.qc_state.specs.declared.events.Event.{Event}
 use Rattle.qc_state.specs.declared.events.Event.TheVariants.{ConnectionLost}
@@ -24,6 +24,22 @@ is_open Handshake = true
 is_open Established = true
 is_open _ = false
 
+-- this end has closed, and the peer has not
+abbrev pub is_closed : State → Bool
+is_closed Closed = true
+is_closed _ = false
+
+-- the handshake isn't over
+abbrev pub is_handshake : State → Bool
+is_handshake Handshake = true
+is_handshake _ = false
+
+-- the connection drains, or has ended: nothing that comes counts any more
+abbrev pub is_over : State → Bool
+is_over Draining = true
+is_over Drained = true
+is_over _ = false
+
 -- the life has come to its end
 abbrev pub is_drained : State → Bool
 is_drained Drained = true
@@ -37,9 +53,13 @@ reason_given v why = if is_none v.reason then record v { reason = Some why; lost
 unfoldable pub life_raised : Life → State → Life
 life_raised v to = record v { state = to; drained = v.drained || (rank_of to == 4) }
 
--- the application of this end closes
-unfoldable pub life_closed : Life → ApplicationClose → Life
+-- this end closes
+unfoldable pub life_closed : Life → Close → Life
 life_closed v close = record v { state = Closed; close = Some close }
+
+-- the peer closed
+unfoldable pub life_drained : Life → Life
+life_drained v = record v { state = Draining }
 
 -- the reason, while its report waits
 unfoldable pub lost_event : Life → Option Event

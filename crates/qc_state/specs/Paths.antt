@@ -1,8 +1,28 @@
 -- The path to the peer (RFC 9000, section 9).
-use Rattle.std.specs.Prelude.{ℕ}
+use Rattle.std.specs.Prelude.{ℕ, List, Bool, true, false, ◌&&◌, ◌==◌, nat_eq}
+use Rattle.std.specs.Cmp.Lexicographic.{pointwise}
+use Rattle.std.specs.Net.Addr.{ipv4_octets, ipv6_segments}
+use Rattle.std.specs.Net.Socket.{v4_ip, v4_port, v6_ip, v6_port, v6_flowinfo, v6_scope_id}
+use Rattle.std.specs.declared.net.SocketAddr.{SocketAddr}
+use Rattle.std.specs.declared.net.socket_addr.SocketAddr.TheVariants.{V4, V6}
 use Rattle.qc_base.specs.Time.{plus}
 use Rattle.qc_state.specs.declared.paths.Paths.{Paths}
 
 -- so many bytes were sent to the path's address
 unfoldable pub path_sent : Paths → ℕ → Paths
 path_sent v bytes = record v { sent = plus v.sent bytes }
+
+-- so many bytes came from the path's address
+unfoldable pub path_received : Paths → ℕ → Paths
+path_received v bytes = record v { received = plus v.received bytes }
+
+-- the peer has chosen the id that packets to it carry (RFC 9000, section 7.2)
+unfoldable pub peer_fixed : Paths → List ℕ → Paths
+peer_fixed v cid = record v { remote_cid = cid; peer_fixed = true }
+
+-- whether two addresses are one, flow label and scope included
+unfoldable pub same_address : SocketAddr → SocketAddr → Bool
+same_address (V4 a) (V4 b) = pointwise nat_eq (ipv4_octets (v4_ip a)) (ipv4_octets (v4_ip b)) && (v4_port a == v4_port b)
+same_address (V6 a) (V6 b) =
+    pointwise nat_eq (ipv6_segments (v6_ip a)) (ipv6_segments (v6_ip b)) && ((v6_port a == v6_port b) && ((v6_flowinfo a == v6_flowinfo b) && (v6_scope_id a == v6_scope_id b)))
+same_address _ _ = false

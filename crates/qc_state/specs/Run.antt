@@ -4,16 +4,18 @@ use Rattle.qc_base.specs.declared.side.SpaceId.TheVariants.{Initial}
 use Rattle.qc_frame.specs.Frame.{FrameValue}
 use Rattle.qc_state.specs.declared.deeds.Did.{Did}
 use Rattle.qc_state.specs.declared.deeds.Did.TheVariants as did
+use Rattle.qc_state.specs.declared.life.Close.TheVariants.{Application}
 use Rattle.qc_state.specs.declared.input.Input.{Input}
-use Rattle.qc_state.specs.declared.input.Input.TheVariants.{Transmit, Close, Ping}
+use Rattle.qc_state.specs.declared.input.Input.TheVariants.{Datagram, Transmit, Close, Ping}
 use Rattle.qc_state.specs.declared.input.Word.{Word}
 use Rattle.qc_state.specs.declared.input.Word.TheVariants as word
 use Rattle.qc_state.specs.declared.trace.Answer.{Answer}
-use Rattle.qc_state.specs.declared.trace.Answer.TheVariants.{Done, Nothing, Out}
+use Rattle.qc_state.specs.declared.trace.Answer.TheVariants.{Done, Dropped, Nothing, Out}
 use Rattle.qc_state.specs.declared.trace.Step.{Step}
 use Rattle.qc_state.specs.declared.transmit.Transmit as transmit
 use Rattle.qc_state.specs.Life.{is_open, lost_event, drained_event}
 use Rattle.qc_state.specs.Moves.{Clock, Ask, Shut, ReportLost, ReportDrained, move_to, state_move}
+use Rattle.qc_state.specs.Receiving.{is_readable, datagram_after}
 use Rattle.qc_state.specs.Sending.{MayTransmit, transmit_after, transmit_bytes, transmit_of}
 use Rattle.qc_state.specs.Timers.{next_timeout}
 use Rattle.qc_state.specs.Types.{Types, Meaning}
@@ -21,12 +23,14 @@ use Rattle.qc_state.specs.View.{View, At, at}
 
 -- the time of an input
 abbrev pub time_of : Input → ℕ
+time_of (Datagram time remote ecn bytes) = time
 time_of (Transmit time max) = time
 time_of (Close time code reason) = time
 time_of (Ping time) = time
 
 -- its kind
 abbrev pub word_of : Input → Word
+word_of (Datagram time remote ecn bytes) = word.Datagram
 word_of (Transmit time max) = word.Transmit
 word_of (Close time code reason) = word.Close
 word_of (Ping time) = word.Ping
@@ -49,54 +53,57 @@ module _ {t : Types} where
 
   -- the application closes, where the connection is open; a later close changes nothing (RFC 9000, section 10.2)
   unfoldable pub close_after : ℕ → ℕ → List ℕ → At t → At t
-  close_after time code reason a = if is_open a.state.life.state then move_to (Shut time (record { error_code = code; reason = reason })) a else a
+  close_after time code reason a = if is_open a.state.life.state then move_to (Shut time (Application (record { error_code = code; reason = reason }))) a else a
 
   -- what an input leaves before anything is reported: a function of the view and, for a transmit, of the packets that
   -- the deeds name
-  unfoldable pub input_after : Input → List Did → At t → At t
-  input_after (Transmit time max) ds a = transmit_after time (packets_of ds) a
-  input_after (Close time code reason) ds a = close_after time code reason a
-  input_after (Ping time) ds a = move_to (Ask Initial) a
+  unfoldable pub input_after : Meaning t → Input → List Did → At t → At t
+  input_after m (Datagram time remote ecn bytes) ds a = datagram_after m time remote bytes a
+  input_after m (Transmit time max) ds a = transmit_after time (packets_of ds) a
+  input_after m (Close time code reason) ds a = close_after time code reason a
+  input_after m (Ping time) ds a = move_to (Ask Initial) a
 
-  unfoldable pub called : View t → Input → List Did → At t
-  called s i ds = input_after i ds (began s (time_of i))
+  unfoldable pub called : Meaning t → View t → Input → List Did → At t
+  called m s i ds = input_after m i ds (began s (time_of i))
 
   -- whatever waited to be reported was reported
   unfoldable pub reported : View t → View t
   reported s = state_move ReportDrained (state_move ReportLost s)
 
   -- the view after a step
-  unfoldable pub step_after : View t → Input → List Did → View t
-  step_after s i ds = reported (called s i ds).state
+  unfoldable pub step_after : Meaning t → View t → Input → List Did → View t
+  step_after m s i ds = reported (called m s i ds).state
 
   -- what an input may do
   unfoldable pub IsAllowed : Input → List Did → View t → Type 0
+  IsAllowed (Datagram time remote ecn bytes) ds s = Unit {0}
   IsAllowed (Transmit time max) ds s = MayTransmit s (packets_of ds)
   IsAllowed (Close time code reason) ds s = Unit {0}
   IsAllowed (Ping time) ds s = Unit {0}
 
   -- what an input answers
   unfoldable pub answer_of : Meaning t → Input → List Did → View t → Answer
+  answer_of m (Datagram time remote ecn bytes) ds s = if is_readable s bytes then Done else Dropped
   answer_of m (Transmit time max) ds s = out_of (transmit_of (packets_of ds) s) (transmit_bytes m (packets_of ds) s)
   answer_of m (Close time code reason) ds s = Done
   answer_of m (Ping time) ds s = Done
 
   -- one step: how each group of the view changes, and what is told
   pub record IsStep (m : Meaning t) (k : ℕ) (s : View t) (i : Input) (x : Step) (s' : View t) : Type 0 where
-    pub numbers : s'.numbers ≡ (step_after s i x.did).numbers
-    pub keys : s'.keys ≡ (step_after s i x.did).keys
-    pub life : s'.life ≡ (step_after s i x.did).life
-    pub paths : s'.paths ≡ (step_after s i x.did).paths
-    pub timers : s'.timers ≡ (step_after s i x.did).timers
-    pub waiting : s'.waiting ≡ (step_after s i x.did).waiting
-    pub setup : s'.setup ≡ (step_after s i x.did).setup
-    pub lower : s'.lower ≡ (step_after s i x.did).lower
+    pub numbers : s'.numbers ≡ (step_after m s i x.did).numbers
+    pub keys : s'.keys ≡ (step_after m s i x.did).keys
+    pub life : s'.life ≡ (step_after m s i x.did).life
+    pub paths : s'.paths ≡ (step_after m s i x.did).paths
+    pub timers : s'.timers ≡ (step_after m s i x.did).timers
+    pub waiting : s'.waiting ≡ (step_after m s i x.did).waiting
+    pub setup : s'.setup ≡ (step_after m s i x.did).setup
+    pub lower : s'.lower ≡ (step_after m s i x.did).lower
     pub forward : s.timers.greatest ≤ time_of i
-    pub deeds : x.did ≡ (called s i x.did).did
+    pub deeds : x.did ≡ (called m s i x.did).did
     pub allowed : IsAllowed i x.did (began s (time_of i)).state
     pub answer : x.answer ≡ answer_of m i x.did (began s (time_of i)).state
-    pub events : x.events ≡ option_to_list (lost_event (called s i x.did).state.life)
-    pub endpoint : x.endpoint ≡ option_to_list (drained_event (called s i x.did).state.life)
+    pub events : x.events ≡ option_to_list (lost_event (called m s i x.did).state.life)
+    pub endpoint : x.endpoint ≡ option_to_list (drained_event (called m s i x.did).state.life)
     pub timeout : x.timeout ≡ next_timeout s'.timers
     pub place : x.at ≡ k
     pub word : x.word ≡ word_of i
@@ -111,7 +118,7 @@ module _ {t : Types} where
 module _ {t : Types} where
   -- what a call makes of an input, before anything is reported, and its answer
   pub record Calls (m : Meaning t) (s : View t) (i : Input) (b : At t) (answer : Answer) : Type 0 where
-    pub leads : b ≡ called s i b.did
+    pub leads : b ≡ called m s i b.did
     pub allowed : IsAllowed i b.did (began s (time_of i)).state
     pub answers : answer ≡ answer_of m i b.did (began s (time_of i)).state
 

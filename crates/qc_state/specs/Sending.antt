@@ -1,6 +1,6 @@
 -- What a transmit may send, and what it leaves. Which of the waiting frames a packet carries is free, where no close is
 -- owed; all else is a function of that choice. So far a transmit seals at most one packet, an Initial in a datagram of its own.
-use Rattle.std.specs.Prelude.{◌≡◌, ℕ, ◌^◌, Bool, true, false, ◌||◌, ◌&&◌, not, nat_le, if◌then◌else◌, List, [], ◌∷◌, length, replicate, Option, Some, None, is_some, is_none}
+use Rattle.std.specs.Prelude.{◌≡◌, ℕ, ◌-◌, ◌^◌, ◌==◌, Bool, true, false, ◌||◌, ◌&&◌, not, nat_lt, nat_le, if◌then◌else◌, List, [], ◌∷◌, length, replicate, Option, Some, None, is_some, is_none}
 use Rattle.std.specs.List.{list_any}
 use Rattle.qc_base.specs.declared.ecn.EcnCodepoint.TheVariants.{Ect0}
 use Rattle.qc_base.specs.declared.side.SpaceId.TheVariants.{Initial}
@@ -12,16 +12,19 @@ use Rattle.qc_header.specs.declared.header.Header.{Header}
 use Rattle.qc_header.specs.declared.header.Header.TheVariants as header
 use Rattle.qc_packet.specs.PacketSpelling.{packet_spelling}
 use Rattle.qc_state.specs.declared.deeds.Quiet.TheVariants.{NothingOwed, Silent, Killed}
+use Rattle.qc_state.specs.declared.life.Close.{Close}
+use Rattle.qc_state.specs.declared.life.Close.TheVariants.{Connection, Application}
 use Rattle.qc_state.specs.declared.life.ConnectionError.{ConnectionError}
 use Rattle.qc_state.specs.declared.life.ConnectionError.TheVariants as lost
+use Rattle.qc_state.specs.declared.life.Life.{Life}
 use Rattle.qc_state.specs.declared.life.State.TheVariants.{Drained}
 use Rattle.qc_state.specs.declared.transmit.Transmit.{Transmit}
 use Rattle.qc_state.specs.declared.transmit.TheConstants.{DATAGRAM_SIZE}
 use Rattle.qc_state.specs.declared.keys.SpaceKeys.{SpaceKeys}
 use Rattle.qc_state.specs.Keys.{keys_of}
-use Rattle.qc_state.specs.Life.{is_open, is_drained}
+use Rattle.qc_state.specs.Life.{is_open, is_closed, is_drained}
 use Rattle.qc_state.specs.Moves.{Seal, Take, Raise, Give, Say, move_to}
-use Rattle.qc_state.specs.Numbers.{next_number}
+use Rattle.qc_state.specs.Numbers.{next_number, acked_number}
 use Rattle.qc_state.specs.Spaces.{space_of}
 use Rattle.qc_state.specs.Types.{Types, Meaning}
 use Rattle.qc_state.specs.View.{View, At}
@@ -31,15 +34,34 @@ use Rattle.qc_state.specs.Waiting.{waits_in, taken_part, WaitAll}
 abbrev pub internal_error : ConnectionError
 internal_error = lost.TransportError (record { code = 1; frame = None })
 
--- the close in an Initial packet: before the handshake is over the peer isn't told what the application's code and reason
--- are, only that it closed (APPLICATION_ERROR; RFC 9000, section 10.2.3)
-abbrev pub closing_frame : FrameValue
-closing_frame = frames.ConnectionClose 0x0c None []
+-- a close with this code and type of frame, without a reason in words
+abbrev pub close_frame : ℕ → Option ℕ → FrameValue
+close_frame code type = frames.ConnectionClose code type []
 
--- a packet number lies so far above every acknowledged one, 0 before the first, that no packet can spell it
--- (RFC 9000, section 17.1): the connection ends
-abbrev pub is_past_limit : ℕ → Bool
-is_past_limit number = nat_le (2 ^ 31) number
+-- a code as a close tells it: INTERNAL_ERROR in place of one that has no room in its field (RFC 9000, section 16)
+abbrev pub told_code : ℕ → ℕ
+told_code code = if nat_lt code (2 ^ 62) then code else 0x01
+
+-- the type of a frame as a close tells it: 0 stands for none, and so it does for one that has no room in its field
+abbrev pub told_type : Option ℕ → Option ℕ
+told_type None = None
+told_type (Some type) = if (type == 0) || nat_le (2 ^ 62) type then None else Some type
+
+-- the close of this end in an Initial packet: before the handshake is over the peer isn't told what the application's code
+-- and reason are, only that it closed (APPLICATION_ERROR; RFC 9000, section 10.2.3)
+abbrev pub told_close : Option Close → FrameValue
+told_close None = close_frame 0x00 None
+told_close (Some (Connection c)) = close_frame (told_code c.error_code) (told_type c.frame_type)
+told_close (Some (Application c)) = close_frame 0x0c None
+
+-- the close that is sent: this end's own, until the peer has closed too; then one without an error (RFC 9000, section 10.2.2)
+abbrev pub closing_frame : Life → FrameValue
+closing_frame v = if is_closed v.state then told_close v.close else close_frame 0x00 None
+
+-- A packet number lies so far above the greatest acknowledged one that no packet can spell it, or is the greatest of all
+-- (RFC 9000, sections 12.3 and 17.1): the connection ends.
+abbrev pub is_past_limit : (number acked : ℕ) → Bool
+is_past_limit number acked = nat_le (2 ^ 62 - 1) number || nat_le (2 ^ 31) (number - acked)
 
 module _ {t : Types} where
   -- nothing is sent: the connection has ended, or has closed and owes no close
@@ -52,7 +74,7 @@ module _ {t : Types} where
 
   -- the next packet's number is past the limit
   unfoldable pub is_used_up : View t → Bool
-  is_used_up s = is_past_limit (next_number s.numbers Initial)
+  is_used_up s = is_past_limit (next_number s.numbers Initial) (acked_number s.numbers Initial)
 
   -- nothing may be sealed: the end came before, nothing is owed, or the limit stands
   unfoldable pub may_be_quiet : View t → Bool
@@ -64,7 +86,7 @@ module _ {t : Types} where
     dst_cid = s.paths.remote_cid;
     src_cid = s.setup.fixed.local_cid;
     token = [];
-    number = number_of (next_number s.numbers Initial) 0;
+    number = number_of (next_number s.numbers Initial) (acked_number s.numbers Initial);
     version = s.setup.fixed.version;
   })
 
@@ -80,7 +102,7 @@ module _ {t : Types} where
   -- the frames of a packet: where a close is owed, the close and PADDING behind it; else each waits as its turn comes or is
   -- PADDING, and not all are PADDING
   pub data Carries (s : View t) (fs : List FrameValue) : Type 0 where
-    a_close : s.waiting.close_owed ≡ true → (padding : ℕ) → fs ≡ closing_frame ∷ replicate padding frames.Padding → Carries s fs
+    a_close : s.waiting.close_owed ≡ true → (padding : ℕ) → fs ≡ closing_frame s.life ∷ replicate padding frames.Padding → Carries s fs
     what_waits : s.waiting.close_owed ≡ false → WaitAll (space_of s.waiting.spaces Initial) fs → list_any elicits fs ≡ true → Carries s fs
 
   -- a packet with these frames may be sealed: something is owed, and it carries what it may
@@ -92,7 +114,7 @@ module _ {t : Types} where
 
   -- the frames that this end takes for a packet with so much room
   unfoldable pub taken_now : View t → ℕ → List FrameValue
-  taken_now s room = if s.waiting.close_owed then closing_frame ∷ [] else taken_part (space_of s.waiting.spaces Initial) room
+  taken_now s room = if s.waiting.close_owed then closing_frame s.life ∷ [] else taken_part (space_of s.waiting.spaces Initial) room
 
   -- a packet is sealed: its frames wait no longer, and its number is used
   unfoldable pub packet_after : ℕ → List FrameValue → At t → At t

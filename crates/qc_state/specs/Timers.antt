@@ -1,5 +1,5 @@
 -- The timers of a connection (RFC 9000, section 10.1; RFC 9002, section 6.2). Times are nanoseconds.
-use Rattle.std.specs.Prelude.{ℕ, ◌*◌, max, false, nat_le, if◌then◌else◌, Option, Some, None}
+use Rattle.std.specs.Prelude.{ℕ, ◌*◌, max, true, false, nat_le, if◌then◌else◌, Option, Some, None}
 use Rattle.qc_base.specs.Time.{plus}
 use Rattle.qc_state.specs.declared.timers.TheConstants.{PROBE_TIMEOUT}
 use Rattle.qc_state.specs.declared.timers.Timers.{Timers}
@@ -23,6 +23,15 @@ timers_sealed v limit time = record v {
   idle = if v.sets_idle then idle_from limit v.idle time else v.idle;
   sets_idle = false;
 }
+
+-- a packet of the peer was accepted at this time: the connection isn't idle, and the next packet that is sealed and
+-- elicits an acknowledgement sets the timer anew (RFC 9000, section 10.1)
+unfoldable pub timers_accepted : Timers → Option ℕ → ℕ → Timers
+timers_accepted v limit time = record v { idle = idle_from limit v.idle time; sets_idle = true }
+
+-- nothing that elicits an acknowledgement is in flight
+unfoldable pub timers_settled : Timers → Timers
+timers_settled v = record v { loss_detection = None }
 
 -- every timer is stopped
 unfoldable pub timers_stopped : Timers → Timers

@@ -1,5 +1,5 @@
 -- The types that a connection stands on, and what the calls on them mean.
-use Rattle.std.specs.Prelude.{ℕ, List}
+use Rattle.std.specs.Prelude.{ℕ, List, Option}
 use Rattle.qc_base.specs.declared.side.Side.{Side}
 use Rattle.qc_base.specs.declared.mask.HeaderMask.{Ghosts as HeaderMaskGhosts}
 use Rattle.qc_crypto.specs.declared.keys.Keys.{Keys}
@@ -18,9 +18,10 @@ pub record Types : Type 1 where
 pub record Meaning (t : Types) : Type 0 where
   pub mask : t.H → List ℕ → List ℕ
   pub seal : t.P → ℕ → List ℕ → List ℕ → List ℕ
+  pub opening : t.P → ℕ → List ℕ → List ℕ → Option (List ℕ)
   pub initial : t.S → List ℕ → Side → Keys t.H t.P
   pub writes : t.S → List ℕ
   pub after_write : t.S → t.S
 
 abbrev pub meaning : {t : Types} → SessionGhosts t.S t.H t.P t.D t.I → HeaderMaskGhosts t.H → PacketKeyGhosts t.P → Meaning t
-meaning s h p = record { mask = h.mask_of; seal = p.seal; initial = s.initial; writes = s.writes; after_write = s.after_write }
+meaning s h p = record { mask = h.mask_of; seal = p.seal; opening = p.opening; initial = s.initial; writes = s.writes; after_write = s.after_write }

@@ -1,14 +1,17 @@
 -- The frames that wait to be sealed, and what becomes of them.
-use Rattle.std.specs.Prelude.{◌≡◌, ℕ, ◌-◌, ◌≤◌, nat_le, min, Bool, true, false, ◌||◌, not, ◌==◌, if◌then◌else◌, List, [], ◌∷◌, ◌++◌, length, take}
+use Rattle.std.specs.Prelude.{◌≡◌, ℕ, ◌-◌, ◌≤◌, nat_le, min, Bool, true, false, ◌||◌, ◌&&◌, not, ◌==◌, if◌then◌else◌, List, [], ◌∷◌, ◌++◌, length, take}
 use Rattle.qc_base.specs.declared.side.SpaceId.{SpaceId}
 use Rattle.qc_frame.specs.Frame.{FrameValue}
 use Rattle.qc_frame.specs.declared.frames.FrameOf.TheVariants as frames
 use Rattle.qc_state.specs.declared.waiting.TheConstants.{CRYPTO_HEAD}
 use Rattle.qc_state.specs.declared.waiting.Waiting.{Waiting}
 use Rattle.qc_state.specs.declared.waiting.SpaceWaiting.{SpaceWaiting}
+use Rattle.qc_base.specs.declared.range_set.NumberRange.{NumberRange}
+use Rattle.qc_state.specs.Flight.{kept_of_all}
 use Rattle.qc_state.specs.Spaces.{space_of, with_space}
 use Rattle.qc_state.specs.Unsent.{unsent_after}
 
+-- something waits
 abbrev pub waits_here : SpaceWaiting → Bool
 waits_here w = w.ping || not (length w.crypto.bytes == 0)
 
@@ -19,6 +22,26 @@ waits_in v id = waits_here (space_of v.spaces id)
 -- a PING waits from now on
 unfoldable pub ping_asked : Waiting → SpaceId → Waiting
 ping_asked v id = record v { spaces = with_space v.spaces id (record (space_of v.spaces id) { ping = true }) }
+
+-- a packet with this number, which elicits an acknowledgement, was sealed
+unfoldable pub flown_in : ℕ → SpaceWaiting → SpaceWaiting
+flown_in n w = record w { flight = w.flight ++ n ∷ [] }
+
+-- such a packet was sealed in the space
+unfoldable pub packet_flown : Waiting → SpaceId → ℕ → Waiting
+packet_flown v id n = record v { spaces = with_space v.spaces id (flown_in n (space_of v.spaces id)) }
+
+-- the peer acknowledged packets with numbers in these ranges: they are in flight no longer
+unfoldable pub settled_in : List NumberRange → SpaceWaiting → SpaceWaiting
+settled_in rs w = record w { flight = kept_of_all rs w.flight }
+
+-- the peer acknowledged such packets of the space
+unfoldable pub packets_settled : Waiting → SpaceId → List NumberRange → Waiting
+packets_settled v id rs = record v { spaces = with_space v.spaces id (settled_in rs (space_of v.spaces id)) }
+
+-- no packet in flight elicits an acknowledgement, in any space
+unfoldable pub is_calm : Waiting → Bool
+is_calm v = (length v.spaces.initial.flight == 0) && (length v.spaces.handshake.flight == 0) && (length v.spaces.application.flight == 0)
 
 -- a close is owed from now on (RFC 9000, section 10.2)
 unfoldable pub close_begun : Waiting → Waiting

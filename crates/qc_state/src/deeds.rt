@@ -2,6 +2,7 @@
 
 ghost use Rattle.std.specs.Prelude.{◌≡◌, [], ◌∷◌, ◌++◌, false, OnOk, OnErr};
 
+use crate::body::Body;
 use crate::life::ConnectionError;
 use qc_base::SpaceId;
 use qc_frame::FrameList;
@@ -19,6 +20,35 @@ pub enum Quiet {
     Killed,
 }
 
+/// What became of a packet that came. Verdicts on 1-RTT packets, on packets with another token, on stateless resets, on
+/// Retry and on Version Negotiation aren't given yet.
+#[derive(Clone, Copy)]
+pub enum Verdict {
+    /// It changed nothing: a key that its form needs is missing, or it is too short to be unmasked.
+    Ignored,
+    /// Its key didn't open it (RFC 9001, 5.5).
+    Failure,
+    /// Its reserved bits weren't 0 (RFC 9000, 17.2).
+    BadBits,
+    /// A packet with its number had come before (RFC 9000, 12.3).
+    Seen,
+    /// This end had closed: only a close in it counts.
+    ReadForClose,
+    /// Its source id isn't the peer's (RFC 9000, 7.2): it is acknowledged, and its frames don't count.
+    AckOnly,
+    /// Its frames were applied.
+    Admitted,
+}
+
+/// The layer that a frame was given to.
+#[derive(Clone, Copy)]
+pub enum Layer {
+    /// Loss recovery: acknowledgements.
+    Recovery,
+    /// The life of the connection: closes.
+    Life,
+}
+
 /// One thing that a connection did.
 #[derive(Drop)]
 pub enum Did {
@@ -34,6 +64,22 @@ pub enum Did {
         early: bool,
         /// Its frames, PADDING included.
         frames: FrameList,
+    },
+    /// A packet came.
+    Piece {
+        /// The number space of its form; none of a form that has no numbers.
+        space: Option<SpaceId>,
+        /// Its number, where it opened.
+        number: Option<u64>,
+        /// What became of it.
+        verdict: Verdict,
+    },
+    /// A frame was given to a layer.
+    Gave {
+        /// The layer.
+        layer: Layer,
+        /// The frame as it is written.
+        body: Body,
     },
     /// The life rose to this rank.
     Rose {
@@ -88,6 +134,33 @@ impl Dids {
             early: false,
             frames,
         })?;
+        Ok(())
+    }
+
+    /// A packet came. Want of memory is the only refusal, and then the list is as before.
+    pub fn push_piece(
+        &mut self,
+        space: Option<SpaceId>,
+        number: Option<u64>,
+        verdict: Verdict,
+    ) -> Result<(), AllocError>
+        ensures ok { OnOk result (self.new ≡ self.old ++ Did.Piece space number verdict ∷ []) }
+        ensures err { OnErr result (self.new ≡ self.old) }
+    {
+        self.deeds.push(Did::Piece {
+            space,
+            number,
+            verdict,
+        })?;
+        Ok(())
+    }
+
+    /// A frame was given to a layer. Want of memory is the only refusal, and then the list is as before.
+    pub fn push_gave(&mut self, layer: Layer, body: Body) -> Result<(), AllocError>
+        ensures ok { OnOk result (self.new ≡ self.old ++ Did.Gave layer body ∷ []) }
+        ensures err { OnErr result (self.new ≡ self.old) }
+    {
+        self.deeds.push(Did::Gave { layer, body })?;
         Ok(())
     }
 

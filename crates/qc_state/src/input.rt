@@ -1,11 +1,23 @@
 //! The inputs of a connection that is driven.
 
 use crate::body::Body;
-use qc_base::{Instant, VarInt};
+use qc_base::{EcnCodepoint, Instant, VarInt};
+use std::net::SocketAddr;
 
 /// What a driver tells a connection. Each input has its time.
 #[derive(Drop)]
 pub enum Input {
+    /// A datagram came.
+    Datagram {
+        /// The time.
+        now: Instant,
+        /// The address that it came from.
+        remote: SocketAddr,
+        /// Its mark of explicit congestion notification (RFC 9000, 13.4). So far it isn't counted.
+        ecn: Option<EcnCodepoint>,
+        /// Its bytes.
+        bytes: Body,
+    },
     /// What waits may be sent.
     Transmit {
         /// The time.
@@ -32,6 +44,8 @@ pub enum Input {
 /// The kind of an input.
 #[derive(Clone, Copy)]
 pub enum Word {
+    /// An `Input::Datagram`.
+    Datagram,
     /// An `Input::Transmit`.
     Transmit,
     /// An `Input::Close`.

@@ -2,7 +2,7 @@
 
 ghost use Rattle.std.specs.Prelude.{◌≡◌};
 ghost use Rattle.std.specs.Option.{option_copied};
-ghost use Rattle.qc_state.specs.Keys.{keys_of, key_used, count_one};
+ghost use Rattle.qc_state.specs.Keys.{keys_of, key_used, failure_counted, count_one};
 
 use crate::spaces::Spaces;
 use qc_base::SpaceId;
@@ -22,6 +22,8 @@ pub struct SpaceKeys<H, P> {
 pub struct KeyGroup<H, P> {
     /// One entry a space.
     pub spaces: Spaces<Option<SpaceKeys<H, P>>>,
+    /// Packets of the peer that their key didn't open (RFC 9001, 6.6). It stands still at 2^64 - 1.
+    pub failures: u64,
 }
 
 /// Counts one more packet where there are keys.
@@ -34,13 +36,20 @@ fn count<H, P>(keys: &mut Option<SpaceKeys<H, P>>)
     }
 }
 
-#[tactic(auto, unfolding(crate::specs::Keys::keys_of, crate::specs::Keys::key_used))]
+#[tactic(auto, unfolding(crate::specs::Keys::keys_of, crate::specs::Keys::key_used, crate::specs::Keys::failure_counted))]
 impl<H, P> KeyGroup<H, P> {
     /// The keys of the space. None exactly where it has none.
     pub fn get(&self, space: SpaceId) -> Option<&SpaceKeys<H, P>>
         ensures { option_copied result ≡ keys_of self.now space }
     {
         self.spaces.get(space).as_ref()
+    }
+
+    /// A packet didn't open.
+    pub fn failed(&mut self)
+        ensures { self.new ≡ failure_counted self.old }
+    {
+        self.failures = self.failures.saturating_add(1);
     }
 
     /// A packet was sealed in the space: its key's count rises by one.

@@ -3,16 +3,18 @@
 //! and laws.
 #![tactic(auto)]
 
-pub mod ack_set;
 pub mod body;
 pub mod crypto_queue;
 pub mod deeds;
 pub mod events;
+pub mod flight;
 pub mod input;
 pub mod keys;
+mod laws;
 pub mod life;
 pub mod lower;
 pub mod numbers;
+pub mod opening;
 pub mod paths;
 pub mod setup;
 pub mod spaces;
@@ -22,16 +24,18 @@ pub mod trace;
 pub mod transmit;
 pub mod waiting;
 
-pub use ack_set::AckSet;
 pub use body::Body;
 pub use crypto_queue::CryptoQueue;
-pub use deeds::{Did, Dids, Quiet};
+pub use deeds::{Did, Dids, Layer, Quiet, Verdict};
 pub use events::{EndpointEvent, EndpointEvents, Event, Events};
+pub use flight::Flight;
 pub use input::{Input, Word};
 pub use keys::{KeyGroup, SpaceKeys};
-pub use life::{ApplicationClose, ConnectionError, Life, State};
+pub use laws::numbers_count_once;
+pub use life::{ApplicationClose, Close, ConnectionClose, ConnectionError, Life, State};
 pub use lower::Lower;
 pub use numbers::{Numbers, SpaceNumbers};
+pub use opening::Opening;
 pub use paths::Paths;
 pub use setup::{Fixed, Setup};
 pub use spaces::Spaces;

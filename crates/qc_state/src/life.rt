@@ -1,11 +1,12 @@
 //! The life of a connection, the reason of its end, and what of both waits to be reported.
 
-ghost use Rattle.std.specs.Prelude.{◌≡◌};
-ghost use Rattle.qc_state.specs.Life.{rank_of, is_open, is_drained, life_closed, reason_given, life_raised, lost_event, lost_reported, drained_event, drained_reported};
+ghost use Rattle.std.specs.Prelude.{◌≡◌, IfOk};
+ghost use Rattle.qc_state.specs.Life.{rank_of, is_open, is_closed, is_handshake, is_over, is_drained, life_closed, life_drained, reason_given, life_raised, lost_event, lost_reported, drained_event, drained_reported};
 
 use crate::events::{EndpointEvent, Event};
 use bytes::Bytes;
-use qc_base::{TransportError, VarInt};
+use qc_base::{TransportError, TransportErrorCode, VarInt};
+use std::alloc::AllocError;
 
 /// Where a connection is in its life (RFC 9000, 10). A life never falls: the variants stand in the order in which a
 /// connection can pass through them.
@@ -23,20 +24,44 @@ pub enum State {
     Drained,
 }
 
-/// Why a connection ended.
+/// A close of a connection by an error of the transport (RFC 9000, 19.19).
 #[derive(Drop)]
-pub enum ConnectionError {
-    /// This end found the error: INTERNAL_ERROR where its packet numbers were used up (RFC 9000, 12.3).
-    TransportError(TransportError),
+pub struct ConnectionClose {
+    /// The error's code (RFC 9000, 20.1).
+    pub error_code: TransportErrorCode,
+    /// The type of the frame that caused it, if one did.
+    pub frame_type: Option<u64>,
+    /// A reason in words.
+    pub reason: Bytes,
 }
 
-/// A close of the application (RFC 9000, 10.2).
+/// A close of an application (RFC 9000, 10.2).
 #[derive(Drop)]
 pub struct ApplicationClose {
     /// The application's error code (RFC 9000, 20.2).
     pub error_code: VarInt,
     /// The application's reason.
     pub reason: Bytes,
+}
+
+/// A close that this end sends.
+#[derive(Drop)]
+pub enum Close {
+    /// Because of an error of the transport.
+    Connection(ConnectionClose),
+    /// Because the application closed.
+    Application(ApplicationClose),
+}
+
+/// Why a connection ended.
+#[derive(Drop)]
+pub enum ConnectionError {
+    /// This end found the error.
+    TransportError(TransportError),
+    /// The peer closed because of an error of the transport.
+    ConnectionClosed(ConnectionClose),
+    /// The peer's application closed.
+    ApplicationClosed(ApplicationClose),
 }
 
 /// The life, the first reason for its end, and what waits to be reported.
@@ -50,17 +75,52 @@ pub struct Life {
     pub lost: Option<ConnectionError>,
     /// Whether `Drained` waits to be given.
     pub drained: bool,
-    /// The close with which the application of this end raised the life to `Closed`, if it did.
-    pub close: Option<ApplicationClose>,
+    /// The close with which this end raised the life to `Closed`, if it did.
+    pub close: Option<Close>,
+}
+
+impl ConnectionClose {
+    /// The same close again. Want of memory is the only refusal.
+    pub fn copy(&self) -> Result<ConnectionClose, AllocError>
+        ensures { IfOk result (λ close. close ≡ self.now) }
+    {
+        let reason = self.reason.clone()?;
+        Ok(ConnectionClose {
+            error_code: self.error_code,
+            frame_type: self.frame_type,
+            reason,
+        })
+    }
+}
+
+impl ApplicationClose {
+    /// The same close again. Want of memory is the only refusal.
+    pub fn copy(&self) -> Result<ApplicationClose, AllocError>
+        ensures { IfOk result (λ close. close ≡ self.now) }
+    {
+        let reason = self.reason.clone()?;
+        Ok(ApplicationClose {
+            error_code: self.error_code,
+            reason,
+        })
+    }
 }
 
 impl ConnectionError {
-    /// The same reason again.
-    pub fn copy(&self) -> ConnectionError
-        ensures { result ≡ self.now }
+    /// The same reason again. Want of memory is the only refusal.
+    pub fn copy(&self) -> Result<ConnectionError, AllocError>
+        ensures { IfOk result (λ why. why ≡ self.now) }
     {
         match self {
-            ConnectionError::TransportError(error) => ConnectionError::TransportError(*error),
+            ConnectionError::TransportError(error) => Ok(ConnectionError::TransportError(*error)),
+            ConnectionError::ConnectionClosed(close) => {
+                let close = close.copy()?;
+                Ok(ConnectionError::ConnectionClosed(close))
+            }
+            ConnectionError::ApplicationClosed(close) => {
+                let close = close.copy()?;
+                Ok(ConnectionError::ApplicationClosed(close))
+            }
         }
     }
 }
@@ -78,7 +138,7 @@ pub fn rank(state: State) -> u8
     }
 }
 
-#[tactic(auto, unfolding(crate::specs::Life::life_raised, crate::specs::Life::life_closed, crate::specs::Life::reason_given, crate::specs::Life::lost_event, crate::specs::Life::lost_reported, crate::specs::Life::drained_event, crate::specs::Life::drained_reported))]
+#[tactic(auto, unfolding(crate::specs::Life::life_raised, crate::specs::Life::life_closed, crate::specs::Life::life_drained, crate::specs::Life::reason_given, crate::specs::Life::lost_event, crate::specs::Life::lost_reported, crate::specs::Life::drained_event, crate::specs::Life::drained_reported))]
 impl Life {
     /// Whether this end hasn't closed, and nothing has ended the connection.
     pub fn is_open(&self) -> bool
@@ -90,12 +150,49 @@ impl Life {
         }
     }
 
-    /// The application closes: the life rises to `Closed`.
-    pub fn shut(&mut self, close: ApplicationClose)
+    /// This end closes: the life rises to `Closed`.
+    pub fn shut(&mut self, close: Close)
         ensures { self.new ≡ life_closed self.old close }
     {
         self.state = State::Closed;
         self.close = Some(close);
+    }
+
+    /// The peer closed: the life rises to `Draining`.
+    pub fn drain(&mut self)
+        ensures { self.new ≡ life_drained self.old }
+    {
+        self.state = State::Draining;
+    }
+
+    /// Whether this end has closed, and the peer has not.
+    pub fn is_closed(&self) -> bool
+        ensures { result ≡ is_closed self.now.state }
+    {
+        match self.state {
+            State::Closed => true,
+            State::Handshake | State::Established | State::Draining | State::Drained => false,
+        }
+    }
+
+    /// Whether the handshake isn't over.
+    pub fn is_handshake(&self) -> bool
+        ensures { result ≡ is_handshake self.now.state }
+    {
+        match self.state {
+            State::Handshake => true,
+            State::Established | State::Closed | State::Draining | State::Drained => false,
+        }
+    }
+
+    /// Whether the connection drains or has ended: nothing that comes counts any more.
+    pub fn is_over(&self) -> bool
+        ensures { result ≡ is_over self.now.state }
+    {
+        match self.state {
+            State::Draining | State::Drained => true,
+            State::Handshake | State::Established | State::Closed => false,
+        }
     }
 
     /// Whether the life has ended.
@@ -108,12 +205,13 @@ impl Life {
         }
     }
 
-    /// A reason for the end is given, unless one was given before.
-    pub fn give(&mut self, why: ConnectionError)
+    /// A reason for the end is given, unless one was given before: once to be kept, and once to be reported.
+    pub fn give(&mut self, why: ConnectionError, report: ConnectionError)
+        requires { report ≡ why }
         ensures { self.new ≡ reason_given self.old why }
     {
         if self.reason.is_none() {
-            self.lost = Some(why.copy());
+            self.lost = Some(report);
             self.reason = Some(why);
         }
     }

@@ -1,16 +1,23 @@
 //! The packet numbers of the three spaces.
 
-ghost use Rattle.std.specs.Prelude.{◌≡◌, ◌<◌, ◌^◌};
-ghost use Rattle.qc_state.specs.Numbers.{next_number, number_used};
+ghost use Rattle.std.specs.Prelude.{◌≡◌, ◌≤◌, ◌<◌, ◌^◌};
+ghost use Rattle.qc_state.specs.Numbers.{no_numbers, next_number, acked_number, number_used, used_in, received_number, is_new_in, number_entered, entered_in, number_accepted, accepted_in, number_acked, acked_in};
 
 use crate::spaces::Spaces;
 use qc_base::SpaceId;
+use qc_path::Dedup;
 
 /// The packet numbers of one space (RFC 9000, 12.3).
-#[derive(Clone, Copy)]
+#[derive(Drop)]
 pub struct SpaceNumbers {
     /// The number of the next packet that is sealed.
     pub next: u64,
+    /// The greatest number of this end that the peer acknowledged; 0 before the first.
+    pub largest_acked: u64,
+    /// The greatest number of the peer's packets that were accepted; 0 before the first.
+    pub rx: u64,
+    /// Which numbers of the peer came.
+    pub came: Dedup,
 }
 
 /// The packet numbers of the three spaces.
@@ -20,17 +27,54 @@ pub struct Numbers {
     pub spaces: Spaces<SpaceNumbers>,
 }
 
-#[tactic(auto, unfolding(crate::specs::Numbers::next_number, crate::specs::Numbers::number_used))]
+#[tactic(auto, unfolding(crate::specs::Numbers::used_in, crate::specs::Numbers::entered_in, crate::specs::Numbers::accepted_in, crate::specs::Numbers::acked_in))]
+impl SpaceNumbers {
+    /// No packet was sealed and none came.
+    pub fn new() -> SpaceNumbers
+        ensures { result ≡ no_numbers }
+    {
+        SpaceNumbers {
+            next: 0,
+            largest_acked: 0,
+            rx: 0,
+            came: Dedup::new(),
+        }
+    }
+
+    fn used(&mut self, number: u64)
+        requires { number < 2 ^ 62 }
+        ensures { self.new ≡ used_in number self.old }
+    {
+        self.next = number + 1;
+    }
+
+    fn entered(&mut self, number: u64)
+        ensures { self.new ≡ entered_in number self.old }
+    {
+        let _ = self.came.insert(number);
+    }
+
+    fn accepted(&mut self, number: u64)
+        ensures { self.new ≡ accepted_in number self.old }
+    {
+        let _ = self.came.insert(number);
+        self.rx = self.rx.max(number);
+    }
+
+    fn acked(&mut self, number: u64)
+        ensures { self.new ≡ acked_in number self.old }
+    {
+        self.largest_acked = self.largest_acked.max(number);
+    }
+}
+
+#[tactic(auto, unfolding(crate::specs::Numbers::next_number, crate::specs::Numbers::number_used, crate::specs::Numbers::acked_number, crate::specs::Numbers::received_number, crate::specs::Numbers::came_in, crate::specs::Numbers::is_new_in, crate::specs::Numbers::number_entered, crate::specs::Numbers::number_accepted, crate::specs::Numbers::number_acked))]
 impl Numbers {
     /// The number of the next packet that is sealed in the space.
     pub fn next(&self, space: SpaceId) -> u64
         ensures { result ≡ next_number self.now space }
     {
-        match space {
-            SpaceId::Initial => self.spaces.initial.next,
-            SpaceId::Handshake => self.spaces.handshake.next,
-            SpaceId::Data => self.spaces.application.next,
-        }
+        self.spaces.get(space).next
     }
 
     /// A packet was sealed with this number: the next one is one more.
@@ -39,9 +83,66 @@ impl Numbers {
         ensures { self.new ≡ number_used self.old space number }
     {
         match space {
-            SpaceId::Initial => self.spaces.initial.next = number + 1,
-            SpaceId::Handshake => self.spaces.handshake.next = number + 1,
-            SpaceId::Data => self.spaces.application.next = number + 1,
+            SpaceId::Initial => self.spaces.initial.used(number),
+            SpaceId::Handshake => self.spaces.handshake.used(number),
+            SpaceId::Data => self.spaces.application.used(number),
+        }
+    }
+
+    /// The number from which the next one is spelled: the greatest acknowledged one.
+    pub fn acked_number(&self, space: SpaceId) -> u64
+        ensures value { result ≡ acked_number self.now space }
+        ensures below { result ≤ next_number self.now space }
+    {
+        let numbers = self.spaces.get(space);
+        numbers.largest_acked.min(numbers.next)
+    }
+
+    /// The greatest number of the packets that were accepted in the space, 0 before the first.
+    pub fn received(&self, space: SpaceId) -> u64
+        ensures { result ≡ received_number self.now space }
+    {
+        self.spaces.get(space).rx
+    }
+
+    /// Whether the number is new: greater than all that came, or one that never came and lies at most 128 below the
+    /// greatest.
+    pub fn is_new(&self, space: SpaceId, number: u64) -> bool
+        ensures { result ≡ is_new_in self.now space number }
+    {
+        self.spaces.get(space).came.is_new(number)
+    }
+
+    /// A packet with this number came.
+    pub fn entered(&mut self, space: SpaceId, number: u64)
+        ensures { self.new ≡ number_entered self.old space number }
+    {
+        match space {
+            SpaceId::Initial => self.spaces.initial.entered(number),
+            SpaceId::Handshake => self.spaces.handshake.entered(number),
+            SpaceId::Data => self.spaces.application.entered(number),
+        }
+    }
+
+    /// A packet with this number came and was accepted.
+    pub fn accepted(&mut self, space: SpaceId, number: u64)
+        ensures { self.new ≡ number_accepted self.old space number }
+    {
+        match space {
+            SpaceId::Initial => self.spaces.initial.accepted(number),
+            SpaceId::Handshake => self.spaces.handshake.accepted(number),
+            SpaceId::Data => self.spaces.application.accepted(number),
+        }
+    }
+
+    /// The peer acknowledged packets up to this number.
+    pub fn acked(&mut self, space: SpaceId, number: u64)
+        ensures { self.new ≡ number_acked self.old space number }
+    {
+        match space {
+            SpaceId::Initial => self.spaces.initial.acked(number),
+            SpaceId::Handshake => self.spaces.handshake.acked(number),
+            SpaceId::Data => self.spaces.application.acked(number),
         }
     }
 }

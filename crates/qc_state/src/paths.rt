@@ -1,7 +1,8 @@
 //! The path to the peer.
 
 ghost use Rattle.std.specs.Prelude.{◌≡◌};
-ghost use Rattle.qc_state.specs.Paths.{path_sent};
+ghost use Rattle.qc_state.specs.Paths.{path_sent, path_received, peer_fixed, same_address};
+ghost use Rattle.std.specs.Net.Addr.{ipv4_octets, ipv6_segments};
 
 use qc_base::ConnectionId;
 use std::net::SocketAddr;
@@ -13,16 +14,53 @@ pub struct Paths {
     pub remote: SocketAddr,
     /// The id that packets to the peer carry as their destination (RFC 9000, 5.1).
     pub remote_cid: ConnectionId,
+    /// Whether that id is the one that the peer chose.
+    pub peer_fixed: bool,
     /// Bytes sent to the peer's address. They stand still at 2^64 - 1.
     pub sent: u64,
+    /// Bytes received from the peer's address, as far as they count (RFC 9000, 8.1). They stand still at 2^64 - 1.
+    pub received: u64,
 }
 
-#[tactic(auto, unfolding(crate::specs::Paths::path_sent))]
+#[tactic(auto, unfolding(crate::specs::Paths::path_sent, crate::specs::Paths::path_received, crate::specs::Paths::peer_fixed))]
 impl Paths {
+    /// So many bytes came from the path's address.
+    pub fn received(&mut self, bytes: u64)
+        ensures { self.new ≡ path_received self.old bytes }
+    {
+        self.received = self.received.saturating_add(bytes);
+    }
+
+    /// The peer has chosen the id that packets to it carry.
+    pub fn fix(&mut self, cid: ConnectionId)
+        ensures { self.new ≡ peer_fixed self.old cid }
+    {
+        self.remote_cid = cid;
+        self.peer_fixed = true;
+    }
+
     /// So many bytes were sent to the path's address.
     pub fn sent(&mut self, bytes: u64)
         ensures { self.new ≡ path_sent self.old bytes }
     {
         self.sent = self.sent.saturating_add(bytes);
+    }
+}
+
+/// Whether two addresses are one, flow label and scope included.
+#[tactic(auto, unfolding(crate::specs::Paths::same_address))]
+pub fn same_address(a: SocketAddr, b: SocketAddr) -> bool
+    ensures { result ≡ same_address a b }
+{
+    match (a, b) {
+        (SocketAddr::V4(a), SocketAddr::V4(b)) => {
+            a.ip().octets() == b.ip().octets() && a.port() == b.port()
+        }
+        (SocketAddr::V6(a), SocketAddr::V6(b)) => {
+            a.ip().segments() == b.ip().segments()
+                && (a.port() == b.port()
+                    && (a.flowinfo() == b.flowinfo() && a.scope_id() == b.scope_id()))
+        }
+        (SocketAddr::V4(_), SocketAddr::V6(_)) | (SocketAddr::V6(_), SocketAddr::V4(_)) => false,
     }
 }

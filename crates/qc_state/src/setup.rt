@@ -16,6 +16,8 @@ pub struct Fixed {
     pub local_ip: Option<IpAddr>,
     /// This end's limit on idle time; none where it has none (RFC 9000, 10.1).
     pub idle_limit: Option<Duration>,
+    /// Whether this end takes packets whose fixed bit isn't set (RFC 9287).
+    pub grease_quic_bit: bool,
 }
 
 /// What a connection was made with, and its source of random words.

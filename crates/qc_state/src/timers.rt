@@ -1,7 +1,7 @@
 //! The timers, and the greatest time so far.
 
 ghost use Rattle.std.specs.Prelude.{◌≡◌};
-ghost use Rattle.qc_state.specs.Timers.{timers_sealed, timers_stopped, timers_closing, clock_set, next_timeout, least, idle_from};
+ghost use Rattle.qc_state.specs.Timers.{timers_sealed, timers_stopped, timers_closing, timers_accepted, timers_settled, clock_set, next_timeout, least, idle_from};
 
 use qc_base::{Duration, Instant};
 
@@ -54,7 +54,7 @@ fn idle_at(limit: Option<Duration>, before: Option<Instant>, now: Instant) -> Op
     }
 }
 
-#[tactic(auto, unfolding(crate::specs::Timers::timers_sealed, crate::specs::Timers::timers_stopped, crate::specs::Timers::timers_closing, crate::specs::Timers::clock_set, crate::specs::Timers::next_timeout))]
+#[tactic(auto, unfolding(crate::specs::Timers::timers_sealed, crate::specs::Timers::timers_stopped, crate::specs::Timers::timers_closing, crate::specs::Timers::timers_accepted, crate::specs::Timers::timers_settled, crate::specs::Timers::clock_set, crate::specs::Timers::next_timeout))]
 impl Timers {
     /// A packet that elicits an acknowledgement was sealed at `now`.
     pub fn sealed(&mut self, limit: Option<Duration>, now: Instant)
@@ -65,6 +65,21 @@ impl Timers {
             self.idle = idle_at(limit, self.idle, now);
         }
         self.sets_idle = false;
+    }
+
+    /// A packet of the peer was accepted at `now`: the connection isn't idle.
+    pub fn accepted(&mut self, limit: Option<Duration>, now: Instant)
+        ensures { self.new ≡ timers_accepted self.old limit now }
+    {
+        self.idle = idle_at(limit, self.idle, now);
+        self.sets_idle = true;
+    }
+
+    /// Nothing that elicits an acknowledgement is in flight.
+    pub fn settled(&mut self)
+        ensures { self.new ≡ timers_settled self.old }
+    {
+        self.loss_detection = None;
     }
 
     /// Every timer is stopped.

@@ -16,6 +16,8 @@ use std::net::SocketAddr;
 pub enum Answer {
     /// The call is done and has no value.
     Done,
+    /// A datagram that begins with no packet was dropped.
+    Dropped,
     /// The call gave no value; for a transmit: nothing was sent.
     Nothing,
     /// A transmit: datagrams to be sent.

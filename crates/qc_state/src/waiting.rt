@@ -1,12 +1,15 @@
 //! The frames that wait to be sealed.
 
 ghost use Rattle.std.specs.Prelude.{◌≡◌, ◌++◌, OnOk, IfOk};
-ghost use Rattle.qc_state.specs.Waiting.{waits_in, ping_asked, close_begun, close_ended};
+ghost use Rattle.qc_state.specs.Waiting.{waits_in, ping_asked, close_begun, close_ended, flown_in, settled_in, packet_flown, packets_settled, is_calm};
+ghost use Rattle.qc_frame.specs.AckRanges.{ranges_of};
+ghost use Rattle.qc_frame.specs.Frame.{ack_map};
 
 use crate::crypto_queue::CryptoQueue;
+use crate::flight::Flight;
 use crate::spaces::Spaces;
 use qc_base::SpaceId;
-use qc_frame::{FrameList, FrameOf};
+use qc_frame::{Ack, FrameList, FrameOf};
 use std::alloc::{AllocError, Global};
 
 /// The greatest size of a CRYPTO frame's type, offset and length together, in bytes.
@@ -19,6 +22,8 @@ pub struct SpaceWaiting {
     pub ping: bool,
     /// The bytes of CRYPTO frames that wait (RFC 9000, 19.6).
     pub crypto: CryptoQueue,
+    /// The packets that were sealed, elicit an acknowledgement and aren't acknowledged.
+    pub flight: Flight,
 }
 
 /// What waits to be sealed.
@@ -28,6 +33,22 @@ pub struct Waiting {
     pub spaces: Spaces<SpaceWaiting>,
     /// Whether a close is owed: the connection closed, and no packet of the highest space has told so (RFC 9000, 10.2).
     pub close_owed: bool,
+}
+
+/// A packet that elicits an acknowledgement was sealed. Want of memory is the only refusal.
+#[tactic(auto, unfolding(crate::specs::Waiting::flown_in))]
+fn fly(space: &mut SpaceWaiting, number: u64) -> Result<(), AllocError>
+    ensures { OnOk result (space.new ≡ flown_in number space.old) }
+{
+    space.flight.push(number)
+}
+
+/// The peer acknowledged packets. Want of memory is the only refusal.
+#[tactic(auto, unfolding(crate::specs::Waiting::settled_in))]
+fn settle(space: &mut SpaceWaiting, alloc: Global, ack: &Ack<'_>) -> Result<(), AllocError>
+    ensures { OnOk result (space.new ≡ settled_in (ranges_of (ack_map (λ bytes. bytes.now) ack.now)) space.old) }
+{
+    space.flight.acked(alloc, ack)
 }
 
 /// Whether something waits.
@@ -86,13 +107,44 @@ fn take(space: &mut SpaceWaiting, alloc: Global, room: usize) -> Result<FrameLis
 ghost use Rattle.qc_state.specs.Waiting.{waits_here, without_all, ping_part, crypto_part, taken_part, waiting_without};
 ghost use Rattle.qc_state.specs.Spaces.{space_of};
 
-#[tactic(auto, unfolding(crate::specs::Waiting::close_begun, crate::specs::Waiting::close_ended, crate::specs::Waiting::waits_in, crate::specs::Waiting::ping_asked, crate::specs::Waiting::waiting_without))]
+#[tactic(auto, unfolding(crate::specs::Waiting::packet_flown, crate::specs::Waiting::packets_settled, crate::specs::Waiting::is_calm, crate::specs::Waiting::close_begun, crate::specs::Waiting::close_ended, crate::specs::Waiting::waits_in, crate::specs::Waiting::ping_asked, crate::specs::Waiting::waiting_without))]
 impl Waiting {
     /// Whether something waits in the space.
     pub fn waits(&self, space: SpaceId) -> bool
         ensures { result ≡ waits_in self.now space }
     {
         waits(self.spaces.get(space))
+    }
+
+    /// A packet that elicits an acknowledgement was sealed in the space. Want of memory is the only refusal.
+    pub fn fly(&mut self, space: SpaceId, number: u64) -> Result<(), AllocError>
+        ensures { OnOk result (self.new ≡ packet_flown self.old space number) }
+    {
+        match space {
+            SpaceId::Initial => fly(&mut self.spaces.initial, number),
+            SpaceId::Handshake => fly(&mut self.spaces.handshake, number),
+            SpaceId::Data => fly(&mut self.spaces.application, number),
+        }
+    }
+
+    /// The peer acknowledged packets of the space: they are in flight no longer. Want of memory is the only refusal.
+    pub fn settle(&mut self, alloc: Global, space: SpaceId, ack: &Ack<'_>) -> Result<(), AllocError>
+        ensures { OnOk result (self.new ≡ packets_settled self.old space (ranges_of (ack_map (λ bytes. bytes.now) ack.now))) }
+    {
+        match space {
+            SpaceId::Initial => settle(&mut self.spaces.initial, alloc, ack),
+            SpaceId::Handshake => settle(&mut self.spaces.handshake, alloc, ack),
+            SpaceId::Data => settle(&mut self.spaces.application, alloc, ack),
+        }
+    }
+
+    /// Whether no packet in flight elicits an acknowledgement, in any space.
+    pub fn is_calm(&self) -> bool
+        ensures { result ≡ is_calm self.now }
+    {
+        self.spaces.initial.flight.is_empty()
+            && self.spaces.handshake.flight.is_empty()
+            && self.spaces.application.flight.is_empty()
     }
 
     /// A close is owed from now on.

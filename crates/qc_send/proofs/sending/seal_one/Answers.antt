@@ -1,13 +1,13 @@
-use Rattle.std.proofs.Common.{◌<◌, ◌^◌, arith, refl}
+use Rattle.std.proofs.Common.{◌<◌, ◌-◌, ◌^◌, arith, refl}
 use Rattle.qc_base.specs.declared.side.SpaceId.TheVariants.{Initial}
 use Rattle.qc_state.specs.Numbers.{next_number}
 use Rattle.qc_state.specs.View.{ideal}
-use Rattle.qc_state.proofs.Seals.{loud_low, loud_keyed, header_is_short, header_has_number, taken_room, seals_one}
+use Rattle.qc_state.proofs.Seals.{loud_low, loud_near, loud_keyed, header_is_short, header_has_number, taken_room, seals_one}
 use Rattle.qc_send.proofs.sending.seal_one.Goals as goal
 
--- the number lies below the limit
+-- the number is near enough to the greatest acknowledged one
 pub header-header-requires : goal.header-header-requires
-header-header-requires g c = loud_low _ c.requires.loud
+header-header-requires g c = loud_near _ c.requires.loud
 
 -- the header is short
 pub overflow_sub-room-2 : goal.overflow_sub-room-2
@@ -24,7 +24,7 @@ seal-requires-clause-room g c = taken_room _ _ _ _ _ (c.encoded_len.ensures.len 
 
 pub sealed-requires : goal.sealed-requires
 sealed-requires g c =
-    let low : next_number c.args.core.now.numbers Initial < 2 ^ 31 = loud_low (ideal g.U.Random.Rng.stream c.args.core.now) c.requires.loud in
+    let low : next_number c.args.core.now.numbers Initial < 2 ^ 62 - 1 = loud_low (ideal g.U.Random.Rng.stream c.args.core.now) c.requires.loud in
     omega (arith, c.next_number-number.ensures)
 
 -- what was taken, sealed and counted is one packet

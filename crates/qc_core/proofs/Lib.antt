@@ -1,0 +1,4 @@
+mod Behind
+mod Cuts
+mod Opens
+mod Payloads

@@ -1,0 +1,398 @@
+//! What a packet does that opened, by its verdict, and what its frames do.
+
+ghost use Rattle.std.specs.Prelude.{◌≡◌, ◌∷◌, [], true, false, Some, OnOk, IfOk};
+ghost use Rattle.std.specs.List.{list_any};
+ghost use Rattle.qc_frame.specs.Frame.{ack_map, borrowed, typed};
+ghost use Rattle.qc_frame.specs.FrameSpelling.{spelling};
+ghost use Rattle.qc_frame.specs.Payload.{items_of};
+ghost use Rattle.qc_state.specs.Numbers.{next_number};
+ghost use Rattle.qc_state.specs.Receiving.{acked_after, admitted_after, applied_after, calmed, closed_by_peer, fixed_after, fixes_peer, frame_and, frame_stop, is_close_item, items_after, left_after, payload_after, read_and, read_for_close, reason_of, received_after, stopped_after, violation_at};
+ghost use Rattle.qc_state.specs.Types.{Types};
+ghost use Rattle.qc_state.specs.Verdicts.{verdict_of};
+ghost use Rattle.qc_state.specs.View.{At, ideal, held};
+
+use crate::state::Core;
+use bytes::Bytes;
+use qc_base::{ConnectionId, Instant, SpaceId, TransportError, TransportErrorCode};
+use qc_frame::{Ack, Frame, FrameOf, Iter, TypedFrame, put_frame};
+use qc_state::{
+    ApplicationClose, Body, Close, ConnectionClose, ConnectionError, Dids, Layer, Suite, Verdict,
+};
+use std::alloc::{AllocError, Global};
+
+/// An error with this code at a frame of this type, if it is at one.
+fn error_at(code: TransportErrorCode, frame: Option<u64>) -> TransportError
+    ensures code { result.code ≡ code }
+    ensures frame { result.frame ≡ frame }
+{
+    TransportError { code, frame }
+}
+
+/// The error with which a frame of this type stops its packet, if it does, where this end's next number is `next`.
+fn frame_stop(next: u64, ty: u64, frame: &Frame<'_>) -> Option<TransportError>
+    ensures { result ≡ frame_stop next ty (borrowed frame.now) }
+{
+    match frame {
+        FrameOf::Padding
+        | FrameOf::Ping
+        | FrameOf::ConnectionClose { .. }
+        | FrameOf::ApplicationClose { .. } => None,
+        FrameOf::Ack(ack) => {
+            if next <= ack.largest {
+                return Some(error_at(TransportErrorCode::PROTOCOL_VIOLATION, None));
+            }
+            None
+        }
+        FrameOf::Crypto { .. } => Some(error_at(TransportErrorCode::INTERNAL_ERROR, Some(ty))),
+        _ => Some(error_at(TransportErrorCode::PROTOCOL_VIOLATION, Some(ty))),
+    }
+}
+
+/// The reason that a close of the peer's gives for the end. Want of memory is the only refusal.
+fn reason_of(alloc: Global, frame: &Frame<'_>) -> Result<Option<ConnectionError>, AllocError>
+    ensures { IfOk result (λ why. why ≡ reason_of (borrowed frame.now)) }
+{
+    match frame {
+        FrameOf::ConnectionClose {
+            error_code,
+            frame_type,
+            reason,
+        } => {
+            let reason = Bytes::copy_from_slice(alloc, reason)?;
+            Ok(Some(ConnectionError::ConnectionClosed(ConnectionClose {
+                error_code: *error_code,
+                frame_type: *frame_type,
+                reason,
+            })))
+        }
+        FrameOf::ApplicationClose { error_code, reason } => {
+            let reason = Bytes::copy_from_slice(alloc, reason)?;
+            Ok(Some(ConnectionError::ApplicationClosed(ApplicationClose {
+                error_code: *error_code,
+                reason,
+            })))
+        }
+        _ => Ok(None),
+    }
+}
+
+/// The frame as it is written. Want of memory is the only refusal.
+fn spelled(alloc: Global, frame: &Frame<'_>) -> Result<Body, AllocError>
+    ensures { IfOk result (λ body. body ≡ spelling (borrowed frame.now)) }
+{
+    let mut bytes = Vec::new(alloc);
+    put_frame(&mut bytes, frame)?;
+    Ok(Body::from_vec(bytes))
+}
+
+/// Whether one of the frames of a payload is a close, up to the first bytes that are no frame.
+fn holds_close(payload: &[u8]) -> bool
+    ensures { result ≡ list_any is_close_item (items_of payload.now) }
+{
+    let frames = match Iter::new(payload) {
+        Ok(frames) => frames,
+        Err(_) => return false,
+    };
+    for item in frames {
+        if let Ok(read) = item {
+            if is_close(&read.frame) {
+                return true;
+            }
+        }
+    }
+    false
+}
+
+/// Whether a frame closes the connection.
+fn is_close(frame: &Frame<'_>) -> bool
+    ensures { result ≡ is_close (borrowed frame.now) }
+{
+    match frame {
+        FrameOf::ConnectionClose { .. } | FrameOf::ApplicationClose { .. } => true,
+        _ => false,
+    }
+}
+
+ghost use Rattle.qc_state.specs.Moves.{is_close};
+
+impl<U: Suite> Core<U> {
+    /// This end closes for this error, where it hasn't closed before.
+    #[tactic(auto, unfolding(qc_state::specs::Receiving::stopped_after, qc_state::specs::Moves::move_to, qc_state::specs::Moves::deeds_move))]
+    fn stopped(
+        &mut self,
+        did: &mut Dids,
+        now: Instant,
+        error: TransportError,
+    ) -> Result<(), AllocError>
+        ensures { OnOk result ((held U.Random.stream self.new did.new) ≡ stopped_after now error (held U.Random.stream self.old did.old)) }
+    {
+        if !self.life.is_open() {
+            return Ok(());
+        }
+        self.do_shut(
+            now,
+            Close::Connection(ConnectionClose {
+                error_code: error.code,
+                frame_type: error.frame,
+                reason: Bytes::new(),
+            }),
+        );
+        did.push_rose(2)?;
+        self.give(did, ConnectionError::TransportError(error))
+    }
+
+    /// This end closes because the peer broke a rule that no frame is at fault for.
+    pub(crate) fn violated(&mut self, did: &mut Dids, now: Instant) -> Result<(), AllocError>
+        ensures { OnOk result ((held U.Random.stream self.new did.new) ≡ stopped_after now (violation_at None) (held U.Random.stream self.old did.old)) }
+    {
+        self.stopped(
+            did,
+            now,
+            error_at(TransportErrorCode::PROTOCOL_VIOLATION, None),
+        )
+    }
+
+    /// The peer closed, for this reason: the connection drains, if it was open.
+    #[tactic(auto, unfolding(qc_state::specs::Receiving::left_after))]
+    fn left(&mut self, did: &mut Dids, now: Instant, why: ConnectionError) -> Result<(), AllocError>
+        ensures { OnOk result ((held U.Random.stream self.new did.new) ≡ left_after now why (held U.Random.stream self.old did.old)) }
+    {
+        if !self.life.is_open() {
+            return Ok(());
+        }
+        self.do_leave(did, now)?;
+        self.give(did, why)
+    }
+
+    /// Loss recovery is given an ACK: what it acknowledges is in flight no longer.
+    #[tactic(auto, unfolding(qc_state::specs::Receiving::acked_after, qc_state::specs::Receiving::calmed, qc_state::specs::Moves::move_to, qc_state::specs::Moves::deeds_move))]
+    fn acked(
+        &mut self,
+        alloc: Global,
+        did: &mut Dids,
+        space: SpaceId,
+        ack: &Ack<'_>,
+        body: Body,
+    ) -> Result<(), AllocError>
+        requires { body ≡ spelling (FrameOf.Ack (ack_map (λ bytes. bytes.now) ack.now)) }
+        ensures { OnOk result ((held U.Random.stream self.new did.new) ≡ acked_after space (ack_map (λ bytes. bytes.now) ack.now) (held U.Random.stream self.old did.old)) }
+    {
+        self.do_tell_gave(did, Layer::Recovery, body)?;
+        self.do_ack(alloc, space, ack)?;
+        if self.waiting.is_calm() {
+            self.do_calm();
+        }
+        Ok(())
+    }
+
+    /// A frame that stops nothing is applied.
+    #[tactic(auto, unfolding(qc_state::specs::Receiving::applied_after))]
+    fn applied(
+        &mut self,
+        alloc: Global,
+        did: &mut Dids,
+        space: SpaceId,
+        frame: &Frame<'_>,
+    ) -> Result<(), AllocError>
+        ensures { OnOk result ((held U.Random.stream self.new did.new) ≡ applied_after space (borrowed frame.now) (held U.Random.stream self.old did.old)) }
+    {
+        match frame {
+            FrameOf::Ack(ack) => {
+                let body = spelled(alloc, frame)?;
+                self.acked(alloc, did, space, ack, body)
+            }
+            _ => Ok(()),
+        }
+    }
+
+    /// A close of the peer's, for this reason, is given to the life.
+    #[tactic(auto, unfolding(qc_state::specs::Receiving::closed_by_peer))]
+    fn closed_by_peer(
+        &mut self,
+        alloc: Global,
+        did: &mut Dids,
+        now: Instant,
+        frame: &Frame<'_>,
+        why: ConnectionError,
+    ) -> Result<(), AllocError>
+        ensures { OnOk result ((held U.Random.stream self.new did.new) ≡ closed_by_peer now (borrowed frame.now) why (held U.Random.stream self.old did.old)) }
+    {
+        let body = spelled(alloc, frame)?;
+        self.do_tell_gave(did, Layer::Life, body)?;
+        self.left(did, now, why)
+    }
+
+    /// One frame. Answers whether it ends its packet: the first close does, and a frame that stops it.
+    fn item(
+        &mut self,
+        alloc: Global,
+        did: &mut Dids,
+        now: Instant,
+        space: SpaceId,
+        read: &TypedFrame<'_>,
+    ) -> Result<bool, AllocError>
+        ensures ends { IfOk result (λ ends. ends ≡ true → (others : At _ → At _) → (held U.Random.stream self.new did.new) ≡ read_and space (typed read.now) (reason_of (borrowed read.now.frame)) now others (held U.Random.stream self.old did.old)) }
+        ensures goes { IfOk result (λ ends. ends ≡ false → (others : At _ → At _) → others (held U.Random.stream self.new did.new) ≡ read_and space (typed read.now) (reason_of (borrowed read.now.frame)) now others (held U.Random.stream self.old did.old)) }
+    {
+        if let Some(why) = reason_of(alloc, &read.frame)? {
+            self.closed_by_peer(alloc, did, now, &read.frame, why)?;
+            return Ok(true);
+        }
+        match frame_stop(self.numbers.next(space), read.ty, &read.frame) {
+            Some(error) => {
+                self.stopped(did, now, error)?;
+                Ok(true)
+            }
+            None => {
+                self.applied(alloc, did, space, &read.frame)?;
+                Ok(false)
+            }
+        }
+    }
+
+    /// The frames of a packet, in order, up to the first stop or close.
+    fn items(
+        &mut self,
+        alloc: Global,
+        did: &mut Dids,
+        now: Instant,
+        space: SpaceId,
+        frames: Iter<'_>,
+    ) -> Result<(), AllocError>
+        ensures { OnOk result ((held U.Random.stream self.new did.new) ≡ items_after space now (items_of frames.entry) (held U.Random.stream self.old did.old)) }
+    {
+        for item in frames {
+            match item {
+                Err(fault) => {
+                    return self.stopped(
+                        did,
+                        now,
+                        error_at(TransportErrorCode::FRAME_ENCODING_ERROR, fault.ty),
+                    );
+                }
+                Ok(read) => {
+                    if self.item(alloc, did, now, space, &read)? {
+                        return Ok(());
+                    }
+                }
+            }
+        }
+        Ok(())
+    }
+
+    /// The frames of a payload; an empty one breaks a rule (RFC 9000, section 12.4).
+    #[tactic(auto, unfolding(qc_state::specs::Receiving::payload_after))]
+    fn payload(
+        &mut self,
+        alloc: Global,
+        did: &mut Dids,
+        now: Instant,
+        space: SpaceId,
+        payload: &[u8],
+    ) -> Result<(), AllocError>
+        ensures { OnOk result ((held U.Random.stream self.new did.new) ≡ payload_after space now payload.now (held U.Random.stream self.old did.old)) }
+    {
+        match Iter::new(payload) {
+            Err(_) => self.violated(did, now),
+            Ok(frames) => self.items(alloc, did, now, space, frames),
+        }
+    }
+
+    /// The first Initial packet that a client admits fixes the id that the peer chose (RFC 9000, section 7.2).
+    #[tactic(auto, unfolding(qc_state::specs::Receiving::fixed_after, qc_state::specs::Moves::move_to, qc_state::specs::Moves::deeds_move))]
+    fn fix(&mut self, space: SpaceId, source: ConnectionId, did: &Dids)
+        ensures { (held U.Random.stream self.new did.now) ≡ fixed_after space source (held U.Random.stream self.old did.now) }
+    {
+        match space {
+            SpaceId::Initial => {
+                if !self.paths.peer_fixed {
+                    self.do_fix(source);
+                }
+            }
+            SpaceId::Handshake | SpaceId::Data => {}
+        }
+    }
+
+    /// A packet that is admitted.
+    #[tactic(auto, unfolding(qc_state::specs::Receiving::admitted_after))]
+    fn admitted(
+        &mut self,
+        alloc: Global,
+        did: &mut Dids,
+        now: Instant,
+        space: SpaceId,
+        source: ConnectionId,
+        number: u64,
+        payload: &[u8],
+    ) -> Result<(), AllocError>
+        ensures { OnOk result ((held U.Random.stream self.new did.new) ≡ admitted_after now space source number payload.now (held U.Random.stream self.old did.old)) }
+    {
+        self.do_accept(did, now, space, number, Verdict::Admitted)?;
+        self.fix(space, source, did);
+        self.payload(alloc, did, now, space, payload)
+    }
+
+    /// A packet that came once this end had closed: a close in it makes the connection drain, else this end's close is owed
+    /// again.
+    #[tactic(auto, unfolding(qc_state::specs::Receiving::read_for_close, qc_state::specs::Moves::move_to, qc_state::specs::Moves::deeds_move))]
+    fn read_for_close(
+        &mut self,
+        did: &mut Dids,
+        space: SpaceId,
+        number: u64,
+        payload: &[u8],
+    ) -> Result<(), AllocError>
+        ensures { OnOk result ((held U.Random.stream self.new did.new) ≡ read_for_close space number payload.now (held U.Random.stream self.old did.old)) }
+    {
+        self.do_enter(did, space, number)?;
+        if holds_close(payload) {
+            return self.do_drain(did);
+        }
+        self.do_owe();
+        Ok(())
+    }
+
+    /// The verdict on a packet of this space with this source id and number that opened.
+    #[tactic(auto, unfolding(qc_state::specs::Verdicts::verdict_of))]
+    fn verdict(&self, space: SpaceId, source: ConnectionId, number: u64) -> Verdict
+        ensures { result ≡ verdict_of (ideal U.Random.stream self.now) space source number }
+    {
+        if !self.numbers.is_new(space, number) {
+            return Verdict::Seen;
+        }
+        if self.life.is_closed() {
+            return Verdict::ReadForClose;
+        }
+        if self.life.is_handshake()
+            && (self.paths.peer_fixed && source.as_slice() != self.paths.remote_cid.as_slice())
+        {
+            return Verdict::AckOnly;
+        }
+        Verdict::Admitted
+    }
+
+    /// A packet that opened in this space. Want of memory is the only refusal.
+    #[tactic(auto, unfolding(qc_state::specs::Receiving::received_after))]
+    pub(crate) fn received(
+        &mut self,
+        alloc: Global,
+        did: &mut Dids,
+        now: Instant,
+        space: SpaceId,
+        source: ConnectionId,
+        number: u64,
+        payload: Bytes,
+    ) -> Result<(), AllocError>
+        ensures { OnOk result ((held U.Random.stream self.new did.new) ≡ received_after now space source number payload (held U.Random.stream self.old did.old)) }
+    {
+        match self.verdict(space, source, number) {
+            Verdict::Seen => { self.do_tell_piece(did, Some(space), Some(number), Verdict::Seen) }
+            Verdict::ReadForClose => { self.read_for_close(did, space, number, payload.as_slice()) }
+            Verdict::AckOnly => self.do_accept(did, now, space, number, Verdict::AckOnly),
+            Verdict::Admitted => {
+                self.admitted(alloc, did, now, space, source, number, payload.as_slice())
+            }
+            Verdict::Ignored | Verdict::Failure | Verdict::BadBits => Ok(()),
+        }
+    }
+}

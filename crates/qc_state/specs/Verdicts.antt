@@ -1,0 +1,32 @@
+-- What becomes of a packet that opened (RFC 9000, sections 7.2, 10.2 and 12.3): one row a verdict, and the first row that
+-- holds decides.
+use Rattle.std.specs.Prelude.{ℕ, ◌&&◌, not, nat_eq, Bool, if◌then◌else◌, List, [], ◌∷◌}
+use Rattle.std.specs.Cmp.Lexicographic.{pointwise}
+use Rattle.qc_base.specs.declared.side.SpaceId.{SpaceId}
+use Rattle.qc_state.specs.declared.deeds.Verdict.{Verdict}
+use Rattle.qc_state.specs.declared.deeds.Verdict.TheVariants.{Seen, ReadForClose, AckOnly, Admitted}
+use Rattle.qc_state.specs.Life.{is_handshake, is_closed}
+use Rattle.qc_state.specs.Numbers.{is_new_in}
+use Rattle.qc_state.specs.Types.{Types}
+use Rattle.qc_state.specs.View.{View}
+
+-- the first verdict whose test holds
+abbrev pub first_row : List (Bool × Verdict) → Verdict → Verdict
+first_row [] other = other
+first_row (row ∷ rows) other = if row.0 then row.1 else first_row rows other
+
+module _ {t : Types} where
+  -- The rows for a packet of this space with this source id and number that opened and whose reserved bits are 0. Those
+  -- before stand in the opening: Ignored without a key or a sample, Failure where its key doesn't open it, BadBits. Not
+  -- there so far: a stateless reset (behind Ignored), a bad key update (behind BadBits), and, behind ReadForClose,
+  -- NumberOnly for 1-RTT packets during the handshake and for a server's Initial packets with another token.
+  abbrev pub rows : View t → SpaceId → List ℕ → ℕ → List (Bool × Verdict)
+  rows s id source number =
+      (not (is_new_in s.numbers id number), Seen)
+      ∷ (is_closed s.life.state, ReadForClose)
+      ∷ (is_handshake s.life.state && (s.paths.peer_fixed && not (pointwise nat_eq source s.paths.remote_cid)), AckOnly)
+      ∷ []
+
+  -- the verdict on the packet
+  unfoldable pub verdict_of : View t → SpaceId → List ℕ → ℕ → Verdict
+  verdict_of s id source number = first_row (rows s id source number) Admitted
