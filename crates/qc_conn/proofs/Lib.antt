@@ -1,9 +1,2 @@
-pub mod AnswersBack
-pub mod DeedsBack
-pub mod FramesBack
-pub mod InRange
 pub mod Refusals
 pub mod RunsPlain
-pub mod TextLemmas
-pub mod Tokens
-pub mod TraceBack

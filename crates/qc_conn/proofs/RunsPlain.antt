@@ -1,36 +1,49 @@
 -- The steps of a run leave nothing out of their text.
-use Rattle.std.proofs.Common.{◌≡◌, ℕ, ◌+◌, ◌<◌, ◌^◌, Bool, true, false, if◌then◌else◌, List, [], ◌∷◌, length, replicate, take, zero, suc, refl, sym, ap, ◌∙◌, subst, arith}
-use Rattle.std.specs.List.{All}
+use Rattle.std.proofs.Common.{◌≡◌, ℕ, ◌+◌, ◌<◌, ◌^◌, ◌==◌, ◌||◌, Bool, true, false, if◌then◌else◌, List, [], ◌∷◌, ◌++◌, length, replicate, take, zero, suc, Option, Some, None, refl, sym, ap, ◌∙◌, subst, arith}
+use Rattle.std.specs.Prelude.{nat_lt, nat_le}
+use Rattle.std.specs.List.{All, list_any}
 use Rattle.std.specs.declared.net.socket_addr.SocketAddr.{SocketAddr}
 use Rattle.std.proofs.lemmas.List.{length-drop}
-use Rattle.std.proofs.lemmas.List.Elements.{All-nil, All-cons}
-use Rattle.qc_base.specs.declared.side.SpaceId.TheVariants.{Initial}
+use Rattle.std.proofs.lemmas.Bool.Decides.{nat_tests}
+use Rattle.std.proofs.lemmas.List.Elements.{All-nil, All-cons, All-append}
+use Rattle.qc_base.specs.Varint.{IsNumber}
+use Rattle.qc_base.specs.declared.range_set.NumberRange.{NumberRange}
+use Rattle.qc_base.specs.declared.side.SpaceId.{SpaceId}
+use Rattle.qc_base.specs.declared.side.SpaceId.TheVariants.{Initial, Handshake, «Data»}
 use Rattle.qc_frame.specs.Frame.{FrameValue}
-use Rattle.qc_frame.specs.FrameFits.{Fits}
+use Rattle.qc_frame.specs.FrameFits.{Fits, TypeFits}
+use Rattle.qc_frame.specs.FrameSpelling.{elicits}
 use Rattle.qc_frame.specs.declared.frames.FrameOf.TheVariants as frames
 use Rattle.qc_state.specs.declared.deeds.Did.{Did}
 use Rattle.qc_state.specs.declared.deeds.Did.TheVariants as deed
 use Rattle.qc_state.specs.declared.deeds.Quiet.TheVariants.{NothingOwed, Silent, Killed}
 use Rattle.qc_state.specs.declared.input.Input.{Input}
 use Rattle.qc_state.specs.declared.input.Input.TheVariants as input
+use Rattle.qc_state.specs.declared.life.Close.{Close}
+use Rattle.qc_state.specs.declared.life.Close.TheVariants.{Connection, Application}
+use Rattle.qc_state.specs.declared.life.Life.{Life}
 use Rattle.qc_state.specs.declared.life.State.TheVariants.{Drained}
 use Rattle.qc_state.specs.declared.paths.Paths.{Paths}
 use Rattle.qc_state.specs.declared.trace.Step.{Step}
+use Rattle.qc_state.specs.declared.trace.Answer.TheVariants as answer
 use Rattle.qc_state.specs.declared.waiting.SpaceWaiting.{SpaceWaiting}
-use Rattle.qc_state.specs.declared.life.ApplicationClose.{ApplicationClose}
-use Rattle.qc_state.specs.Moves.{Clock, Shut, Raise, Give, Say, state_move, move_to, deeds_move, paths_move, waiting_move}
+use Rattle.qc_state.specs.declared.waiting.Waiting.{Waiting}
+use Rattle.qc_state.specs.Life.{is_closed}
+use Rattle.qc_state.specs.Moves.{Move, Clock, Ask, Take, Seal, Raise, Say, ReportLost, ReportDrained, Give, Enter, Fail, Accept, Fix, Hear, Ack, Calm, Tell, Drain, Leave, Owe, Shut, IsTold, MayMove, state_move, move_to, deeds_move, paths_move, waiting_move}
 use Rattle.qc_state.specs.Numbers.{next_number}
-use Rattle.qc_state.specs.Paths.{path_sent}
+use Rattle.qc_state.specs.Paths.{path_sent, path_received, peer_fixed}
+use Rattle.qc_state.specs.Receiving.{is_readable, datagram_after}
 use Rattle.qc_state.specs.Run.{time_of, packets_of, began, close_after, input_after, called, reported, step_after, IsAllowed, out_of, answer_of, IsStep, Run, Ran}
-use Rattle.qc_state.specs.Sending.{closing_frame, Carries, internal_error, given_after, killed_after, quiet_after, packet_after, transmit_after, MayTransmit, transmit_bytes, transmit_of}
+use Rattle.qc_state.specs.Sending.{told_code, told_type, told_close, close_frame, closing_frame, Carries, internal_error, given_after, killed_after, quiet_after, packet_after, transmit_after, MayTransmit, transmit_bytes, transmit_of}
 use Rattle.qc_state.specs.Types.{Types, Meaning}
 use Rattle.qc_state.specs.View.{Held, View, At, at}
 use Rattle.qc_state.specs.First.{first_view}
 use Rattle.qc_state.specs.declared.setup.Fixed.{Fixed}
-use Rattle.qc_state.specs.Waiting.{ping_asked, waiting_without, close_begun, close_ended, without, Waits, without_all, WaitAll}
-use Rattle.qc_conn.specs.OneText.{IsSpelled, IsDeedPlain, IsPlainAddress, IsAnswerPlain, IsPlain, IsBelowLimit, IsPlainStart, IsTellingRun}
-use Rattle.qc_conn.specs.TraceText.{trace_text}
-use Rattle.qc_conn.proofs.TraceBack.{trace_back}
+use Rattle.qc_state.specs.Waiting.{ping_asked, waiting_without, close_begun, close_ended, flown_in, packet_flown, settled_in, packets_settled, without, Waits, without_all, WaitAll}
+use Rattle.qc_state.proofs.Receives.{IsReceived, holds_datagram}
+use Rattle.qc_text.specs.OneText.{IsSpelled, IsDeedPlain, IsPlainAddress, IsAnswerPlain, IsPlain, IsBelowLimit, IsPlainStart, IsTellingRun}
+use Rattle.qc_text.specs.TraceText.{trace_text}
+use Rattle.qc_text.proofs.TraceBack.{trace_back}
 
 -- ---- frames that waited
 
@@ -61,26 +74,79 @@ unfolding Fits
 padding_spelled zero = All-nil IsSpelled
 padding_spelled (suc n) = All-cons IsSpelled frames.Padding (replicate n frames.Padding) (tt, refl) (padding_spelled n)
 
-close_spelled : IsSpelled closing_frame
+code_fits : (code : ℕ) → IsNumber (told_code code)
+code_fits code = by_test (nat_lt code (2 ^ 62)) refl
+  where
+    by_test : (b : Bool) → nat_lt code (2 ^ 62) ≡ b → IsNumber (if b then code else 0x01)
+    by_test true h = grind (arith, nat_tests)
+    by_test false h = omega arith
+
+type_fits : (type : Option ℕ) → TypeFits (told_type type)
+type_fits None = tt
+type_fits (Some type) = by_test ((type == 0) || nat_le (2 ^ 62) type) refl
+  where
+    by_test : (b : Bool) → ((type == 0) || nat_le (2 ^ 62) type) ≡ b → TypeFits (if b then None else Some type)
+    by_test true h = tt
+    by_test false h = (grind (arith, nat_tests), grind (arith, nat_tests))
+
+close_spelled : (b : Bool) (c : Option Close) → IsSpelled (if b then told_close c else close_frame 0x00 None)
 unfolding Fits
-close_spelled = search arith
+close_spelled true None = ((omega arith, tt, omega arith), refl)
+close_spelled true (Some (Connection c)) = ((code_fits c.error_code, type_fits c.frame_type, omega arith), refl)
+close_spelled true (Some (Application c)) = ((omega arith, tt, omega arith), refl)
+close_spelled false c = ((omega arith, tt, omega arith), refl)
 
-close_stays : (w : SpaceWaiting) (n : ℕ) → without_all w (replicate n frames.Padding) ≡ w
+padding_stays : (w : SpaceWaiting) (n : ℕ) → without_all w (replicate n frames.Padding) ≡ w
 unfolding without_all without
-close_stays w zero = refl
-close_stays w (suc n) = close_stays w n
+padding_stays w zero = refl
+padding_stays w (suc n) = padding_stays w n
 
-closing_stays : (w : SpaceWaiting) (n : ℕ) → without_all w (closing_frame ∷ replicate n frames.Padding) ≡ w
-unfolding without_all without
-closing_stays w n = close_stays w n
+close_stays : (w : SpaceWaiting) (b : Bool) (c : Option Close) → without w (if b then told_close c else close_frame 0x00 None) ≡ w
+unfolding without
+close_stays w true None = refl
+close_stays w true (Some (Connection c)) = refl
+close_stays w true (Some (Application c)) = refl
+close_stays w false c = refl
+
+closing_stays : (w : SpaceWaiting) (v : Life) (n : ℕ) → without_all w (closing_frame v ∷ replicate n frames.Padding) ≡ w
+unfolding without_all
+closing_stays w v n = ap (λ (x : SpaceWaiting). without_all x (replicate n frames.Padding)) (close_stays w (is_closed v.state) v.close) ∙ padding_stays w n
 
 -- deeds that seal nothing
 unsealed_plain : (ds : List Did) → packets_of ds ≡ [] → All IsDeedPlain ds
 unsealed_plain [] e = All-nil IsDeedPlain
 unsealed_plain (deed.Sealed space number epoch early fs ∷ ds) e = cc e
+unsealed_plain (deed.Piece space number verdict ∷ ds) e = All-cons IsDeedPlain (deed.Piece space number verdict) ds tt (unsealed_plain ds e)
+unsealed_plain (deed.Gave layer body ∷ ds) e = All-cons IsDeedPlain (deed.Gave layer body) ds tt (unsealed_plain ds e)
 unsealed_plain (deed.Rose life ∷ ds) e = All-cons IsDeedPlain (deed.Rose life) ds tt (unsealed_plain ds e)
 unsealed_plain (deed.Lost reason ∷ ds) e = All-cons IsDeedPlain (deed.Lost reason) ds tt (unsealed_plain ds e)
 unsealed_plain (deed.Quiet quiet ∷ ds) e = All-cons IsDeedPlain (deed.Quiet quiet) ds tt (unsealed_plain ds e)
+
+-- ---- what receiving and sending keep
+
+-- a packet that was sealed flies, where it elicits an acknowledgement
+flown_below : (w : Waiting) (n : ℕ) (b : Bool) → IsBelowLimit w → IsBelowLimit (if b then packet_flown (close_ended w) Initial n else close_ended w)
+unfolding packet_flown flown_in close_ended
+flown_below w n true h = h
+flown_below w n false h = h
+
+one_more : (ds : List Did) (d : Did) → IsDeedPlain d → All IsDeedPlain ds → All IsDeedPlain (ds ++ d ∷ [])
+one_more ds d h p = All-append IsDeedPlain ds (d ∷ []) p (All-cons IsDeedPlain d [] h (All-nil IsDeedPlain))
+
+told_plain : (d : Did) → IsTold d → IsDeedPlain d
+told_plain (deed.Piece space number verdict) h = tt
+told_plain (deed.Gave layer body) h = tt
+told_plain _ h = absurd h
+
+settled_below : (w : Waiting) (id : SpaceId) (rs : List NumberRange) → IsBelowLimit w → IsBelowLimit (packets_settled w id rs)
+unfolding packets_settled settled_in
+settled_below w Initial rs h = h
+settled_below w Handshake rs h = h
+settled_below w Data rs h = h
+
+done_plain : (b : Bool) → IsAnswerPlain (if b then answer.Done else answer.Dropped)
+done_plain true = tt
+done_plain false = tt
 
 module _ {t : Types} where
   quiet_by : (a : At t) (x y z : Bool) → let b : At t = move_to (Raise Drained) a in
@@ -99,21 +165,21 @@ module _ {t : Types} where
   carried_spelled : (s : View t) (fs : List FrameValue) → Carries s fs → IsBelowLimit s.waiting → All IsSpelled fs × (end_of (without_all s.waiting.spaces.initial fs) < 2 ^ 62)
   carried_spelled s fs (Carries.a_close owed n is) h =
       let w : SpaceWaiting = s.waiting.spaces.initial in (
-        subst (All IsSpelled) (sym is) (All-cons IsSpelled closing_frame (replicate n frames.Padding) close_spelled (padding_spelled n)),
-        subst (λ (x : List FrameValue). end_of (without_all w x) < 2 ^ 62) (sym is) (subst (λ (v : SpaceWaiting). end_of v < 2 ^ 62) (sym (closing_stays w n)) h),
+        subst (All IsSpelled) (sym is) (All-cons IsSpelled (closing_frame s.life) (replicate n frames.Padding) (close_spelled (is_closed s.life.state) s.life.close) (padding_spelled n)),
+        subst (λ (x : List FrameValue). end_of (without_all w x) < 2 ^ 62) (sym is) (subst (λ (v : SpaceWaiting). end_of v < 2 ^ 62) (sym (closing_stays w s.life n)) h),
       )
   carried_spelled s fs (Carries.what_waits free wait holds) h = frames_spelled s.waiting.spaces.initial fs wait h
 
   -- what a transmit does
   transmit_plain : (time : ℕ) (ds : List Did) (ps : List (List FrameValue)) (s : View t) → packets_of ds ≡ ps → MayTransmit s ps → ds ≡ (transmit_after time ps (at s [])).did
       → IsBelowLimit s.waiting → All IsDeedPlain ds × IsBelowLimit (transmit_after time ps (at s [])).state.waiting
-  unfolding MayTransmit transmit_after packet_after move_to state_move deeds_move waiting_move waiting_without close_ended
+  unfolding MayTransmit transmit_after packet_after move_to state_move deeds_move waiting_move waiting_without
   transmit_plain time ds [] s names may told h = (unsealed_plain ds names, subst IsBelowLimit (sym (quiet_stays (at s [])).0) h)
   transmit_plain time ds (fs ∷ []) s names may told h =
       let frames = carried_spelled s fs may.carries h in
       let one : Did = deed.Sealed Initial (next_number s.numbers Initial) 0 false fs in
       let sealed : All IsDeedPlain (one ∷ []) = All-cons IsDeedPlain one [] ((λ e. refl), frames.0) (All-nil IsDeedPlain) in
-      (subst (All IsDeedPlain) (sym told) sealed, frames.1)
+      (subst (All IsDeedPlain) (sym told) sealed, flown_below (waiting_without s.waiting Initial fs) (next_number s.numbers Initial) (list_any elicits fs) frames.1)
   transmit_plain time ds (fs ∷ gs ∷ rest) s names may told h = absurd may
 
   transmit_path : (time : ℕ) (ps : List (List FrameValue)) (a : At t) → (transmit_after time ps a).state.paths.remote ≡ a.state.paths.remote
@@ -121,30 +187,71 @@ module _ {t : Types} where
   transmit_path time [] a = ap (λ (p : Paths). p.remote) (quiet_stays a).1
   transmit_path time (fs ∷ _) a = refl
 
-  close_plain : (time : ℕ) (close : ApplicationClose) (ds : List Did) (s : View t) (b : Bool) → ds ≡ (if b then move_to (Shut time close) (at s []) else at s []).did
+  close_plain : (time : ℕ) (close : Close) (ds : List Did) (s : View t) (b : Bool) → ds ≡ (if b then move_to (Shut time close) (at s []) else at s []).did
       → IsBelowLimit s.waiting → All IsDeedPlain ds × IsBelowLimit (if b then move_to (Shut time close) (at s []) else at s []).state.waiting
   unfolding move_to state_move deeds_move waiting_move close_begun
   close_plain time close ds s true told h = (subst (All IsDeedPlain) (sym told) (All-cons IsDeedPlain (deed.Rose 2) [] tt (All-nil IsDeedPlain)), h)
   close_plain time close ds s false told h = (subst (All IsDeedPlain) (sym told) (All-nil IsDeedPlain), h)
 
-  close_path : (time : ℕ) (close : ApplicationClose) (a : At t) (b : Bool) → (if b then move_to (Shut time close) a else a).state.paths.remote ≡ a.state.paths.remote
+  close_path : (time : ℕ) (close : Close) (a : At t) (b : Bool) → (if b then move_to (Shut time close) a else a).state.paths.remote ≡ a.state.paths.remote
   unfolding move_to state_move paths_move
   close_path time close a true = refl
   close_path time close a false = refl
 
-  -- what an input does
-  input_plain : (i : Input) (ds : List Did) (s : View t) → IsAllowed i ds s → ds ≡ (input_after i ds (at s [])).did
-      → IsBelowLimit s.waiting → All IsDeedPlain ds × IsBelowLimit (input_after i ds (at s [])).state.waiting
-  unfolding IsAllowed input_after close_after move_to state_move deeds_move waiting_move ping_asked
-  input_plain (input.Transmit time max) ds s may told h = transmit_plain time ds (packets_of ds) s refl may told h
-  input_plain (input.Close time code reason) ds s may told h = close_plain time _ ds s _ told h
-  input_plain (input.Ping time) ds s may told h = (subst (All IsDeedPlain) (sym told) (All-nil IsDeedPlain), h)
+  -- what receiving keeps, from one moment to another: the deeds leave nothing out, what waits lies below the limit, and
+  -- datagrams go to the same address
+  record Keeps (a b : At t) : Type 0 where
+    pub deeds : All IsDeedPlain a.did → All IsDeedPlain b.did
+    pub crypto : IsBelowLimit a.state.waiting → IsBelowLimit b.state.waiting
+    pub path : b.state.paths.remote ≡ a.state.paths.remote
 
-  input_path : (i : Input) (ds : List Did) (a : At t) → (input_after i ds a).state.paths.remote ≡ a.state.paths.remote
+  keeps_here : (a : At t) → Keeps a a
+  keeps_here a = record { deeds = λ p. p; crypto = λ p. p; path = refl }
+
+  keeps_next : (a b c : At t) → Keeps a b → Keeps b c → Keeps a c
+  keeps_next a b c g h = record { deeds = λ p. h.deeds (g.deeds p); crypto = λ p. h.crypto (g.crypto p); path = h.path ∙ g.path }
+
+  keeps_move : (x : Move) → IsReceived x → (a : At t) → MayMove x a.state → Keeps a (move_to x a)
+  unfolding MayMove move_to state_move deeds_move waiting_move close_begun paths_move path_received peer_fixed
+  keeps_move (Enter id n) r a h = record { deeds = one_more a.did _ tt; crypto = λ p. p; path = refl }
+  keeps_move Fail r a h = record { deeds = λ p. p; crypto = λ p. p; path = refl }
+  keeps_move (Accept time id n v) r a h = record { deeds = one_more a.did _ tt; crypto = λ p. p; path = refl }
+  keeps_move (Fix cid) r a h = record { deeds = λ p. p; crypto = λ p. p; path = refl }
+  keeps_move (Hear bytes) r a h = record { deeds = λ p. p; crypto = λ p. p; path = refl }
+  keeps_move (Ack id n rs) r a h = record { deeds = λ p. p; crypto = settled_below a.state.waiting id rs; path = refl }
+  keeps_move Calm r a h = record { deeds = λ p. p; crypto = λ p. p; path = refl }
+  keeps_move (Tell d) r a h = record { deeds = one_more a.did d (told_plain d h); crypto = λ p. p; path = refl }
+  keeps_move Drain r a h = record { deeds = one_more a.did _ tt; crypto = λ p. p; path = refl }
+  keeps_move (Leave time) r a h = record { deeds = one_more a.did _ tt; crypto = λ p. p; path = refl }
+  keeps_move Owe r a h = record { deeds = λ p. p; crypto = λ p. p; path = refl }
+  keeps_move (Shut time close) r a h = record { deeds = one_more a.did _ tt; crypto = λ p. p; path = refl }
+  keeps_move (Give why) r a h = record { deeds = one_more a.did _ tt; crypto = λ p. p; path = refl }
+  keeps_move _ r a h = absurd r
+
+  keeps_datagram : (m : Meaning t) (time : ℕ) (remote : SocketAddr) (bytes : List ℕ) (a : At t) → Keeps a (datagram_after m time remote bytes a)
+  keeps_datagram m time remote bytes a = holds_datagram Keeps keeps_here keeps_next keeps_move m time remote bytes a
+
+  datagram_plain : (m : Meaning t) (time : ℕ) (remote : SocketAddr) (bytes : List ℕ) (ds : List Did) (s : View t) → ds ≡ (datagram_after m time remote bytes (at s [])).did
+      → IsBelowLimit s.waiting → All IsDeedPlain ds × IsBelowLimit (datagram_after m time remote bytes (at s [])).state.waiting
+  datagram_plain m time remote bytes ds s told h =
+      let keeps = keeps_datagram m time remote bytes (at s []) in
+      (subst (All IsDeedPlain) (sym told) (keeps.deeds (All-nil IsDeedPlain)), keeps.crypto h)
+
+  -- what an input does
+  input_plain : (m : Meaning t) (i : Input) (ds : List Did) (s : View t) → IsAllowed i ds s → ds ≡ (input_after m i ds (at s [])).did
+      → IsBelowLimit s.waiting → All IsDeedPlain ds × IsBelowLimit (input_after m i ds (at s [])).state.waiting
+  unfolding IsAllowed input_after close_after move_to state_move deeds_move waiting_move ping_asked
+  input_plain m (input.Datagram time remote ecn bytes) ds s may told h = datagram_plain m time remote bytes ds s told h
+  input_plain m (input.Transmit time max) ds s may told h = transmit_plain time ds (packets_of ds) s refl may told h
+  input_plain m (input.Close time code reason) ds s may told h = close_plain time _ ds s _ told h
+  input_plain m (input.Ping time) ds s may told h = (subst (All IsDeedPlain) (sym told) (All-nil IsDeedPlain), h)
+
+  input_path : (m : Meaning t) (i : Input) (ds : List Did) (a : At t) → (input_after m i ds a).state.paths.remote ≡ a.state.paths.remote
   unfolding input_after close_after move_to state_move paths_move
-  input_path (input.Transmit time max) ds a = transmit_path time (packets_of ds) a
-  input_path (input.Close time code reason) ds a = close_path time _ a _
-  input_path (input.Ping time) ds a = refl
+  input_path m (input.Datagram time remote ecn bytes) ds a = (keeps_datagram m time remote bytes a).path
+  input_path m (input.Transmit time max) ds a = transmit_path time (packets_of ds) a
+  input_path m (input.Close time code reason) ds a = close_path time _ a _
+  input_path m (input.Ping time) ds a = refl
 
   -- what it answers
   out_plain : (m : Meaning t) (ps : List (List FrameValue)) (s : View t) → IsPlainAddress s.paths.remote → IsAnswerPlain (out_of (transmit_of ps s) (transmit_bytes m ps s))
@@ -154,6 +261,7 @@ module _ {t : Types} where
 
   answer_plain : (m : Meaning t) (i : Input) (ds : List Did) (s : View t) → IsPlainAddress s.paths.remote → IsAnswerPlain (answer_of m i ds s)
   unfolding answer_of
+  answer_plain m (input.Datagram time remote ecn bytes) ds s h = done_plain (is_readable s bytes)
   answer_plain m (input.Transmit time max) ds s h = out_plain m (packets_of ds) s h
   answer_plain m (input.Close time code reason) ds s h = tt
   answer_plain m (input.Ping time) ds s h = tt
@@ -162,7 +270,7 @@ module _ {t : Types} where
   step_deeds : (m : Meaning t) (k : ℕ) (s : View t) (i : Input) (x : Step) (s' : View t) → IsStep m k s i x s' → IsBelowLimit s.waiting → All IsDeedPlain x.did × IsBelowLimit s'.waiting
   unfolding called began step_after reported move_to state_move waiting_move
   step_deeds m k s i x s' e h =
-      let there = input_plain i x.did (state_move (Clock (time_of i)) s) e.allowed e.deeds h in
+      let there = input_plain m i x.did (state_move (Clock (time_of i)) s) e.allowed e.deeds h in
       (there.0, subst IsBelowLimit (sym e.waiting) there.1)
 
   -- its answer
@@ -170,7 +278,7 @@ module _ {t : Types} where
   unfolding called began step_after reported move_to state_move paths_move
   step_answer m k s i x s' e h =
       let clock : View t = state_move (Clock (time_of i)) s in
-      let same : s'.paths.remote ≡ s.paths.remote = ap (λ (p : Paths). p.remote) e.paths ∙ input_path i x.did (at clock []) in
+      let same : s'.paths.remote ≡ s.paths.remote = ap (λ (p : Paths). p.remote) e.paths ∙ input_path m i x.did (at clock []) in
       (subst IsAnswerPlain (sym e.answer) (answer_plain m i x.did clock h), subst IsPlainAddress (sym same) h)
 
   -- ---- runs

@@ -1,4 +1,3 @@
-pub mod OneText
 pub mod Refusal
+pub mod RefusedText
 pub mod Seen
-pub mod TraceText

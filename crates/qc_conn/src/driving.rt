@@ -2,9 +2,9 @@
 
 ghost use Rattle.std.specs.Prelude.{◌≡◌, ◌≢◌, ◌≤◌, [], true, false, None, OnOk, OnErr, IfOk, IfErr, IsErr};
 ghost use Rattle.std.specs.List.{All};
-ghost use Rattle.qc_conn.specs.OneText.{IsPlain, IsPlainStart};
+ghost use Rattle.qc_text.specs.OneText.{IsPlain, IsPlainStart};
 ghost use Rattle.qc_conn.specs.Refusal.{bad_call, refusal_of, first_refusal, NamesInput, RefusedAt};
-ghost use Rattle.qc_state.specs.Headline.{EachRises, LifeRises, OnlyCloses, LosesOnce};
+ghost use Rattle.qc_state.specs.Headline.{EachRises, EachAdmitted, LifeRises, OnlyCloses, LosesOnce};
 ghost use Rattle.qc_state.specs.Run.{time_of, Adds, Run, Ran};
 ghost use Rattle.qc_state.specs.Types.{meaning};
 ghost use Rattle.qc_state.specs.View.{ideal};
@@ -97,7 +97,7 @@ fn bad_call(input: &Input) -> Option<BadWhy>
             }
             None
         }
-        Input::Close { .. } | Input::Ping { .. } => None,
+        Input::Datagram { .. } | Input::Close { .. } | Input::Ping { .. } => None,
     }
 }
 
@@ -163,7 +163,7 @@ fn drive_all<U: Suite>(
 /// name the first input whose time lies before the greatest so far, or which asks for a call that can't be made; the
 /// connection is as the inputs before left it, and their steps are carried. `OutOfMemory` for want of memory; the steps
 /// of the inputs before are carried, and the connection is marked as failed.
-#[tactic(auto, using(qc_state::proofs::Told::run_rises, qc_state::proofs::Told::run_life_rises, qc_state::proofs::Told::run_closes, qc_state::proofs::Told::run_loses_once, qc_state::proofs::Told::ran_rises, qc_state::proofs::Told::ran_life_rises, qc_state::proofs::Told::ran_closes, qc_state::proofs::Told::ran_loses_once, crate::proofs::RunsPlain::run_plain, crate::proofs::RunsPlain::run_stays, crate::proofs::RunsPlain::ran_plain))]
+#[tactic(auto, using(qc_state::proofs::Told::run_rises, qc_state::proofs::Told::run_admits, qc_state::proofs::Told::ran_admits, qc_state::proofs::Told::run_life_rises, qc_state::proofs::Told::run_closes, qc_state::proofs::Told::run_loses_once, qc_state::proofs::Told::ran_rises, qc_state::proofs::Told::ran_life_rises, qc_state::proofs::Told::ran_closes, qc_state::proofs::Told::ran_loses_once, crate::proofs::RunsPlain::run_plain, crate::proofs::RunsPlain::run_stays, crate::proofs::RunsPlain::ran_plain))]
 pub fn drive<U: Suite, G: TokenStore>(
     alloc: Global,
     connection: &mut Connection<U>,
@@ -178,6 +178,8 @@ pub fn drive<U: Suite, G: TokenStore>(
     // reason for the end is given.
     ensures rising { IfOk result (λ trace. EachRises (ideal U.Random.stream connection.old.core) trace) }
     ensures rising_part { IfErr result (λ e. EachRises (ideal U.Random.stream connection.old.core) e.done) }
+    ensures admitted { IfOk result (λ trace. EachAdmitted (ideal U.Random.stream connection.old.core) trace) }
+    ensures admitted_part { IfErr result (λ e. EachAdmitted (ideal U.Random.stream connection.old.core) e.done) }
     ensures life { IfOk result (λ trace. LifeRises (ideal U.Random.stream connection.old.core) trace) }
     ensures life_part { IfErr result (λ e. LifeRises (ideal U.Random.stream connection.old.core) e.done) }
     ensures closing { IfOk result (λ trace. OnlyCloses (ideal U.Random.stream connection.old.core) trace) }

@@ -1,8 +1,8 @@
 //! What joins the runs of connections to the texts of their traces.
 
 ghost use Rattle.std.specs.Prelude.{◌≡◌, List};
-ghost use Rattle.qc_conn.specs.OneText.{IsTellingRun};
-ghost use Rattle.qc_conn.specs.TraceText.{trace_text};
+ghost use Rattle.qc_text.specs.OneText.{IsTellingRun};
+ghost use Rattle.qc_text.specs.TraceText.{trace_text};
 ghost use Rattle.qc_state.specs.Types.{meaning};
 
 use qc_state::{Step, Suite};

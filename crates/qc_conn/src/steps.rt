@@ -8,14 +8,15 @@ ghost use Rattle.qc_state.specs.Run.{time_of, word_of, out_of, close_after, Call
 ghost use Rattle.qc_state.specs.Types.{meaning};
 ghost use Rattle.qc_state.specs.View.{ideal, held};
 
-use bytes::Bytes;
-use qc_base::{Instant, VarInt};
+use bytes::{Bytes, BytesMut};
+use qc_base::{EcnCodepoint, Instant, VarInt};
 use qc_core::Core;
 use qc_send::transmit;
 use qc_state::{
     Answer, Body, Dids, EndpointEvents, Event, Events, Input, Step, Suite, Transmit, Word,
 };
 use std::alloc::{AllocError, Global};
+use std::net::SocketAddr;
 
 /// The answer to a transmit.
 fn sent_answer(sent: Option<Transmit>, buf: Vec<u8>) -> Answer
@@ -113,6 +114,28 @@ fn ping_call<U: Suite>(core: &mut Core<U>, now: Instant, did: &Dids) -> Answer
     Answer::Done
 }
 
+/// A datagram came from `remote` at `now`.
+fn datagram_call<U: Suite>(
+    core: &mut Core<U>,
+    alloc: Global,
+    now: Instant,
+    remote: SocketAddr,
+    ecn: Option<EcnCodepoint>,
+    bytes: &Body,
+    did: &mut Dids,
+) -> Result<Answer, AllocError>
+    requires { did.old ≡ [] }
+    ensures { IfOk result (λ answer. Calls (meaning U.Session.Session U.Session.HeaderKey.HeaderMask U.Session.PacketKey.PacketKey) (ideal U.Random.stream core.old) (Input.Datagram now remote ecn bytes.now) (held U.Random.stream core.new did.new) answer) }
+{
+    let _mark = ecn;
+    let bytes = BytesMut::copy_from_slice(alloc, bytes.as_slice())?;
+    core.clock(now);
+    if core.datagram(alloc, did, now, remote, bytes)? {
+        return Ok(Answer::Done);
+    }
+    Ok(Answer::Dropped)
+}
+
 /// The call that an input is for.
 fn call<U: Suite>(
     core: &mut Core<U>,
@@ -124,6 +147,12 @@ fn call<U: Suite>(
     ensures { IfOk result (λ answer. Calls (meaning U.Session.Session U.Session.HeaderKey.HeaderMask U.Session.PacketKey.PacketKey) (ideal U.Random.stream core.old) input.now (held U.Random.stream core.new did.new) answer) }
 {
     match input {
+        Input::Datagram {
+            now,
+            remote,
+            ecn,
+            bytes,
+        } => datagram_call(core, alloc, *now, *remote, *ecn, bytes, did),
         Input::Transmit { now, max_datagrams } => transmit_call(
             core,
             alloc,
@@ -169,6 +198,7 @@ fn word(input: &Input) -> Word
     ensures { result ≡ word_of input.now }
 {
     match input {
+        Input::Datagram { .. } => Word::Datagram,
         Input::Transmit { .. } => Word::Transmit,
         Input::Close { .. } => Word::Close,
         Input::Ping { .. } => Word::Ping,
@@ -180,6 +210,7 @@ pub(crate) fn time(input: &Input) -> Instant
     ensures { result ≡ time_of input.now }
 {
     match input {
+        Input::Datagram { now, .. } => *now,
         Input::Transmit { now, .. } => *now,
         Input::Close { now, .. } => *now,
         Input::Ping { now } => *now,

@@ -1,54 +1,26 @@
-//! The text of a trace: what `qconn run` prints.
-//!
-//! First the line `qconn 1`, then for each step its line, its deeds in order, its answer, its
-//! events, its endpoint events and its timer, and last the line `end`. Each line is ended by LF,
-//! fields are separated by one space, numbers are decimal, bytes are lower-case hex.
+//! The text of the steps before an input that was refused. That of a whole trace is `qc_text`'s.
 
-ghost use Rattle.std.specs.Prelude.{◌≡◌, List, ◌++◌, IfOk, OnOk};
-ghost use Rattle.std.specs.List.{All, flat_map};
-ghost use Rattle.qc_conn.specs.OneText.{IsInRange, IsPlain};
-ghost use Rattle.qc_conn.specs.TraceText.{step_text, trace_text, why_text, refusal_line, refused_text};
-
-mod digits;
-mod frames;
-mod pieces;
-mod steps;
+ghost use Rattle.std.specs.Prelude.{◌≡◌, ◌++◌, IfOk, OnOk};
+ghost use Rattle.qc_conn.specs.RefusedText.{why_text, refusal_line, refused_text};
 
 use crate::driving::{BadWhy, DriveError, DriveKind};
-use pieces::put_number;
 use qc_base::Instant;
-use qc_state::{Step, Trace};
+pub use qc_text::trace_text;
+use qc_text::{put_number, steps_text};
 use std::alloc::{AllocError, Global};
-use steps::put_step;
-
-/// The text of a trace. It tells the trace: no other trace has it, as long as both leave nothing
-/// out, which the traces of `drive` never do where the peer's address has neither flow label nor
-/// scope. Each value of a trace in memory is in the range of its type.
-#[tactic(auto, unfolding(crate::specs::TraceText::trace_text))]
-pub fn trace_text(alloc: Global, trace: &Trace) -> Result<Vec<u8>, AllocError>
-    ensures text { IfOk result (λ text. text.items ≡ trace_text trace.now) }
-    ensures in_range { OnOk result (All IsInRange trace.now) }
-    ensures one { IfOk result (λ text. All IsPlain trace.now → (other : List Step) → All IsInRange other → All IsPlain other → text.items ≡ trace_text other → other ≡ trace.now) }
-{
-    let mut out = Vec::from_slice(alloc, b"qconn 1\n")?;
-    put_steps(&mut out, trace.as_slice())?;
-    out.extend_from_slice(b"end\n")?;
-    Ok(out)
-}
 
 /// The text of the steps before an input that was refused, and, in place of the line `end`, the line that names the input
 /// and says why: its time and the greatest time so far, or what is wrong with the call.
-#[tactic(auto, unfolding(crate::specs::TraceText::refused_text))]
+#[tactic(auto, unfolding(crate::specs::RefusedText::refused_text))]
 pub fn refused_text(alloc: Global, error: &DriveError) -> Result<Vec<u8>, AllocError>
     ensures text { IfOk result (λ text. text.items ≡ refused_text error.now.done error.now.kind) }
 {
-    let mut out = Vec::from_slice(alloc, b"qconn 1\n")?;
-    put_steps(&mut out, error.done.as_slice())?;
+    let mut out = steps_text(alloc, error.done.as_slice())?;
     put_refusal(&mut out, error.kind)?;
     Ok(out)
 }
 
-#[tactic(auto, unfolding(crate::specs::TraceText::refusal_line))]
+#[tactic(auto, unfolding(crate::specs::RefusedText::refusal_line))]
 fn put_refusal(out: &mut Vec<u8>, kind: DriveKind) -> Result<(), AllocError>
     ensures { OnOk result (out.new.items ≡ out.old.items ++ refusal_line kind) }
 {
@@ -63,7 +35,7 @@ fn put_refusal(out: &mut Vec<u8>, kind: DriveKind) -> Result<(), AllocError>
     }
 }
 
-#[tactic(auto, unfolding(crate::specs::TraceText::refusal_line))]
+#[tactic(auto, unfolding(crate::specs::RefusedText::refusal_line))]
 fn put_time_back(
     out: &mut Vec<u8>,
     at: u64,
@@ -81,7 +53,7 @@ fn put_time_back(
     out.extend_from_slice(b"\n")
 }
 
-#[tactic(auto, unfolding(crate::specs::TraceText::refusal_line))]
+#[tactic(auto, unfolding(crate::specs::RefusedText::refusal_line))]
 fn put_bad_call(out: &mut Vec<u8>, at: u64, why: BadWhy) -> Result<(), AllocError>
     ensures { OnOk result (out.new.items ≡ out.old.items ++ refusal_line (DriveKind.BadCall at why)) }
 {
@@ -92,21 +64,11 @@ fn put_bad_call(out: &mut Vec<u8>, at: u64, why: BadWhy) -> Result<(), AllocErro
     out.extend_from_slice(b"\n")
 }
 
-#[tactic(auto, unfolding(crate::specs::TraceText::why_text))]
+#[tactic(auto, unfolding(crate::specs::RefusedText::why_text))]
 fn why_of(why: BadWhy) -> &'static [u8]
     ensures { result.now ≡ why_text why }
 {
     match why {
         BadWhy::ZeroDatagrams => b"zero datagrams",
     }
-}
-
-fn put_steps(out: &mut Vec<u8>, steps: &[Step]) -> Result<(), AllocError>
-    ensures text { OnOk result (out.new.items ≡ out.old.items ++ flat_map step_text steps.now) }
-    ensures in_range { OnOk result (All IsInRange steps.now) }
-{
-    for step in steps {
-        put_step(out, step)?;
-    }
-    Ok(())
 }

@@ -4,11 +4,11 @@ use Rattle.std.specs.Prelude.{String}
 use Rattle.std.specs.Global.{Global}
 use Rattle.qconn.specs.Ending.{too_long, bad_line, Performed, NamedBad, script_line, status_of, line_of}
 use Rattle.qconn.specs.Outside.{Appends}
-use Rattle.qconn.specs.Script.{lines_of, IsScript, IsRefusal}
+use Rattle.qc_script.specs.Script.{lines_of, IsScript, IsRefusal}
 use Rattle.qconn.specs.declared.run.Status.TheVariants.{BadScript}
 use Rattle.qc_state.specs.declared.input.Input.{Input}
-use Rattle.qconn.specs.declared.script.ScriptError.{ScriptError}
-use Rattle.qconn.specs.declared.script.ScriptError.TheVariants.{BadLine, OutOfMemory}
+use Rattle.qc_script.specs.declared.script.ScriptError.{ScriptError}
+use Rattle.qc_script.specs.declared.script.ScriptError.TheVariants.{BadLine, OutOfMemory}
 
 pub named_long : (bytes : List ℕ) (held held' : Option (List ℕ)) → 67108864 < length bytes → Appends held held' (script_line 0) → NamedBad bytes held held'
 named_long bytes held held' long h = record { line = 0; bad = too_long long; written = h }

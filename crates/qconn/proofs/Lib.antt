@@ -1,5 +1,3 @@
 pub mod EndingLemmas
-pub mod NumberLemmas
 pub mod OutsideLemmas
 pub mod RunLemmas
-pub mod ScriptLemmas

@@ -2,9 +2,10 @@
 use Rattle.std.proofs.Common.{◌≡◌, ℕ, List, Option, None, Bool, false, refl, ap, subst}
 use Rattle.std.specs.List.{All}
 use Rattle.qc_base.specs.declared.mask.HeaderMask.{Ghosts as HeaderMaskGhosts}
-use Rattle.qc_conn.specs.OneText.{IsInRange, IsPlain, IsPlainAddress}
+use Rattle.qc_text.specs.OneText.{IsInRange, IsPlain, IsPlainAddress}
 use Rattle.qc_conn.specs.Seen.{Seen}
-use Rattle.qc_conn.specs.TraceText.{trace_text, refused_text}
+use Rattle.qc_conn.specs.RefusedText.{refused_text}
+use Rattle.qc_text.specs.TraceText.{trace_text}
 use Rattle.qc_conn.specs.Refusal.{first_refusal, NamesInput, RefusedAt}
 use Rattle.qc_conn.specs.declared.driving.DriveError.{DriveError}
 use Rattle.qc_conn.specs.declared.driving.DriveKind.{DriveKind}

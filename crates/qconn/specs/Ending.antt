@@ -3,12 +3,12 @@ use Rattle.std.specs.Prelude.{◌≡◌, ℕ, ◌<◌, ◌≤◌, List, [], ◌�
 use Rattle.std.specs.Global.{Global}
 use Rattle.std.specs.String.{string_bytes}
 use Rattle.qconn.specs.Outside.{Appends, Gives, IsAtEnd}
-use Rattle.qconn.specs.Script.{lines_of, IsScript, IsFirstBad}
+use Rattle.qc_script.specs.Script.{lines_of, IsScript, IsFirstBad}
 use Rattle.qconn.specs.declared.run.Status.{Status}
 use Rattle.qconn.specs.declared.run.Status.TheVariants.{BadScript, NoMemory}
 use Rattle.qc_state.specs.declared.input.Input.{Input}
-use Rattle.qconn.specs.declared.script.ScriptError.{ScriptError}
-use Rattle.qconn.specs.declared.script.ScriptError.TheVariants.{BadLine, OutOfMemory}
+use Rattle.qc_script.specs.declared.script.ScriptError.{ScriptError}
+use Rattle.qc_script.specs.declared.script.ScriptError.TheVariants.{BadLine, OutOfMemory}
 
 -- the words are the one word `run`
 abbrev pub AsksRun : List (String Global) → Type 0

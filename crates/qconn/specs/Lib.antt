@@ -1,4 +1,3 @@
 pub mod Ending
 pub mod Outside
 pub mod RunText
-pub mod Script

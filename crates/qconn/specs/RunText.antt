@@ -9,12 +9,13 @@ use Rattle.std.specs.declared.net.socket_addr.SocketAddr.{SocketAddr}
 use Rattle.qc_base.specs.declared.mask.HeaderMask.{Ghosts as HeaderMaskGhosts}
 use Rattle.qc_base.specs.declared.side.Side.TheVariants.{Client}
 use Rattle.qc_config.specs.Announcement.{announced_parameters}
-use Rattle.qc_conn.specs.OneText.{IsInRange, IsPlain}
+use Rattle.qc_text.specs.OneText.{IsInRange, IsPlain}
 use Rattle.qc_conn.specs.declared.driving.DriveError.{DriveError}
 use Rattle.qc_conn.specs.declared.driving.DriveKind.{DriveKind}
 use Rattle.qc_conn.specs.Refusal.{first_refusal, NamesInput, RefusedAt}
 use Rattle.qc_conn.specs.Seen.{Seen}
-use Rattle.qc_conn.specs.TraceText.{trace_text, refused_text}
+use Rattle.qc_conn.specs.RefusedText.{refused_text}
+use Rattle.qc_text.specs.TraceText.{trace_text}
 use Rattle.qconn.specs.declared.perform.Told.{Told}
 use Rattle.qconn.specs.declared.perform.Told.TheVariants.{Whole, Refused}
 use Rattle.qc_crypto.specs.declared.packet_key.PacketKey.{Ghosts as PacketKeyGhosts}

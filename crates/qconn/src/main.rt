@@ -4,9 +4,10 @@
 
 mod perform;
 #[cfg(test)]
+mod receiving_tests;
+#[cfg(test)]
 mod ring_tests;
 mod run;
-mod script;
 mod sink;
 mod source;
 mod standard;

@@ -1,7 +1,7 @@
 //! The run of a script's inputs, on the client that a script sets up.
 
 ghost use Rattle.std.specs.Prelude.{◌≡◌, None, IfOk};
-ghost use Rattle.qc_conn.specs.OneText.{IsPlainStart};
+ghost use Rattle.qc_text.specs.OneText.{IsPlainStart};
 ghost use Rattle.qconn.specs.RunText.{IsScriptAddress, local_cid, first_cid, script_session, toy_client, IsScriptClient, IsToyRun, IsToyRefusal, IsToldRun, IsRefusalTold};
 ghost use Rattle.qc_recovery.specs.TransportValues.{default_transport};
 

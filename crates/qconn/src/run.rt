@@ -1,20 +1,20 @@
 //! The program without its outside: words, a source and a sink in, a status out.
 
+ghost use Rattle.qc_script.specs.Script.{lines_of, IsScript};
 ghost use Rattle.std.specs.Prelude.{◌≡◌, ◌≢◌, ◌⊎◌, ◌≤◌, ◌<◌, ◌↔◌, ◌++◌, [], ◌∷◌, IsTrue, codes, decimal, length, map, IfOk, OnOk, OnErr};
 ghost use Rattle.std.specs.String.{string_bytes};
 ghost use Rattle.qconn.specs.Ending.{AsksRun, Finished, IsBad, NamedBad, NoScript, Performed, line_of, script_line, status_of, usage_line};
 ghost use Rattle.qconn.specs.Outside.{Appends, Rose};
 ghost use Rattle.qconn.specs.RunText.{IsToyRun, IsToyRefusal};
-ghost use Rattle.qconn.specs.Script.{lines_of, IsScript};
 
 use crate::perform::{Told, perform};
-use crate::script::{ScriptError, read_script};
 use crate::sink::Sink;
 use crate::source::{Failed, Source};
 use crate::transfer::{ReadError, SCRIPT_LIMIT, read_all, write_all};
 use itoa::Buffer;
 use qc_base::HeaderMask;
 use qc_crypto::{PacketKey, Session};
+use qc_script::{ScriptError, read_script};
 use qc_toy::{ToyHeaderKey, ToyPacketKey, ToySession, ZeroRandom};
 use rand_core::Rng;
 use std::alloc::Global;

@@ -12,7 +12,7 @@ use std::test::Fail;
 
 /// Which calls of the source and the sink fail, which writes take nothing, and how many bytes the sink takes.
 #[derive(Clone, Copy)]
-struct Faults<'a> {
+pub(crate) struct Faults<'a> {
     reads: &'a [u64],
     writes: &'a [u64],
     idle: &'a [u64],
@@ -20,7 +20,7 @@ struct Faults<'a> {
 }
 
 /// No faults.
-fn none<'a>() -> Faults<'a> {
+pub(crate) fn none<'a>() -> Faults<'a> {
     Faults {
         reads: &[],
         writes: &[],
@@ -30,7 +30,7 @@ fn none<'a>() -> Faults<'a> {
 }
 
 /// The status of a run, and what it wrote.
-fn outcome(
+pub(crate) fn outcome(
     alloc: Global,
     words: &[&str],
     script: &str,

@@ -1,4 +1,4 @@
-use Rattle.qc_state.proofs.Steps.{step_time}
+use Rattle.qc_state.proofs.Told.{step_time}
 use Rattle.qc_conn.proofs.driving.add_step.Goals as goal
 
 -- the clock stands at the input's time after its step

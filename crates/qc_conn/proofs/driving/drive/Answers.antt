@@ -1,5 +1,5 @@
 use Rattle.qc_state.proofs.Steps.{ran_none}
-use Rattle.qc_state.proofs.Told.{none_rises, none_life_rises, none_closes, none_loses_once}
+use Rattle.qc_state.proofs.Told.{none_rises, none_admits, none_life_rises, none_closes, none_loses_once}
 use Rattle.qc_conn.proofs.driving.drive.Goals as goal
 
 -- the empty trace is a run over no inputs
@@ -17,3 +17,6 @@ returns-then-is_failed-clause-life_part g c = none_life_rises _ _ c.new.ensures
 
 pub returns-then-is_failed-clause-closing_part : goal.returns-then-is_failed-clause-closing_part
 returns-then-is_failed-clause-closing_part g c = none_closes _ _ c.new.ensures
+
+pub returns-then-is_failed-clause-admitted_part : goal.returns-then-is_failed-clause-admitted_part
+returns-then-is_failed-clause-admitted_part g c = none_admits _ _ c.new.ensures

@@ -1,0 +1,23 @@
+-- The text of the steps before an input that was refused, and of the refusal.
+use Rattle.std.specs.Prelude.{ℕ, List, [], ◌++◌, codes, decimal}
+use Rattle.qc_conn.specs.declared.driving.BadWhy.{BadWhy}
+use Rattle.qc_conn.specs.declared.driving.BadWhy.TheVariants.{ZeroDatagrams}
+use Rattle.qc_conn.specs.declared.driving.DriveKind.{DriveKind}
+use Rattle.qc_conn.specs.declared.driving.DriveKind.TheVariants as drive
+use Rattle.qc_state.specs.declared.trace.Step.{Step}
+use Rattle.qc_text.specs.TraceText.{steps_text}
+
+-- what is wrong with a call: a transmit may send no datagram
+unfoldable pub why_text : BadWhy → List ℕ
+why_text ZeroDatagrams = codes "zero datagrams"
+
+-- the line that names the input that was refused, and why; no line where an error names none
+unfoldable pub refusal_line : DriveKind → List ℕ
+refusal_line drive.OutOfMemory = []
+refusal_line (drive.TimeBack at given greatest) = codes "input " ++ decimal at ++ codes " time back " ++ decimal given ++ codes " " ++ decimal greatest ++ codes "\n"
+refusal_line (drive.BadCall at why) = codes "input " ++ decimal at ++ codes " bad call " ++ why_text why ++ codes "\n"
+refusal_line drive.Failed = []
+
+-- the text of the steps before an input that was refused, and of the refusal
+unfoldable pub refused_text : List Step → DriveKind → List ℕ
+refused_text steps kind = steps_text steps ++ refusal_line kind

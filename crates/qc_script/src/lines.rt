@@ -1,0 +1,117 @@
+//! The lines of inputs.
+
+ghost use Rattle.qc_script.specs.Script.{IsLineRead, IsTransmit};
+ghost use Rattle.std.specs.Prelude.{ℕ, codes, ◌++◌, IfOk, MatchOption};
+
+use crate::address::{read_address, read_mark};
+use crate::fields::{after_word, four_fields, read_code, read_hex, read_number, split_at_byte};
+use qc_base::Instant;
+use qc_state::Input;
+use std::alloc::{AllocError, Global};
+
+/// The time and the count of datagrams of a transmit with these fields.
+fn read_transmit(fields: &[u8]) -> Option<(u64, u64)>
+    ensures { MatchOption result ((t n : ℕ) → IsTransmit fields.now t n → ⊥) (λ x. IsTransmit fields.now x.0 x.1) }
+{
+    let (time, count) = split_at_byte(fields, b' ')?;
+    let now = read_number(time)?;
+    let max_datagrams = read_number(count)?;
+    Some((now, max_datagrams))
+}
+
+/// The datagram of a line with these fields.
+fn datagram_line(alloc: Global, fields: &[u8]) -> Result<Option<Input>, AllocError>
+    ensures { IfOk result (IsLineRead (codes "datagram " ++ fields.now)) }
+{
+    let Some((time, address, mark, bytes)) = four_fields(fields) else {
+        return Ok(None);
+    };
+    let Some(now) = read_number(time) else {
+        return Ok(None);
+    };
+    let Some(ecn) = read_mark(mark) else {
+        return Ok(None);
+    };
+    let Some(remote) = read_address(alloc, address)? else {
+        return Ok(None);
+    };
+    let Some(bytes) = read_hex(alloc, bytes)? else {
+        return Ok(None);
+    };
+    Ok(Some(Input::Datagram {
+        now: Instant::from_nanos(now),
+        remote,
+        ecn,
+        bytes,
+    }))
+}
+
+/// The transmit of a line with these fields.
+fn transmit_line(fields: &[u8]) -> Option<Input>
+    ensures { IsLineRead (codes "transmit " ++ fields.now) result }
+{
+    match read_transmit(fields) {
+        Some((now, max_datagrams)) => Some(Input::Transmit {
+            now: Instant::from_nanos(now),
+            max_datagrams: max_datagrams as usize,
+        }),
+        None => None,
+    }
+}
+
+/// The close of a line with these fields.
+fn close_line(alloc: Global, fields: &[u8]) -> Result<Option<Input>, AllocError>
+    ensures { IfOk result (IsLineRead (codes "close " ++ fields.now)) }
+{
+    let Some((time, rest)) = split_at_byte(fields, b' ') else {
+        return Ok(None);
+    };
+    let Some((code, reason)) = split_at_byte(rest, b' ') else {
+        return Ok(None);
+    };
+    let Some(now) = read_number(time) else {
+        return Ok(None);
+    };
+    let Some(code) = read_code(code) else {
+        return Ok(None);
+    };
+    let Some(reason) = read_hex(alloc, reason)? else {
+        return Ok(None);
+    };
+    Ok(Some(Input::Close {
+        now: Instant::from_nanos(now),
+        code,
+        reason,
+    }))
+}
+
+/// The ping of a line with this field.
+fn ping_line(digits: &[u8]) -> Option<Input>
+    ensures { IsLineRead (codes "ping " ++ digits.now) result }
+{
+    match read_number(digits) {
+        Some(now) => Some(Input::Ping {
+            now: Instant::from_nanos(now),
+        }),
+        None => None,
+    }
+}
+
+/// The input of this line, LF excluded.
+pub fn read_line(alloc: Global, text: &[u8]) -> Result<Option<Input>, AllocError>
+    ensures { IfOk result (IsLineRead text.now) }
+{
+    if let Some(fields) = after_word(text, b"datagram ") {
+        return datagram_line(alloc, fields);
+    }
+    if let Some(fields) = after_word(text, b"transmit ") {
+        return Ok(transmit_line(fields));
+    }
+    if let Some(fields) = after_word(text, b"close ") {
+        return close_line(alloc, fields);
+    }
+    match after_word(text, b"ping ") {
+        Some(digits) => Ok(ping_line(digits)),
+        None => Ok(None),
+    }
+}

@@ -1,0 +1,28 @@
+-- The names of frames that layers are given.
+use Rattle.std.proofs.Common.{◌≡◌, ℕ, ◌/◌, List, ◌++◌, length, Option, Some, None, refl}
+use Rattle.std.specs.Prelude.{codes}
+use Rattle.std.specs.List.{flat_map}
+use Rattle.qc_base.specs.Varint.{varint}
+use Rattle.qc_frame.specs.Frame.{FrameValue, AckValue}
+use Rattle.qc_frame.specs.FrameSpelling.{ack_type, ack_spelling, ecn_spelling, numbers_of, frame_name, spelling}
+use Rattle.qc_frame.specs.declared.frames.EcnCounts.{EcnCounts}
+use Rattle.qc_frame.specs.declared.frames.FrameOf.TheVariants as frames
+use Rattle.qc_text.specs.TraceText.{IsGiven, type_name, given_name}
+
+-- bytes that begin with the type of an ACK, with or without counts
+ack_named : (counts : Option EcnCounts) (a b c d e : List ℕ) → given_name (varint (ack_type counts) ++ a ++ b ++ c ++ d ++ e) ≡ codes "ACK"
+unfolding given_name type_name varint
+ack_named None a b c d e = refl
+ack_named (Some counts) a b c d e = refl
+
+ack_given : (ack : AckValue) → given_name (ack_spelling ack) ≡ codes "ACK"
+unfolding ack_spelling
+ack_given ack = ack_named ack.ecn (varint ack.largest) (varint ack.delay) (varint (length (numbers_of ack.additional) / 2)) (flat_map varint (numbers_of ack.additional)) (ecn_spelling ack.ecn)
+
+pub given_named : (frame : FrameValue) → IsGiven frame → given_name (spelling frame) ≡ frame_name frame
+unfolding given_name type_name spelling varint frame_name
+given_named (frames.Ack ack) h = ack_given ack
+given_named (frames.ConnectionClose code type reason) h = refl
+given_named (frames.ApplicationClose code reason) h = refl
+given_named frames.HandshakeDone h = refl
+given_named _ h = absurd h

@@ -1,0 +1,10 @@
+pub mod AnswersBack
+pub mod DeedsBack
+pub mod FieldsBack
+pub mod FramesBack
+pub mod GivenNames
+pub mod InRange
+pub mod ReasonsBack
+pub mod TextLemmas
+pub mod Tokens
+pub mod TraceBack

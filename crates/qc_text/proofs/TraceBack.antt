@@ -1,0 +1,181 @@
+-- The text of a trace tells the trace.
+use Rattle.std.proofs.Common.{◌≡◌, ℕ, ◌<◌, ◌^◌, Bool, true, false, ◌==◌, List, ◌∷◌, ◌++◌, drop, get_or, Option, refl, sym, ap, ◌∙◌, append_assoc, arith}
+use Rattle.std.specs.Prelude.{decimal, codes, ◌||◌}
+use Rattle.std.specs.List.{All, flat_map}
+use Rattle.std.proofs.lemmas.Bool.Decides.{nat_tests}
+use Rattle.qc_state.specs.declared.deeds.Did.{Did}
+use Rattle.qc_state.specs.declared.deeds.Did.TheVariants as deed
+use Rattle.qc_state.specs.declared.events.EndpointEvent.{EndpointEvent}
+use Rattle.qc_state.specs.declared.events.EndpointEvent.TheVariants.{Drained}
+use Rattle.qc_state.specs.declared.events.Event.{Event}
+use Rattle.qc_state.specs.declared.events.Event.TheVariants.{ConnectionLost}
+use Rattle.qc_state.specs.declared.input.Word.{Word}
+use Rattle.qc_state.specs.declared.input.Word.TheVariants as word
+use Rattle.qc_state.specs.declared.trace.Answer.{Answer}
+use Rattle.qc_state.specs.declared.trace.Answer.TheVariants as answer
+use Rattle.qc_state.specs.declared.trace.Step.{Step}
+use Rattle.qc_text.specs.TraceText.{sealed_text, piece_text, gave_text, did_text, target_text, out_text, answer_text, event_text, endpoint_text, timer_text, word_name, step_head, step_text, trace_text}
+use Rattle.qc_text.specs.OneText.{IsOptionInRange, IsDeedInRange, IsDeedPlain, IsEventInRange, IsInRange, IsPlain}
+use Rattle.qc_text.proofs.Tokens.{is_token, token_back, number_back, lines_back, lines_begin}
+use Rattle.qc_text.proofs.DeedsBack.{did_back}
+use Rattle.qc_text.proofs.FieldsBack.{option_back}
+use Rattle.qc_text.proofs.ReasonsBack.{reason_back}
+use Rattle.qc_text.proofs.AnswersBack.{is_after_answer, answer_back}
+
+-- ---- the head
+
+word_is_token : (w : Word) → is_token (word_name w) ≡ true
+unfolding word_name
+word_is_token word.Datagram = refl
+word_is_token word.Transmit = refl
+word_is_token word.Close = refl
+word_is_token word.Ping = refl
+
+word_injective : (v w : Word) → word_name v ≡ word_name w → v ≡ w
+unfolding word_name
+word_injective word.Datagram word.Datagram e = refl
+word_injective word.Transmit word.Transmit e = refl
+word_injective word.Close word.Close e = refl
+word_injective word.Ping word.Ping e = refl
+word_injective _ _ e = absurd (omega (arith, ap (λ (a : List ℕ). get_or a 0 0) e))
+
+head_parts : (at : ℕ) (w : Word) (now : ℕ) (r : List ℕ) → step_head at w now ++ r ≡ codes "step " ++ (decimal at ++ 32 ∷ (word_name w ++ 32 ∷ (decimal now ++ 10 ∷ r)))
+unfolding step_head
+head_parts at w now r = simp append_assoc
+
+head_back : (m n : ℕ) (v w : Word) (x y : ℕ) (r s : List ℕ) → m < 2 ^ 64 → n < 2 ^ 64 → x < 2 ^ 64 → y < 2 ^ 64
+    → step_head m v x ++ r ≡ step_head n w y ++ s → (m ≡ n) × (v ≡ w) × (x ≡ y) × (r ≡ s)
+head_back m n v w x y r s p q k l e =
+    let parts = sym (head_parts m v x r) ∙ e ∙ head_parts n w y s in
+    let place = number_back m n 32 32 _ _ (omega arith) (omega arith) refl refl (ap (drop 5) parts) in
+    let named = token_back (word_name v) (word_name w) 32 32 _ _ (word_is_token v) (word_is_token w) refl refl (ap (drop 1) place.1) in
+    let time = number_back x y 10 10 r s (omega arith) (omega arith) refl refl (ap (drop 1) named.1) in
+    (place.0, word_injective v w named.0, time.0, ap (drop 1) time.1)
+
+-- ---- events and the timer
+
+event_back : (a b : Event) (r s : List ℕ) → IsEventInRange a → IsEventInRange b → event_text a ++ r ≡ event_text b ++ s → (a ≡ b) × (r ≡ s)
+unfolding event_text
+event_back (ConnectionLost a) (ConnectionLost b) r s p q e =
+    let parts = simp append_assoc at e in
+    let reason = reason_back a b r s p q (ap (drop 11) parts) in
+    (ap ConnectionLost reason.0, reason.1)
+
+endpoint_back : (a b : EndpointEvent) (r s : List ℕ) → Unit {0} → Unit {0} → endpoint_text a ++ r ≡ endpoint_text b ++ s → (a ≡ b) × (r ≡ s)
+unfolding endpoint_text
+endpoint_back Drained Drained r s p q e = (refl, ap (drop 17) e)
+
+timer_back : (a b : Option ℕ) (r s : List ℕ) → IsOptionInRange a → IsOptionInRange b → timer_text a ++ r ≡ timer_text b ++ s → (a ≡ b) × (r ≡ s)
+unfolding timer_text
+timer_back a b r s p q e =
+    let parts = simp append_assoc at e in
+    let time = option_back a b 10 10 r s p q refl refl (ap (drop 6) parts) in
+    (time.0, ap (drop 1) time.1)
+
+-- ---- by what a part of a step is told from the parts behind it
+
+is_deed : List ℕ → Bool
+is_deed r = (get_or r 0 0 == 115) || (get_or r 0 0 == 112) || (get_or r 0 0 == 103) || (get_or r 0 0 == 108) || (get_or r 0 0 == 113)
+
+is_event : List ℕ → Bool
+is_event r = get_or r 1 0 == 118
+
+is_endpoint : List ℕ → Bool
+is_endpoint r = get_or r 0 0 == 101
+
+is_step : List ℕ → Bool
+is_step r = get_or r 0 0 == 115
+
+deed_begins : (d : Did) (r : List ℕ) → is_deed (did_text d ++ r) ≡ true
+unfolding is_deed did_text sealed_text piece_text gave_text
+deed_begins (deed.Sealed space number epoch early frames) r = refl
+deed_begins (deed.Piece space number verdict) r = refl
+deed_begins (deed.Gave layer body) r = refl
+deed_begins (deed.Rose life) r = refl
+deed_begins (deed.Lost reason) r = refl
+deed_begins (deed.Quiet quiet) r = refl
+
+no_deed_after : (r : List ℕ) → is_after_answer r ≡ true → is_deed r ≡ false
+unfolding is_deed
+no_deed_after r h = grind (arith, nat_tests)
+
+answer_is_no_deed : (w : Word) (a : Answer) (r : List ℕ) → is_after_answer r ≡ true → is_deed (answer_text w a ++ r) ≡ false
+unfolding is_deed answer_text out_text target_text
+answer_is_no_deed w answer.Done r h = refl
+answer_is_no_deed w answer.Dropped r h = refl
+answer_is_no_deed word.Transmit answer.Nothing r h = no_deed_after r h
+answer_is_no_deed _ answer.Nothing r h = refl
+answer_is_no_deed w (answer.Out destination segment ecn bytes) r h = refl
+
+event_begins : (a : Event) (r : List ℕ) → (is_event (event_text a ++ r) ≡ true) × (is_after_answer (event_text a ++ r) ≡ true)
+unfolding is_event event_text
+event_begins (ConnectionLost reason) r = (refl, refl)
+
+endpoint_begins : (a : EndpointEvent) (r : List ℕ) → (is_event (endpoint_text a ++ r) ≡ false) × (is_endpoint (endpoint_text a ++ r) ≡ true) × (is_after_answer (endpoint_text a ++ r) ≡ true)
+unfolding is_event is_endpoint endpoint_text
+endpoint_begins Drained r = (refl, refl, refl)
+
+timer_begins : (a : Option ℕ) (r : List ℕ) → (is_event (timer_text a ++ r) ≡ false) × (is_endpoint (timer_text a ++ r) ≡ false) × (is_after_answer (timer_text a ++ r) ≡ true)
+unfolding is_event is_endpoint timer_text
+timer_begins a r = (refl, refl, refl)
+
+step_begins : (x : Step) (r : List ℕ) → is_step (step_text x ++ r) ≡ true
+unfolding is_step step_text step_head
+step_begins x r = refl
+
+-- ---- a step
+
+-- the reports of a step, and what follows the step
+reports : Step → List ℕ → List ℕ
+reports x r = flat_map event_text x.events ++ (flat_map endpoint_text x.endpoint ++ (timer_text x.timeout ++ r))
+
+step_parts : (x : Step) (r : List ℕ) → step_text x ++ r ≡ step_head x.at x.word x.now ++ (flat_map did_text x.did ++ (answer_text x.word x.answer ++ reports x r))
+unfolding step_text reports
+step_parts x r = simp append_assoc
+
+reports_begin : (x : Step) (r : List ℕ) → is_after_answer (reports x r) ≡ true
+unfolding reports
+reports_begin x r = lines_begin event_text is_after_answer true (λ a r. (event_begins a r).1) x.events _
+    (lines_begin endpoint_text is_after_answer true (λ a r. (endpoint_begins a r).2) x.endpoint _ (timer_begins x.timeout r).2)
+
+reports_back : (x y : Step) (r s : List ℕ) → IsInRange x → IsInRange y → reports x r ≡ reports y s → (x.events ≡ y.events) × (x.endpoint ≡ y.endpoint) × (x.timeout ≡ y.timeout) × (r ≡ s)
+unfolding reports
+reports_back x y r s p q e =
+    let quiet : (z : Step) (r : List ℕ) → is_event (flat_map endpoint_text z.endpoint ++ (timer_text z.timeout ++ r)) ≡ false
+    = λ z r. lines_begin endpoint_text is_event false (λ a r. (endpoint_begins a r).0) z.endpoint _ (timer_begins z.timeout r).0 in
+    let events = lines_back event_text IsEventInRange is_event (λ a r. (event_begins a r).0) event_back x.events y.events _ _ p.events q.events (quiet x r) (quiet y s) e in
+    let ends = lines_back endpoint_text (λ _. Unit {0}) is_endpoint (λ a r. (endpoint_begins a r).1) endpoint_back x.endpoint y.endpoint _ _ (λ k d h. tt) (λ k d h. tt)
+    (timer_begins x.timeout r).1 (timer_begins y.timeout s).1 events.1 in
+    let timer = timer_back x.timeout y.timeout r s p.timeout q.timeout ends.1 in
+    (events.0, ends.0, timer.0, timer.1)
+
+-- a step that its text tells
+abbrev IsTold : Step → Type 0
+IsTold x = IsInRange x × IsPlain x
+
+step_back : (x y : Step) (r s : List ℕ) → IsTold x → IsTold y → step_text x ++ r ≡ step_text y ++ s → (x ≡ y) × (r ≡ s)
+step_back x y r s p q e =
+    let parts = sym (step_parts x r) ∙ e ∙ step_parts y s in
+    let head = head_back x.at y.at x.word y.word x.now y.now _ _ p.0.at q.0.at p.0.now q.0.now parts in
+    let deeds = lines_back did_text (λ d. IsDeedInRange d × IsDeedPlain d) is_deed deed_begins did_back x.did y.did _ _ (λ k d h. (p.0.did k d h, p.1.did k d h)) (λ k d h. (q.0.did k d h, q.1.did k d h))
+    (answer_is_no_deed x.word x.answer (reports x r) (reports_begin x r)) (answer_is_no_deed y.word y.answer (reports y s) (reports_begin y s)) head.3 in
+    let same_word : answer_text x.word y.answer ++ reports y s ≡ answer_text y.word y.answer ++ reports y s = ap (λ (w : Word). answer_text w y.answer ++ reports y s) head.1 in
+    let answer = answer_back x.word x.answer y.answer (reports x r) (reports y s) p.0.answer q.0.answer p.1.answer q.1.answer (reports_begin x r) (reports_begin y s) (deeds.1 ∙ sym same_word) in
+    let rest = reports_back x y r s p.0 q.0 answer.1 in
+    (same x y head.0 head.1 head.2 deeds.0 answer.0 rest.0 rest.1 rest.2, rest.3)
+  where
+    same : (x y : Step) → x.at ≡ y.at → x.word ≡ y.word → x.now ≡ y.now → x.did ≡ y.did → x.answer ≡ y.answer → x.events ≡ y.events → x.endpoint ≡ y.endpoint → x.timeout ≡ y.timeout → x ≡ y
+    same x y a b c d e f g h = λ i. record { at = a i; word = b i; now = c i; did = d i; answer = e i; events = f i; endpoint = g i; timeout = h i }
+
+-- ---- a trace
+
+end_is_no_step : is_step (codes "end\n") ≡ false
+unfolding is_step
+end_is_no_step = refl
+
+pub trace_back : (xs ys : List Step) → All IsInRange xs → All IsInRange ys → All IsPlain xs → All IsPlain ys → trace_text xs ≡ trace_text ys → xs ≡ ys
+unfolding trace_text
+trace_back xs ys p q k l e =
+    let parts = simp append_assoc at e in
+    let both = lines_back step_text IsTold is_step step_begins step_back xs ys (codes "end\n") (codes "end\n") (λ n d h. (p n d h, k n d h)) (λ n d h. (q n d h, l n d h)) end_is_no_step end_is_no_step (ap (drop 8) parts) in
+    both.0
