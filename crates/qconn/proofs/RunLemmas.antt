@@ -1,5 +1,5 @@
 -- The run of the client that a script sets up.
-use Rattle.std.proofs.Common.{◌≡◌, ℕ, List, Option, None, Bool, false, refl, ap, subst}
+use Rattle.std.proofs.Common.{◌≡◌, ℕ, List, Option, None, Bool, true, false, refl, ap, subst}
 use Rattle.std.specs.List.{All}
 use Rattle.qc_base.specs.declared.mask.HeaderMask.{Ghosts as HeaderMaskGhosts}
 use Rattle.qc_text.specs.OneText.{IsInRange, IsPlain, IsPlainAddress}
@@ -73,8 +73,8 @@ pub script_plain : (address : SocketAddr) → IsScriptAddress address → IsPlai
 script_plain address h = (h.plain.1, h.plain.2)
 
 -- what the setup is made of makes the client that a script sets up
-pub script_made : (s : Sessions) (h : HeaderMaskGhosts ToyHeaderKey) (p : PacketKeyGhosts ToyPacketKey) (client : Seen toy ZeroRandom) (session : ToySession) (random : ZeroRandom) (version : ℕ) (local : List ℕ) (ip : Option IpAddr) (transport : TransportValues) (remote : SocketAddr) (first : List ℕ) (time : ℕ)
-    → IsScriptAddress remote → session ≡ script_session → version ≡ 1 → local ≡ local_cid → ip ≡ None → transport ≡ default_transport → first ≡ first_cid → time ≡ 0
-    → client.core ≡ first_view (meaning s h p) session random (client_fixed version local ip transport.max_idle_timeout) remote first time → IsScriptClient s h p client
-script_made s h p client session random version local ip transport remote first time address es ev el ei et ef en e =
-    record { remote = remote; address = address; made = rw (es, ev, el, ei, et, ef, en) at e }
+pub script_made : (s : Sessions) (h : HeaderMaskGhosts ToyHeaderKey) (p : PacketKeyGhosts ToyPacketKey) (client : Seen toy ZeroRandom) (session : ToySession) (random : ZeroRandom) (version : ℕ) (local : List ℕ) (ip : Option IpAddr) (transport : TransportValues) (grease : Bool) (remote : SocketAddr) (first : List ℕ) (time : ℕ)
+    → IsScriptAddress remote → session ≡ script_session → version ≡ 1 → local ≡ local_cid → ip ≡ None → transport ≡ default_transport → grease ≡ true → first ≡ first_cid → time ≡ 0
+    → client.core ≡ first_view (meaning s h p) session random (client_fixed version local ip transport.max_idle_timeout grease) remote first time → IsScriptClient s h p client
+script_made s h p client session random version local ip transport grease remote first time address es ev el ei et eg ef en e =
+    record { remote = remote; address = address; made = rw (es, ev, el, ei, et, eg, ef, en) at e }

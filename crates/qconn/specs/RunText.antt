@@ -79,7 +79,7 @@ Sessions = SessionGhosts ToySession ToyHeaderKey ToyPacketKey (Unit {0}) (Unit {
 
 -- that client as it was made at time 0: QUIC version 1, a limit on idle time of 30 seconds, and no address to send from
 abbrev pub script_view : Sessions → HeaderMaskGhosts ToyHeaderKey → PacketKeyGhosts ToyPacketKey → SocketAddr → Held toy ZeroRandom
-script_view s h p remote = first_view (meaning s h p) script_session (record {}) (client_fixed 1 local_cid None (Some 30000)) remote first_cid 0
+script_view s h p remote = first_view (meaning s h p) script_session (record {}) (client_fixed 1 local_cid None (Some 30000) true) remote first_cid 0
 
 -- the connection is the client that a script sets up
 pub record IsScriptClient (s : Sessions) (h : HeaderMaskGhosts ToyHeaderKey) (p : PacketKeyGhosts ToyPacketKey) (client : Seen toy ZeroRandom) : Type 0 where

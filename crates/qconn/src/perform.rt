@@ -1,6 +1,6 @@
 //! The run of a script's inputs, on the client that a script sets up.
 
-ghost use Rattle.std.specs.Prelude.{◌≡◌, None, IfOk};
+ghost use Rattle.std.specs.Prelude.{true, ◌≡◌, None, IfOk};
 ghost use Rattle.qc_text.specs.OneText.{IsPlainStart};
 ghost use Rattle.qconn.specs.RunText.{IsScriptAddress, local_cid, first_cid, script_session, toy_client, IsScriptClient, IsToyRun, IsToyRefusal, IsToldRun, IsRefusalTold};
 ghost use Rattle.qc_recovery.specs.TransportValues.{default_transport};
@@ -41,6 +41,7 @@ fn client_setup(alloc: Global) -> Result<ClientSetup<Toy>, AllocError>
     ensures local_ip { IfOk result (λ setup. setup.local_ip ≡ None) }
     ensures first_cid { IfOk result (λ setup. setup.first_cid ≡ first_cid) }
     ensures transport { IfOk result (λ setup. setup.transport ≡ default_transport) }
+    ensures grease { IfOk result (λ setup. setup.grease_quic_bit ≡ true) }
     ensures remote { IfOk result (λ setup. IsScriptAddress setup.remote) }
 {
     let transport = TransportConfig::default();
