@@ -95,7 +95,7 @@ fn sealed_len(alloc: Global, client: &mut Connection<Toy>, nanos: u64) -> Option
     }
 }
 
-/// The code of a lost connection; None where no event waits.
+/// The code of the error with which this end closed; None where no such event waits.
 fn lost_code(client: &mut Connection<Toy>) -> Option<TransportErrorCode> {
     match client.poll() {
         Some(
@@ -103,7 +103,7 @@ fn lost_code(client: &mut Connection<Toy>) -> Option<TransportErrorCode> {
                 reason: ConnectionError::TransportError(error),
             },
         ) => Some(error.code),
-        None => None,
+        _ => None,
     }
 }
 
