@@ -97,7 +97,8 @@ fn sealed_len(alloc: Global, client: &mut Connection<Toy>, nanos: u64) -> Option
 
 /// The code of the error with which this end closed; None where no such event waits.
 fn lost_code(client: &mut Connection<Toy>) -> Option<TransportErrorCode> {
-    match client.poll() {
+    let event = client.poll();
+    match &event {
         Some(
             Event::ConnectionLost {
                 reason: ConnectionError::TransportError(error),
