@@ -1,0 +1,4 @@
+pub mod Buffer
+pub mod Segments
+pub mod Sending
+pub mod Written

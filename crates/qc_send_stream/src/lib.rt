@@ -1,0 +1,19 @@
+//! The sending side of one stream.
+#![tactic(auto)]
+
+mod buffer;
+mod ends;
+mod fault;
+mod laws;
+mod outcome;
+mod parts;
+mod segments;
+mod send;
+
+pub use buffer::SendBuffer;
+pub use fault::{ClosedStream, FinishError, WriteError};
+pub use laws::sends_what_was_written;
+pub use send::{Part, Reset, SendPart, Standing};
+
+#[cfg(test)]
+mod tests;
