@@ -1,5 +1,5 @@
 -- The steps of a run leave nothing out of their text.
-use Rattle.std.proofs.Common.{◌≡◌, ℕ, ◌+◌, ◌<◌, ◌^◌, ◌==◌, ◌||◌, Bool, true, false, if◌then◌else◌, List, [], ◌∷◌, ◌++◌, length, replicate, take, zero, suc, Option, Some, None, refl, sym, ap, ◌∙◌, subst, arith}
+use Rattle.std.proofs.Common.{◌≡◌, ℕ, ◌+◌, ◌<◌, ◌≤◌, ◌^◌, ◌==◌, ◌||◌, Bool, true, false, if◌then◌else◌, List, [], ◌∷◌, ◌++◌, length, length-append, replicate, take, zero, suc, Option, Some, None, refl, sym, ap, ◌∙◌, subst, arith}
 use Rattle.std.specs.Prelude.{nat_lt, nat_le}
 use Rattle.std.specs.List.{All, list_any}
 use Rattle.std.specs.declared.net.socket_addr.SocketAddr.{SocketAddr}
@@ -7,13 +7,15 @@ use Rattle.std.proofs.lemmas.List.{length-drop}
 use Rattle.std.proofs.lemmas.Bool.Decides.{nat_tests}
 use Rattle.std.proofs.lemmas.List.Elements.{All-nil, All-cons, All-append}
 use Rattle.qc_base.specs.Varint.{IsNumber}
-use Rattle.qc_base.specs.declared.range_set.NumberRange.{NumberRange}
 use Rattle.qc_base.specs.declared.side.SpaceId.{SpaceId}
 use Rattle.qc_base.specs.declared.side.SpaceId.TheVariants.{Initial, Handshake, «Data»}
-use Rattle.qc_frame.specs.Frame.{FrameValue}
+use Rattle.qc_frame.specs.Frame.{FrameValue, AckValue}
 use Rattle.qc_frame.specs.FrameFits.{Fits, TypeFits}
-use Rattle.qc_frame.specs.FrameSpelling.{elicits}
+use Rattle.qc_frame.specs.FrameSpelling.{elicits, spelling}
+use Rattle.qc_frame.specs.Sizes.{IsLongestReason}
 use Rattle.qc_frame.specs.declared.frames.FrameOf.TheVariants as frames
+use Rattle.qc_frame.proofs.Lengths.{length-application_close}
+use Rattle.qc_state.specs.Acks.{AckPart, SaysAck, may_acknowledge}
 use Rattle.qc_state.specs.declared.deeds.Did.{Did}
 use Rattle.qc_state.specs.declared.deeds.Did.TheVariants as deed
 use Rattle.qc_state.specs.declared.deeds.Quiet.TheVariants.{NothingOwed, Silent, Killed}
@@ -24,51 +26,56 @@ use Rattle.qc_state.specs.declared.life.Close.TheVariants.{Connection, Applicati
 use Rattle.qc_state.specs.declared.life.Life.{Life}
 use Rattle.qc_state.specs.declared.life.State.TheVariants.{Drained}
 use Rattle.qc_state.specs.declared.paths.Paths.{Paths}
+use Rattle.qc_state.specs.declared.transmit.TheConstants.{DATAGRAM_SIZE}
 use Rattle.qc_state.specs.declared.trace.Step.{Step}
 use Rattle.qc_state.specs.declared.trace.Answer.TheVariants as answer
 use Rattle.qc_state.specs.declared.waiting.SpaceWaiting.{SpaceWaiting}
 use Rattle.qc_state.specs.declared.waiting.Waiting.{Waiting}
 use Rattle.qc_state.specs.Life.{is_closed}
-use Rattle.qc_state.specs.Moves.{Move, Clock, Ask, Take, Seal, Raise, Say, ReportLost, ReportDrained, Give, Enter, Fail, Accept, Fix, Hear, Ack, Calm, Tell, Drain, Leave, Owe, Shut, IsTold, MayMove, state_move, move_to, deeds_move, paths_move, waiting_move}
+use Rattle.qc_state.specs.Moves.{Move, Clock, Take, Seal, Forget, Raise, Say, Give, Enter, Fail, Accept, Fix, Hear, Ack, Calm, Come, Read, Write, Ready, Learn, Establish, Tell, Drain, Leave, Owe, Shut, IsTold, MayMove, state_move, move_to, deeds_move, paths_move, waiting_move, keys_move, calmed}
 use Rattle.qc_state.specs.Numbers.{next_number}
 use Rattle.qc_state.specs.Paths.{path_sent, path_received, peer_fixed}
 use Rattle.qc_state.specs.Receiving.{is_readable, datagram_after}
 use Rattle.qc_state.specs.Run.{time_of, packets_of, began, close_after, input_after, called, reported, step_after, IsAllowed, out_of, answer_of, IsStep, Run, Ran}
-use Rattle.qc_state.specs.Sending.{told_code, told_type, told_close, close_frame, closing_frame, Carries, internal_error, given_after, killed_after, quiet_after, packet_after, transmit_after, MayTransmit, transmit_bytes, transmit_of}
+use Rattle.qc_state.specs.Sending.{told_code, told_type, told_application_code, told_close, close_frame, closing_frame, IsKeptReason, close_room, Closes, sending_space, Carries, drops_initial, initial_left, sealed_in, internal_error, given_after, killed_after, quiet_after, packet_after, transmit_after, MayTransmit, transmit_bytes, transmit_of}
+use Rattle.qc_state.specs.Spaces.{space_of, with_space, is_space}
 use Rattle.qc_state.specs.Types.{Types, Meaning}
+use Rattle.qc_state.specs.Unsent.{unsent_with}
 use Rattle.qc_state.specs.View.{Held, View, At, at}
 use Rattle.qc_state.specs.First.{first_view}
 use Rattle.qc_state.specs.declared.setup.Fixed.{Fixed}
-use Rattle.qc_state.specs.Waiting.{ping_asked, waiting_without, close_begun, close_ended, flown_in, packet_flown, settled_in, packets_settled, without, Waits, without_all, WaitAll}
+use Rattle.qc_state.specs.Waiting.{ping_asked, waiting_without, close_begun, packet_told, untold, flown_in, packet_flown, settled_in, packets_settled, came_in, packet_came, crypto_written, nothing_left, space_left, is_calm, without, Waits, without_all, WaitAll}
 use Rattle.qc_state.proofs.Receives.{IsReceived, holds_datagram}
-use Rattle.qc_text.specs.OneText.{IsSpelled, IsDeedPlain, IsPlainAddress, IsAnswerPlain, IsPlain, IsBelowLimit, IsPlainStart, IsTellingRun}
+use Rattle.qc_text.specs.OneText.{IsSpelled, IsDeedPlain, IsPlainAddress, IsAnswerPlain, IsPlain, IsSpaceBelowLimit, IsBelowLimit, IsPlainStart, IsTellingRun}
 use Rattle.qc_text.specs.TraceText.{trace_text}
 use Rattle.qc_text.proofs.TraceBack.{trace_back}
 
 -- ---- frames that waited
 
-abbrev end_of : SpaceWaiting → ℕ
-end_of w = w.crypto.offset + length w.crypto.bytes
+ack_spelled : (time : ℕ) (w : SpaceWaiting) (ack : AckValue) → SaysAck time w.acks ack → IsSpelled (frames.Ack ack)
+ack_spelled time w ack says =
+    (says.fits, ap (λ (more : List ℕ). frames.Ack (record { largest = ack.largest; delay = ack.delay; additional = more; ecn = ack.ecn })) (sym says.shortest))
 
-frame_spelled : (w : SpaceWaiting) (f : FrameValue) → Waits w f → end_of w < 2 ^ 62 → IsSpelled f × (end_of (without w f) < 2 ^ 62)
+frame_spelled : (time : ℕ) (w : SpaceWaiting) (f : FrameValue) → Waits time w f → IsSpaceBelowLimit w → IsSpelled f × IsSpaceBelowLimit (without w f)
 unfolding Waits without Fits
-frame_spelled w frames.Padding h b = ((tt, refl), b)
-frame_spelled w frames.Ping h b = ((tt, refl), b)
-frame_spelled w (frames.Crypto offset body) h b =
+frame_spelled time w frames.Padding h b = ((tt, refl), b)
+frame_spelled time w frames.Ping h b = ((tt, refl), b)
+frame_spelled time w (frames.Ack ack) h b = (ack_spelled time w ack h.1, b)
+frame_spelled time w (frames.Crypto offset body) h b =
     let place = h.0 in
     let few = h.1 in
     (((omega arith, omega arith), refl), omega (arith, length-drop (length body) w.crypto.bytes))
-frame_spelled w _ h b = absurd h
+frame_spelled time w _ h b = absurd h
 
-frames_spelled : (w : SpaceWaiting) (fs : List FrameValue) → WaitAll w fs → end_of w < 2 ^ 62 → All IsSpelled fs × (end_of (without_all w fs) < 2 ^ 62)
+frames_spelled : (time : ℕ) (w : SpaceWaiting) (fs : List FrameValue) → WaitAll time w fs → IsSpaceBelowLimit w → All IsSpelled fs × IsSpaceBelowLimit (without_all w fs)
 unfolding WaitAll without_all
-frames_spelled w [] h b = (All-nil IsSpelled, b)
-frames_spelled w (f ∷ fs) h b =
-    let first = frame_spelled w f h.0 b in
-    let others = frames_spelled (without w f) fs h.1 first.1 in
+frames_spelled time w [] h b = (All-nil IsSpelled, b)
+frames_spelled time w (f ∷ fs) h b =
+    let first = frame_spelled time w f h.0 b in
+    let others = frames_spelled time (without w f) fs h.1 first.1 in
     (All-cons IsSpelled f fs first.0 others.0, others.1)
 
--- a close, and PADDING behind it
+-- a close, PADDING behind it, and the ACK in front of it
 padding_spelled : (n : ℕ) → All IsSpelled (replicate n frames.Padding)
 unfolding Fits
 padding_spelled zero = All-nil IsSpelled
@@ -89,28 +96,88 @@ type_fits (Some type) = by_test ((type == 0) || nat_le (2 ^ 62) type) refl
     by_test true h = tt
     by_test false h = (grind (arith, nat_tests), grind (arith, nat_tests))
 
-close_spelled : (b : Bool) (c : Option Close) → IsSpelled (if b then told_close c else close_frame 0x00 None)
+application_code_fits : (code : ℕ) → IsNumber (told_application_code code)
+application_code_fits code = by_test (nat_lt code (2 ^ 62)) refl
+  where
+    by_test : (b : Bool) → nat_lt code (2 ^ 62) ≡ b → IsNumber (if b then code else 0)
+    by_test true h = grind (arith, nat_tests)
+    by_test false h = omega arith
+
+-- the reason that is kept has a length that fits its field, as its close has no more bytes than there was room
+reason_fits : (code : ℕ) (reason kept : List ℕ) (room : ℕ) → room < 2 ^ 62 → IsLongestReason (frames.ApplicationClose code) reason room kept → IsNumber (length kept)
+reason_fits code reason kept room few k = by_test (nat_le (length (spelling (frames.ApplicationClose code []))) room) refl
+  where
+    by_test : (b : Bool) → nat_le (length (spelling (frames.ApplicationClose code []))) room ≡ b → IsNumber (length kept)
+    by_test true h =
+        let without_reason : length (spelling (frames.ApplicationClose code [])) ≤ room = grind (arith, nat_tests) in
+        let fits : length (spelling (frames.ApplicationClose code kept)) ≤ room = k.fits without_reason in
+        omega (arith, length-application_close code kept)
+    by_test false h =
+        let no_room : room < length (spelling (frames.ApplicationClose code [])) = grind (arith, nat_tests) in
+        let none : length kept ≡ 0 = ap (λ (bytes : List ℕ). length bytes) (k.nothing no_room) in
+        omega arith
+
+told_spelled : (id : SpaceId) (room : ℕ) (kept : List ℕ) (c : Option Close) → room < 2 ^ 62 → IsKeptReason room kept c → IsSpelled (told_close id kept c)
 unfolding Fits
-close_spelled true None = ((omega arith, tt, omega arith), refl)
-close_spelled true (Some (Connection c)) = ((code_fits c.error_code, type_fits c.frame_type, omega arith), refl)
-close_spelled true (Some (Application c)) = ((omega arith, tt, omega arith), refl)
-close_spelled false c = ((omega arith, tt, omega arith), refl)
+told_spelled id room kept None few k = ((omega arith, tt, omega arith), refl)
+told_spelled id room kept (Some (Connection c)) few k = ((code_fits c.error_code, type_fits c.frame_type, omega arith), refl)
+told_spelled Initial room kept (Some (Application c)) few k = ((omega arith, tt, omega arith), refl)
+told_spelled Handshake room kept (Some (Application c)) few k = ((omega arith, tt, omega arith), refl)
+told_spelled Data room kept (Some (Application c)) few k = ((application_code_fits c.error_code, reason_fits (told_application_code c.error_code) c.reason kept room few k), refl)
 
-padding_stays : (w : SpaceWaiting) (n : ℕ) → without_all w (replicate n frames.Padding) ≡ w
-unfolding without_all without
-padding_stays w zero = refl
-padding_stays w (suc n) = padding_stays w n
+close_spelled : (b : Bool) (id : SpaceId) (room : ℕ) (kept : List ℕ) (c : Option Close) → room < 2 ^ 62 → IsKeptReason room kept c → IsSpelled (if b then told_close id kept c else close_frame 0x00 None)
+unfolding Fits
+close_spelled true id room kept c few k = told_spelled id room kept c few k
+close_spelled false id room kept c few k = ((omega arith, tt, omega arith), refl)
 
-close_stays : (w : SpaceWaiting) (b : Bool) (c : Option Close) → without w (if b then told_close c else close_frame 0x00 None) ≡ w
+told_stays : (w : SpaceWaiting) (id : SpaceId) (kept : List ℕ) (c : Option Close) → without w (told_close id kept c) ≡ w
 unfolding without
-close_stays w true None = refl
-close_stays w true (Some (Connection c)) = refl
-close_stays w true (Some (Application c)) = refl
-close_stays w false c = refl
+told_stays w id kept None = refl
+told_stays w id kept (Some (Connection c)) = refl
+told_stays w Initial kept (Some (Application c)) = refl
+told_stays w Handshake kept (Some (Application c)) = refl
+told_stays w Data kept (Some (Application c)) = refl
 
-closing_stays : (w : SpaceWaiting) (v : Life) (n : ℕ) → without_all w (closing_frame v ∷ replicate n frames.Padding) ≡ w
+close_stays : (w : SpaceWaiting) (b : Bool) (id : SpaceId) (kept : List ℕ) (c : Option Close) → without w (if b then told_close id kept c else close_frame 0x00 None) ≡ w
+unfolding without
+close_stays w true id kept c = told_stays w id kept c
+close_stays w false id kept c = refl
+
+-- PADDING behind frames leaves what waits without them
+padding_stays : (w : SpaceWaiting) (fs : List FrameValue) (n : ℕ) → without_all w (fs ++ replicate n frames.Padding) ≡ without_all w fs
+unfolding without_all without
+padding_stays w [] zero = refl
+padding_stays w [] (suc n) = padding_stays w [] n
+padding_stays w (f ∷ fs) n = padding_stays (without w f) fs n
+
+-- these frames are spelled, and what waits without them lies below the limit
+abbrev ArePlain : SpaceWaiting → List FrameValue → Type 0
+ArePlain w fs = All IsSpelled fs × IsSpaceBelowLimit (without_all w fs)
+
+padded_plain : (w : SpaceWaiting) (fs : List FrameValue) (n : ℕ) → ArePlain w fs → ArePlain w (fs ++ replicate n frames.Padding)
+padded_plain w fs n h = (
+  All-append IsSpelled fs (replicate n frames.Padding) h.0 (padding_spelled n),
+  subst IsSpaceBelowLimit (sym (padding_stays w fs n)) h.1,
+)
+
+closing_plain : (w : SpaceWaiting) (id : SpaceId) (room : ℕ) (kept : List ℕ) (v : Life) → room < 2 ^ 62 → IsKeptReason room kept v.close → IsSpaceBelowLimit w → ArePlain w (closing_frame id kept v ∷ [])
 unfolding without_all
-closing_stays w v n = ap (λ (x : SpaceWaiting). without_all x (replicate n frames.Padding)) (close_stays w (is_closed v.state) v.close) ∙ padding_stays w n
+closing_plain w id room kept v few k h = (
+  All-cons IsSpelled (closing_frame id kept v) [] (close_spelled (is_closed v.state) id room kept v.close few k) (All-nil IsSpelled),
+  subst IsSpaceBelowLimit (sym (close_stays w (is_closed v.state) id kept v.close)) h,
+)
+
+close_plain : (time : ℕ) (w : SpaceWaiting) (acks : List FrameValue) (due : Bool) (id : SpaceId) (room : ℕ) (kept : List ℕ) (v : Life) → AckPart time w.acks acks due → room < 2 ^ 62
+    → IsKeptReason room kept v.close → IsSpaceBelowLimit w → ArePlain w (acks ++ closing_frame id kept v ∷ [])
+unfolding without_all without
+close_plain time w acks true id room kept v (AckPart.one ack says is) few k h =
+    let close : List FrameValue = closing_frame id kept v ∷ [] in
+    let behind = closing_plain (without w (frames.Ack ack)) id room kept v few k h in
+    let both : ArePlain w (frames.Ack ack ∷ close) = (All-cons IsSpelled (frames.Ack ack) close (ack_spelled time w ack says) behind.0, behind.1) in
+    subst (λ (fs : List FrameValue). ArePlain w (fs ++ close)) (sym is) both
+close_plain time w acks false id room kept v (AckPart.none is) few k h =
+    let close : List FrameValue = closing_frame id kept v ∷ [] in
+    subst (λ (fs : List FrameValue). ArePlain w (fs ++ close)) (sym is) (closing_plain w id room kept v few k h)
 
 -- deeds that seal nothing
 unsealed_plain : (ds : List Did) → packets_of ds ≡ [] → All IsDeedPlain ds
@@ -124,11 +191,49 @@ unsealed_plain (deed.Quiet quiet ∷ ds) e = All-cons IsDeedPlain (deed.Quiet qu
 
 -- ---- what receiving and sending keep
 
--- a packet that was sealed flies, where it elicits an acknowledgement
-flown_below : (w : Waiting) (n : ℕ) (b : Bool) → IsBelowLimit w → IsBelowLimit (if b then packet_flown (close_ended w) Initial n else close_ended w)
-unfolding packet_flown flown_in close_ended
-flown_below w n true h = h
-flown_below w n false h = h
+space_below : (w : Waiting) (id : SpaceId) → IsBelowLimit w → IsSpaceBelowLimit (space_of w.spaces id)
+space_below w Initial h = h.0
+space_below w Handshake h = h.1
+space_below w Data h = h.2
+
+-- a packet was sealed with these frames, which flies where it elicits an acknowledgement
+sealed_below : (w : Waiting) (id : SpaceId) (fs : List FrameValue) (n : ℕ) (elicits last : Bool) → IsBelowLimit w → IsSpaceBelowLimit (without_all (space_of w.spaces id) fs)
+    → let told : Waiting = packet_told (waiting_without w id fs) id last in IsBelowLimit (if elicits then packet_flown told id n else told)
+unfolding waiting_without packet_told packet_flown flown_in
+sealed_below w Initial fs n true last h k = (k, h.1, h.2)
+sealed_below w Initial fs n false last h k = (k, h.1, h.2)
+sealed_below w Handshake fs n true last h k = (h.0, k, h.2)
+sealed_below w Handshake fs n false last h k = (h.0, k, h.2)
+sealed_below w Data fs n true last h k = (h.0, h.1, k)
+sealed_below w Data fs n false last h k = (h.0, h.1, k)
+
+-- nothing waits in a space that was left
+nothing_below : (w : SpaceWaiting) → IsSpaceBelowLimit w → IsSpaceBelowLimit (nothing_left w)
+unfolding nothing_left
+nothing_below w h = omega (arith, length-drop (length w.crypto.bytes) w.crypto.bytes)
+
+-- another value in a space
+set_below : (w : Waiting) (id : SpaceId) (x : SpaceWaiting) → (IsSpaceBelowLimit (space_of w.spaces id) → IsSpaceBelowLimit x) → IsBelowLimit w → IsBelowLimit (record w { spaces = with_space w.spaces id x })
+set_below w Initial x keeps h = (keeps h.0, h.1, h.2)
+set_below w Handshake x keeps h = (h.0, keeps h.1, h.2)
+set_below w Data x keeps h = (h.0, h.1, keeps h.2)
+
+begun_below : (w : Waiting) (b : Bool) → IsBelowLimit w
+    → IsBelowLimit (if b then w else record { spaces = record { initial = untold w.spaces.initial; handshake = untold w.spaces.handshake; application = untold w.spaces.application }; close_owed = true })
+begun_below w true h = h
+begun_below w false h = h
+
+-- the session's bytes come behind those that wait, where the stream has room for them
+unsent_below : (w : SpaceWaiting) (more : List ℕ) → IsSpaceBelowLimit w → IsSpaceBelowLimit (record w { crypto = unsent_with w.crypto more })
+unfolding unsent_with
+unsent_below w more h = by_test (nat_lt (w.crypto.offset + length w.crypto.bytes + length more) (2 ^ 62)) refl
+  where
+    by_test : (b : Bool) → nat_lt (w.crypto.offset + length w.crypto.bytes + length more) (2 ^ 62) ≡ b
+        → IsSpaceBelowLimit (record w { crypto = if b then record { offset = w.crypto.offset; bytes = w.crypto.bytes ++ more } else w.crypto })
+    by_test true e =
+        let room : w.crypto.offset + length w.crypto.bytes + length more < 2 ^ 62 = grind (arith, nat_tests) in
+        omega (arith, length-append w.crypto.bytes more)
+    by_test false e = h
 
 one_more : (ds : List Did) (d : Did) → IsDeedPlain d → All IsDeedPlain ds → All IsDeedPlain (ds ++ d ∷ [])
 one_more ds d h p = All-append IsDeedPlain ds (d ∷ []) p (All-cons IsDeedPlain d [] h (All-nil IsDeedPlain))
@@ -137,12 +242,6 @@ told_plain : (d : Did) → IsTold d → IsDeedPlain d
 told_plain (deed.Piece space number verdict) h = tt
 told_plain (deed.Gave layer body) h = tt
 told_plain _ h = absurd h
-
-settled_below : (w : Waiting) (id : SpaceId) (rs : List NumberRange) → IsBelowLimit w → IsBelowLimit (packets_settled w id rs)
-unfolding packets_settled settled_in
-settled_below w Initial rs h = h
-settled_below w Handshake rs h = h
-settled_below w Data rs h = h
 
 done_plain : (b : Bool) → IsAnswerPlain (if b then answer.Done else answer.Dropped)
 done_plain true = tt
@@ -162,41 +261,75 @@ module _ {t : Types} where
   unfolding quiet_after killed_after given_after
   quiet_stays a = quiet_by a _ _ _
 
-  carried_spelled : (s : View t) (fs : List FrameValue) → Carries s fs → IsBelowLimit s.waiting → All IsSpelled fs × (end_of (without_all s.waiting.spaces.initial fs) < 2 ^ 62)
-  carried_spelled s fs (Carries.a_close owed n is) h =
-      let w : SpaceWaiting = s.waiting.spaces.initial in (
-        subst (All IsSpelled) (sym is) (All-cons IsSpelled (closing_frame s.life) (replicate n frames.Padding) (close_spelled (is_closed s.life.state) s.life.close) (padding_spelled n)),
-        subst (λ (x : List FrameValue). end_of (without_all w x) < 2 ^ 62) (sym is) (subst (λ (v : SpaceWaiting). end_of v < 2 ^ 62) (sym (closing_stays w s.life n)) h),
-      )
-  carried_spelled s fs (Carries.what_waits free wait holds) h = frames_spelled s.waiting.spaces.initial fs wait h
+  room_below : (s : View t) (id : SpaceId) (acks : List FrameValue) → close_room s id acks < 2 ^ 62
+  unfolding close_room
+  room_below s id acks = omega arith
+
+  closes_plain : (time : ℕ) (s : View t) (id : SpaceId) (fs : List FrameValue) → Closes time s id fs → IsSpaceBelowLimit (space_of s.waiting.spaces id) → ArePlain (space_of s.waiting.spaces id) fs
+  closes_plain time s id fs (Closes.closing acks part kept is_kept is) h =
+      let w : SpaceWaiting = space_of s.waiting.spaces id in
+      subst (ArePlain w) (sym is) (close_plain time w acks (may_acknowledge w.acks) id (close_room s id acks) kept s.life part (room_below s id acks) is_kept h)
+
+  carried_plain : (time : ℕ) (s : View t) (id : SpaceId) (fs : List FrameValue) → Carries time s id fs → IsSpaceBelowLimit (space_of s.waiting.spaces id) → ArePlain (space_of s.waiting.spaces id) fs
+  carried_plain time s id fs (Carries.a_close owed gs closes n is) h =
+      let w : SpaceWaiting = space_of s.waiting.spaces id in
+      subst (ArePlain w) (sym is) (padded_plain w gs n (closes_plain time s id gs closes h))
+  carried_plain time s id fs (Carries.what_waits free wait holds) h = frames_spelled time (space_of s.waiting.spaces id) fs wait h
+
+  -- leaving the Initial space
+  left_by : (a : At t) (x y : Bool) → let b : At t = move_to (Forget Initial) a in
+      let r : At t = if x then (if y then move_to Calm b else b) else a in
+      (r.did ≡ a.did) × (IsBelowLimit a.state.waiting → IsBelowLimit r.state.waiting) × (r.state.paths ≡ a.state.paths)
+  unfolding move_to state_move deeds_move waiting_move space_left paths_move
+  left_by a true true = (refl, λ h. (nothing_below a.state.waiting.spaces.initial h.0, h.1, h.2), refl)
+  left_by a true false = (refl, λ h. (nothing_below a.state.waiting.spaces.initial h.0, h.1, h.2), refl)
+  left_by a false y = (refl, λ h. h, refl)
+
+  initial_stays : (id : SpaceId) (a : At t) → let r : At t = initial_left id a in
+      (r.did ≡ a.did) × (IsBelowLimit a.state.waiting → IsBelowLimit r.state.waiting) × (r.state.paths ≡ a.state.paths)
+  unfolding initial_left calmed
+  initial_stays id a = left_by a (drops_initial a.state id) (is_calm (move_to (Forget Initial) a).state.waiting)
 
   -- what a transmit does
-  transmit_plain : (time : ℕ) (ds : List Did) (ps : List (List FrameValue)) (s : View t) → packets_of ds ≡ ps → MayTransmit s ps → ds ≡ (transmit_after time ps (at s [])).did
+  sealed_plain : (time : ℕ) (id : SpaceId) (fs : List FrameValue) (s : View t) → Carries time s id fs → IsBelowLimit s.waiting
+      → All IsDeedPlain (sealed_in time id fs (at s [])).did × IsBelowLimit (sealed_in time id fs (at s [])).state.waiting
+  unfolding sealed_in move_to state_move deeds_move waiting_move keys_move
+  sealed_plain time id fs s carries h =
+      let frames = carried_plain time s id fs carries (space_below s.waiting id h) in
+      let taken : At t = move_to (Take id fs) (at s []) in
+      let a : At t = move_to (Seal time id (next_number s.numbers id) DATAGRAM_SIZE fs) taken in
+      let left = initial_stays id a in
+      let one : Did = deed.Sealed id (next_number s.numbers id) 0 false fs in
+      let plain : All IsDeedPlain (one ∷ []) = All-cons IsDeedPlain one [] ((λ e. refl), frames.0) (All-nil IsDeedPlain) in
+      (subst (All IsDeedPlain) (sym left.0) plain, left.1 (sealed_below s.waiting id fs (next_number s.numbers id) (list_any elicits fs) (is_space id s.keys.highest) h frames.1))
+
+  transmit_plain : (time : ℕ) (ds : List Did) (ps : List (List FrameValue)) (s : View t) → packets_of ds ≡ ps → MayTransmit time s ps → ds ≡ (transmit_after time ps (at s [])).did
       → IsBelowLimit s.waiting → All IsDeedPlain ds × IsBelowLimit (transmit_after time ps (at s [])).state.waiting
-  unfolding MayTransmit transmit_after packet_after move_to state_move deeds_move waiting_move waiting_without
+  unfolding MayTransmit transmit_after packet_after
   transmit_plain time ds [] s names may told h = (unsealed_plain ds names, subst IsBelowLimit (sym (quiet_stays (at s [])).0) h)
   transmit_plain time ds (fs ∷ []) s names may told h =
-      let frames = carried_spelled s fs may.carries h in
-      let one : Did = deed.Sealed Initial (next_number s.numbers Initial) 0 false fs in
-      let sealed : All IsDeedPlain (one ∷ []) = All-cons IsDeedPlain one [] ((λ e. refl), frames.0) (All-nil IsDeedPlain) in
-      (subst (All IsDeedPlain) (sym told) sealed, flown_below (waiting_without s.waiting Initial fs) (next_number s.numbers Initial) (list_any elicits fs) frames.1)
+      let sealed = sealed_plain time (sending_space s) fs s may.carries h in
+      (subst (All IsDeedPlain) (sym told) sealed.0, sealed.1)
   transmit_plain time ds (fs ∷ gs ∷ rest) s names may told h = absurd may
 
   transmit_path : (time : ℕ) (ps : List (List FrameValue)) (a : At t) → (transmit_after time ps a).state.paths.remote ≡ a.state.paths.remote
-  unfolding transmit_after packet_after move_to state_move paths_move path_sent
+  unfolding transmit_after packet_after sealed_in move_to state_move paths_move path_sent
   transmit_path time [] a = ap (λ (p : Paths). p.remote) (quiet_stays a).1
-  transmit_path time (fs ∷ _) a = refl
+  transmit_path time (fs ∷ _) a =
+      let id : SpaceId = sending_space a.state in
+      let b : At t = move_to (Seal time id (next_number a.state.numbers id) DATAGRAM_SIZE fs) (move_to (Take id fs) a) in
+      ap (λ (p : Paths). p.remote) (initial_stays id b).2
 
-  close_plain : (time : ℕ) (close : Close) (ds : List Did) (s : View t) (b : Bool) → ds ≡ (if b then move_to (Shut time close) (at s []) else at s []).did
+  shut_plain : (time : ℕ) (close : Close) (ds : List Did) (s : View t) (b : Bool) → ds ≡ (if b then move_to (Shut time close) (at s []) else at s []).did
       → IsBelowLimit s.waiting → All IsDeedPlain ds × IsBelowLimit (if b then move_to (Shut time close) (at s []) else at s []).state.waiting
   unfolding move_to state_move deeds_move waiting_move close_begun
-  close_plain time close ds s true told h = (subst (All IsDeedPlain) (sym told) (All-cons IsDeedPlain (deed.Rose 2) [] tt (All-nil IsDeedPlain)), h)
-  close_plain time close ds s false told h = (subst (All IsDeedPlain) (sym told) (All-nil IsDeedPlain), h)
+  shut_plain time close ds s true told h = (subst (All IsDeedPlain) (sym told) (All-cons IsDeedPlain (deed.Rose 2) [] tt (All-nil IsDeedPlain)), begun_below s.waiting s.waiting.close_owed h)
+  shut_plain time close ds s false told h = (subst (All IsDeedPlain) (sym told) (All-nil IsDeedPlain), h)
 
-  close_path : (time : ℕ) (close : Close) (a : At t) (b : Bool) → (if b then move_to (Shut time close) a else a).state.paths.remote ≡ a.state.paths.remote
+  shut_path : (time : ℕ) (close : Close) (a : At t) (b : Bool) → (if b then move_to (Shut time close) a else a).state.paths.remote ≡ a.state.paths.remote
   unfolding move_to state_move paths_move
-  close_path time close a true = refl
-  close_path time close a false = refl
+  shut_path time close a true = refl
+  shut_path time close a false = refl
 
   -- what receiving keeps, from one moment to another: the deeds leave nothing out, what waits lies below the limit, and
   -- datagrams go to the same address
@@ -211,20 +344,27 @@ module _ {t : Types} where
   keeps_next : (a b c : At t) → Keeps a b → Keeps b c → Keeps a c
   keeps_next a b c g h = record { deeds = λ p. h.deeds (g.deeds p); crypto = λ p. h.crypto (g.crypto p); path = h.path ∙ g.path }
 
-  keeps_move : (x : Move) → IsReceived x → (a : At t) → MayMove x a.state → Keeps a (move_to x a)
-  unfolding MayMove move_to state_move deeds_move waiting_move close_begun paths_move path_received peer_fixed
-  keeps_move (Enter id n) r a h = record { deeds = one_more a.did _ tt; crypto = λ p. p; path = refl }
+  keeps_move : (x : Move t) → IsReceived x → (a : At t) → MayMove x a.state → Keeps a (move_to x a)
+  unfolding MayMove move_to state_move deeds_move waiting_move close_begun space_left packet_came came_in packets_settled settled_in crypto_written paths_move path_received peer_fixed
+  keeps_move (Forget id) r a h = record { deeds = λ p. p; crypto = set_below a.state.waiting id _ (nothing_below (space_of a.state.waiting.spaces id)); path = refl }
+  keeps_move (Enter id n v) r a h = record { deeds = one_more a.did _ tt; crypto = λ p. p; path = refl }
   keeps_move Fail r a h = record { deeds = λ p. p; crypto = λ p. p; path = refl }
-  keeps_move (Accept time id n v) r a h = record { deeds = one_more a.did _ tt; crypto = λ p. p; path = refl }
+  keeps_move (Accept time id n e v) r a h = record { deeds = one_more a.did _ tt; crypto = set_below a.state.waiting id _ (λ p. p); path = refl }
   keeps_move (Fix cid) r a h = record { deeds = λ p. p; crypto = λ p. p; path = refl }
   keeps_move (Hear bytes) r a h = record { deeds = λ p. p; crypto = λ p. p; path = refl }
-  keeps_move (Ack id n rs) r a h = record { deeds = λ p. p; crypto = settled_below a.state.waiting id rs; path = refl }
+  keeps_move (Ack id n rs) r a h = record { deeds = λ p. p; crypto = set_below a.state.waiting id _ (λ p. p); path = refl }
   keeps_move Calm r a h = record { deeds = λ p. p; crypto = λ p. p; path = refl }
+  keeps_move (Come id offset bytes) r a h = record { deeds = λ p. p; crypto = λ p. p; path = refl }
+  keeps_move (Read id count session) r a h = record { deeds = λ p. p; crypto = λ p. p; path = refl }
+  keeps_move (Write bytes keys session) r a h = record { deeds = λ p. p; crypto = set_below a.state.waiting a.state.keys.highest _ (unsent_below (space_of a.state.waiting.spaces a.state.keys.highest) bytes); path = refl }
+  keeps_move Ready r a h = record { deeds = λ p. p; crypto = λ p. p; path = refl }
+  keeps_move (Learn parameters) r a h = record { deeds = λ p. p; crypto = λ p. p; path = refl }
+  keeps_move Establish r a h = record { deeds = one_more a.did _ tt; crypto = λ p. p; path = refl }
   keeps_move (Tell d) r a h = record { deeds = one_more a.did d (told_plain d h); crypto = λ p. p; path = refl }
   keeps_move Drain r a h = record { deeds = one_more a.did _ tt; crypto = λ p. p; path = refl }
   keeps_move (Leave time) r a h = record { deeds = one_more a.did _ tt; crypto = λ p. p; path = refl }
-  keeps_move Owe r a h = record { deeds = λ p. p; crypto = λ p. p; path = refl }
-  keeps_move (Shut time close) r a h = record { deeds = one_more a.did _ tt; crypto = λ p. p; path = refl }
+  keeps_move Owe r a h = record { deeds = λ p. p; crypto = begun_below a.state.waiting a.state.waiting.close_owed; path = refl }
+  keeps_move (Shut time close) r a h = record { deeds = one_more a.did _ tt; crypto = begun_below a.state.waiting a.state.waiting.close_owed; path = refl }
   keeps_move (Give why) r a h = record { deeds = one_more a.did _ tt; crypto = λ p. p; path = refl }
   keeps_move _ r a h = absurd r
 
@@ -243,14 +383,14 @@ module _ {t : Types} where
   unfolding IsAllowed input_after close_after move_to state_move deeds_move waiting_move ping_asked
   input_plain m (input.Datagram time remote ecn bytes) ds s may told h = datagram_plain m time remote bytes ds s told h
   input_plain m (input.Transmit time max) ds s may told h = transmit_plain time ds (packets_of ds) s refl may told h
-  input_plain m (input.Close time code reason) ds s may told h = close_plain time _ ds s _ told h
-  input_plain m (input.Ping time) ds s may told h = (subst (All IsDeedPlain) (sym told) (All-nil IsDeedPlain), h)
+  input_plain m (input.Close time code reason) ds s may told h = shut_plain time _ ds s _ told h
+  input_plain m (input.Ping time) ds s may told h = (subst (All IsDeedPlain) (sym told) (All-nil IsDeedPlain), set_below s.waiting s.keys.highest _ (λ p. p) h)
 
   input_path : (m : Meaning t) (i : Input) (ds : List Did) (a : At t) → (input_after m i ds a).state.paths.remote ≡ a.state.paths.remote
   unfolding input_after close_after move_to state_move paths_move
   input_path m (input.Datagram time remote ecn bytes) ds a = (keeps_datagram m time remote bytes a).path
   input_path m (input.Transmit time max) ds a = transmit_path time (packets_of ds) a
-  input_path m (input.Close time code reason) ds a = close_path time _ a _
+  input_path m (input.Close time code reason) ds a = shut_path time _ a _
   input_path m (input.Ping time) ds a = refl
 
   -- what it answers
@@ -325,8 +465,10 @@ module _ {t : Types} {R : Type 0} where
   unfolding first_view
   first_plain m session random fixed remote first_cid time v made hello plain =
       let start : v.waiting.spaces.initial.crypto.offset ≡ 0 = ap (λ (v : Held t R). v.waiting.spaces.initial.crypto.offset) made in
+      let after : v.waiting.spaces.handshake.crypto.offset + length v.waiting.spaces.handshake.crypto.bytes ≡ 0 = ap (λ (v : Held t R). v.waiting.spaces.handshake.crypto.offset + length v.waiting.spaces.handshake.crypto.bytes) made in
+      let last : v.waiting.spaces.application.crypto.offset + length v.waiting.spaces.application.crypto.bytes ≡ 0 = ap (λ (v : Held t R). v.waiting.spaces.application.crypto.offset + length v.waiting.spaces.application.crypto.bytes) made in
       let path : v.paths.remote ≡ remote = ap (λ (v : Held t R). v.paths.remote) made in
-      record { crypto = omega arith; address = subst IsPlainAddress (sym path) plain }
+      record { crypto = (omega arith, omega arith, omega arith); address = subst IsPlainAddress (sym path) plain }
 
 -- ---- two runs
 

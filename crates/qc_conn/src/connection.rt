@@ -4,8 +4,9 @@ ghost use Rattle.std.specs.Prelude.{◌≡◌, ◌≤◌, [], true, false, Err, 
 ghost use Rattle.qc_text.specs.OneText.{IsPlainAddress, IsPlainStart};
 ghost use Rattle.qc_conn.specs.Seen.{Sends};
 ghost use Rattle.qc_state.specs.First.{first_view, client_fixed};
-ghost use Rattle.qc_state.specs.Life.{lost_event, drained_event};
-ghost use Rattle.qc_state.specs.Moves.{Ask, ReportLost, ReportDrained, state_move};
+ghost use Rattle.qc_state.specs.Life.{drained_event};
+ghost use Rattle.qc_state.specs.Moves.{Ask, ReportDrained, state_move};
+ghost use Rattle.qc_state.specs.Polls.{first_event, polled};
 ghost use Rattle.qc_state.specs.Run.{time_of, close_after, IsStep};
 ghost use Rattle.qc_state.specs.Timers.{next_timeout};
 ghost use Rattle.qc_state.specs.Types.{meaning};
@@ -54,7 +55,7 @@ impl<U: Suite> Connection<U> {
     ) -> Result<Connection<U>, AllocError>
         requires fresh { U.Session.is_fresh setup.session }
         requires client { U.Session.side_of setup.session ≡ Side.Client }
-        ensures made { IfOk result (λ c. c.core ≡ first_view (meaning U.Session.Session U.Session.HeaderKey.HeaderMask U.Session.PacketKey.PacketKey) setup.session setup.random (client_fixed setup.version setup.local_cid setup.local_ip setup.transport.max_idle_timeout setup.grease_quic_bit) setup.remote setup.first_cid now) }
+        ensures made { IfOk result (λ c. c.core ≡ first_view (meaning U.Session.Session U.Session.HeaderKey.HeaderMask U.Session.PacketKey.PacketKey) setup.session setup.random (client_fixed setup.version setup.local_cid setup.first_cid setup.local_ip setup.transport.max_idle_timeout setup.transport.crypto_buffer_size setup.grease_quic_bit) setup.remote setup.first_cid now) }
         ensures plain { IsPlainAddress setup.remote → IfOk result (λ c. IsPlainStart c.core.waiting c.core.paths) }
         ensures alive { IfOk result (λ c. c.failed ≡ false) }
         ensures store { store.new ≡ store.old }
@@ -117,7 +118,7 @@ impl<U: Suite> Connection<U> {
 
     /// A PING is owed from now on in the highest space (RFC 9000, 19.2).
     pub fn ping(&mut self)
-        ensures leads { (ideal U.Random.stream self.new.core) ≡ state_move (Ask SpaceId.Initial) (ideal U.Random.stream self.old.core) }
+        ensures leads { (ideal U.Random.stream self.new.core) ≡ state_move (Ask self.old.core.keys.highest) (ideal U.Random.stream self.old.core) }
         ensures mark { self.new.failed ≡ self.old.failed }
     {
         self.core.ping();
@@ -125,8 +126,8 @@ impl<U: Suite> Connection<U> {
 
     /// The next event for the application. None exactly where none waits.
     pub fn poll(&mut self) -> Option<Event>
-        ensures event { result ≡ lost_event self.old.core.life }
-        ensures leads { (ideal U.Random.stream self.new.core) ≡ state_move ReportLost (ideal U.Random.stream self.old.core) }
+        ensures event { result ≡ first_event self.old.core.life }
+        ensures leads { (ideal U.Random.stream self.new.core) ≡ polled (ideal U.Random.stream self.old.core) }
         ensures mark { self.new.failed ≡ self.old.failed }
     {
         self.core.poll()

@@ -2,8 +2,8 @@
 
 ghost use Rattle.std.specs.Prelude.{◌≡◌, ◌≤◌, ◌++◌, [], OnOk, IfOk, option_to_list};
 ghost use Rattle.qc_conn.specs.Seen.{Sends};
-ghost use Rattle.qc_state.specs.Life.{lost_event, drained_event};
-ghost use Rattle.qc_state.specs.Moves.{ReportLost, ReportDrained, state_move};
+ghost use Rattle.qc_state.specs.Life.{waiting_events, drained_event};
+ghost use Rattle.qc_state.specs.Moves.{ReportReady, ReportConnected, ReportLost, ReportDrained, state_move};
 ghost use Rattle.qc_state.specs.Run.{time_of, word_of, out_of, close_after, Calls, IsStep};
 ghost use Rattle.qc_state.specs.Types.{meaning};
 ghost use Rattle.qc_state.specs.View.{ideal, held};
@@ -165,18 +165,29 @@ fn call<U: Suite>(
     }
 }
 
-/// What waits to be reported to the application.
-fn report_events<U: Suite>(core: &mut Core<U>, alloc: Global) -> Result<Events, AllocError>
-    ensures events { IfOk result (λ events. events ≡ option_to_list (lost_event core.old.life)) }
-    ensures leads { OnOk result ((ideal U.Random.stream core.new) ≡ state_move ReportLost (ideal U.Random.stream core.old)) }
+/// An event that waits, if one does, behind the others.
+fn report_next(event: Option<Event>, events: &mut Events) -> Result<(), AllocError>
+    ensures { OnOk result (events.new ≡ events.old ++ option_to_list event) }
 {
-    let mut events = Events::new(alloc);
-    match core.poll() {
-        None => {}
+    match event {
+        None => Ok(()),
         Some(event) => match event {
-            Event::ConnectionLost { reason } => events.push_lost(reason)?,
+            Event::HandshakeDataReady => events.push_ready(),
+            Event::Connected => events.push_connected(),
+            Event::ConnectionLost { reason } => events.push_lost(reason),
         },
     }
+}
+
+/// What waits to be reported to the application.
+fn report_events<U: Suite>(core: &mut Core<U>, alloc: Global) -> Result<Events, AllocError>
+    ensures events { IfOk result (λ events. events ≡ waiting_events core.old.life) }
+    ensures leads { OnOk result ((ideal U.Random.stream core.new) ≡ state_move ReportLost (state_move ReportConnected (state_move ReportReady (ideal U.Random.stream core.old)))) }
+{
+    let mut events = Events::new(alloc);
+    report_next(core.poll_ready(), &mut events)?;
+    report_next(core.poll_connected(), &mut events)?;
+    report_next(core.poll_lost(), &mut events)?;
     Ok(events)
 }
 

@@ -6,12 +6,12 @@ use crate::connection::Connection;
 use crate::driving::{DriveKind, drive};
 use crate::laws::text_tells_run;
 use crate::text::trace_text;
-use qc_base::{ConnectionId, Instant, Side, TransportErrorCode};
+use qc_base::{ConnectionId, Duration, Instant, Side, TransportErrorCode, VarInt};
 use qc_config::{NoneTokenStore, announced};
 use qc_core::ClientSetup;
 use qc_crypto::{ClientConfig, Session};
 use qc_recovery::TransportConfig;
-use qc_state::{ConnectionError, Event, Input, Suite};
+use qc_state::{ConnectionError, Event, Input, Suite, negotiate_max_idle_timeout};
 use qc_toy::{ToyClient, ToySession, ToySettings, ZeroRandom};
 use std::alloc::{AllocError, Global};
 use std::default::Default;
@@ -211,4 +211,32 @@ fn a_failed_connection_refuses(rt: HostRuntime) -> Result<(), Fail> {
     }
     assert_eq!(rt; sealed_len(rt.alloc(), &mut client, 3), None);
     Ok(())
+}
+
+// The lesser of two limits on idle time in milliseconds holds; none and 0 are no limit (RFC 9000, 10.1).
+#[test]
+fn the_lesser_limit_holds(rt: HostRuntime) -> Result<(), Fail> {
+    let cases = [
+        (None, None, None),
+        (None, Some(0), None),
+        (Some(0), Some(0), None),
+        (None, Some(2), Some(2)),
+        (Some(2), Some(0), Some(2)),
+        (Some(1), Some(4), Some(1)),
+    ];
+    for (x, y, millis) in cases {
+        for (a, b) in [(x, y), (y, x)] {
+            let limit = negotiate_max_idle_timeout(varint(a), varint(b));
+            assert_eq!(rt; limit, millis.map(Duration::from_millis));
+        }
+    }
+    Ok(())
+}
+
+/// A number of milliseconds, where there is one.
+fn varint(millis: Option<u32>) -> Option<VarInt> {
+    match millis {
+        None => None,
+        Some(millis) => Some(VarInt::from_u32(millis)),
+    }
 }

@@ -1,4 +1,14 @@
 mod Behind
+mod Closing
 mod Cuts
 mod Opens
+mod Padding
 mod Payloads
+mod Refusals
+mod Reasons
+mod Sessions
+mod Writes
+mod Taken
+mod Established
+mod Elicits
+mod Accepts

@@ -1,94 +1,22 @@
 -- From what the opener of packets says to what becomes of one.
-use Rattle.std.proofs.Common.{◌≡◌, ℕ, ◌+◌, List, length, take, drop, refl, ap, sym, ◌∙◌, subst, Bool, true, false, Option, Some, None, Result, Ok, Err, IsSome, is_some, nat_lt, if◌then◌else◌}
+use Rattle.std.proofs.Common.{◌≡◌, ℕ, ◌+◌, List, length, take, drop, refl, ap, sym, ◌∙◌, subst, Bool, true, false, Option, Some, None, Result, Ok, Err, IsSome, is_some, nat_lt}
 use Rattle.std.specs.Prelude.{◌&&◌, IfSome, IfOk}
 use Rattle.std.specs.declared.alloc.AllocError.{AllocError}
-use Rattle.qc_base.specs.Mask.{first_byte}
 use Rattle.qc_base.specs.declared.side.LongType.TheVariants as long
-use Rattle.qc_core.specs.Told.{IsOpenedForm, opening_told}
 use Rattle.qc_crypto.specs.Mates.{Opening as OpeningFunction}
 use Rattle.qc_crypto.specs.declared.keys.Keys.{Keys}
 use Rattle.qc_header.specs.declared.finish.Packet.{Packet}
 use Rattle.qc_header.specs.declared.header.Header.{Header}
-use Rattle.qc_header.specs.declared.header.Header.TheVariants as header
 use Rattle.qc_header.specs.declared.protected.ProtectedHeader.{ProtectedHeader}
 use Rattle.qc_header.specs.declared.protected.ProtectedHeader.TheVariants as protected
-use Rattle.qc_header.specs.HeaderSpelling.{header_number}
 use Rattle.qc_header.specs.Piece.{Piece, is_protected}
 use Rattle.qc_header.specs.Unprotected.{unprotected, header_end, header_from}
-use Rattle.qc_base.specs.Time.{plus}
-use Rattle.qc_packet.specs.OpenedPacket.{IsNumberOf, key_named, opened_by, payload_after, opening_answer}
-use Rattle.qc_packet.specs.declared.decrypt.DecryptPacketResult.{DecryptPacketResult}
-use Rattle.qc_packet.specs.declared.decrypt.OpenError.{OpenError}
-use Rattle.qc_packet.specs.declared.decrypt.OpenError.TheVariants as refusal
 use Rattle.qc_packet.specs.declared.unprotect.UnprotectHeaderResult.{UnprotectHeaderResult}
 use Rattle.qc_packet.specs.Unprotected.{is_cut, is_key_missing, told_as, told_in, IsUnprotected}
 use Rattle.qc_state.specs.declared.opening.Opening.{Opening}
-use Rattle.qc_state.specs.declared.opening.Opening.TheVariants.{Unreadable, Reserved, Opened}
+use Rattle.qc_state.specs.declared.opening.Opening.TheVariants.{Unreadable}
 use Rattle.qc_state.specs.Opening.{opened_space, source_of, whole_number, judged, opened_under}
 use Rattle.qc_state.specs.Opening as state
-use Rattle.qc_state.proofs.Expansions.{expanded_nearest}
-
--- what the opener says, by the reserved bits
-reserved_by : (b : Bool) (told : DecryptPacketResult) (source : List ℕ) (number : ℕ) (payload : List ℕ) →
-    opening_told (if b then Ok (Some told) else Err refusal.Reserved) source number payload ≡ (if b then Opened source number payload else Reserved number)
-reserved_by true told source number payload = refl
-reserved_by false told source number payload = refl
-
--- its number is the one that the rules name, and its key that of the space
-number_is : (h : Header) (rx : ℕ) → IsOpenedForm h → IsNumberOf (header_number h) rx (whole_number (header_number h) rx)
-number_is (header.Initial h) rx form = expanded_nearest h.number (plus rx 1)
-number_is (header.Long long.Handshake dst_cid src_cid low version) rx form = expanded_nearest low (plus rx 1)
-number_is (header.Long long.ZeroRtt dst_cid src_cid low version) rx form = absurd form
-number_is (header.Retry dst_cid src_cid version) rx form = absurd form
-number_is (header.Short spin phase dst_cid low) rx form = absurd form
-number_is (header.VersionNegotiate random src_cid dst_cid) rx form = absurd form
-
-key_is : {P : Type 0} (h : Header) (key : P) (n : ℕ) → IsOpenedForm h → key_named h (Some key) None None n ≡ Some key
-unfolding key_named
-key_is (header.Initial h) key n form = refl
-key_is (header.Long long.Handshake dst_cid src_cid low version) key n form = refl
-key_is (header.Long long.ZeroRtt dst_cid src_cid low version) key n form = absurd form
-key_is (header.Retry dst_cid src_cid version) key n form = absurd form
-key_is (header.Short spin phase dst_cid low) key n form = absurd form
-key_is (header.VersionNegotiate random src_cid dst_cid) key n form = absurd form
-
-told_by : (P : Type 0) (h : Header) (rx n : ℕ) (header_data sealed : List ℕ) (opened : Option (List ℕ)) → IsOpenedForm h →
-    opening_told (opening_answer {P = P} h (first_byte header_data) None rx n (is_some opened)) (source_of h) n (payload_after sealed opened) ≡ judged h n header_data opened
-unfolding opening_answer
-told_by P (header.Initial h) rx n header_data sealed None form = refl
-told_by P (header.Initial h) rx n header_data sealed (Some payload) form = reserved_by _ _ _ _ _
-told_by P (header.Long long.Handshake dst_cid src_cid low version) rx n header_data sealed None form = refl
-told_by P (header.Long long.Handshake dst_cid src_cid low version) rx n header_data sealed (Some payload) form = reserved_by _ _ _ _ _
-told_by P (header.Long long.ZeroRtt dst_cid src_cid low version) rx n header_data sealed opened form = absurd form
-told_by P (header.Retry dst_cid src_cid version) rx n header_data sealed opened form = absurd form
-told_by P (header.Short spin phase dst_cid low) rx n header_data sealed opened form = absurd form
-told_by P (header.VersionNegotiate random src_cid dst_cid) rx n header_data sealed opened form = absurd form
-
-module _ {P : Type 0} where
-  opened_same : (opening : P → OpeningFunction) (key : P) (h : Header) (n : ℕ) (header_data sealed : List ℕ) → IsOpenedForm h →
-      opened_by opening (key_named h (Some key) None None n) n header_data sealed ≡ opening key n header_data sealed
-  unfolding opened_by
-  opened_same opening key h n header_data sealed form = ap (λ (k : Option P). opened_by opening k n header_data sealed) (key_is h key n form)
-
-  -- what becomes of a packet that was opened under its space's key
-  pub told_is : (opening : P → OpeningFunction) (key : P) (rx : ℕ) (old new : Packet) (answer : Result (Option DecryptPacketResult) OpenError) (source : List ℕ) (number : ℕ) (payload : List ℕ) (o : Opening) →
-      IsOpenedForm old.header →
-      ((n : ℕ) → IsNumberOf (header_number old.header) rx n → answer ≡ opening_answer {P = P} old.header (first_byte old.header_data) None rx n (is_some (opened_by opening (key_named old.header (Some key) None None n) n old.header_data old.payload.items))) →
-      ((n : ℕ) → IsNumberOf (header_number old.header) rx n → new.payload.items ≡ payload_after old.payload.items (opened_by opening (key_named old.header (Some key) None None n) n old.header_data old.payload.items)) →
-      source ≡ source_of old.header → number ≡ whole_number (header_number old.header) rx → payload ≡ new.payload.items →
-      o ≡ opening_told answer source number payload → o ≡ state.opened_by opening key rx old.header old.header_data old.payload.items
-  unfolding state.opened_by
-  told_is opening key rx old new answer source number payload o form is_answer is_new is_source is_number is_payload is_o =
-      let n : ℕ = whole_number (header_number old.header) rx in
-      let opened : Option (List ℕ) = opening key n old.header_data old.payload.items in
-      let named : IsNumberOf (header_number old.header) rx n = number_is old.header rx form in
-      let same : opened_by opening (key_named old.header (Some key) None None n) n old.header_data old.payload.items ≡ opened = opened_same opening key old.header n old.header_data old.payload.items form in
-      let answered : answer ≡ opening_answer {P = P} old.header (first_byte old.header_data) None rx n (is_some opened) = is_answer n named ∙ ap (λ (x : Option (List ℕ)). opening_answer {P = P} old.header (first_byte old.header_data) None rx n (is_some x)) same in
-      let left : payload ≡ payload_after old.payload.items opened = is_payload ∙ is_new n named ∙ ap (λ (x : Option (List ℕ)). payload_after old.payload.items x) same in
-      is_o ∙ ap (λ (x : Result (Option DecryptPacketResult) OpenError). opening_told x source number payload) answered ∙ ap (λ (x : List ℕ). opening_told (opening_answer {P = P} old.header (first_byte old.header_data) None rx n (is_some opened)) x number payload) is_source
-      ∙ ap (λ (x : ℕ). opening_told (opening_answer {P = P} old.header (first_byte old.header_data) None rx n (is_some opened)) (source_of old.header) x payload) is_number
-      ∙ ap (λ (x : List ℕ). opening_told (opening_answer {P = P} old.header (first_byte old.header_data) None rx n (is_some opened)) (source_of old.header) n x) left
-      ∙ told_by P old.header rx n old.header_data old.payload.items opened form
 
 -- a packet of a form that is taken is protected
 protected_form : (h : ProtectedHeader) → IsSome (opened_space h) → is_protected h ≡ true
@@ -98,18 +26,6 @@ protected_form (protected.Long long.ZeroRtt dst_cid src_cid version) some = refl
 protected_form (protected.Retry dst_cid src_cid version) some = some
 protected_form (protected.Short spin dst_cid) some = refl
 protected_form (protected.VersionNegotiate random src_cid dst_cid) some = some
-
--- and so is it without its mask
-form_by : (h : ProtectedHeader) (n : ℕ) (header_data : List ℕ) → IsSome (opened_space h) → IsOpenedForm (header_from h n header_data)
-form_by (protected.Initial dst_cid src_cid token_start token_len version) n header_data some = tt
-form_by (protected.Long long.Handshake dst_cid src_cid version) n header_data some = tt
-form_by (protected.Long long.ZeroRtt dst_cid src_cid version) n header_data some = let no : ⊥ = cc some in no
-form_by (protected.Retry dst_cid src_cid version) n header_data some = let no : ⊥ = cc some in no
-form_by (protected.Short spin dst_cid) n header_data some = let no : ⊥ = cc some in no
-form_by (protected.VersionNegotiate random src_cid dst_cid) n header_data some = let no : ⊥ = cc some in no
-
-pub form_kept : (mask : List ℕ → List ℕ) (p : Piece) (packet : Packet) → IsSome (opened_space p.header) → IsUnprotected mask p packet → IsOpenedForm packet.header
-form_kept mask p packet some h = subst (λ (x : Header). IsOpenedForm x) (sym h.header) (form_by p.header p.pn_offset packet.header_data some)
 
 -- whether it was too short for a sample
 told_cut : (is cut short : Bool) (r : Option (Bool × Bool)) → is ≡ true → r ≡ told_as (is && false) (is && short) false → r ≡ None → short ≡ true

@@ -1,13 +1,15 @@
 //! What a packet does that opened, by its verdict, and what its frames do.
 
-ghost use Rattle.std.specs.Prelude.{◌≡◌, ◌∷◌, [], true, false, Some, OnOk, IfOk};
+ghost use Rattle.std.specs.Prelude.{◌≡◌, ◌∷◌, [], true, false, Option, Some, None, nat_le, if◌then◌else◌, OnOk, IfOk};
 ghost use Rattle.std.specs.List.{list_any};
+ghost use Rattle.qc_core.specs.Behind.{Leads};
 ghost use Rattle.qc_frame.specs.Frame.{ack_map, borrowed, typed};
 ghost use Rattle.qc_frame.specs.FrameSpelling.{spelling};
 ghost use Rattle.qc_frame.specs.Payload.{items_of};
 ghost use Rattle.qc_state.specs.Numbers.{next_number};
-ghost use Rattle.qc_state.specs.Receiving.{acked_after, admitted_after, applied_after, calmed, closed_by_peer, fixed_after, fixes_peer, frame_and, frame_stop, is_close_item, items_after, left_after, payload_after, read_and, read_for_close, reason_of, received_after, stopped_after, violation_at};
-ghost use Rattle.qc_state.specs.Types.{Types};
+ghost use Rattle.qc_state.specs.Receiving.{acked_after, admitted_after, applied_after, close_and, close_given, closed_in_data, confirmed_after, data_stop, end_after, fixed_after, fixes_peer, frame_and, frame_stop, is_close_item, is_eliciting_item, items_after, left_after, payload_after, read_and, read_for_close, reason_of, received_after, stop_in, taken_and};
+ghost use Rattle.qc_state.specs.Stopping.{stopped_after, violation_at};
+ghost use Rattle.qc_state.specs.Types.{meaning};
 ghost use Rattle.qc_state.specs.Verdicts.{verdict_of};
 ghost use Rattle.qc_state.specs.View.{At, ideal, held};
 
@@ -15,36 +17,79 @@ use crate::state::Core;
 use bytes::Bytes;
 use qc_base::{ConnectionId, Instant, SpaceId, TransportError, TransportErrorCode};
 use qc_frame::{Ack, Frame, FrameOf, Iter, TypedFrame, put_frame};
+use qc_state::spaces::is_space;
 use qc_state::{
     ApplicationClose, Body, Close, ConnectionClose, ConnectionError, Dids, Layer, Suite, Verdict,
 };
 use std::alloc::{AllocError, Global};
 
+/// What a frame leaves of its packet.
+pub(crate) enum Behind {
+    /// It ends the packet.
+    Ends,
+    /// The frames behind it are next.
+    Goes,
+    /// It is a close with this reason, and the frames behind it are next.
+    Closes(ConnectionError),
+}
+
 /// An error with this code at a frame of this type, if it is at one.
-fn error_at(code: TransportErrorCode, frame: Option<u64>) -> TransportError
+pub(crate) fn error_at(code: TransportErrorCode, frame: Option<u64>) -> TransportError
     ensures code { result.code ≡ code }
     ensures frame { result.frame ≡ frame }
 {
     TransportError { code, frame }
 }
 
-/// The error with which a frame of this type stops its packet, if it does, where this end's next number is `next`.
+/// The error with which an ACK of numbers up to `largest` stops its packet, if it does, where this end's next number is `next`.
+fn ack_stop(next: u64, largest: u64) -> Option<TransportError>
+    ensures { result ≡ (if nat_le next largest then Some (violation_at None) else None) }
+{
+    if next <= largest {
+        return Some(error_at(TransportErrorCode::PROTOCOL_VIOLATION, None));
+    }
+    None
+}
+
+/// The error with which a frame of this type stops an Initial or Handshake packet by its kind, if it does, where this end's
+/// next number is `next`.
 fn frame_stop(next: u64, ty: u64, frame: &Frame<'_>) -> Option<TransportError>
     ensures { result ≡ frame_stop next ty (borrowed frame.now) }
 {
     match frame {
         FrameOf::Padding
         | FrameOf::Ping
+        | FrameOf::Crypto { .. }
         | FrameOf::ConnectionClose { .. }
         | FrameOf::ApplicationClose { .. } => None,
-        FrameOf::Ack(ack) => {
-            if next <= ack.largest {
-                return Some(error_at(TransportErrorCode::PROTOCOL_VIOLATION, None));
-            }
-            None
-        }
-        FrameOf::Crypto { .. } => Some(error_at(TransportErrorCode::INTERNAL_ERROR, Some(ty))),
+        FrameOf::Ack(ack) => ack_stop(next, ack.largest),
         _ => Some(error_at(TransportErrorCode::PROTOCOL_VIOLATION, Some(ty))),
+    }
+}
+
+/// The same in a 1-RTT packet that a client receives: frames of kinds that aren't taken so far stop it.
+fn data_stop(next: u64, ty: u64, frame: &Frame<'_>) -> Option<TransportError>
+    ensures { result ≡ data_stop next ty (borrowed frame.now) }
+{
+    match frame {
+        FrameOf::Padding
+        | FrameOf::Ping
+        | FrameOf::Crypto { .. }
+        | FrameOf::ConnectionClose { .. }
+        | FrameOf::ApplicationClose { .. }
+        | FrameOf::HandshakeDone => None,
+        FrameOf::Ack(ack) => ack_stop(next, ack.largest),
+        _ => Some(error_at(TransportErrorCode::INTERNAL_ERROR, Some(ty))),
+    }
+}
+
+/// The same by the space of the packet.
+fn stop_in(space: SpaceId, next: u64, ty: u64, frame: &Frame<'_>) -> Option<TransportError>
+    ensures { result ≡ stop_in space next ty (borrowed frame.now) }
+{
+    match space {
+        SpaceId::Initial | SpaceId::Handshake => frame_stop(next, ty, frame),
+        SpaceId::Data => data_stop(next, ty, frame),
     }
 }
 
@@ -103,6 +148,28 @@ fn holds_close(payload: &[u8]) -> bool
     false
 }
 
+/// Whether one of the frames of a payload elicits an acknowledgement, up to the first bytes that are no frame.
+fn elicits(payload: &[u8]) -> bool
+    ensures { result ≡ list_any is_eliciting_item (items_of payload.now) }
+{
+    let mut frames = match Iter::new(payload) {
+        Ok(frames) => frames,
+        Err(_) => return false,
+    };
+    loop {
+        let _skipped = frames.skip_padding();
+        match frames.next() {
+            None => return false,
+            Some(Err(_)) => {}
+            Some(Ok(read)) => {
+                if read.frame.is_ack_eliciting() {
+                    return true;
+                }
+            }
+        }
+    }
+}
+
 /// Whether a frame closes the connection.
 fn is_close(frame: &Frame<'_>) -> bool
     ensures { result ≡ is_close (borrowed frame.now) }
@@ -117,8 +184,8 @@ ghost use Rattle.qc_state.specs.Moves.{is_close};
 
 impl<U: Suite> Core<U> {
     /// This end closes for this error, where it hasn't closed before.
-    #[tactic(auto, unfolding(qc_state::specs::Receiving::stopped_after, qc_state::specs::Moves::move_to, qc_state::specs::Moves::deeds_move))]
-    fn stopped(
+    #[tactic(auto, unfolding(qc_state::specs::Stopping::stopped_after, qc_state::specs::Moves::move_to, qc_state::specs::Moves::deeds_move))]
+    pub(crate) fn stopped(
         &mut self,
         did: &mut Dids,
         now: Instant,
@@ -165,7 +232,7 @@ impl<U: Suite> Core<U> {
     }
 
     /// Loss recovery is given an ACK: what it acknowledges is in flight no longer.
-    #[tactic(auto, unfolding(qc_state::specs::Receiving::acked_after, qc_state::specs::Receiving::calmed, qc_state::specs::Moves::move_to, qc_state::specs::Moves::deeds_move))]
+    #[tactic(auto, unfolding(qc_state::specs::Receiving::acked_after, qc_state::specs::Moves::calmed, qc_state::specs::Moves::move_to, qc_state::specs::Moves::deeds_move))]
     fn acked(
         &mut self,
         alloc: Global,
@@ -185,6 +252,18 @@ impl<U: Suite> Core<U> {
         Ok(())
     }
 
+    /// The server has confirmed the handshake: the Handshake keys are dropped (RFC 9001, section 4.9.2).
+    #[tactic(auto, unfolding(qc_state::specs::Receiving::confirmed_after, qc_state::specs::Moves::move_to, qc_state::specs::Moves::deeds_move))]
+    fn confirmed(&mut self, did: &mut Dids, body: Body) -> Result<(), AllocError>
+        requires { body ≡ spelling FrameOf.HandshakeDone }
+        ensures { OnOk result ((held U.Random.stream self.new did.new) ≡ confirmed_after (held U.Random.stream self.old did.old)) }
+    {
+        self.do_tell_gave(did, Layer::Life, body)?;
+        self.do_forget(SpaceId::Handshake);
+        self.calm(did);
+        Ok(())
+    }
+
     /// A frame that stops nothing is applied.
     #[tactic(auto, unfolding(qc_state::specs::Receiving::applied_after))]
     fn applied(
@@ -201,29 +280,53 @@ impl<U: Suite> Core<U> {
                 let body = spelled(alloc, frame)?;
                 self.acked(alloc, did, space, ack, body)
             }
+            FrameOf::HandshakeDone => {
+                let body = spelled(alloc, frame)?;
+                self.confirmed(did, body)
+            }
             _ => Ok(()),
         }
     }
 
-    /// A close of the peer's, for this reason, is given to the life.
-    #[tactic(auto, unfolding(qc_state::specs::Receiving::closed_by_peer))]
-    fn closed_by_peer(
+    /// A close of the peer's is given to the life.
+    #[tactic(auto, unfolding(qc_state::specs::Receiving::close_given))]
+    fn close_given(
+        &mut self,
+        alloc: Global,
+        did: &mut Dids,
+        frame: &Frame<'_>,
+    ) -> Result<(), AllocError>
+        ensures { OnOk result ((held U.Random.stream self.new did.new) ≡ close_given (borrowed frame.now) (held U.Random.stream self.old did.old)) }
+    {
+        let body = spelled(alloc, frame)?;
+        self.do_tell_gave(did, Layer::Life, body)
+    }
+
+    /// A close of the peer's, for this reason: the first one ends an Initial or Handshake packet, and the connection drains;
+    /// of those in a 1-RTT packet the last one counts.
+    fn closed(
         &mut self,
         alloc: Global,
         did: &mut Dids,
         now: Instant,
+        space: SpaceId,
         frame: &Frame<'_>,
         why: ConnectionError,
-    ) -> Result<(), AllocError>
-        ensures { OnOk result ((held U.Random.stream self.new did.new) ≡ closed_by_peer now (borrowed frame.now) why (held U.Random.stream self.old did.old)) }
+    ) -> Result<Behind, AllocError>
+        ensures { IfOk result (λ behind. (close : Option ConnectionError) → Leads behind close (λ others. close_and now space (borrowed frame.now) why others (held U.Random.stream self.old did.old)) (held U.Random.stream self.new did.new)) }
     {
-        let body = spelled(alloc, frame)?;
-        self.do_tell_gave(did, Layer::Life, body)?;
-        self.left(did, now, why)
+        self.close_given(alloc, did, frame)?;
+        match space {
+            SpaceId::Initial | SpaceId::Handshake => {
+                self.left(did, now, why)?;
+                Ok(Behind::Ends)
+            }
+            SpaceId::Data => Ok(Behind::Closes(why)),
+        }
     }
 
-    /// One frame. Answers whether it ends its packet: the first close does, and a frame that stops it.
-    fn item(
+    /// A frame that stops nothing by its kind is taken. Answers whether it ends its packet, as a CRYPTO frame can.
+    fn taken(
         &mut self,
         alloc: Global,
         did: &mut Dids,
@@ -231,26 +334,95 @@ impl<U: Suite> Core<U> {
         space: SpaceId,
         read: &TypedFrame<'_>,
     ) -> Result<bool, AllocError>
-        ensures ends { IfOk result (λ ends. ends ≡ true → (others : At _ → At _) → (held U.Random.stream self.new did.new) ≡ read_and space (typed read.now) (reason_of (borrowed read.now.frame)) now others (held U.Random.stream self.old did.old)) }
-        ensures goes { IfOk result (λ ends. ends ≡ false → (others : At _ → At _) → others (held U.Random.stream self.new did.new) ≡ read_and space (typed read.now) (reason_of (borrowed read.now.frame)) now others (held U.Random.stream self.old did.old)) }
+        ensures ends { IfOk result (λ ends. ends ≡ true → (others : At _ → At _) → (held U.Random.stream self.new did.new) ≡ taken_and (meaning U.Session.Session U.Session.HeaderKey.HeaderMask U.Session.PacketKey.PacketKey) now space (typed read.now) (borrowed read.now.frame) others (held U.Random.stream self.old did.old)) }
+        ensures goes { IfOk result (λ ends. ends ≡ false → (others : At _ → At _) → others (held U.Random.stream self.new did.new) ≡ taken_and (meaning U.Session.Session U.Session.HeaderKey.HeaderMask U.Session.PacketKey.PacketKey) now space (typed read.now) (borrowed read.now.frame) others (held U.Random.stream self.old did.old)) }
     {
-        if let Some(why) = reason_of(alloc, &read.frame)? {
-            self.closed_by_peer(alloc, did, now, &read.frame, why)?;
-            return Ok(true);
-        }
-        match frame_stop(self.numbers.next(space), read.ty, &read.frame) {
-            Some(error) => {
-                self.stopped(did, now, error)?;
-                Ok(true)
+        match &read.frame {
+            FrameOf::Crypto { offset, body } => {
+                self.crypto(alloc, did, now, space, read.ty, *offset, body)
             }
-            None => {
-                self.applied(alloc, did, space, &read.frame)?;
+            frame => {
+                self.applied(alloc, did, space, frame)?;
                 Ok(false)
             }
         }
     }
 
-    /// The frames of a packet, in order, up to the first stop or close.
+    /// A frame that isn't a close stops its packet by its kind, or is taken.
+    fn unclosed(
+        &mut self,
+        alloc: Global,
+        did: &mut Dids,
+        now: Instant,
+        space: SpaceId,
+        read: &TypedFrame<'_>,
+    ) -> Result<Behind, AllocError>
+        ensures { IfOk result (λ behind. (close : Option ConnectionError) → Leads behind close (λ others. frame_and (meaning U.Session.Session U.Session.HeaderKey.HeaderMask U.Session.PacketKey.PacketKey) now space (typed read.now) (stop_in space (next_number self.old.numbers space) read.now.ty (borrowed read.now.frame)) (others close) (held U.Random.stream self.old did.old)) (held U.Random.stream self.new did.new)) }
+    {
+        if let Some(error) = stop_in(space, self.numbers.next(space), read.ty, &read.frame) {
+            self.stopped(did, now, error)?;
+            return Ok(Behind::Ends);
+        }
+        if self.taken(alloc, did, now, space, read)? {
+            return Ok(Behind::Ends);
+        }
+        Ok(Behind::Goes)
+    }
+
+    /// One frame: a close, or another one, which stops its packet or is taken.
+    fn item(
+        &mut self,
+        alloc: Global,
+        did: &mut Dids,
+        now: Instant,
+        space: SpaceId,
+        read: &TypedFrame<'_>,
+    ) -> Result<Behind, AllocError>
+        ensures { IfOk result (λ behind. (close : Option ConnectionError) → Leads behind close (λ others. read_and (meaning U.Session.Session U.Session.HeaderKey.HeaderMask U.Session.PacketKey.PacketKey) now space (typed read.now) (reason_of (borrowed read.now.frame)) close others (held U.Random.stream self.old did.old)) (held U.Random.stream self.new did.new)) }
+    {
+        match reason_of(alloc, &read.frame)? {
+            Some(why) => self.closed(alloc, did, now, space, &read.frame, why),
+            None => self.unclosed(alloc, did, now, space, read),
+        }
+    }
+
+    /// The peer closed with this reason in a 1-RTT packet: where the connection was open, one packet that tells that it ended
+    /// is owed (RFC 9000, section 10.2.2).
+    #[tactic(auto, unfolding(qc_state::specs::Receiving::closed_in_data, qc_state::specs::Moves::move_to, qc_state::specs::Moves::deeds_move))]
+    fn closed_in_data(
+        &mut self,
+        did: &mut Dids,
+        now: Instant,
+        why: ConnectionError,
+    ) -> Result<(), AllocError>
+        ensures { OnOk result ((held U.Random.stream self.new did.new) ≡ closed_in_data now why (held U.Random.stream self.old did.old)) }
+    {
+        if !self.life.is_open() {
+            return Ok(());
+        }
+        self.left(did, now, why)?;
+        self.do_owe();
+        Ok(())
+    }
+
+    /// Behind the last frame, where none stopped: the handshake goes on, or the last close of a 1-RTT packet counts.
+    fn end(
+        &mut self,
+        alloc: Global,
+        did: &mut Dids,
+        now: Instant,
+        space: SpaceId,
+        close: Option<ConnectionError>,
+    ) -> Result<(), AllocError>
+        ensures { OnOk result ((held U.Random.stream self.new did.new) ≡ end_after (meaning U.Session.Session U.Session.HeaderKey.HeaderMask U.Session.PacketKey.PacketKey) now space close (held U.Random.stream self.old did.old)) }
+    {
+        match close {
+            None => self.progress(alloc, did, now, space),
+            Some(why) => self.closed_in_data(did, now, why),
+        }
+    }
+
+    /// The frames of a packet, in order, up to the first stop, or the first close of an Initial or Handshake packet.
     fn items(
         &mut self,
         alloc: Global,
@@ -259,25 +431,28 @@ impl<U: Suite> Core<U> {
         space: SpaceId,
         frames: Iter<'_>,
     ) -> Result<(), AllocError>
-        ensures { OnOk result ((held U.Random.stream self.new did.new) ≡ items_after space now (items_of frames.entry) (held U.Random.stream self.old did.old)) }
+        ensures { OnOk result ((held U.Random.stream self.new did.new) ≡ items_after (meaning U.Session.Session U.Session.HeaderKey.HeaderMask U.Session.PacketKey.PacketKey) now space (items_of frames.entry) None (held U.Random.stream self.old did.old)) }
     {
-        for item in frames {
-            match item {
-                Err(fault) => {
+        let mut frames = frames;
+        let mut close = None;
+        loop {
+            let _skipped = frames.skip_padding();
+            match frames.next() {
+                None => return self.end(alloc, did, now, space, close),
+                Some(Err(fault)) => {
                     return self.stopped(
                         did,
                         now,
                         error_at(TransportErrorCode::FRAME_ENCODING_ERROR, fault.ty),
                     );
                 }
-                Ok(read) => {
-                    if self.item(alloc, did, now, space, &read)? {
-                        return Ok(());
-                    }
-                }
+                Some(Ok(read)) => match self.item(alloc, did, now, space, &read)? {
+                    Behind::Ends => return Ok(()),
+                    Behind::Goes => {}
+                    Behind::Closes(why) => close = Some(why),
+                },
             }
         }
-        Ok(())
     }
 
     /// The frames of a payload; an empty one breaks a rule (RFC 9000, section 12.4).
@@ -290,7 +465,7 @@ impl<U: Suite> Core<U> {
         space: SpaceId,
         payload: &[u8],
     ) -> Result<(), AllocError>
-        ensures { OnOk result ((held U.Random.stream self.new did.new) ≡ payload_after space now payload.now (held U.Random.stream self.old did.old)) }
+        ensures { OnOk result ((held U.Random.stream self.new did.new) ≡ payload_after (meaning U.Session.Session U.Session.HeaderKey.HeaderMask U.Session.PacketKey.PacketKey) now space payload.now (held U.Random.stream self.old did.old)) }
     {
         match Iter::new(payload) {
             Err(_) => self.violated(did, now),
@@ -325,9 +500,9 @@ impl<U: Suite> Core<U> {
         number: u64,
         payload: &[u8],
     ) -> Result<(), AllocError>
-        ensures { OnOk result ((held U.Random.stream self.new did.new) ≡ admitted_after now space source number payload.now (held U.Random.stream self.old did.old)) }
+        ensures { OnOk result ((held U.Random.stream self.new did.new) ≡ admitted_after (meaning U.Session.Session U.Session.HeaderKey.HeaderMask U.Session.PacketKey.PacketKey) now space source number payload.now (held U.Random.stream self.old did.old)) }
     {
-        self.do_accept(did, now, space, number, Verdict::Admitted)?;
+        self.do_accept(did, now, space, number, elicits(payload), Verdict::Admitted)?;
         self.fix(space, source, did);
         self.payload(alloc, did, now, space, payload)
     }
@@ -344,7 +519,7 @@ impl<U: Suite> Core<U> {
     ) -> Result<(), AllocError>
         ensures { OnOk result ((held U.Random.stream self.new did.new) ≡ read_for_close space number payload.now (held U.Random.stream self.old did.old)) }
     {
-        self.do_enter(did, space, number)?;
+        self.do_enter(did, space, number, Verdict::ReadForClose)?;
         if holds_close(payload) {
             return self.do_drain(did);
         }
@@ -362,6 +537,9 @@ impl<U: Suite> Core<U> {
         }
         if self.life.is_closed() {
             return Verdict::ReadForClose;
+        }
+        if self.life.is_handshake() && is_space(space, SpaceId::Data) {
+            return Verdict::NumberOnly;
         }
         if self.life.is_handshake()
             && (self.paths.peer_fixed && source.as_slice() != self.paths.remote_cid.as_slice())
@@ -383,12 +561,13 @@ impl<U: Suite> Core<U> {
         number: u64,
         payload: Bytes,
     ) -> Result<(), AllocError>
-        ensures { OnOk result ((held U.Random.stream self.new did.new) ≡ received_after now space source number payload (held U.Random.stream self.old did.old)) }
+        ensures { OnOk result ((held U.Random.stream self.new did.new) ≡ received_after (meaning U.Session.Session U.Session.HeaderKey.HeaderMask U.Session.PacketKey.PacketKey) now space source number payload (held U.Random.stream self.old did.old)) }
     {
         match self.verdict(space, source, number) {
             Verdict::Seen => { self.do_tell_piece(did, Some(space), Some(number), Verdict::Seen) }
             Verdict::ReadForClose => { self.read_for_close(did, space, number, payload.as_slice()) }
-            Verdict::AckOnly => self.do_accept(did, now, space, number, Verdict::AckOnly),
+            Verdict::NumberOnly => self.do_enter(did, space, number, Verdict::NumberOnly),
+            Verdict::AckOnly => self.do_accept(did, now, space, number, false, Verdict::AckOnly),
             Verdict::Admitted => {
                 self.admitted(alloc, did, now, space, source, number, payload.as_slice())
             }

@@ -1,23 +1,24 @@
 //! The calls of a connection.
 
 ghost use Rattle.std.specs.Prelude.{◌≡◌, ◌<◌, ◌^◌, ◌≤◌, [], length, OnOk, IfOk};
-ghost use Rattle.qc_state.specs.Life.{is_open, lost_event, drained_event};
-ghost use Rattle.qc_state.specs.Moves.{Clock, Ask, ReportLost, ReportDrained, move_to, state_move};
+ghost use Rattle.qc_state.specs.Life.{is_open, ready_event, connected_event, lost_event, drained_event};
+ghost use Rattle.qc_state.specs.Moves.{Clock, Ask, ReportReady, ReportConnected, ReportLost, ReportDrained, move_to, state_move};
+ghost use Rattle.qc_state.specs.Polls.{first_event, polled};
 ghost use Rattle.qc_state.specs.Run.{close_after};
 ghost use Rattle.qc_state.specs.Timers.{next_timeout};
 ghost use Rattle.qc_state.specs.View.{at, ideal, held};
 
 use crate::state::Core;
 use bytes::Bytes;
-use qc_base::{Instant, SpaceId, VarInt};
+use qc_base::{Instant, VarInt};
 use qc_state::{ApplicationClose, Close, EndpointEvent, Event, Suite};
 
 impl<U: Suite> Core<U> {
     /// A PING waits from now on in the highest space (RFC 9000, section 19.2).
     pub fn ping(&mut self)
-        ensures { (ideal U.Random.stream self.new) ≡ state_move (Ask SpaceId.Initial) (ideal U.Random.stream self.old) }
+        ensures { (ideal U.Random.stream self.new) ≡ state_move (Ask self.old.keys.highest) (ideal U.Random.stream self.old) }
     {
-        self.do_ask(SpaceId::Initial);
+        self.do_ask(self.keys.highest);
     }
 
     /// The application closes the connection at `now` (RFC 9000, 10.2). True exactly where this raised the life; a later
@@ -44,12 +45,43 @@ impl<U: Suite> Core<U> {
         self.do_clock(now);
     }
 
-    /// The next event for the application. None exactly where none waits.
-    pub fn poll(&mut self) -> Option<Event>
+    /// The report that the handshake's data is ready. None exactly where it doesn't wait.
+    pub fn poll_ready(&mut self) -> Option<Event>
+        ensures event { result ≡ ready_event self.old.life }
+        ensures leads { (ideal U.Random.stream self.new) ≡ state_move ReportReady (ideal U.Random.stream self.old) }
+    {
+        self.do_report_ready()
+    }
+
+    /// The report that the handshake is over. None exactly where it doesn't wait.
+    pub fn poll_connected(&mut self) -> Option<Event>
+        ensures event { result ≡ connected_event self.old.life }
+        ensures leads { (ideal U.Random.stream self.new) ≡ state_move ReportConnected (ideal U.Random.stream self.old) }
+    {
+        self.do_report_connected()
+    }
+
+    /// The report of the end's reason. None exactly where it doesn't wait.
+    pub fn poll_lost(&mut self) -> Option<Event>
         ensures event { result ≡ lost_event self.old.life }
         ensures leads { (ideal U.Random.stream self.new) ≡ state_move ReportLost (ideal U.Random.stream self.old) }
     {
         self.do_report_lost()
+    }
+
+    /// The next event for the application. None exactly where none waits.
+    #[tactic(auto, unfolding(qc_state::specs::Polls::first_event, qc_state::specs::Polls::polled))]
+    pub fn poll(&mut self) -> Option<Event>
+        ensures event { result ≡ first_event self.old.life }
+        ensures leads { (ideal U.Random.stream self.new) ≡ polled (ideal U.Random.stream self.old) }
+    {
+        if self.life.ready {
+            return self.poll_ready();
+        }
+        if self.life.connected {
+            return self.poll_connected();
+        }
+        self.poll_lost()
     }
 
     /// The next event for the endpoint. None exactly where none waits.

@@ -1,16 +1,19 @@
 //! A client's connection is made.
 
 ghost use Rattle.std.specs.Prelude.{◌≡◌, IfOk};
-ghost use Rattle.qc_state.specs.First.{first_view, idle_limit_of, client_fixed};
+ghost use Rattle.qc_state.specs.First.{first_view, client_fixed};
+ghost use Rattle.qc_state.specs.Setup.{idle_limit_of};
 ghost use Rattle.qc_state.specs.Types.{meaning};
 
 use crate::state::Core;
-use qc_base::{ConnectionId, Duration, Instant, Side, VarInt};
-use qc_crypto::Session;
+use qc_assembler::Assembler;
+use qc_base::{ConnectionId, Duration, Instant, Side, SpaceId, VarInt};
+use qc_path::PendingAcks;
 use qc_recovery::{IdleTimeout, TransportConfig};
+use qc_state::setup::limit_of_millis;
 use qc_state::{
-    CryptoQueue, Fixed, Flight, KeyGroup, Life, Lower, Numbers, Paths, Setup, SpaceKeys,
-    SpaceNumbers, SpaceWaiting, Spaces, State, Suite, Timers, Waiting,
+    CryptoQueue, Fixed, Flight, KeyGroup, Life, Lower, Numbers, Paths, Setup, SoundSession,
+    SpaceKeys, SpaceNumbers, SpaceWaiting, Spaces, State, Suite, Timers, Waiting,
 };
 use std::alloc::{AllocError, Global};
 use std::net::{IpAddr, SocketAddr};
@@ -52,13 +55,7 @@ fn idle_limit(timeout: Option<IdleTimeout>) -> Option<Duration>
 {
     match timeout {
         None => None,
-        Some(timeout) => {
-            let millis = VarInt::from(timeout).into_inner();
-            if millis == 0 {
-                return None;
-            }
-            Some(Duration::from_millis(millis))
-        }
+        Some(timeout) => limit_of_millis(VarInt::from(timeout).into_inner()),
     }
 }
 
@@ -69,7 +66,9 @@ fn nothing_waits(alloc: Global) -> SpaceWaiting
     SpaceWaiting {
         ping: false,
         crypto: CryptoQueue::from_vec(Vec::new(alloc)),
+        acks: PendingAcks::new(),
         flight: Flight::new(alloc),
+        told: false,
     }
 }
 
@@ -86,13 +85,13 @@ impl<U: Suite> Core<U> {
     ) -> Result<Core<U>, AllocError>
         requires fresh { U.Session.is_fresh setup.session }
         requires client { U.Session.side_of setup.session ≡ Side.Client }
-        ensures made { IfOk result (λ core. core ≡ first_view (meaning U.Session.Session U.Session.HeaderKey.HeaderMask U.Session.PacketKey.PacketKey) setup.session setup.random (client_fixed setup.version setup.local_cid setup.local_ip setup.transport.max_idle_timeout setup.grease_quic_bit) setup.remote setup.first_cid now) }
+        ensures made { IfOk result (λ core. core ≡ first_view (meaning U.Session.Session U.Session.HeaderKey.HeaderMask U.Session.PacketKey.PacketKey) setup.session setup.random (client_fixed setup.version setup.local_cid setup.first_cid setup.local_ip setup.transport.max_idle_timeout setup.transport.crypto_buffer_size setup.grease_quic_bit) setup.remote setup.first_cid now) }
         ensures hello { IfOk result (λ core. length core.waiting.spaces.initial.crypto.bytes < 2 ^ 62) }
     {
-        let mut session = setup.session;
+        let mut session = SoundSession::new(setup.session);
         let keys = session.initial_keys(&setup.first_cid, Side::Client);
         let mut hello = Vec::new(alloc);
-        session.write_handshake(&mut hello)?;
+        session.write(&mut hello)?;
         Ok(Core {
             numbers: Numbers {
                 spaces: Spaces {
@@ -107,11 +106,14 @@ impl<U: Suite> Core<U> {
                     handshake: None,
                     application: None,
                 },
+                highest: SpaceId::Initial,
                 failures: 0,
             },
             life: Life {
                 state: State::Handshake,
                 reason: None,
+                ready: false,
+                connected: false,
                 lost: None,
                 drained: false,
                 close: None,
@@ -135,7 +137,9 @@ impl<U: Suite> Core<U> {
                     initial: SpaceWaiting {
                         ping: false,
                         crypto: CryptoQueue::from_vec(hello),
+                        acks: PendingAcks::new(),
                         flight: Flight::new(alloc),
+                        told: false,
                     },
                     handshake: nothing_waits(alloc),
                     application: nothing_waits(alloc),
@@ -147,13 +151,23 @@ impl<U: Suite> Core<U> {
                     side: Side::Client,
                     version: setup.version,
                     local_cid: setup.local_cid,
+                    first_cid: setup.first_cid,
                     local_ip: setup.local_ip,
                     idle_limit: idle_limit(setup.transport.get_max_idle_timeout()),
+                    crypto_buffer_size: setup.transport.get_crypto_buffer_size(),
                     grease_quic_bit: setup.grease_quic_bit,
                 },
+                peer: None,
                 random: setup.random,
             },
-            lower: Lower { session },
+            lower: Lower {
+                session,
+                streams: Spaces {
+                    initial: Assembler::new(alloc),
+                    handshake: Assembler::new(alloc),
+                    application: Assembler::new(alloc),
+                },
+            },
         })
     }
 }

@@ -4,6 +4,7 @@
 mod admitting;
 mod calls;
 mod client;
+mod handshake;
 mod moves;
 mod opening;
 mod receiving;

@@ -1,24 +1,32 @@
 //! The moves of a connection, one function each.
 
-ghost use Rattle.std.specs.Prelude.{◌≡◌, ◌<◌, ◌^◌, OnOk, IfOk};
-ghost use Rattle.qc_state.specs.Life.{lost_event, drained_event};
+ghost use Rattle.std.specs.Prelude.{◌≡◌, ◌+◌, ◌<◌, ◌≤◌, ◌^◌, Err, length, OnOk, OnErr, IfOk};
+ghost use Rattle.qc_assembler.specs.Assembly.{inserted, part_count};
+ghost use Rattle.qc_state.specs.Acks.{AckPart, may_acknowledge};
+ghost use Rattle.qc_state.specs.Life.{ready_event, connected_event, lost_event, drained_event};
+ghost use Rattle.qc_state.specs.Lower.{ready_bytes, stream_of};
 ghost use Rattle.qc_frame.specs.AckRanges.{ranges_of};
 ghost use Rattle.qc_frame.specs.Frame.{ack_map};
-ghost use Rattle.qc_state.specs.Moves.{Clock, Ask, Take, Seal, Enter, Fail, Accept, Fix, Hear, Ack, Calm, Tell, Drain, Leave, Owe, Shut, Raise, Give, Say, ReportLost, ReportDrained, move_to, state_move};
+ghost use Rattle.qc_state.specs.Moves.{Clock, Ask, Take, Seal, Forget, Enter, Fail, Accept, Fix, Hear, Ack, Calm, Come, Ready, Learn, Establish, Tell, Drain, Leave, Owe, Shut, Raise, Give, Say, ReportReady, ReportConnected, ReportLost, ReportDrained, move_to, state_move};
 ghost use Rattle.qc_state.specs.Spaces.{space_of};
 ghost use Rattle.qc_state.specs.View.{ideal, held};
-ghost use Rattle.qc_state.specs.Waiting.{taken_part};
+ghost use Rattle.qc_state.specs.Waiting.{TakenPart};
 
 use crate::state::Core;
+use bytes::Bytes;
+use qc_assembler::InsertError;
 use qc_base::{ConnectionId, Instant, SpaceId};
 use qc_frame::{Ack, FrameList};
+use qc_params::TransportParameters;
+use qc_path::Arrival;
+use qc_state::spaces::is_space;
 use qc_state::{
     Body, Close, ConnectionError, Did, Dids, EndpointEvent, Event, Layer, Quiet, State, Suite,
     Verdict,
 };
 use std::alloc::{AllocError, Global};
 
-#[tactic(auto, unfolding(qc_state::specs::Moves::move_to, qc_state::specs::Moves::state_move, qc_state::specs::Moves::numbers_move, qc_state::specs::Moves::keys_move, qc_state::specs::Moves::life_move, qc_state::specs::Moves::paths_move, qc_state::specs::Moves::timers_move, qc_state::specs::Moves::waiting_move, qc_state::specs::Moves::deeds_move, qc_state::specs::Setup::ideal_setup))]
+#[tactic(auto, unfolding(qc_state::specs::Moves::move_to, qc_state::specs::Moves::state_move, qc_state::specs::Moves::numbers_move, qc_state::specs::Moves::keys_move, qc_state::specs::Moves::life_move, qc_state::specs::Moves::paths_move, qc_state::specs::Moves::timers_move, qc_state::specs::Moves::waiting_move, qc_state::specs::Moves::setup_move, qc_state::specs::Moves::lower_move, qc_state::specs::Moves::deeds_move, qc_state::specs::Setup::ideal_setup, qc_state::specs::Setup::idle_limit_now, qc_state::specs::Setup::parameters_known, qc_state::specs::Lower::session_wrote), using(qc_state::proofs::Arrivals::came_accepted))]
 impl<U: Suite> Core<U> {
     /// The connection is told a time.
     pub(crate) fn do_clock(&mut self, now: Instant)
@@ -38,13 +46,29 @@ impl<U: Suite> Core<U> {
     pub(crate) fn do_take(
         &mut self,
         alloc: Global,
+        now: Instant,
         space: SpaceId,
         room: usize,
     ) -> Result<FrameList, AllocError>
-        ensures frames { IfOk result (λ frames. frames ≡ taken_part (space_of self.old.waiting.spaces space) room) }
+        ensures frames { IfOk result (λ frames. TakenPart now (space_of self.old.waiting.spaces space) room frames) }
         ensures leads { IfOk result (λ frames. (ideal U.Random.stream self.new) ≡ state_move (Take space frames) (ideal U.Random.stream self.old)) }
+        ensures most { OnOk result (length (space_of self.old.waiting.spaces space).acks.ranges ≤ 64) }
     {
-        self.waiting.take(alloc, space, room)
+        self.waiting.take(alloc, now, space, room)
+    }
+
+    /// The ACK leaves what waits, where there is something to acknowledge.
+    pub(crate) fn do_take_ack(
+        &mut self,
+        alloc: Global,
+        now: Instant,
+        space: SpaceId,
+    ) -> Result<FrameList, AllocError>
+        ensures frames { IfOk result (λ frames. AckPart now (space_of self.old.waiting.spaces space).acks frames (may_acknowledge (space_of self.old.waiting.spaces space).acks)) }
+        ensures leads { IfOk result (λ frames. (ideal U.Random.stream self.new) ≡ state_move (Take space frames) (ideal U.Random.stream self.old)) }
+        ensures most { OnOk result (length (space_of self.old.waiting.spaces space).acks.ranges ≤ 64) }
+    {
+        self.waiting.take_ack(alloc, now, space)
     }
 
     /// A packet is sealed.
@@ -60,28 +84,38 @@ impl<U: Suite> Core<U> {
         requires { number < 2 ^ 62 }
         ensures { OnOk result ((held U.Random.stream self.new did.new) ≡ move_to (Seal now space number size frames) (held U.Random.stream self.old did.old)) }
     {
+        let last = is_space(space, self.keys.highest);
         self.numbers.used(space, number);
         self.keys.used(space);
         self.paths.sent(size);
-        self.waiting.end_close();
+        self.waiting.tell(space, last);
         if frames.elicits() {
             self.waiting.fly(space, number)?;
-            self.timers.sealed(self.setup.fixed.idle_limit, now);
+            self.timers.sealed(self.setup.idle_limit(), now);
         }
         did.push_sealed(space, number, frames)
     }
 
-    /// A packet came once this end had closed, and is only read for a close.
+    /// The keys of a space are dropped.
+    pub(crate) fn do_forget(&mut self, space: SpaceId)
+        ensures { (ideal U.Random.stream self.new) ≡ state_move (Forget space) (ideal U.Random.stream self.old) }
+    {
+        self.keys.forget(space);
+        self.waiting.forget(space);
+    }
+
+    /// A packet came whose number counts, and whose frames don't.
     pub(crate) fn do_enter(
         &mut self,
         did: &mut Dids,
         space: SpaceId,
         number: u64,
+        verdict: Verdict,
     ) -> Result<(), AllocError>
-        ensures { OnOk result ((held U.Random.stream self.new did.new) ≡ move_to (Enter space number) (held U.Random.stream self.old did.old)) }
+        ensures { OnOk result ((held U.Random.stream self.new did.new) ≡ move_to (Enter space number verdict) (held U.Random.stream self.old did.old)) }
     {
         self.numbers.entered(space, number);
-        did.push_piece(Some(space), Some(number), Verdict::ReadForClose)
+        did.push_piece(Some(space), Some(number), verdict)
     }
 
     /// A packet didn't open.
@@ -98,12 +132,20 @@ impl<U: Suite> Core<U> {
         now: Instant,
         space: SpaceId,
         number: u64,
+        eliciting: bool,
         verdict: Verdict,
     ) -> Result<(), AllocError>
-        ensures { OnOk result ((held U.Random.stream self.new did.new) ≡ move_to (Accept now space number verdict) (held U.Random.stream self.old did.old)) }
+        ensures { OnOk result ((held U.Random.stream self.new did.new) ≡ move_to (Accept now space number eliciting verdict) (held U.Random.stream self.old did.old)) }
     {
         self.numbers.accepted(space, number);
-        self.timers.accepted(self.setup.fixed.idle_limit, now);
+        let packet = Arrival {
+            number,
+            at: now,
+            ack_eliciting: eliciting,
+            ce: false,
+        };
+        self.waiting.came(space, self.numbers.came(space), &packet);
+        self.timers.accepted(self.setup.idle_limit(), now);
         did.push_piece(Some(space), Some(number), verdict)
     }
 
@@ -139,6 +181,44 @@ impl<U: Suite> Core<U> {
         ensures { (ideal U.Random.stream self.new) ≡ state_move Calm (ideal U.Random.stream self.old) }
     {
         self.timers.settled();
+    }
+
+    /// Bytes of a CRYPTO stream came. `TooManyParts` exactly where too many separate parts would stand.
+    pub(crate) fn do_come(
+        &mut self,
+        space: SpaceId,
+        offset: u64,
+        bytes: Bytes,
+    ) -> Result<(), InsertError>
+        requires { offset + length bytes < 2 ^ 64 }
+        ensures came { OnOk result ((ideal U.Random.stream self.new) ≡ state_move (Come space offset bytes) (ideal U.Random.stream self.old)) }
+        ensures few { OnOk result (part_count (inserted offset bytes (stream_of self.old.lower space)).came ≤ 1024) }
+        ensures many { result ≡ Err InsertError.TooManyParts → 1024 < part_count (inserted offset bytes (stream_of self.old.lower space)).came }
+        ensures err { OnErr result (self.new ≡ self.old) }
+    {
+        self.lower.came(space, offset, bytes)
+    }
+
+    /// What the handshake settles is ready.
+    pub(crate) fn do_ready(&mut self)
+        ensures { (ideal U.Random.stream self.new) ≡ state_move Ready (ideal U.Random.stream self.old) }
+    {
+        self.life.data_ready();
+    }
+
+    /// The peer's parameters were read.
+    pub(crate) fn do_learn(&mut self, parameters: TransportParameters)
+        ensures { (ideal U.Random.stream self.new) ≡ state_move (Learn parameters) (ideal U.Random.stream self.old) }
+    {
+        self.setup.learn(parameters);
+    }
+
+    /// The handshake is over.
+    pub(crate) fn do_establish(&mut self, did: &mut Dids) -> Result<(), AllocError>
+        ensures { OnOk result ((held U.Random.stream self.new did.new) ≡ move_to Establish (held U.Random.stream self.old did.old)) }
+    {
+        self.life.establish();
+        did.push_rose(1)
     }
 
     /// A packet that enters no number is told of.
@@ -223,6 +303,22 @@ impl<U: Suite> Core<U> {
         ensures { OnOk result ((held U.Random.stream self.now did.new) ≡ move_to (Say quiet) (held U.Random.stream self.now did.old)) }
     {
         did.push_quiet(quiet)
+    }
+
+    /// That the handshake's data is ready is reported, where it waits.
+    pub(crate) fn do_report_ready(&mut self) -> Option<Event>
+        ensures event { result ≡ ready_event self.old.life }
+        ensures leads { (ideal U.Random.stream self.new) ≡ state_move ReportReady (ideal U.Random.stream self.old) }
+    {
+        self.life.take_ready()
+    }
+
+    /// That the handshake is over is reported, where it waits.
+    pub(crate) fn do_report_connected(&mut self) -> Option<Event>
+        ensures event { result ≡ connected_event self.old.life }
+        ensures leads { (ideal U.Random.stream self.new) ≡ state_move ReportConnected (ideal U.Random.stream self.old) }
+    {
+        self.life.take_connected()
     }
 
     /// The reason of the end is reported, where it waits.

@@ -1,9 +1,10 @@
 //! Taking the protection off a packet that came.
 
-ghost use Rattle.std.specs.Prelude.{◌≡◌, IsSome, IfOk};
-ghost use Rattle.qc_core.specs.Told.{IsOpenedForm, opening_told};
+ghost use Rattle.std.specs.Prelude.{◌≡◌, Some, IsSome, IfOk};
+ghost use Rattle.qc_base.specs.Mask.{first_byte};
 ghost use Rattle.qc_header.specs.HeaderSpelling.{header_number};
-ghost use Rattle.qc_state.specs.Opening.{opened_space, source_of, whole_number, opened_by, opened_under, opening_of};
+ghost use Rattle.qc_packet.specs.OpenedPacket.{reserved_bits};
+ghost use Rattle.qc_state.specs.Opening.{is_other_phase, judged, opened_space, source_of, whole_number, opened_by, opened_under, opening_of};
 ghost use Rattle.qc_state.specs.Types.{meaning};
 ghost use Rattle.qc_state.specs.View.{ideal};
 
@@ -12,7 +13,7 @@ use bytes::Bytes;
 use qc_base::{ConnectionId, HeaderMask, LongType, SpaceId};
 use qc_crypto::{Keys, PacketKey};
 use qc_header::{Header, Packet, PartialDecode, ProtectedHeader};
-use qc_packet::{DecryptPacketResult, OpenError, OpenKeys, decrypt_packet_body, unprotect_header};
+use qc_packet::unprotect_header;
 use qc_state::{Opening, Suite};
 use std::alloc::AllocError;
 
@@ -26,9 +27,8 @@ fn opened_space(header: &ProtectedHeader) -> Option<SpaceId>
             LongType::Handshake => Some(SpaceId::Handshake),
             LongType::ZeroRtt => None,
         },
-        ProtectedHeader::Retry { .. }
-        | ProtectedHeader::Short { .. }
-        | ProtectedHeader::VersionNegotiate { .. } => None,
+        ProtectedHeader::Short { .. } => Some(SpaceId::Data),
+        ProtectedHeader::Retry { .. } | ProtectedHeader::VersionNegotiate { .. } => None,
     }
 }
 
@@ -55,50 +55,79 @@ fn whole_number(header: &Header, rx: u64) -> u64
     }
 }
 
-/// What came of opening a packet with this source id, number and payload.
-fn told(
-    answer: Result<Option<DecryptPacketResult>, OpenError>,
-    source: ConnectionId,
-    number: u64,
-    payload: Bytes,
-) -> Opening
-    ensures { result ≡ opening_told answer source number payload }
+/// The reserved bits of an unmasked first byte (RFC 9000, sections 17.2 and 17.3.1).
+fn reserved_bits(header: &Header, first: u8) -> u8
+    ensures { result ≡ reserved_bits header.now first }
 {
-    match answer {
-        Ok(Some(_)) => Opening::Opened {
-            source,
-            number,
-            payload,
-        },
-        Ok(None) => Opening::Unreadable,
-        Err(OpenError::Unopened) => Opening::Unopened,
-        Err(OpenError::Reserved) => Opening::Reserved { number },
-        Err(OpenError::KeyUpdate) => Opening::Unreadable,
+    match header {
+        Header::Short { .. } => first / 8 % 4,
+        Header::Initial(_)
+        | Header::Long { .. }
+        | Header::Retry { .. }
+        | Header::VersionNegotiate { .. } => first / 4 % 4,
     }
 }
 
-/// Opens an Initial or Handshake packet whose mask was taken off, in place.
-fn open_packet<P: PacketKey>(key: &P, rx: u64, packet: Packet) -> Result<Opening, AllocError>
-    requires form { IsOpenedForm packet.header }
-    ensures { IfOk result (λ o. o ≡ opened_by P.opening key.now rx packet.header packet.header_data packet.payload.items) }
+/// The first byte, or 0 where there is none.
+fn first_of(bytes: &[u8]) -> u8
+    ensures { result ≡ first_byte bytes.now }
 {
-    let mut packet = packet;
-    let keys = OpenKeys {
-        plain: Some(key),
-        early: None,
-        ring: None,
-    };
+    match bytes {
+        [] => 0,
+        [first, ..] => *first,
+    }
+}
+
+/// Whether a packet is a 1-RTT packet of the other key phase.
+fn is_other_phase(header: &Header) -> bool
+    ensures { result ≡ is_other_phase header.now }
+{
+    match header {
+        Header::Short { key_phase, .. } => *key_phase,
+        Header::Initial(_)
+        | Header::Long { .. }
+        | Header::Retry { .. }
+        | Header::VersionNegotiate { .. } => false,
+    }
+}
+
+/// What becomes of a packet with this number that its key opened: its reserved bits are to be 0. Want of memory is the only
+/// refusal.
+fn judged(number: u64, packet: Packet) -> Result<Opening, AllocError>
+    ensures { IfOk result (λ o. o ≡ judged packet.header number packet.header_data (Some packet.payload.items)) }
+{
+    if reserved_bits(&packet.header, first_of(packet.header_data.as_slice())) != 0 {
+        return Ok(Opening::Reserved { number });
+    }
     let source = source_of(&packet.header);
-    let number = whole_number(&packet.header, rx);
-    let answer = decrypt_packet_body(&mut packet, &keys, rx);
     match packet.payload.freeze() {
-        Ok(payload) => Ok(told(answer, source, number, payload)),
+        Ok(payload) => Ok(Opening::Opened {
+            source,
+            number,
+            payload,
+        }),
         Err(_) => Err(AllocError),
     }
 }
 
-/// Takes the protection off an Initial or Handshake packet with its space's keys.
-#[tactic(auto, using(crate::proofs::Opens::form_kept, crate::proofs::Opens::none_is, crate::proofs::Opens::reset_is))]
+/// Opens a packet whose mask was taken off, in place. Want of memory is the only refusal.
+#[tactic(auto, unfolding(qc_state::specs::Opening::opened_by))]
+fn open_packet<P: PacketKey>(key: &P, rx: u64, packet: Packet) -> Result<Opening, AllocError>
+    ensures { IfOk result (λ o. o ≡ opened_by P.opening key.now rx packet.header packet.header_data packet.payload.items) }
+{
+    if is_other_phase(&packet.header) {
+        return Ok(Opening::Unreadable);
+    }
+    let mut packet = packet;
+    let number = whole_number(&packet.header, rx);
+    match key.decrypt(number, packet.header_data.as_slice(), &mut packet.payload) {
+        Ok(()) => judged(number, packet),
+        Err(_) => Ok(Opening::Unopened),
+    }
+}
+
+/// Takes the protection off a packet with its space's keys. Want of memory is the only refusal.
+#[tactic(auto, using(crate::proofs::Opens::none_is, crate::proofs::Opens::reset_is))]
 fn open_under<H: HeaderMask, P: PacketKey>(
     keys: &Keys<H, P>,
     rx: u64,

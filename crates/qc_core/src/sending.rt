@@ -1,23 +1,26 @@
 //! The calls that sending needs.
 
-ghost use Rattle.std.specs.Prelude.{◌≡◌, ◌+◌, ◌-◌, ◌<◌, ◌≤◌, ◌^◌, ◌++◌, [], ◌∷◌, Some, IsSome, length, replicate, OnOk, IfOk};
+ghost use Rattle.std.specs.Prelude.{◌≡◌, ◌+◌, ◌-◌, ◌<◌, ◌≤◌, ◌^◌, ◌++◌, [], ◌∷◌, true, Some, IsSome, length, replicate, OnOk, IfOk};
+ghost use Rattle.qc_frame.specs.Frame.{owned};
 ghost use Rattle.qc_frame.specs.FrameSpelling.{frames_spelling};
 ghost use Rattle.qc_frame.specs.declared.frames.FrameOf.TheVariants.{Padding};
 ghost use Rattle.qc_packet.specs.PacketSpelling.{padding_len};
 ghost use Rattle.qc_header.specs.HeaderSpelling.{header_spelling, header_number};
 ghost use Rattle.qc_state.specs.Keys.{keys_of};
-ghost use Rattle.qc_state.specs.Moves.{Take, Seal, move_to, state_move};
+ghost use Rattle.qc_state.specs.Moves.{Take, Seal, move_to, calmed, state_move};
 ghost use Rattle.qc_state.specs.Numbers.{next_number, acked_number};
-ghost use Rattle.qc_state.specs.Sending.{internal_error, told_code, told_type, closing_frame, taken_now, close_frame, is_silent, owes, is_used_up, may_be_quiet, given_after, killed_after, quiet_after, header_of, sealed_with, transmit_of};
+ghost use Rattle.qc_state.specs.Sending.{internal_error, told_code, told_type, told_application_code, application_close, closing_frame, IsKeptReason, TakenNow, close_frame, is_silent, owes, owes_in, sending_space, is_used_up, may_be_quiet, given_after, killed_after, quiet_after, header_in, drops_initial, initial_left, sealed_with, transmit_of};
 ghost use Rattle.qc_state.specs.Spaces.{space_of};
 ghost use Rattle.qc_state.specs.Types.{meaning};
 ghost use Rattle.qc_state.specs.View.{ideal, held};
-ghost use Rattle.qc_state.specs.Waiting.{taken_part};
 
 use crate::state::Core;
 use bytes::Bytes;
-use qc_base::{EcnCodepoint, Instant, PacketNumber, SpaceId, TransportError, TransportErrorCode};
-use qc_frame::{FrameList, FrameOf};
+use qc_base::{
+    EcnCodepoint, Instant, LongType, PacketNumber, Side, SpaceId, TransportError,
+    TransportErrorCode, VarInt,
+};
+use qc_frame::{FrameList, FrameOf, OwnedFrame, fit_application_reason};
 use qc_header::{Header, InitialHeader};
 use qc_packet::{NUMBER_LIMIT, seal_full};
 use qc_state::{Close, ConnectionError, DATAGRAM_SIZE, Dids, Quiet, State, Suite, Transmit};
@@ -51,6 +54,58 @@ fn type_told(frame_type: Option<u64>) -> Option<u64>
     }
 }
 
+/// The code of an application's close as it is told: 0 in place of one that has no room in its field.
+fn application_code_told(code: VarInt) -> VarInt
+    ensures { result ≡ told_application_code code }
+{
+    if code.into_inner() < 1 << 62 {
+        return code;
+    }
+    VarInt::from_u32(0)
+}
+
+/// A close with this code and type of frame, without a reason in words.
+fn close_frame(alloc: Global, error_code: TransportErrorCode, frame_type: Option<u64>) -> OwnedFrame
+    ensures { owned result ≡ close_frame error_code frame_type }
+{
+    FrameOf::ConnectionClose {
+        error_code,
+        frame_type,
+        reason: Vec::new(alloc),
+    }
+}
+
+/// The application's close with so much of its reason, in a packet of this space: before the handshake is over the peer is
+/// only told that the application closed (RFC 9000, section 10.2.3). Want of memory is the only refusal.
+fn application_close(
+    alloc: Global,
+    space: SpaceId,
+    error_code: VarInt,
+    kept: &[u8],
+) -> Result<OwnedFrame, AllocError>
+    ensures { IfOk result (λ frame. owned frame ≡ application_close space error_code kept.now) }
+{
+    match space {
+        SpaceId::Initial | SpaceId::Handshake => {
+            Ok(close_frame(alloc, TransportErrorCode::APPLICATION_ERROR, None))
+        }
+        SpaceId::Data => {
+            let error_code = application_code_told(error_code);
+            let reason = Vec::from_slice(alloc, kept)?;
+            Ok(FrameOf::ApplicationClose { error_code, reason })
+        }
+    }
+}
+
+/// How much room of `room` these frames leave. Want of memory is the only refusal.
+fn room_left(alloc: Global, room: usize, frames: &FrameList) -> Result<usize, AllocError>
+    ensures { IfOk result (λ left. left ≡ room - length (frames_spelling frames.now)) }
+{
+    let mut bytes = Vec::new(alloc);
+    frames.put(&mut bytes)?;
+    Ok(room.saturating_sub(bytes.len()))
+}
+
 impl<U: Suite> Core<U> {
     /// Whether nothing is sent any more.
     #[tactic(auto, unfolding(qc_state::specs::Sending::is_silent))]
@@ -63,15 +118,41 @@ impl<U: Suite> Core<U> {
         !self.life.is_open() && !self.waiting.close_owed
     }
 
-    /// Whether something waits in a space with keys, or a close is owed.
+    /// Whether the space owes something: it has keys, and something waits in it; while a close is owed, where it sealed no
+    /// packet since.
+    #[tactic(auto, unfolding(qc_state::specs::Sending::owes_in))]
+    fn owes_in(&self, space: SpaceId) -> bool
+        ensures { result ≡ owes_in (ideal U.Random.stream self.now) space }
+    {
+        if self.keys.get(space).is_none() {
+            return false;
+        }
+        if self.waiting.close_owed {
+            return !self.waiting.spaces.get(space).told;
+        }
+        self.waiting.waits(space)
+    }
+
+    /// The space of the next packet: the first one that owes something.
+    #[tactic(auto, unfolding(qc_state::specs::Sending::sending_space))]
+    pub fn sending_space(&self) -> SpaceId
+        ensures { result ≡ sending_space (ideal U.Random.stream self.now) }
+    {
+        if self.owes_in(SpaceId::Initial) {
+            SpaceId::Initial
+        } else if self.owes_in(SpaceId::Handshake) {
+            SpaceId::Handshake
+        } else {
+            SpaceId::Data
+        }
+    }
+
+    /// Whether something is owed.
     #[tactic(auto, unfolding(qc_state::specs::Sending::owes))]
     pub fn owes(&self) -> bool
         ensures { result ≡ owes (ideal U.Random.stream self.now) }
     {
-        if self.keys.get(SpaceId::Initial).is_none() {
-            return false;
-        }
-        self.waiting.close_owed || self.waiting.waits(SpaceId::Initial)
+        self.owes_in(self.sending_space())
     }
 
     /// Whether no packet can spell the next number: it lies too far above the greatest acknowledged one, or is the
@@ -80,8 +161,9 @@ impl<U: Suite> Core<U> {
     pub fn is_used_up(&self) -> bool
         ensures { result ≡ is_used_up (ideal U.Random.stream self.now) }
     {
-        let number = self.numbers.next(SpaceId::Initial);
-        let acked = self.numbers.acked_number(SpaceId::Initial);
+        let space = self.sending_space();
+        let number = self.numbers.next(space);
+        let acked = self.numbers.acked_number(space);
         GREATEST_NUMBER <= number || NUMBER_LIMIT <= number - acked
     }
 
@@ -133,74 +215,126 @@ impl<U: Suite> Core<U> {
         self.do_say(did, Quiet::NothingOwed)
     }
 
-    /// The number of the next packet.
-    pub fn next_number(&self) -> u64
-        ensures { result ≡ next_number self.now.numbers SpaceId.Initial }
+    /// The number of the space's next packet.
+    pub fn next_number(&self, space: SpaceId) -> u64
+        ensures { result ≡ next_number self.now.numbers space }
     {
-        self.numbers.next(SpaceId::Initial)
+        self.numbers.next(space)
     }
 
-    /// The header of the next packet.
-    #[tactic(auto, unfolding(qc_state::specs::Sending::header_of, qc_state::specs::Setup::ideal_setup))]
-    pub fn header(&self) -> Header
-        requires { next_number self.now.numbers SpaceId.Initial - acked_number self.now.numbers SpaceId.Initial < 2 ^ 31 }
-        ensures { result ≡ header_of (ideal U.Random.stream self.now) }
+    /// The header of the space's next packet.
+    #[tactic(auto, unfolding(qc_state::specs::Setup::ideal_setup))]
+    pub fn header(&self, space: SpaceId) -> Header
+        requires { next_number self.now.numbers space - acked_number self.now.numbers space < 2 ^ 31 }
+        ensures { result ≡ header_in (ideal U.Random.stream self.now) space }
     {
-        Header::Initial(InitialHeader {
-            dst_cid: self.paths.remote_cid,
-            src_cid: self.setup.fixed.local_cid,
-            token: Bytes::new(),
-            number: PacketNumber::new(
-                self.numbers.next(SpaceId::Initial),
-                self.numbers.acked_number(SpaceId::Initial),
-            ),
-            version: self.setup.fixed.version,
-        })
-    }
-
-    /// The code of the close that is sent, and the type of the frame that it names: those of this end's own close until
-    /// the peer has closed too, and then none.
-    fn close_told(&self) -> (TransportErrorCode, Option<u64>)
-        ensures { close_frame result.0 result.1 ≡ closing_frame self.now.life }
-    {
-        match self.life.state {
-            State::Closed => match &self.life.close {
-                None => (TransportErrorCode::NO_ERROR, None),
-                Some(Close::Connection(close)) => {
-                    (code_told(close.error_code), type_told(close.frame_type))
-                }
-                Some(Close::Application(_)) => (TransportErrorCode::APPLICATION_ERROR, None),
+        let number = PacketNumber::new(self.numbers.next(space), self.numbers.acked_number(space));
+        let dst_cid = self.paths.remote_cid;
+        let src_cid = self.setup.fixed.local_cid;
+        let version = self.setup.fixed.version;
+        match space {
+            SpaceId::Initial => Header::Initial(InitialHeader {
+                dst_cid,
+                src_cid,
+                token: Bytes::new(),
+                number,
+                version,
+            }),
+            SpaceId::Handshake => Header::Long {
+                ty: LongType::Handshake,
+                dst_cid,
+                src_cid,
+                number,
+                version,
             },
-            State::Handshake | State::Established | State::Draining | State::Drained => {
-                (TransportErrorCode::NO_ERROR, None)
+            SpaceId::Data => Header::Short {
+                spin: false,
+                key_phase: false,
+                dst_cid,
+                number,
+            },
+        }
+    }
+
+    /// The longest front of the application's reason with which its close has at most `room` bytes; no byte where this end
+    /// doesn't close for the application.
+    fn kept_reason(&self, room: usize) -> &[u8]
+        ensures { IsKeptReason room result.now self.now.life.close }
+    {
+        match &self.life.close {
+            Some(Close::Application(close)) => {
+                let code = application_code_told(close.error_code);
+                fit_application_reason(code, close.reason.as_slice(), room)
+            }
+            Some(Close::Connection(_)) | None => &[],
+        }
+    }
+
+    /// The close that is sent in a packet of this space, with so much of the application's reason: this end's own until the
+    /// peer has closed too, and then one without an error. Want of memory is the only refusal.
+    fn closing_frame(
+        &self,
+        alloc: Global,
+        space: SpaceId,
+        kept: &[u8],
+    ) -> Result<OwnedFrame, AllocError>
+        ensures { IfOk result (λ frame. owned frame ≡ closing_frame space kept.now self.now.life) }
+    {
+        if !self.life.is_closed() {
+            return Ok(close_frame(alloc, TransportErrorCode::NO_ERROR, None));
+        }
+        match &self.life.close {
+            None => Ok(close_frame(alloc, TransportErrorCode::NO_ERROR, None)),
+            Some(Close::Connection(close)) => {
+                let code = code_told(close.error_code);
+                Ok(close_frame(alloc, code, type_told(close.frame_type)))
+            }
+            Some(Close::Application(close)) => {
+                application_close(alloc, space, close.error_code, kept)
             }
         }
     }
 
-    /// The close that is owed, in a list of its own.
-    fn take_close(&self, alloc: Global) -> Result<FrameList, AllocError>
-        ensures { IfOk result (λ frames. frames ≡ closing_frame self.now.life ∷ []) }
+    /// Takes the ACK, where there is something to acknowledge, and the close.
+    fn take_close(
+        &mut self,
+        alloc: Global,
+        now: Instant,
+        space: SpaceId,
+        room: usize,
+    ) -> Result<FrameList, AllocError>
+        requires owed { self.old.waiting.close_owed ≡ true }
+        requires room { room ≡ DATAGRAM_SIZE - 20 - length (header_spelling (header_in (ideal U.Random.stream self.old) space) 0) }
+        ensures frames { IfOk result (λ frames. TakenNow now (ideal U.Random.stream self.old) space room frames) }
+        ensures leads { IfOk result (λ frames. (ideal U.Random.stream self.new) ≡ state_move (Take space frames) (ideal U.Random.stream self.old)) }
+        ensures most { OnOk result (length (space_of self.old.waiting.spaces space).acks.ranges ≤ 64) }
     {
-        let (error_code, frame_type) = self.close_told();
-        let mut frames = FrameList::new(alloc);
-        frames.push(FrameOf::ConnectionClose {
-            error_code,
-            frame_type,
-            reason: Vec::new(alloc),
-        })?;
+        let mut frames = self.do_take_ack(alloc, now, space)?;
+        let left = room_left(alloc, room, &frames)?;
+        let close = self.closing_frame(alloc, space, self.kept_reason(left))?;
+        frames.push(close)?;
         Ok(frames)
     }
 
-    /// Takes frames for a packet with so much room for them: the close where one is owed, else frames that wait.
-    #[tactic(auto, unfolding(qc_state::specs::Sending::taken_now), using(qc_state::proofs::Seals::close_taken))]
-    pub fn take(&mut self, alloc: Global, room: usize) -> Result<FrameList, AllocError>
-        ensures frames { IfOk result (λ frames. frames ≡ taken_now (ideal U.Random.stream self.old) room) }
-        ensures leads { IfOk result (λ frames. (ideal U.Random.stream self.new) ≡ state_move (Take SpaceId.Initial frames) (ideal U.Random.stream self.old)) }
+    /// Takes frames at a time for a packet of the space with so much room for them beside its header: the close where one is owed, with an ACK
+    /// in front, else frames that wait.
+    #[tactic(auto, using(qc_state::proofs::Seals::takes_waiting))]
+    pub fn take(
+        &mut self,
+        alloc: Global,
+        now: Instant,
+        space: SpaceId,
+        room: usize,
+    ) -> Result<FrameList, AllocError>
+        requires { room ≡ DATAGRAM_SIZE - 20 - length (header_spelling (header_in (ideal U.Random.stream self.old) space) 0) }
+        ensures frames { IfOk result (λ frames. TakenNow now (ideal U.Random.stream self.old) space room frames) }
+        ensures leads { IfOk result (λ frames. (ideal U.Random.stream self.new) ≡ state_move (Take space frames) (ideal U.Random.stream self.old)) }
+        ensures most { OnOk result (length (space_of self.old.waiting.spaces space).acks.ranges ≤ 64) }
     {
         if self.waiting.close_owed {
-            return self.take_close(alloc);
+            return self.take_close(alloc, now, space, room);
         }
-        self.do_take(alloc, SpaceId::Initial, room)
+        self.do_take(alloc, now, space, room)
     }
 
     /// A packet of a datagram's size was sealed.
@@ -208,13 +342,46 @@ impl<U: Suite> Core<U> {
         &mut self,
         did: &mut Dids,
         now: Instant,
+        space: SpaceId,
         number: u64,
         frames: FrameList,
     ) -> Result<(), AllocError>
         requires { number < 2 ^ 62 }
-        ensures { OnOk result ((held U.Random.stream self.new did.new) ≡ move_to (Seal now SpaceId.Initial number DATAGRAM_SIZE frames) (held U.Random.stream self.old did.old)) }
+        ensures { OnOk result ((held U.Random.stream self.new did.new) ≡ move_to (Seal now space number DATAGRAM_SIZE frames) (held U.Random.stream self.old did.old)) }
     {
-        self.do_seal(did, now, SpaceId::Initial, number, DATAGRAM_SIZE, frames)
+        self.do_seal(did, now, space, number, DATAGRAM_SIZE, frames)
+    }
+
+    /// Nothing more may be in flight that elicits an acknowledgement.
+    #[tactic(auto, unfolding(qc_state::specs::Moves::calmed, qc_state::specs::Moves::move_to, qc_state::specs::Moves::deeds_move))]
+    pub(crate) fn calm(&mut self, did: &Dids)
+        ensures { (held U.Random.stream self.new did.now) ≡ calmed (held U.Random.stream self.old did.now) }
+    {
+        if self.waiting.is_calm() {
+            self.do_calm();
+        }
+    }
+
+    /// Whether a packet that is sealed in this space makes this end drop the keys of the Initial space.
+    #[tactic(auto, unfolding(qc_state::specs::Sending::drops_initial, qc_state::specs::Setup::ideal_setup))]
+    fn drops_initial(&self, space: SpaceId) -> bool
+        ensures { result ≡ drops_initial (ideal U.Random.stream self.now) space }
+    {
+        match (self.setup.fixed.side, space) {
+            (Side::Client, SpaceId::Handshake) => self.keys.get(SpaceId::Initial).is_some(),
+            _ => false,
+        }
+    }
+
+    /// A client that seals a Handshake packet drops the keys of its Initial space (RFC 9001, section 4.9.1).
+    #[tactic(auto, unfolding(qc_state::specs::Sending::initial_left, qc_state::specs::Moves::move_to, qc_state::specs::Moves::deeds_move))]
+    pub fn leave_initial(&mut self, space: SpaceId, did: &Dids)
+        ensures { (held U.Random.stream self.new did.now) ≡ initial_left space (held U.Random.stream self.old did.now) }
+    {
+        if self.drops_initial(space) {
+            self.do_forget(SpaceId::Initial);
+            self.calm(did);
+        }
     }
 
     /// Where the datagrams of a transmit that seals a packet go.
@@ -235,20 +402,21 @@ impl<U: Suite> Core<U> {
     /// frames are added to the list.
     pub fn seal(
         &self,
+        space: SpaceId,
         number: u64,
         header: &Header,
         frames: &mut FrameList,
         buf: &mut Vec<u8>,
     ) -> Result<(), AllocError>
         requires empty { buf.old.items ≡ [] }
-        requires keyed { IsSome (keys_of self.now.keys SpaceId.Initial) }
+        requires keyed { IsSome (keys_of self.now.keys space) }
         requires numbered { IsSome (header_number header.now) }
         requires room { length (header_spelling header.now 0) + length (frames_spelling frames.old) + 20 ≤ DATAGRAM_SIZE }
         ensures frames { OnOk result (frames.new ≡ frames.old ++ replicate (padding_len header.now frames.old DATAGRAM_SIZE) Padding) }
-        ensures bytes { OnOk result (buf.new.items ≡ sealed_with (meaning U.Session.Session U.Session.HeaderKey.HeaderMask U.Session.PacketKey.PacketKey) (keys_of self.now.keys SpaceId.Initial) header.now number (frames_spelling frames.new)) }
+        ensures bytes { OnOk result (buf.new.items ≡ sealed_with (meaning U.Session.Session U.Session.HeaderKey.HeaderMask U.Session.PacketKey.PacketKey) (keys_of self.now.keys space) header.now number (frames_spelling frames.new)) }
         ensures full { OnOk result (length buf.new.items ≡ DATAGRAM_SIZE) }
     {
-        match self.keys.get(SpaceId::Initial) {
+        match self.keys.get(space) {
             Some(keys) => seal_full(
                 &keys.keys.header.local,
                 &keys.keys.packet.local,

@@ -1,7 +1,9 @@
 //! The state of a connection.
 
 use qc_crypto::Session;
-use qc_state::{KeyGroup, Life, Lower, Numbers, Paths, Setup, Suite, Timers, Waiting};
+use qc_state::{
+    KeyGroup, Life, Lower, Numbers, Paths, Setup, SoundSession, Suite, Timers, Waiting,
+};
 use std::marker::Model;
 
 /// A connection without its mark of want of memory. Contracts see the eight groups of its view.
@@ -22,7 +24,7 @@ pub struct Core<U: Suite> {
     /// What the connection was made of.
     pub setup: Setup<U::Random>,
     /// The session.
-    pub lower: Lower<U::Session>,
+    pub lower: Lower<SoundSession<U::Session>>,
 }
 
 impl<U: Suite> Model for Core<U> {

@@ -1,5 +1,6 @@
 pub mod AckedRanges
 pub mod Places
 pub mod Powers
+pub mod Settling
 pub mod Spans
 pub mod Unknown

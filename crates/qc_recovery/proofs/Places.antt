@@ -1,5 +1,5 @@
 -- A walk along a list by place
-use Rattle.std.proofs.Common.{◌≡◌, ℕ, zero, suc, ◌+◌, ◌<◌, ◌≤◌, Bool, true, false, List, [], ◌∷◌, ◌++◌, length, take, drop, get_or, append-nil, refl, sym, ◌∙◌, ap, add-one, arith}
+use Rattle.std.proofs.Common.{◌≡◌, ℕ, zero, suc, ◌+◌, ◌<◌, ◌≤◌, Bool, true, false, List, [], ◌∷◌, ◌++◌, length, take, drop, get_or, append-nil, refl, sym, ap, add-one, arith}
 use Rattle.std.specs.List.{list_any}
 
 suc_here : {X : Type 0} (xs : List X) (place : ℕ) (x : X) → x ≡ get_or xs place x → place < length xs → drop place xs ≡ x ∷ drop (suc place) xs

@@ -1,5 +1,5 @@
 -- Powers of two that fit 64 bits
-use Rattle.std.proofs.Common.{◌≡◌, ℕ, suc, ◌+◌, ◌*◌, ◌^◌, ◌<◌, ◌≤◌, refl, add-one, arith}
+use Rattle.std.proofs.Common.{◌≡◌, ℕ, ◌+◌, ◌*◌, ◌^◌, ◌<◌, ◌≤◌, add-one, arith}
 use Rattle.std.proofs.Math.Pow.{pow_mono}
 
 pub power_step : (n : ℕ) → 2 ^ n * 2 ≡ 2 ^ (n + 1)

@@ -1,11 +1,10 @@
 -- An ACK of numbers that aren't in flight
-use Rattle.std.proofs.Common.{◌≡◌, ℕ, Bool, List, [], length, refl, sym, ◌∙◌, ap}
-use Rattle.std.specs.Prelude.{◌==◌}
+use Rattle.std.proofs.Common.{◌≡◌, ℕ, Bool, List, [], ◌∙◌, ap}
 use Rattle.qc_base.specs.declared.range_set.NumberRange.{NumberRange}
 use Rattle.qc_flight.specs.Packets.{Entry, is_acked, others, those}
 use Rattle.qc_path.specs.declared.controller.Controller.{Ghosts as Control}
 use Rattle.qc_recovery.specs.Acking.{acked_of, raised, space_acked}
-use Rattle.qc_recovery.specs.Steps.{SpaceAfter, space_after, space_with}
+use Rattle.qc_recovery.specs.Steps.{space_after, space_with}
 use Rattle.qc_recovery.specs.declared.calls.AckValues.{AckValues}
 use Rattle.qc_recovery.specs.declared.calls.Around.{Around}
 use Rattle.qc_recovery.specs.declared.calls.Occasion.{Occasion}

@@ -1,15 +1,15 @@
 -- What an ACK does (RFC 9002, sections 5 to 7, appendix A.7; ECN: RFC 9000, section 13.4)
-use Rattle.std.specs.Prelude.{ℕ, ◌+◌, ◌-◌, ◌*◌, ◌^◌, ◌==◌, Bool, true, false, not, ◌&&◌, ◌||◌, nat_lt, nat_le, if◌then◌else◌, List, [], ◌∷◌, length, slice_get, Option, Some, None, is_none, unwrap_or, min, max}
+use Rattle.std.specs.Prelude.{ℕ, ◌+◌, ◌-◌, ◌^◌, ◌==◌, Bool, false, not, ◌&&◌, ◌||◌, nat_lt, if◌then◌else◌, List, [], ◌∷◌, length, slice_get, Option, Some, None, is_none, unwrap_or, min, max}
 use Rattle.qc_base.specs.Time.{plus, times}
 use Rattle.qc_base.specs.declared.range_set.NumberRange.{NumberRange}
 use Rattle.qc_base.specs.declared.side.SpaceId.{SpaceId}
 use Rattle.qc_frame.specs.declared.frames.EcnCounts.{EcnCounts}
-use Rattle.qc_flight.specs.Packets.{Entry, bytes_of, earliest_of, eliciting_of, is_acked, is_below, is_lost, others, those}
+use Rattle.qc_flight.specs.Packets.{Entry, earliest_of, is_acked, is_below, is_lost, others, those}
 use Rattle.qc_path.specs.Arrived.{exceeds}
-use Rattle.qc_path.specs.Mtu.{Mtu, is_probe, mtu_acked, mtu_burst, mtu_probe_lost}
-use Rattle.qc_path.specs.RoundTrips.{Rtt, sampled}
+use Rattle.qc_path.specs.Mtu.{is_probe, mtu_acked, mtu_burst, mtu_probe_lost}
+use Rattle.qc_path.specs.RoundTrips.{sampled}
 use Rattle.qc_path.specs.declared.controller.Controller.{Ghosts as Control}
-use Rattle.qc_recovery.specs.Losses.{burst_of, congestion_span, is_data, loss_delay, marks_span, persists, start_after}
+use Rattle.qc_recovery.specs.Losses.{congestion_span, is_data, marks_span, persists, start_after}
 use Rattle.qc_recovery.specs.declared.burst.Burst.{Burst}
 use Rattle.qc_recovery.specs.declared.calls.Around.{Around}
 use Rattle.qc_recovery.specs.declared.ecn.EcnVerdict.{EcnVerdict}

@@ -1,5 +1,4 @@
 -- How recovery begins, and what a dropped space leaves
-use Rattle.std.specs.Prelude.{ℕ}
 use Rattle.qc_base.specs.declared.side.SpaceId.{SpaceId}
 use Rattle.qc_recovery.specs.Steps.{no_space, space_dropped, space_of, with_space}
 use Rattle.qc_recovery.specs.TransportValues.{TransportValues}

@@ -1,11 +1,10 @@
 -- What recovery's calls leave (RFC 9002, appendix A)
-use Rattle.std.specs.Prelude.{ℕ, ◌+◌, ◌-◌, ◌*◌, ◌^◌, ◌==◌, Bool, true, false, not, ◌&&◌, ◌||◌, nat_lt, nat_le, if◌then◌else◌, List, [], ◌∷◌, ◌++◌, length, Option, Some, None, unwrap_or, min, max}
+use Rattle.std.specs.Prelude.{ℕ, ◌+◌, ◌^◌, ◌==◌, Bool, true, false, not, ◌&&◌, nat_lt, if◌then◌else◌, List, [], ◌∷◌, ◌++◌, length, Option, Some, None, unwrap_or, min}
 use Rattle.std.specs.List.{list_any}
 use Rattle.qc_base.specs.Time.{plus, times}
 use Rattle.qc_base.specs.declared.range_set.NumberRange.{NumberRange}
 use Rattle.qc_base.specs.declared.side.SpaceId.{SpaceId}
 use Rattle.qc_base.specs.declared.side.SpaceId.TheVariants.{Initial, Handshake, Data}
-use Rattle.qc_frame.specs.declared.frames.EcnCounts.{EcnCounts}
 use Rattle.qc_flight.specs.Packets.{Entry, bytes_of, counted_of, eliciting_of}
 use Rattle.qc_flight.specs.declared.sent.SentPacket.{SentPacket}
 use Rattle.qc_path.specs.Arrived.{exceeds}

@@ -1,10 +1,12 @@
 //! What holds of recovery's steps.
 
-ghost use Rattle.std.specs.Prelude.{◌≡◌, List, []};
+ghost use Rattle.std.specs.Prelude.{◌≡◌, ℕ, List, [], IsPermutation};
 ghost use Rattle.qc_base.specs.declared.range_set.NumberRange.{NumberRange};
+ghost use Rattle.qc_base.specs.declared.side.SpaceId.{SpaceId};
 ghost use Rattle.qc_flight.specs.Packets.{is_acked, those};
 ghost use Rattle.qc_recovery.specs.Acking.{raised};
-ghost use Rattle.qc_recovery.specs.Steps.{space_after, space_with};
+ghost use Rattle.qc_recovery.specs.Settlement.{all_of};
+ghost use Rattle.qc_recovery.specs.Steps.{space_after, space_timed, space_with};
 ghost use Rattle.qc_recovery.specs.declared.calls.AckValues.{AckValues};
 ghost use Rattle.qc_recovery.specs.declared.calls.Around.{Around};
 ghost use Rattle.qc_recovery.specs.declared.calls.Occasion.{Occasion};
@@ -22,3 +24,11 @@ pub fn unknown_numbers_change_little<C: Controller>()
 {
     packets_leave_once();
 }
+
+/// A law, which runs no code. What an ACK or the timer does to a space settles each of its packets once:
+/// they are those that were acknowledged, those that are lost, and those still in flight, in another
+/// order.
+pub fn packets_are_settled_once<C: Controller>()
+    ensures ack { (l : Limits) (o : Occasion) (a : AckValues) (ranges : List NumberRange) (around : Around) (s : SpaceRecovery) (p : PathData C) → IsPermutation s.flight (all_of (space_after C.Controller l o a ranges around s p)) }
+    ensures timer { (l : Limits) (now : ℕ) (id : SpaceId) (s : SpaceRecovery) (p : PathData C) → IsPermutation s.flight (all_of (space_timed C.Controller l now id s p)) }
+{}

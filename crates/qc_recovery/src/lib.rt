@@ -20,7 +20,7 @@ mod transport_config;
 
 pub use calls::{AckValues, Around, Fired, Settled};
 pub use idle_timeout::IdleTimeout;
-pub use laws::unknown_numbers_change_little;
+pub use laws::{packets_are_settled_once, unknown_numbers_change_little};
 pub use mtu_config::MtuDiscoveryConfig;
 pub use path::{PathData, first_mtu};
 pub use recovery::Recovery;

@@ -1,10 +1,10 @@
 -- Fields of a line: what each spells, and that nothing else does.
-use Rattle.std.proofs.Common.{zero, suc, nat_lt, if◌then◌else◌, ◌/◌, ◌%◌, slice_index, Ok, Err, ◌≡◌, ◌≢◌, ℕ, ◌+◌, ◌*◌, ◌^◌, ◌<◌, ◌≤◌, List, [], ◌∷◌, ◌++◌, length, get_or, drop, Option, Some, None, refl, sym, ◌∙◌, ap, subst, arith, rules, codes, Bool, true, false}
+use Rattle.std.proofs.Common.{zero, suc, nat_lt, if◌then◌else◌, ◌/◌, ◌%◌, slice_index, Ok, Err, ◌≡◌, ◌≢◌, ℕ, ◌+◌, ◌*◌, ◌^◌, ◌<◌, ◌≤◌, List, [], ◌∷◌, ◌++◌, length, get_or, drop, Option, Some, None, refl, sym, ◌∙◌, ap, subst, arith, codes, Bool, true, false}
 use Rattle.std.proofs.lemmas.List.{append_assoc}
 use Rattle.std.specs.Fmt.{decimal}
 use Rattle.std.proofs.lemmas.Fmt.{decimal_injective, decimal_digit}
-use Rattle.std.specs.Net.Addr.{ipv4_octets, ipv6_octets, ipv6_segments, octets_of, segments_of}
-use Rattle.std.specs.Net.Socket.{socket_ip, socket_port, socket_flowinfo, socket_scope_id}
+use Rattle.std.specs.Net.Addr.{ipv6_octets, ipv6_segments, octets_of, segments_of}
+use Rattle.std.specs.Net.Socket.{socket_ip, socket_port}
 use Rattle.std.specs.declared.net.ipv6_addr.Ipv6Addr.{Ipv6Addr}
 use Rattle.std.specs.declared.net.ip_addr.IpAddr.{IpAddr}
 use Rattle.std.specs.declared.net.ip_addr.IpAddr.TheVariants as Ip
@@ -13,7 +13,6 @@ use Rattle.std.specs.declared.net.socket_addr.SocketAddr.TheVariants.{V4, V6}
 use Rattle.hex.specs.declared.error.FromHexError.{FromHexError}
 use Rattle.hex.specs.Hex.{lower_digits, encode_with, encode_lower, decode_of}
 use Rattle.hex.proofs.HexLemmas.{decode_of-encode_lower, decode_of-same}
-use Rattle.qc_base.specs.Ecn.{ecn_bits}
 use Rattle.qc_base.specs.Grammar.{IsBytes}
 use Rattle.qc_base.specs.declared.ecn.EcnCodepoint.{EcnCodepoint}
 use Rattle.qc_base.specs.declared.ecn.EcnCodepoint.TheVariants.{Ect0, Ect1, Ce}

@@ -7,7 +7,7 @@ use Rattle.qc_script.specs.Fields.{Lacks}
 use Rattle.qc_script.specs.Script.{with_byte, lines_of, first_line, input_line, IsWithin, AllWithin, IsNext, NextLine, IsScript, GoesOn, IsFirstBad}
 use Rattle.qc_state.specs.declared.input.Input.{Input}
 use Rattle.qc_script.specs.declared.script.ScriptError.TheVariants.{BadLine, OutOfMemory}
-use Rattle.qc_script.proofs.LineLemmas.{input_line_injective, LineOf, line_of_input}
+use Rattle.qc_script.proofs.LineLemmas.{input_line_injective, line_of_input}
 use Rattle.qc_script.proofs.NumberLemmas.{first_split, no_split}
 
 -- lines joined again are the text

@@ -1,4 +1,4 @@
-//! One transmit. So far it seals at most one packet, an Initial that fills a datagram of its own.
+//! One transmit. So far it seals at most one packet, which fills a datagram of its own.
 
 ghost use Rattle.std.specs.Prelude.{◌≡◌, ◌≤◌, ◌<◌, ◌^◌, [], true, false, OnOk, IfOk};
 ghost use Rattle.qc_state.specs.Numbers.{next_number};
@@ -27,12 +27,14 @@ fn seal_one<U: Suite>(
     requires empty { buf.old.items ≡ [] }
     ensures { OnOk result (SealsOne (meaning U.Session.Session U.Session.HeaderKey.HeaderMask U.Session.PacketKey.PacketKey) now (held U.Random.stream core.old did.old) (held U.Random.stream core.new did.new) buf.new.items) }
 {
-    let number = core.next_number();
-    let header = core.header();
+    let space = core.sending_space();
+    let number = core.next_number(space);
+    let header = core.header(space);
     let room = DATAGRAM_SIZE as usize - RESERVED - header.encoded_len();
-    let mut frames = core.take(alloc, room)?;
-    core.seal(number, &header, &mut frames, buf)?;
-    core.sealed(did, now, number, frames)?;
+    let mut frames = core.take(alloc, now, space, room)?;
+    core.seal(space, number, &header, &mut frames, buf)?;
+    core.sealed(did, now, space, number, frames)?;
+    core.leave_initial(space, did);
     Ok(())
 }
 

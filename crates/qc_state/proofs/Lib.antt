@@ -1,4 +1,10 @@
+pub mod Arrivals
+pub mod AckLemmas
+pub mod AcksAccepted
+pub mod AcksBefore
+mod AcksKnown
 pub mod Expansions
+pub mod Joins
 pub mod OnlyOnce
 pub mod Receives
 pub mod Seals
@@ -7,3 +13,5 @@ mod Telling
 pub mod Told
 mod ToldReceiving
 pub mod WaitingLemmas
+pub mod Taking
+pub mod Ready

@@ -1,10 +1,11 @@
 -- What holds of each move that receiving makes holds of a datagram.
-use Rattle.std.proofs.Common.{◌≡◌, ℕ, ◌<◌, List, [], ◌∷◌, refl, Bool, true, false, Option, Some, None, if◌then◌else◌, arith}
-use Rattle.std.specs.Prelude.{is_none, not, Ok, Err}
+use Rattle.std.proofs.Common.{◌≡◌, ℕ, ◌<◌, List, [], ◌∷◌, length, refl, Bool, true, false, Option, Some, None, if◌then◌else◌, arith}
+use Rattle.std.specs.Prelude.{zero, suc, is_none, not, ◌&&◌, Result, Ok, Err}
 use Rattle.std.specs.List.{list_any}
 use Rattle.std.specs.declared.net.SocketAddr.{SocketAddr}
 use Rattle.qc_base.specs.declared.transport_error.TransportError.{TransportError}
 use Rattle.qc_base.specs.declared.side.SpaceId.{SpaceId}
+use Rattle.qc_base.specs.declared.side.SpaceId.TheVariants.{Initial, Handshake, «Data»}
 use Rattle.qc_frame.specs.Frame.{FrameValue, TypedValue}
 use Rattle.qc_frame.specs.FrameSpelling.{spelling}
 use Rattle.qc_frame.specs.AckRanges.{ranges_of}
@@ -12,6 +13,7 @@ use Rattle.qc_frame.specs.Payload.{Item, items_of}
 use Rattle.qc_frame.specs.declared.frames.FrameOf.TheVariants as frames
 use Rattle.qc_header.specs.HeaderGrammar.{DatagramItem}
 use Rattle.qc_header.specs.Piece.{Piece, space_of}
+use Rattle.qc_params.specs.declared.params.TransportParameters.{TransportParameters}
 use Rattle.qc_state.specs.declared.deeds.Did.TheVariants as did
 use Rattle.qc_state.specs.declared.deeds.Layer.TheVariants as layer
 use Rattle.qc_state.specs.declared.deeds.Verdict.{Verdict}
@@ -23,12 +25,15 @@ use Rattle.qc_state.specs.declared.life.State.{State}
 use Rattle.qc_state.specs.declared.life.State.TheVariants as state
 use Rattle.qc_state.specs.declared.opening.Opening.{Opening}
 use Rattle.qc_state.specs.declared.opening.Opening.TheVariants.{Unreadable, Unopened, Reserved, Opened}
-use Rattle.qc_state.specs.Life.{rank_of, is_open, is_closed}
-use Rattle.qc_state.specs.Moves.{Move, Give, Enter, Fail, Accept, Fix, Hear, Ack, Calm, Tell, Drain, Leave, Owe, Shut, move_to, state_move, life_move, MayMove, enters}
+use Rattle.qc_state.specs.Life.{rank_of, is_open, is_closed, is_handshake}
+use Rattle.qc_state.specs.Lower.{ready_bytes, stream_of}
+use Rattle.qc_state.specs.Moves.{Move, Give, Forget, Enter, Fail, Accept, Fix, Hear, Ack, Calm, Come, Read, Write, Ready, Learn, Establish, Tell, Drain, Leave, Owe, Shut, move_to, state_move, life_move, MayMove, accepts, enters, calmed}
 use Rattle.qc_state.specs.Numbers.{is_new_in}
 use Rattle.qc_state.specs.Opening.{opening_of}
-use Rattle.qc_state.specs.Receiving.{reason_of, is_close_item, violation_at, stopped_after, left_after, calmed, acked_after, applied_after, closed_by_peer, frame_and, read_and, items_after, payload_after, fixes_peer, fixed_after, piece_told, read_for_close, admitted_after, verdict_after, received_after, opening_after, piece_after, pieces_after, cut_of, datagram_after}
+use Rattle.qc_state.specs.Progress.{is_written, write_after, writes_after, written_after, ids_fit, parameters_and, is_end, ended_after, progress_after}
+use Rattle.qc_state.specs.Receiving.{reason_of, is_close_item, is_eliciting_item, left_after, acked_after, confirmed_after, applied_after, close_given, closed_in_data, close_and, end_after, crypto_stop, answered_and, given_and, kept_and, crypto_and, taken_and, frame_and, read_and, items_after, payload_after, fixes_peer, fixed_after, piece_told, read_for_close, admitted_after, verdict_after, received_after, opening_after, piece_after, pieces_after, cut_of, datagram_after}
 use Rattle.qc_state.specs.Sending.{given_after}
+use Rattle.qc_state.specs.Stopping.{missing_parameters, parameter_error, violation_at, stopped_after}
 use Rattle.qc_state.specs.Types.{Types, Meaning}
 use Rattle.qc_state.specs.Verdicts.{first_row, verdict_of}
 use Rattle.qc_state.specs.View.{At}
@@ -36,15 +41,16 @@ use Rattle.qc_state.specs.Waiting.{is_calm}
 use Rattle.qc_state.proofs.Telling.{open_rank, is_none_none}
 
 -- what a verdict on a packet that opened says of the view
-new_by : (new closed other : Bool) (v : Verdict) → first_row ((not new, verdict.Seen) ∷ (closed, verdict.ReadForClose) ∷ (other, verdict.AckOnly) ∷ []) verdict.Admitted ≡ v → enters v ≡ true → new ≡ true
-new_by true closed other v e h = refl
-new_by false closed other v e h = cc
+new_by : (new closed early other : Bool) (v : Verdict) → first_row ((not new, verdict.Seen) ∷ (closed, verdict.ReadForClose) ∷ (early, verdict.NumberOnly) ∷ (other, verdict.AckOnly) ∷ []) verdict.Admitted ≡ v → enters v ≡ true → new ≡ true
+new_by true closed early other v e h = refl
+new_by false closed early other v e h = cc
 
-closed_by_row : (new closed other : Bool) → first_row ((not new, verdict.Seen) ∷ (closed, verdict.ReadForClose) ∷ (other, verdict.AckOnly) ∷ []) verdict.Admitted ≡ verdict.ReadForClose → closed ≡ true
-closed_by_row true true other e = refl
-closed_by_row true false true e = cc
-closed_by_row true false false e = cc
-closed_by_row false closed other e = cc
+closed_by_row : (new closed early other : Bool) → first_row ((not new, verdict.Seen) ∷ (closed, verdict.ReadForClose) ∷ (early, verdict.NumberOnly) ∷ (other, verdict.AckOnly) ∷ []) verdict.Admitted ≡ verdict.ReadForClose → closed ≡ true
+closed_by_row true true early other e = refl
+closed_by_row true false true other e = cc
+closed_by_row true false false true e = cc
+closed_by_row true false false false e = cc
+closed_by_row false closed early other e = cc
 
 closed_rank : (s : State) → is_closed s ≡ true → rank_of s < 3
 closed_rank state.Handshake h = cc
@@ -60,15 +66,35 @@ open_low state.Closed h = cc
 open_low state.Draining h = cc
 open_low state.Drained h = cc
 
+-- while the handshake goes on the rank is the least
+handshake_rank : (s : State) → is_handshake s ≡ true → rank_of s < 1
+handshake_rank state.Handshake h = omega arith
+handshake_rank state.Established h = cc
+handshake_rank state.Closed h = cc
+handshake_rank state.Draining h = cc
+handshake_rank state.Drained h = cc
+
+-- of two tests that hold the first holds
+first_holds : (a b : Bool) → (a && b) ≡ true → a ≡ true
+first_holds true b h = refl
+first_holds false b h = cc
+
 -- the moves that receiving makes
-abbrev pub IsReceived : Move → Type 0
-IsReceived (Enter id n) = Unit {0}
+abbrev pub IsReceived : {t : Types} → Move t → Type 0
+IsReceived (Forget id) = Unit {0}
+IsReceived (Enter id n v) = Unit {0}
 IsReceived Fail = Unit {0}
-IsReceived (Accept time id n v) = Unit {0}
+IsReceived (Accept time id n e v) = accepts v ≡ true
 IsReceived (Fix cid) = Unit {0}
 IsReceived (Hear bytes) = Unit {0}
 IsReceived (Ack id n rs) = Unit {0}
 IsReceived Calm = Unit {0}
+IsReceived (Come id offset bytes) = Unit {0}
+IsReceived (Read id count session) = Unit {0}
+IsReceived (Write bytes keys session) = Unit {0}
+IsReceived Ready = Unit {0}
+IsReceived (Learn parameters) = Unit {0}
+IsReceived Establish = Unit {0}
 IsReceived (Tell d) = Unit {0}
 IsReceived Drain = Unit {0}
 IsReceived (Leave time) = Unit {0}
@@ -80,7 +106,7 @@ IsReceived _ = ⊥
 -- what holds of no move, of two moves one after the other, and of each of these moves where it may be made, holds of a
 -- datagram
 module _ {t : Types} (R : At t → At t → Type 0) (here : (a : At t) → R a a) (next : (a b c : At t) → R a b → R b c → R a c)
-    (move : (x : Move) → IsReceived x → (a : At t) → MayMove x a.state → R a (move_to x a)) where
+    (move : (x : Move t) → IsReceived x → (a : At t) → MayMove x a.state → R a (move_to x a)) where
   given_by : (why : ConnectionError) (a : At t) (b : Bool) → is_none a.state.life.reason ≡ b → R a (if b then move_to (Give why) a else a)
   unfolding MayMove
   given_by why a true h = move (Give why) tt a (is_none_none a.state.life.reason h)
@@ -109,6 +135,20 @@ module _ {t : Types} (R : At t → At t → Type 0) (here : (a : At t) → R a a
   calmed_by a true = move Calm tt a tt
   calmed_by a false = here a
 
+  -- the peer closed: the connection drains, if it was open
+  holds_left : (time : ℕ) (why : ConnectionError) (a : At t) → R a (left_after time why a)
+  unfolding left_after
+  holds_left time why a = left_by time why a _ refl
+
+  -- the server has confirmed the handshake
+  holds_confirmed : (a : At t) → R a (confirmed_after a)
+  unfolding confirmed_after calmed MayMove
+  holds_confirmed a =
+      let b : At t = move_to (Tell (did.Gave layer.Life (spelling frames.HandshakeDone))) a in
+      let c : At t = move_to (Forget Handshake) b in
+      next a b _ (move (Tell (did.Gave layer.Life (spelling frames.HandshakeDone))) tt a tt)
+      (next b c _ (move (Forget Handshake) tt b tt) (calmed_by c (is_calm c.state.waiting)))
+
   holds_applied : (space : SpaceId) (f : FrameValue) (a : At t) → R a (applied_after space f a)
   unfolding applied_after acked_after calmed MayMove
   holds_applied space (frames.Ack ack) a =
@@ -116,31 +156,138 @@ module _ {t : Types} (R : At t → At t → Type 0) (here : (a : At t) → R a a
       let c : At t = move_to (Ack space ack.largest (ranges_of ack)) b in
       next a b _ (move (Tell (did.Gave layer.Recovery (spelling (frames.Ack ack)))) tt a tt)
       (next b c _ (move (Ack space ack.largest (ranges_of ack)) tt b tt) (calmed_by c (is_calm c.state.waiting)))
+  holds_applied space frames.HandshakeDone a = holds_confirmed a
   holds_applied space _ a = here a
 
-  holds_peer : (time : ℕ) (f : FrameValue) (why : ConnectionError) (a : At t) → R a (closed_by_peer time f why a)
-  unfolding closed_by_peer left_after MayMove
-  holds_peer time f why a =
-      let b : At t = move_to (Tell (did.Gave layer.Life (spelling f))) a in
-      next a b _ (move (Tell (did.Gave layer.Life (spelling f))) tt a tt) (left_by time why b _ refl)
+  -- a close of the peer's is given to the life
+  holds_given_close : (f : FrameValue) (a : At t) → R a (close_given f a)
+  unfolding close_given MayMove
+  holds_given_close f a = move (Tell (did.Gave layer.Life (spelling f))) tt a tt
 
-  holds_frame : (space : SpaceId) (f : FrameValue) (stop : Option TransportError) (time : ℕ) (others : At t → At t) (a : At t) → ((b : At t) → R b (others b)) → R a (frame_and space f stop time others a)
-  holds_frame space f (Some error) time others a h = holds_stopped time error a
-  holds_frame space f None time others a h = next a (applied_after space f a) _ (holds_applied space f a) (h (applied_after space f a))
+  -- the last close of a 1-RTT packet counts, where the connection was open
+  data_by : (time : ℕ) (why : ConnectionError) (a : At t) (b : Bool) → R a (if b then move_to Owe (left_after time why a) else a)
+  unfolding MayMove
+  data_by time why a true = next a (left_after time why a) _ (holds_left time why a) (move Owe tt (left_after time why a) tt)
+  data_by time why a false = here a
 
-  holds_read : (space : SpaceId) (read : TypedValue) (why : Option ConnectionError) (time : ℕ) (others : At t → At t) (a : At t) → ((b : At t) → R b (others b)) → R a (read_and space read why time others a)
-  holds_read space read (Some why) time others a h = holds_peer time read.frame why a
-  holds_read space read None time others a h = holds_frame space read.frame _ time others a h
+  -- it counts, or not
+  holds_in_data : (time : ℕ) (why : ConnectionError) (a : At t) → R a (closed_in_data time why a)
+  unfolding closed_in_data
+  holds_in_data time why a = data_by time why a (is_open a.state.life.state)
 
-  holds_items : (space : SpaceId) (time : ℕ) (items : List Item) (a : At t) → R a (items_after space time items a)
-  holds_items space time [] a = here a
-  holds_items space time (Err fault ∷ items) a = holds_stopped time _ a
-  holds_items space time (Ok read ∷ items) a = holds_read space read (reason_of read.frame) time (items_after space time items) a (λ b. holds_items space time items b)
+  -- a close, and in a 1-RTT packet the frames behind it
+  holds_close : (time : ℕ) (space : SpaceId) (f : FrameValue) (why : ConnectionError) (others : Option ConnectionError → At t → At t) (a : At t) → ((c : Option ConnectionError) (b : At t) → R b (others c b)) → R a (close_and time space f why others a)
+  holds_close time Initial f why others a h = next a (close_given f a) _ (holds_given_close f a) (holds_left time why (close_given f a))
+  holds_close time Handshake f why others a h = next a (close_given f a) _ (holds_given_close f a) (holds_left time why (close_given f a))
+  holds_close time Data f why others a h = next a (close_given f a) _ (holds_given_close f a) (h (Some why) (close_given f a))
 
-  holds_payload : (space : SpaceId) (time : ℕ) (payload : List ℕ) (a : At t) → R a (payload_after space time payload a)
+  -- the session writes once
+  holds_write : (m : Meaning t) (a : At t) → R a (write_after m a)
+  unfolding write_after MayMove
+  holds_write m a = move (Write (m.writes a.state.lower.session) (m.write_keys a.state.lower.session) (m.after_write a.state.lower.session)) tt a tt
+
+  -- it writes once and more, or not at all
+  writes_by : (n : ℕ) (m : Meaning t) (a : At t) (b : Bool) → R (write_after m a) (writes_after n m (write_after m a)) → R a (if b then a else writes_after n m (write_after m a))
+  writes_by n m a true h = here a
+  writes_by n m a false h = next a (write_after m a) _ (holds_write m a) h
+
+  -- it writes at most so many times
+  holds_writes : (n : ℕ) (m : Meaning t) (a : At t) → R a (writes_after n m a)
+  holds_writes zero m a = here a
+  holds_writes (suc n) m a = writes_by n m a (is_written m a.state.lower.session) (holds_writes n m (write_after m a))
+
+  -- it writes until nothing is left
+  holds_written : (m : Meaning t) (a : At t) → R a (written_after m a)
+  unfolding written_after
+  holds_written m a = holds_writes (m.left a.state.lower.session) m a
+
+  -- parameters whose ids fit establish the connection, and others stop it
+  fit_by : (time : ℕ) (p : TransportParameters) (a : At t) (b : Bool) → rank_of a.state.life.state < 1 → R a (if b then move_to Establish (move_to (Learn p) a) else stopped_after time parameter_error a)
+  unfolding MayMove move_to state_move life_move
+  fit_by time p a true low =
+      let b : At t = move_to (Learn p) a in
+      next a b _ (move (Learn p) tt a tt) (move Establish tt b low)
+  fit_by time p a false low = holds_stopped time parameter_error a
+
+  -- the peer's parameters, while the handshake goes on
+  holds_parameters : (time : ℕ) (r : Result (Option TransportParameters) TransportError) (a : At t) → rank_of a.state.life.state < 1 → R a (parameters_and time r a)
+  holds_parameters time (Err error) a low = holds_stopped time error a
+  holds_parameters time (Ok None) a low = holds_stopped time missing_parameters a
+  holds_parameters time (Ok (Some p)) a low = fit_by time p a (ids_fit a.state p) low
+
+  -- the handshake has ended, or goes on
+  ended_by : (time : ℕ) (r : Result (Option TransportParameters) TransportError) (a : At t) (over b : Bool) → (is_handshake a.state.life.state && over) ≡ b → R a (if b then parameters_and time r a else a)
+  ended_by time r a over true h = holds_parameters time r a (handshake_rank a.state.life.state (first_holds (is_handshake a.state.life.state) over h))
+  ended_by time r a over false h = here a
+
+  -- the handshake goes on behind the frames of a packet
+  holds_progress : (m : Meaning t) (time : ℕ) (space : SpaceId) (a : At t) → R a (progress_after m time space a)
+  unfolding progress_after ended_after
+  holds_progress m time space a =
+      let b : At t = written_after m a in
+      next a b _ (holds_written m a) (ended_by time (m.parameters b.state.lower.session) b (is_end space (m.handshaking b.state.lower.session)) _ refl)
+
+  -- the session answered a read
+  holds_answered : (time : ℕ) (r : Result Bool TransportError) (others : At t → At t) (a : At t) → ((b : At t) → R b (others b)) → R a (answered_and time r others a)
+  unfolding MayMove
+  holds_answered time (Err error) others a h = holds_stopped time error a
+  holds_answered time (Ok true) others a h = next a (move_to Ready a) _ (move Ready tt a tt) (h (move_to Ready a))
+  holds_answered time (Ok false) others a h = h a
+
+  -- the session is given bytes
+  holds_bytes : (m : Meaning t) (time : ℕ) (space : SpaceId) (bytes : List ℕ) (others : At t → At t) (a : At t) → ((b : At t) → R b (others b)) → R a (given_and m time space bytes others a)
+  unfolding MayMove
+  holds_bytes m time space [] others a h = h a
+  holds_bytes m time space (x ∷ bytes) others a h =
+      let b : At t = move_to (Tell (did.Gave layer.Session (x ∷ bytes))) a in
+      let c : At t = move_to (Read space (length (x ∷ bytes)) (m.after_read a.state.lower.session (x ∷ bytes))) b in
+      next a b _ (move (Tell (did.Gave layer.Session (x ∷ bytes))) tt a tt)
+      (next b c _ (move (Read space (length (x ∷ bytes)) (m.after_read a.state.lower.session (x ∷ bytes))) tt b tt)
+      (holds_answered time (m.reads a.state.lower.session (x ∷ bytes)) others c h))
+
+  -- bytes of a CRYPTO stream came
+  holds_kept : (m : Meaning t) (time : ℕ) (space : SpaceId) (offset : ℕ) (body : List ℕ) (others : At t → At t) (a : At t) → ((b : At t) → R b (others b)) → R a (kept_and m time space offset body others a)
+  unfolding kept_and MayMove
+  holds_kept m time space offset body others a h =
+      let b : At t = move_to (Come space offset body) a in
+      next a b _ (move (Come space offset body) tt a tt) (holds_bytes m time space (ready_bytes (stream_of b.state.lower space)) others b h)
+
+  -- a CRYPTO frame, which may stop its packet
+  holds_crypto : (m : Meaning t) (time : ℕ) (space : SpaceId) (offset : ℕ) (body : List ℕ) (stop : Option TransportError) (others : At t → At t) (a : At t) → ((b : At t) → R b (others b)) → R a (crypto_and m time space offset body stop others a)
+  holds_crypto m time space offset body (Some error) others a h = holds_stopped time error a
+  holds_crypto m time space offset body None others a h = holds_kept m time space offset body others a h
+
+  -- a frame that stops nothing by its kind
+  holds_taken : (m : Meaning t) (time : ℕ) (space : SpaceId) (read : TypedValue) (f : FrameValue) (others : At t → At t) (a : At t) → ((b : At t) → R b (others b)) → R a (taken_and m time space read f others a)
+  holds_taken m time space read (frames.Crypto offset body) others a h = holds_crypto m time space offset body (crypto_stop a.state space read.ty offset body) others a h
+  holds_taken m time space read f others a h = next a (applied_after space f a) _ (holds_applied space f a) (h (applied_after space f a))
+
+  -- a frame that isn't a close
+  holds_frame : (m : Meaning t) (time : ℕ) (space : SpaceId) (read : TypedValue) (stop : Option TransportError) (others : At t → At t) (a : At t) → ((b : At t) → R b (others b)) → R a (frame_and m time space read stop others a)
+  holds_frame m time space read (Some error) others a h = holds_stopped time error a
+  holds_frame m time space read None others a h = holds_taken m time space read read.frame others a h
+
+  -- a close or another frame
+  holds_read : (m : Meaning t) (time : ℕ) (space : SpaceId) (read : TypedValue) (why close : Option ConnectionError) (others : Option ConnectionError → At t → At t) (a : At t) → ((c : Option ConnectionError) (b : At t) → R b (others c b)) → R a (read_and m time space read why close others a)
+  holds_read m time space read (Some why) close others a h = holds_close time space read.frame why others a h
+  holds_read m time space read None close others a h = holds_frame m time space read _ (others close) a (h close)
+
+  -- behind the last frame
+  holds_end : (m : Meaning t) (time : ℕ) (space : SpaceId) (close : Option ConnectionError) (a : At t) → R a (end_after m time space close a)
+  holds_end m time space None a = holds_progress m time space a
+  holds_end m time space (Some why) a = holds_in_data time why a
+
+  -- the frames of a packet
+  holds_items : (m : Meaning t) (time : ℕ) (space : SpaceId) (items : List Item) (close : Option ConnectionError) (a : At t) → R a (items_after m time space items close a)
+  holds_items m time space [] close a = holds_end m time space close a
+  holds_items m time space (Err fault ∷ items) close a = holds_stopped time _ a
+  holds_items m time space (Ok read ∷ items) close a = holds_read m time space read (reason_of read.frame) close (items_after m time space items) a (λ c b. holds_items m time space items c b)
+
+  -- a payload
+  holds_payload : (m : Meaning t) (time : ℕ) (space : SpaceId) (payload : List ℕ) (a : At t) → R a (payload_after m time space payload a)
   unfolding payload_after
-  holds_payload space time [] a = holds_stopped time _ a
-  holds_payload space time (b ∷ bytes) a = holds_items space time (items_of (b ∷ bytes)) a
+  holds_payload m time space [] a = holds_stopped time _ a
+  holds_payload m time space (b ∷ bytes) a = holds_items m time space (items_of (b ∷ bytes)) None a
 
   fixed_by : (source : List ℕ) (a : At t) (b : Bool) → R a (if b then move_to (Fix source) a else a)
   unfolding MayMove
@@ -159,51 +306,53 @@ module _ {t : Types} (R : At t → At t → Type 0) (here : (a : At t) → R a a
   holds_closing : (space : SpaceId) (number : ℕ) (payload : List ℕ) (a : At t) → is_new_in a.state.numbers space number ≡ true → is_closed a.state.life.state ≡ true → R a (read_for_close space number payload a)
   unfolding read_for_close MayMove move_to state_move life_move
   holds_closing space number payload a new closed =
-      let b : At t = move_to (Enter space number) a in
-      next a b _ (move (Enter space number) tt a new) (closing_by b (list_any is_close_item (items_of payload)) (closed_rank a.state.life.state closed))
+      let b : At t = move_to (Enter space number verdict.ReadForClose) a in
+      next a b _ (move (Enter space number verdict.ReadForClose) tt a (new, refl)) (closing_by b (list_any is_close_item (items_of payload)) (closed_rank a.state.life.state closed))
 
-  holds_admitted : (time : ℕ) (space : SpaceId) (source : List ℕ) (number : ℕ) (payload : List ℕ) (a : At t) → is_new_in a.state.numbers space number ≡ true → R a (admitted_after time space source number payload a)
+  holds_admitted : (m : Meaning t) (time : ℕ) (space : SpaceId) (source : List ℕ) (number : ℕ) (payload : List ℕ) (a : At t) → is_new_in a.state.numbers space number ≡ true → R a (admitted_after m time space source number payload a)
   unfolding admitted_after MayMove
-  holds_admitted time space source number payload a new =
-      let b : At t = move_to (Accept time space number verdict.Admitted) a in
+  holds_admitted m time space source number payload a new =
+      let e : Bool = list_any is_eliciting_item (items_of payload) in
+      let b : At t = move_to (Accept time space number e verdict.Admitted) a in
       let c : At t = fixed_after space source b in
-      next a b _ (move (Accept time space number verdict.Admitted) tt a (new, refl)) (next b c _ (holds_fixed space source b) (holds_payload space time payload c))
+      next a b _ (move (Accept time space number e verdict.Admitted) refl a (new, refl)) (next b c _ (holds_fixed space source b) (holds_payload m time space payload c))
 
-  verdict_by : (time : ℕ) (space : SpaceId) (source : List ℕ) (number : ℕ) (payload : List ℕ) (v : Verdict) (a : At t) →
+  verdict_by : (m : Meaning t) (time : ℕ) (space : SpaceId) (source : List ℕ) (number : ℕ) (payload : List ℕ) (v : Verdict) (a : At t) →
       (enters v ≡ true → is_new_in a.state.numbers space number ≡ true) → (v ≡ verdict.ReadForClose → is_closed a.state.life.state ≡ true) →
-      R a (verdict_after time space source number payload v a)
+      R a (verdict_after m time space source number payload v a)
   unfolding MayMove
-  verdict_by time space source number payload verdict.Ignored a new closed = here a
-  verdict_by time space source number payload verdict.Failure a new closed = here a
-  verdict_by time space source number payload verdict.BadBits a new closed = here a
-  verdict_by time space source number payload verdict.Seen a new closed = move (Tell (did.Piece (Some space) (Some number) verdict.Seen)) tt a refl
-  verdict_by time space source number payload verdict.ReadForClose a new closed = holds_closing space number payload a (new refl) (closed refl)
-  verdict_by time space source number payload verdict.AckOnly a new closed = move (Accept time space number verdict.AckOnly) tt a (new refl, refl)
-  verdict_by time space source number payload verdict.Admitted a new closed = holds_admitted time space source number payload a (new refl)
+  verdict_by m time space source number payload verdict.Ignored a new closed = here a
+  verdict_by m time space source number payload verdict.Failure a new closed = here a
+  verdict_by m time space source number payload verdict.BadBits a new closed = here a
+  verdict_by m time space source number payload verdict.Seen a new closed = move (Tell (did.Piece (Some space) (Some number) verdict.Seen)) tt a refl
+  verdict_by m time space source number payload verdict.ReadForClose a new closed = holds_closing space number payload a (new refl) (closed refl)
+  verdict_by m time space source number payload verdict.NumberOnly a new closed = move (Enter space number verdict.NumberOnly) tt a (new refl, refl)
+  verdict_by m time space source number payload verdict.AckOnly a new closed = move (Accept time space number false verdict.AckOnly) refl a (new refl, refl)
+  verdict_by m time space source number payload verdict.Admitted a new closed = holds_admitted m time space source number payload a (new refl)
 
-  holds_received : (time : ℕ) (space : SpaceId) (source : List ℕ) (number : ℕ) (payload : List ℕ) (a : At t) → R a (received_after time space source number payload a)
+  holds_received : (m : Meaning t) (time : ℕ) (space : SpaceId) (source : List ℕ) (number : ℕ) (payload : List ℕ) (a : At t) → R a (received_after m time space source number payload a)
   unfolding received_after verdict_of
-  holds_received time space source number payload a =
-      verdict_by time space source number payload (verdict_of a.state space source number) a
-      (λ h. new_by (is_new_in a.state.numbers space number) (is_closed a.state.life.state) _ (verdict_of a.state space source number) refl h)
-      (λ e. closed_by_row (is_new_in a.state.numbers space number) (is_closed a.state.life.state) _ e)
+  holds_received m time space source number payload a =
+      verdict_by m time space source number payload (verdict_of a.state space source number) a
+      (λ h. new_by (is_new_in a.state.numbers space number) (is_closed a.state.life.state) _ _ (verdict_of a.state space source number) refl h)
+      (λ e. closed_by_row (is_new_in a.state.numbers space number) (is_closed a.state.life.state) _ _ e)
 
-  holds_opening : (time : ℕ) (space : Option SpaceId) (o : Opening) (a : At t) → R a (opening_after time space o a)
+  holds_opening : (m : Meaning t) (time : ℕ) (space : Option SpaceId) (o : Opening) (a : At t) → R a (opening_after m time space o a)
   unfolding MayMove
-  holds_opening time space Unreadable a = move (Tell (did.Piece space None verdict.Ignored)) tt a refl
-  holds_opening time space Unopened a =
+  holds_opening m time space Unreadable a = move (Tell (did.Piece space None verdict.Ignored)) tt a refl
+  holds_opening m time space Unopened a =
       let b : At t = move_to Fail a in
       next a b _ (move Fail tt a tt) (move (Tell (did.Piece space None verdict.Failure)) tt b refl)
-  holds_opening time space (Reserved number) a =
+  holds_opening m time space (Reserved number) a =
       let b : At t = move_to (Tell (did.Piece space (Some number) verdict.BadBits)) a in
       next a b _ (move (Tell (did.Piece space (Some number) verdict.BadBits)) tt a refl) (holds_stopped time (violation_at None) b)
-  holds_opening time (Some space) (Opened source number payload) a = holds_received time space source number payload a
-  holds_opening time None (Opened source number payload) a = move (Tell (did.Piece None None verdict.Ignored)) tt a refl
+  holds_opening m time (Some space) (Opened source number payload) a = holds_received m time space source number payload a
+  holds_opening m time None (Opened source number payload) a = move (Tell (did.Piece None None verdict.Ignored)) tt a refl
 
-  piece_by : (m : Meaning t) (time : ℕ) (p : Piece) (a : At t) (b : Bool) → R a (if b then piece_told (space_of p.header) None verdict.Ignored a else opening_after time (space_of p.header) (opening_of m a.state p) a)
+  piece_by : (m : Meaning t) (time : ℕ) (p : Piece) (a : At t) (b : Bool) → R a (if b then piece_told (space_of p.header) None verdict.Ignored a else opening_after m time (space_of p.header) (opening_of m a.state p) a)
   unfolding MayMove
   piece_by m time p a true = move (Tell (did.Piece (space_of p.header) None verdict.Ignored)) tt a refl
-  piece_by m time p a false = holds_opening time (space_of p.header) (opening_of m a.state p) a
+  piece_by m time p a false = holds_opening m time (space_of p.header) (opening_of m a.state p) a
 
   holds_pieces : (m : Meaning t) (time : ℕ) (items : List DatagramItem) (a : At t) → R a (pieces_after m time items a)
   unfolding piece_after

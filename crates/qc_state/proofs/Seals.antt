@@ -4,31 +4,33 @@ use Rattle.std.specs.Prelude.{unwrap_or}
 use Rattle.std.proofs.lemmas.Bool.Decides.{nat_tests}
 use Rattle.std.specs.List.{list_any}
 use Rattle.qc_base.specs.declared.side.SpaceId.{SpaceId}
-use Rattle.qc_base.specs.declared.side.SpaceId.TheVariants.{Initial}
+use Rattle.qc_base.specs.declared.side.SpaceId.TheVariants.{Initial, Handshake, «Data»}
 use Rattle.qc_frame.specs.Frame.{FrameValue}
-use Rattle.qc_frame.specs.FrameSpelling.{elicits, spelling, frames_spelling}
+use Rattle.qc_frame.specs.FrameSpelling.{spelling, frames_spelling}
 use Rattle.qc_frame.specs.declared.frames.FrameOf.TheVariants.{Padding}
-use Rattle.qc_frame.proofs.Lengths.{varint_size_max, length_type, length-connection_close}
+use Rattle.qc_frame.specs.declared.frames.FrameOf.TheVariants as frames
+use Rattle.qc_frame.specs.Sizes.{IsLongestReason}
+use Rattle.qc_frame.proofs.Lengths.{varint_size_max, length_type, length-connection_close, length-application_close}
+use Rattle.qc_state.specs.Acks.{AckPart, may_acknowledge}
 use Rattle.qc_state.specs.Life.{is_closed}
 use Rattle.qc_state.specs.declared.life.Close.{Close}
 use Rattle.qc_state.specs.declared.life.Close.TheVariants.{Connection, Application}
-use Rattle.qc_state.specs.declared.life.Life.{Life}
-use Rattle.qc_frame.proofs.BeforePadding.{any_before_padding}
 use Rattle.qc_header.specs.declared.header.Header.{Header}
 use Rattle.qc_header.specs.HeaderSpelling.{header_spelling, header_number, header_most}
 use Rattle.qc_state.specs.declared.transmit.TheConstants.{DATAGRAM_SIZE}
 use Rattle.qc_state.specs.declared.transmit.Transmit.{Transmit}
 use Rattle.qc_state.specs.declared.waiting.SpaceWaiting.{SpaceWaiting}
 use Rattle.qc_state.specs.Keys.{keys_of}
-use Rattle.qc_state.specs.Moves.{Take, Seal, state_move, move_to, numbers_move, keys_move, life_move, paths_move, timers_move, waiting_move, deeds_move}
+use Rattle.qc_state.specs.Moves.{Take, Seal, state_move, move_to, numbers_move, keys_move, life_move, paths_move, timers_move, waiting_move, setup_move, lower_move, deeds_move}
 use Rattle.qc_state.specs.Numbers.{next_number, acked_number}
-use Rattle.qc_state.specs.Sending.{close_frame, told_code, told_type, told_close, closing_frame, Carries, taken_now, owes, is_used_up, may_be_quiet, header_of, sealed_with, packet_bytes, packet_after, quiet_after, transmit_after, MayTransmit, transmit_bytes, transmit_of, SealsOne, Transmits}
+use Rattle.qc_state.specs.Sending.{close_frame, told_code, told_type, told_application_code, application_close, told_close, closing_frame, IsKeptReason, close_room, Closes, Carries, TakenNow, owes_in, sending_space, owes, is_past_limit, is_used_up, may_be_quiet, header_in, header_of, sealed_with, packet_bytes, initial_left, sealed_in, packet_after, quiet_after, transmit_after, MayTransmit, transmit_bytes, transmit_of, SealsOne, Transmits}
 use Rattle.qc_state.specs.Spaces.{space_of, with_space}
 use Rattle.qc_state.specs.Types.{Types, Meaning}
 use Rattle.qc_state.specs.View.{View, At, at}
-use Rattle.qc_state.specs.Waiting.{waits_in, waits_here, waiting_without, without, without_all, taken_part, WaitAll}
-use Rattle.qc_state.proofs.WaitingLemmas.{taken_waits, taken_elicits, taken_fits, waits_padded, without_padded}
+use Rattle.qc_state.specs.Waiting.{waits_in, waits_here, waiting_without, without, without_all, is_told, TakenPart, WaitAll}
+use Rattle.qc_state.proofs.WaitingLemmas.{without_all_append, taken_waits, taken_told, taken_fits, acks_fit, bytes_append, waits_padded, without_padded, told_padded}
 
+-- of two tests that hold the second holds
 and_right : (a b : Bool) → (a && b) ≡ true → b ≡ true
 and_right true b h = h
 and_right false b h = cc
@@ -48,81 +50,127 @@ not_quiet_3 true b c h = cc
 not_quiet_3 false true c h = h
 not_quiet_3 false false c h = cc
 
-or_right : (a b : Bool) → a ≡ false → (a || b) ≡ true → b ≡ true
-or_right true b h k = cc
-or_right false b h k = k
-
+-- of two tests of which none holds the first doesn't hold
 neither_left : (a b : Bool) → (a || b) ≡ false → a ≡ false
 neither_left true b h = cc
 neither_left false b h = refl
 
+-- and the second doesn't
 neither_right : (a b : Bool) → (a || b) ≡ false → b ≡ false
 neither_right true b h = cc
 neither_right false b h = h
 
+-- of two tests that hold the first holds
 and_left : (a b : Bool) → (a && b) ≡ true → a ≡ true
 and_left true b h = refl
 and_left false b h = cc
 
 -- a close is sealed without leaving what waits
-close_stays : (w : SpaceWaiting) (b : Bool) (c : Option Close) → without w (if b then told_close c else close_frame 0x00 None) ≡ w
+application_stays : (w : SpaceWaiting) (id : SpaceId) (code : ℕ) (kept : List ℕ) → without w (application_close id code kept) ≡ w
 unfolding without
-close_stays w true None = refl
-close_stays w true (Some (Connection c)) = refl
-close_stays w true (Some (Application c)) = refl
-close_stays w false c = refl
+application_stays w Initial code kept = refl
+application_stays w Handshake code kept = refl
+application_stays w Data code kept = refl
+
+close_stays : (w : SpaceWaiting) (id : SpaceId) (kept : List ℕ) (b : Bool) (c : Option Close) → without w (if b then told_close id kept c else close_frame 0x00 None) ≡ w
+unfolding without
+close_stays w id kept true None = refl
+close_stays w id kept true (Some (Connection c)) = refl
+close_stays w id kept true (Some (Application c)) = application_stays w id c.error_code kept
+close_stays w id kept false c = refl
+
+-- a number within the limit is below the greatest
+number_low : (number acked : ℕ) → is_past_limit number acked ≡ false → number < 2 ^ 62 - 1
+number_low number acked h =
+    let below : nat_le (2 ^ 62 - 1) number ≡ false = neither_left (nat_le (2 ^ 62 - 1) number) (nat_le (2 ^ 31) (number - acked)) h in
+    grind (arith, nat_tests)
+
+-- and near the greatest acknowledged one
+number_near : (number acked : ℕ) → is_past_limit number acked ≡ false → number - acked < 2 ^ 31
+number_near number acked h =
+    let below : nat_le (2 ^ 31) (number - acked) ≡ false = neither_right (nat_le (2 ^ 62 - 1) number) (nat_le (2 ^ 31) (number - acked)) h in
+    grind (arith, nat_tests)
+
+-- what is owed where no close is waits
+owed_by : (w : SpaceWaiting) (b c : Bool) → b ≡ false → (if b then c else waits_here w) ≡ true → waits_here w ≡ true
+owed_by w true c e h = cc
+owed_by w false c e h = h
 
 module _ {t : Types} where
   -- PADDING changes nothing of what waits
   take_padded : (id : SpaceId) (fs : List FrameValue) (n : ℕ) (s : View t) → state_move (Take id (fs ++ replicate n Padding)) s ≡ state_move (Take id fs) s
-  unfolding state_move numbers_move keys_move life_move paths_move timers_move waiting_move waiting_without
+  unfolding state_move numbers_move keys_move life_move paths_move timers_move waiting_move setup_move lower_move waiting_without
   take_padded id fs n s = ap (λ (w : SpaceWaiting). record s { waiting = record s.waiting { spaces = with_space s.waiting.spaces id w } }) (without_padded (space_of s.waiting.spaces id) fs n)
 
-  -- taking a close changes nothing
-  pub close_taken : (s : View t) → state_move (Take Initial (closing_frame s.life ∷ [])) s ≡ s
-  unfolding state_move numbers_move keys_move life_move paths_move timers_move waiting_move waiting_without without_all
-  close_taken s = ap (λ (w : SpaceWaiting). record s { waiting = record s.waiting { spaces = record s.waiting.spaces { initial = w } } }) (close_stays s.waiting.spaces.initial (is_closed s.life.state) s.life.close)
+  -- a close behind an ACK changes nothing more of what waits
+  close_behind : (s : View t) (id : SpaceId) (kept : List ℕ) (acks : List FrameValue) → state_move (Take id acks) s ≡ state_move (Take id (acks ++ closing_frame id kept s.life ∷ [])) s
+  unfolding state_move numbers_move keys_move life_move paths_move timers_move waiting_move setup_move lower_move waiting_without without_all
+  close_behind s id kept acks =
+      let w : SpaceWaiting = space_of s.waiting.spaces id in
+      ap (λ (x : SpaceWaiting). record s { waiting = record s.waiting { spaces = with_space s.waiting.spaces id x } })
+      (sym (without_all_append w acks (closing_frame id kept s.life ∷ []) ∙ close_stays (without_all w acks) id kept (is_closed s.life.state) s.life.close))
+
+  -- where the ACK was taken, the close behind it was taken too
+  pub close_taken : (s mid : View t) (id : SpaceId) (kept : List ℕ) (acks fs : List FrameValue) → mid ≡ state_move (Take id acks) s → fs ≡ acks ++ closing_frame id kept s.life ∷ [] → mid ≡ state_move (Take id fs) s
+  close_taken s mid id kept acks fs is_mid is_fs = is_mid ∙ close_behind s id kept acks ∙ ap (λ (x : List FrameValue). state_move (Take id x) s) (sym is_fs)
+
+  -- the ACK and the close, with the reason that fits behind the ACK, are the frames that this end takes, where a close is owed
+  pub takes_close : (time : ℕ) (s : View t) (id : SpaceId) (room : ℕ) (kept : List ℕ) (acks fs : List FrameValue) → s.waiting.close_owed ≡ true →
+      AckPart time (space_of s.waiting.spaces id).acks acks (may_acknowledge (space_of s.waiting.spaces id).acks) → IsKeptReason (close_room s id acks) kept s.life.close →
+      fs ≡ acks ++ closing_frame id kept s.life ∷ [] → TakenNow time s id room fs
+  takes_close time s id room kept acks fs owed part reason is = TakenNow.a_close owed (Closes.closing acks part kept reason is)
+
+  -- the room of a datagram behind a header is that behind the header of its space
+  pub room_behind : (s : View t) (id : SpaceId) (h : Header) (n room : ℕ) → h ≡ header_in s id → n ≡ length (header_spelling h 0) → room ≡ 1180 - n → room ≡ 1180 - length (header_spelling (header_in s id) 0)
+  room_behind s id h n room is_h is_n is_room = is_room ∙ ap (λ (x : ℕ). 1180 - x) (is_n ∙ ap (λ (x : Header). length (header_spelling x 0)) is_h)
+
+  -- what an ACK leaves of that room is the room for a close
+  pub close_room_left : (s : View t) (id : SpaceId) (room : ℕ) (acks : List FrameValue) → room ≡ 1180 - length (header_spelling (header_in s id) 0) → close_room s id acks ≡ room - length (frames_spelling acks)
+  unfolding close_room
+  close_room_left s id room acks is_room = ap (λ (x : ℕ). x - length (frames_spelling acks)) (sym is_room)
+
+  -- and else it takes frames that wait
+  pub takes_waiting : (time : ℕ) (s : View t) (id : SpaceId) (room : ℕ) (fs : List FrameValue) → s.waiting.close_owed ≡ false → TakenPart time (space_of s.waiting.spaces id) room fs → TakenNow time s id room fs
+  takes_waiting time s id room fs free part = TakenNow.what_waits free part
 
   -- what is owed waits, where it is no close
-  owed_waits : (s : View t) → s.waiting.close_owed ≡ false → owes s ≡ true → waits_here (space_of s.waiting.spaces Initial) ≡ true
-  unfolding owes waits_in
-  owed_waits s e h = or_right _ _ e (and_right _ _ h)
+  owed_waits : (s : View t) → s.waiting.close_owed ≡ false → owes s ≡ true → waits_here (space_of s.waiting.spaces (sending_space s)) ≡ true
+  unfolding owes owes_in waits_in
+  owed_waits s e h = owed_by (space_of s.waiting.spaces (sending_space s)) s.waiting.close_owed _ e (and_right _ _ h)
 
   -- the frames that are taken, with PADDING behind them, are what a packet may carry
-  carries_by : (s : View t) (room n : ℕ) (gs : List FrameValue) (b : Bool) → s.waiting.close_owed ≡ b → owes s ≡ true → 19 ≤ room →
-      gs ≡ (if b then closing_frame s.life ∷ [] else taken_part (space_of s.waiting.spaces Initial) room) ++ replicate n Padding → Carries s gs
-  carries_by s room n gs true e owed wide is_gs = Carries.a_close e n is_gs
-  carries_by s room n gs false e owed wide is_gs =
-      let w : SpaceWaiting = space_of s.waiting.spaces Initial in
+  carries : (time : ℕ) (s : View t) (room n : ℕ) (fs gs : List FrameValue) → owes s ≡ true → 19 ≤ room → TakenNow time s (sending_space s) room fs → gs ≡ fs ++ replicate n Padding → Carries time s (sending_space s) gs
+  carries time s room n fs gs owed wide (TakenNow.a_close e closes) is_gs = Carries.a_close e fs closes n is_gs
+  carries time s room n fs gs owed wide (TakenNow.what_waits e taken) is_gs =
+      let w : SpaceWaiting = space_of s.waiting.spaces (sending_space s) in
       Carries.what_waits e
-      (subst (λ (x : List FrameValue). WaitAll w x) (sym is_gs) (waits_padded w (taken_part w room) n (taken_waits w room)))
-      (ap (list_any elicits) is_gs ∙ any_before_padding (taken_part w room) n ∙ taken_elicits w room (owed_waits s e owed) wide)
+      (subst (λ (x : List FrameValue). WaitAll time w x) (sym is_gs) (waits_padded time w fs n (taken_waits time w room fs taken)))
+      (ap (list_any is_told) is_gs ∙ told_padded fs n (taken_told time w room fs taken (owed_waits s e owed) wide))
 
-  carries : (s : View t) (room n : ℕ) (fs gs : List FrameValue) → owes s ≡ true → 19 ≤ room → fs ≡ taken_now s room → gs ≡ fs ++ replicate n Padding → Carries s gs
-  unfolding taken_now
-  carries s room n fs gs owed wide is_fs is_gs = carries_by s room n gs s.waiting.close_owed refl owed wide (is_gs ∙ ap (λ (x : List FrameValue). x ++ replicate n Padding) is_fs)
-
-  same_keys : (fs : List FrameValue) (s : View t) → (state_move (Take Initial fs) s).keys ≡ s.keys
-  unfolding state_move keys_move
-  same_keys fs s = refl
-
-  -- frames are taken, filled up with PADDING, sealed, and counted
-  pub seals_one : (m : Meaning t) (time room number n : ℕ) (a : At t) (mid : View t) (b : At t) (buffer : List ℕ) (fs gs : List FrameValue) (h : Header) →
-      may_be_quiet a.state ≡ false → 19 ≤ room →
-      fs ≡ taken_now a.state room → gs ≡ fs ++ replicate n Padding →
-      mid ≡ state_move (Take Initial fs) a.state → number ≡ next_number a.state.numbers Initial →
-      b ≡ move_to (Seal time Initial number DATAGRAM_SIZE gs) (at mid a.did) →
-      h ≡ header_of a.state → buffer ≡ sealed_with m (keys_of mid.keys Initial) h number (frames_spelling gs) →
-      length buffer ≡ DATAGRAM_SIZE → SealsOne m time a b buffer
-  unfolding may_be_quiet packet_after packet_bytes move_to deeds_move state_move keys_of keys_move
-  seals_one m time room number n a mid b buffer fs gs h loud wide is_fs is_gs is_mid is_number is_b is_h is_buffer full =
+  -- frames are taken, filled up with PADDING, sealed, and counted, and the Initial space is left where this says so
+  pub seals_one : (m : Meaning t) (time room number n : ℕ) (space : SpaceId) (a : At t) (mid : View t) (b c : At t) (buffer : List ℕ) (fs gs : List FrameValue) (h : Header) →
+      may_be_quiet a.state ≡ false → space ≡ sending_space a.state → 19 ≤ room →
+      TakenNow time a.state space room fs → gs ≡ fs ++ replicate n Padding →
+      mid ≡ state_move (Take space fs) a.state → number ≡ next_number a.state.numbers space →
+      b ≡ move_to (Seal time space number DATAGRAM_SIZE gs) (at mid a.did) → c ≡ initial_left space b →
+      h ≡ header_in a.state space → buffer ≡ sealed_with m (keys_of mid.keys space) h number (frames_spelling gs) →
+      length buffer ≡ DATAGRAM_SIZE → SealsOne m time a c buffer
+  unfolding may_be_quiet packet_after sealed_in packet_bytes header_of move_to deeds_move state_move keys_of keys_move
+  seals_one m time room number n space a mid b c buffer fs gs h loud is_space wide taken is_gs is_mid is_number is_b is_c is_h is_buffer full =
       let owed : owes a.state ≡ true = not_quiet_2 _ _ _ loud in
-      let same : mid ≡ state_move (Take Initial gs) a.state = is_mid ∙ sym (ap (λ (x : List FrameValue). state_move (Take Initial x) a.state) is_gs ∙ take_padded Initial fs n a.state) in
+      let same : mid ≡ state_move (Take space gs) a.state = is_mid ∙ sym (ap (λ (x : List FrameValue). state_move (Take space x) a.state) is_gs ∙ take_padded space fs n a.state) in
+      let now : TakenNow time a.state (sending_space a.state) room fs = subst (λ (id : SpaceId). TakenNow time a.state id room fs) is_space taken in
       record {
         frames = gs;
-        may = record { alive = not_quiet_1 _ _ _ loud; owed = owed; spelled = not_quiet_3 _ _ _ loud; carries = carries a.state room n fs gs owed wide is_fs is_gs };
-        leads = is_b ∙ ap (λ (x : View t). move_to (Seal time Initial number DATAGRAM_SIZE gs) (at x a.did)) same ∙ ap (λ (x : ℕ). move_to (Seal time Initial x DATAGRAM_SIZE gs) (move_to (Take Initial gs) a)) is_number;
-        bytes = is_buffer ∙ ap (λ (x : Header). sealed_with m (keys_of mid.keys Initial) x number (frames_spelling gs)) is_h ∙ ap (λ (x : View t). sealed_with m (keys_of x.keys Initial) (header_of a.state) number (frames_spelling gs)) same ∙ ap (λ (x : ℕ). sealed_with m (keys_of a.state.keys Initial) (header_of a.state) x (frames_spelling gs)) is_number;
+        may = record { alive = not_quiet_1 _ _ _ loud; owed = owed; spelled = not_quiet_3 _ _ _ loud; carries = carries time a.state room n fs gs owed wide now is_gs };
+        leads = is_c ∙ ap (λ (x : At t). initial_left space x) is_b
+            ∙ ap (λ (x : View t). initial_left space (move_to (Seal time space number DATAGRAM_SIZE gs) (at x a.did))) same
+            ∙ ap (λ (x : ℕ). initial_left space (move_to (Seal time space x DATAGRAM_SIZE gs) (move_to (Take space gs) a))) is_number
+            ∙ ap (λ (id : SpaceId). sealed_in time id gs a) is_space;
+        bytes = is_buffer ∙ ap (λ (x : Header). sealed_with m (keys_of mid.keys space) x number (frames_spelling gs)) is_h
+            ∙ ap (λ (x : View t). sealed_with m (keys_of x.keys space) (header_in a.state space) number (frames_spelling gs)) same
+            ∙ ap (λ (x : ℕ). sealed_with m (keys_of a.state.keys space) (header_in a.state space) x (frames_spelling gs)) is_number
+            ∙ ap (λ (id : SpaceId). sealed_with m (keys_of a.state.keys id) (header_in a.state id) (next_number a.state.numbers id) (frames_spelling gs)) is_space;
         full = full;
       }
 
@@ -136,47 +184,95 @@ module _ {t : Types} where
   unfolding MayTransmit transmit_after transmit_of transmit_bytes
   transmits_quiet m time a b buffer q l e = record { packets = []; may = q; leads = l; answer = refl; bytes = e; full = ap length e }
 
-  -- what stands where a packet may be sealed
-  pub loud_low : (s : View t) → may_be_quiet s ≡ false → next_number s.numbers Initial < 2 ^ 62 - 1
+  -- where a packet may be sealed, its number is below the greatest
+  pub loud_low : (s : View t) (space : SpaceId) → space ≡ sending_space s → may_be_quiet s ≡ false → next_number s.numbers space < 2 ^ 62 - 1
   unfolding may_be_quiet is_used_up
-  loud_low s h = let below : nat_le (2 ^ 62 - 1) (next_number s.numbers Initial) ≡ false = neither_left _ _ (not_quiet_3 _ _ _ h) in grind (arith, nat_tests)
+  loud_low s space is_space h =
+      subst (λ (id : SpaceId). next_number s.numbers id < 2 ^ 62 - 1) (sym is_space)
+      (number_low (next_number s.numbers (sending_space s)) (acked_number s.numbers (sending_space s)) (not_quiet_3 _ _ _ h))
 
-  pub loud_near : (s : View t) → may_be_quiet s ≡ false → next_number s.numbers Initial - acked_number s.numbers Initial < 2 ^ 31
+  -- and it is near the greatest acknowledged one
+  pub loud_near : (s : View t) (space : SpaceId) → space ≡ sending_space s → may_be_quiet s ≡ false → next_number s.numbers space - acked_number s.numbers space < 2 ^ 31
   unfolding may_be_quiet is_used_up
-  loud_near s h = let below : nat_le (2 ^ 31) (next_number s.numbers Initial - acked_number s.numbers Initial) ≡ false = neither_right _ _ (not_quiet_3 _ _ _ h) in grind (arith, nat_tests)
+  loud_near s space is_space h =
+      subst (λ (id : SpaceId). next_number s.numbers id - acked_number s.numbers id < 2 ^ 31) (sym is_space)
+      (number_near (next_number s.numbers (sending_space s)) (acked_number s.numbers (sending_space s)) (not_quiet_3 _ _ _ h))
 
-  pub loud_keyed : (s mid : View t) (fs : List FrameValue) → may_be_quiet s ≡ false → mid ≡ state_move (Take Initial fs) s → IsSome (keys_of mid.keys Initial)
-  unfolding may_be_quiet owes state_move keys_move
-  loud_keyed s mid fs h e = ap (λ (x : View t). is_some (keys_of x.keys Initial)) e ∙ and_left _ _ (not_quiet_2 _ _ _ h)
+  -- and its space has keys, once frames were taken too
+  pub loud_keyed : (s mid : View t) (space : SpaceId) (fs : List FrameValue) → space ≡ sending_space s → may_be_quiet s ≡ false → mid ≡ state_move (Take space fs) s → IsSome (keys_of mid.keys space)
+  unfolding may_be_quiet owes owes_in state_move keys_move
+  loud_keyed s mid space fs is_space h e =
+      ap (λ (x : View t). is_some (keys_of x.keys space)) e ∙ ap (λ (id : SpaceId). is_some (keys_of s.keys id)) is_space ∙ and_left _ _ (not_quiet_2 _ _ _ h)
 
-  -- the header is an Initial one without a token
-  pub header_is_short : (s : View t) (h : Header) (n : ℕ) → h ≡ header_of s → n ≤ header_most h → n ≤ 61
+  -- the header of the next packet is that of its space
+  pub header_now : (s : View t) (space : SpaceId) (h : Header) → space ≡ sending_space s → h ≡ header_of s → h ≡ header_in s space
   unfolding header_of
-  header_is_short s h n e most = subst (λ (x : Header). n ≤ header_most x) e most
+  header_now s space h is_space e = e ∙ ap (λ (id : SpaceId). header_in s id) (sym is_space)
 
-  pub header_has_number : (s : View t) (h : Header) → h ≡ header_of s → IsSome (header_number h)
-  unfolding header_of
-  header_has_number s h e = ap (λ (x : Header). is_some (header_number x)) e
+  -- a header in each space has at most 61 bytes
+  most_by : (s : View t) (space : SpaceId) → header_most (header_in s space) ≡ 61
+  most_by s Initial = refl
+  most_by s Handshake = refl
+  most_by s Data = refl
 
--- a close in an Initial packet is short
+  -- the header is short: an Initial one has no token
+  pub header_is_short : (s : View t) (space : SpaceId) (h : Header) (n : ℕ) → h ≡ header_in s space → n ≤ header_most h → n ≤ 61
+  header_is_short s space h n e most = subst (λ (x : ℕ). n ≤ x) (ap header_most e ∙ most_by s space) most
+
+  -- a header in each space has a number
+  number_by : (s : View t) (space : SpaceId) → IsSome (header_number (header_in s space))
+  number_by s Initial = refl
+  number_by s Handshake = refl
+  number_by s Data = refl
+
+  -- it has a number
+  pub header_has_number : (s : View t) (space : SpaceId) (h : Header) → h ≡ header_in s space → IsSome (header_number h)
+  header_has_number s space h e = ap (λ (x : Header). is_some (header_number x)) e ∙ number_by s space
+
+-- a close without a reason is short
 close_short : (code : ℕ) (type : Option ℕ) → length (frames_spelling (close_frame code type ∷ [])) ≤ 18
 close_short code type = omega (arith, length-append (spelling (close_frame code type)) [], length-connection_close code type [], varint_size_max code, varint_size_max (unwrap_or type 0), length_type 0 (omega arith))
 
-closing_short : (b : Bool) (c : Option Close) → length (frames_spelling ((if b then told_close c else close_frame 0x00 None) ∷ [])) ≤ 18
-closing_short true None = close_short 0x00 None
-closing_short true (Some (Connection c)) = close_short (told_code c.error_code) (told_type c.frame_type)
-closing_short true (Some (Application c)) = close_short 0x0c None
-closing_short false c = close_short 0x00 None
+-- the application's close fits with the reason that is kept
+application_fits : (code room : ℕ) (reason kept : List ℕ) → IsLongestReason (frames.ApplicationClose code) reason room kept → 25 ≤ room → length (frames_spelling (frames.ApplicationClose code kept ∷ [])) ≤ room
+application_fits code room reason kept longest r =
+    let alone : length (spelling (frames.ApplicationClose code [])) ≤ room = omega (arith, length-application_close code [], varint_size_max code, length_type 0 (omega arith)) in
+    omega (arith, length-append (spelling (frames.ApplicationClose code kept)) [], longest.fits alone)
 
-now_fits_by : (w : SpaceWaiting) (v : Life) (room : ℕ) (b : Bool) → 18 ≤ room → length (frames_spelling (if b then closing_frame v ∷ [] else taken_part w room)) ≤ room
-now_fits_by w v room true r = omega (arith, closing_short (is_closed v.state) v.close)
-now_fits_by w v room false r = taken_fits w room r
+-- and in each space
+application_fits_in : (id : SpaceId) (code room : ℕ) (reason kept : List ℕ) → IsLongestReason (frames.ApplicationClose (told_application_code code)) reason room kept → 25 ≤ room → length (frames_spelling (application_close id code kept ∷ [])) ≤ room
+application_fits_in Initial code room reason kept longest r = omega (arith, close_short 0x0c None)
+application_fits_in Handshake code room reason kept longest r = omega (arith, close_short 0x0c None)
+application_fits_in Data code room reason kept longest r = application_fits (told_application_code code) room reason kept longest r
 
--- the frames that are taken fit behind it
-pub taken_room : {t : Types} (s : View t) (h : Header) (fs : List FrameValue) (n room : ℕ) → n ≡ length (header_spelling h 0) → n ≤ 61 → room ≡ 1180 - n → fs ≡ taken_now s room →
-    length (header_spelling h 0) + length (frames_spelling fs) + 20 ≤ DATAGRAM_SIZE
-unfolding taken_now
-taken_room s h fs n room is_n most is_room is_fs =
-    let fits : length (frames_spelling (taken_now s room)) ≤ room = now_fits_by (space_of s.waiting.spaces Initial) s.life room s.waiting.close_owed (omega arith) in
-    let same : length (frames_spelling fs) ≡ length (frames_spelling (taken_now s room)) = ap (λ (x : List FrameValue). length (frames_spelling x)) is_fs in
+-- so does the one that is sent
+closing_fits : (id : SpaceId) (room : ℕ) (kept : List ℕ) (b : Bool) (c : Option Close) → IsKeptReason room kept c → 25 ≤ room → length (frames_spelling ((if b then told_close id kept c else close_frame 0x00 None) ∷ [])) ≤ room
+closing_fits id room kept true None reason r = omega (arith, close_short 0x00 None)
+closing_fits id room kept true (Some (Connection c)) reason r = omega (arith, close_short (told_code c.error_code) (told_type c.frame_type))
+closing_fits id room kept true (Some (Application c)) reason r = application_fits_in id c.error_code room c.reason kept reason r
+closing_fits id room kept false c reason r = omega (arith, close_short 0x00 None)
+
+-- an ACK and the close fit into the room
+close_fits : {t : Types} (time : ℕ) (s : View t) (space : SpaceId) (room : ℕ) (fs : List FrameValue) → Closes time s space fs → length (space_of s.waiting.spaces space).acks.ranges ≤ 64 → 1066 ≤ room →
+    room ≡ 1180 - length (header_spelling (header_in s space) 0) → length (frames_spelling fs) ≤ room
+close_fits time s space room fs (Closes.closing acks part kept reason is) few r is_room =
+    let acks_short : length (frames_spelling acks) ≤ 1041 = acks_fit time (space_of s.waiting.spaces space).acks acks (may_acknowledge (space_of s.waiting.spaces space).acks) part few in
+    let left : close_room s space acks ≡ room - length (frames_spelling acks) = close_room_left s space room acks is_room in
+    let whole : length (frames_spelling fs) ≡ length (frames_spelling acks) + length (frames_spelling (closing_frame space kept s.life ∷ [])) =
+    ap (λ (x : List FrameValue). length (frames_spelling x)) is ∙ bytes_append acks (closing_frame space kept s.life ∷ []) in
+    let close : length (frames_spelling (closing_frame space kept s.life ∷ [])) ≤ close_room s space acks =
+    closing_fits space (close_room s space acks) kept (is_closed s.life.state) s.life.close reason (omega (arith, left, acks_short, r)) in
+    omega (arith, acks_short, left, whole, close, r)
+
+-- the frames that are taken fit into the room
+now_fits : {t : Types} (time : ℕ) (s : View t) (space : SpaceId) (room : ℕ) (fs : List FrameValue) → TakenNow time s space room fs → length (space_of s.waiting.spaces space).acks.ranges ≤ 64 → 1066 ≤ room →
+    room ≡ 1180 - length (header_spelling (header_in s space) 0) → length (frames_spelling fs) ≤ room
+now_fits time s space room fs (TakenNow.a_close e closes) few r is_room = close_fits time s space room fs closes few r is_room
+now_fits time s space room fs (TakenNow.what_waits e taken) few r is_room = taken_fits time (space_of s.waiting.spaces space) room fs taken few (omega arith)
+
+-- the frames that are taken fit behind the header
+pub taken_room : {t : Types} (time : ℕ) (s : View t) (space : SpaceId) (h : Header) (fs : List FrameValue) (n room : ℕ) → h ≡ header_in s space → n ≡ length (header_spelling h 0) → n ≤ 61 → room ≡ 1180 - n →
+    TakenNow time s space room fs → length (space_of s.waiting.spaces space).acks.ranges ≤ 64 → length (header_spelling h 0) + length (frames_spelling fs) + 20 ≤ DATAGRAM_SIZE
+taken_room time s space h fs n room is_h is_n most is_room taken few =
+    let fits : length (frames_spelling fs) ≤ room = now_fits time s space room fs taken few (omega arith) (room_behind s space h n room is_h is_n is_room) in
     omega arith

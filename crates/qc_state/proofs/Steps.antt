@@ -8,7 +8,9 @@ use Rattle.qc_frame.specs.Frame.{FrameValue}
 use Rattle.qc_state.specs.declared.deeds.Did.{Did}
 use Rattle.qc_state.specs.declared.deeds.Quiet.TheVariants.{NothingOwed, Silent, Killed}
 use Rattle.qc_state.specs.declared.life.State.TheVariants.{Drained}
+use Rattle.qc_base.specs.declared.side.SpaceId.{SpaceId}
 use Rattle.qc_base.specs.declared.side.SpaceId.TheVariants.{Initial}
+use Rattle.qc_state.specs.declared.events.Event.{Event}
 use Rattle.qc_state.specs.declared.input.Input.{Input}
 use Rattle.qc_state.specs.declared.input.Input.TheVariants as input
 use Rattle.qc_state.specs.declared.life.ConnectionError.{ConnectionError}
@@ -16,14 +18,16 @@ use Rattle.qc_state.specs.declared.trace.Answer.{Answer}
 use Rattle.qc_state.specs.declared.trace.Answer.TheVariants.{Done, Dropped}
 use Rattle.qc_state.specs.declared.trace.Step.{Step}
 use Rattle.qc_state.specs.declared.transmit.Transmit.{Transmit}
-use Rattle.qc_state.specs.Life.{lost_event, lost_reported, drained_event}
-use Rattle.qc_state.specs.Moves.{Ask, Clock, Raise, Give, Say, ReportLost, ReportDrained, state_move, move_to, deeds_move, life_move}
+use Rattle.qc_state.specs.Life.{ready_event, connected_event, lost_event, waiting_events, ready_reported, connected_reported, lost_reported, drained_event}
+use Rattle.qc_state.specs.Moves.{Ask, Clock, Take, Seal, Forget, Calm, Raise, Give, Say, ReportReady, ReportConnected, ReportLost, ReportDrained, state_move, move_to, deeds_move, life_move, calmed}
 use Rattle.qc_state.specs.Run.{time_of, word_of, packets_of, began, close_after, input_after, called, reported, step_after, IsAllowed, out_of, answer_of, IsStep, Run, Calls, Ran, Adds}
+use Rattle.qc_state.specs.Numbers.{next_number}
 use Rattle.qc_state.specs.Receiving.{is_readable, datagram_after}
-use Rattle.qc_state.specs.Sending.{internal_error, given_after, killed_after, quiet_after, packet_after, transmit_after, MayTransmit, transmit_bytes, transmit_of, Transmits}
+use Rattle.qc_state.specs.Sending.{internal_error, given_after, killed_after, quiet_after, sending_space, drops_initial, initial_left, sealed_in, packet_after, transmit_after, MayTransmit, transmit_bytes, transmit_of, Transmits}
 use Rattle.qc_state.specs.Timers.{next_timeout}
 use Rattle.qc_state.specs.Types.{Types, Meaning}
 use Rattle.qc_state.specs.View.{View, At, at}
+use Rattle.qc_state.specs.Waiting.{is_calm}
 
 module _ {t : Types} where
   -- deeds that seal nothing name no packets, whichever they are
@@ -36,11 +40,30 @@ module _ {t : Types} where
   quiet_told s why false true false = refl
   quiet_told s why false false z = refl
 
+  -- dropping keys tells nothing
+  calm_did : (a : At t) (b : Bool) → (if b then move_to Calm a else a).did ≡ a.did
+  unfolding move_to deeds_move
+  calm_did a true = refl
+  calm_did a false = refl
+
+  -- and so it is where they may be dropped
+  left_did : (a : At t) (b : Bool) → (if b then calmed (move_to (Forget Initial) a) else a).did ≡ a.did
+  unfolding calmed move_to deeds_move
+  left_did a true = calm_did (move_to (Forget Initial) a) (is_calm (move_to (Forget Initial) a).state.waiting)
+  left_did a false = refl
+
+  -- a packet's deeds name it alone
+  packet_told : (time : ℕ) (s : View t) (id : SpaceId) (fs : List FrameValue) → packets_of (sealed_in time id fs (at s [])).did ≡ fs ∷ []
+  unfolding sealed_in initial_left move_to deeds_move
+  packet_told time s id fs =
+      let b : At t = move_to (Seal time id (next_number s.numbers id) 1200 fs) (move_to (Take id fs) (at s [])) in
+      ap packets_of (left_did b (drops_initial b.state id))
+
   -- a transmit's deeds name the packets that it sealed
-  packets_told : (time : ℕ) (s : View t) (packets : List (List FrameValue)) → MayTransmit s packets → packets_of (transmit_after time packets (at s [])).did ≡ packets
-  unfolding MayTransmit transmit_after quiet_after killed_after given_after packet_after move_to deeds_move
+  packets_told : (time : ℕ) (s : View t) (packets : List (List FrameValue)) → MayTransmit time s packets → packets_of (transmit_after time packets (at s [])).did ≡ packets
+  unfolding MayTransmit transmit_after quiet_after killed_after given_after packet_after
   packets_told time s [] may = quiet_told s internal_error _ _ _
-  packets_told time s (fs ∷ []) may = refl
+  packets_told time s (fs ∷ []) may = packet_told time s (sending_space s) fs
   packets_told time s (fs ∷ gs ∷ rest) may = absurd may
 
   pub calls_transmit : (m : Meaning t) (s : View t) (time max : ℕ) (b : At t) (sent : Option Transmit) (buffer : List ℕ) (answer : Answer) →
@@ -50,16 +73,16 @@ module _ {t : Types} where
       let names : packets_of b.did ≡ h.packets = ap (λ (x : At t). packets_of x.did) h.leads ∙ packets_told time (state_move (Clock time) s) h.packets h.may in
       record {
         leads = h.leads ∙ ap (λ (ps : List (List FrameValue)). transmit_after time ps (began s time)) (sym names);
-        allowed = subst (λ (ps : List (List FrameValue)). MayTransmit (began s time).state ps) (sym names) h.may;
+        allowed = subst (λ (ps : List (List FrameValue)). MayTransmit time (began s time).state ps) (sym names) h.may;
         answers = e ∙ ap (λ (x : Option Transmit). out_of x buffer) h.answer ∙ ap (λ (x : List ℕ). out_of (transmit_of h.packets (began s time).state) x) h.bytes
             ∙ ap (λ (ps : List (List FrameValue)). out_of (transmit_of ps (began s time).state) (transmit_bytes m ps (began s time).state)) (sym names);
       }
 
   pub calls_ping : (m : Meaning t) (s mid : View t) (time : ℕ) (b : View t) (ds : List Did) (answer : Answer) →
-      mid ≡ state_move (Clock time) s → b ≡ state_move (Ask Initial) mid → ds ≡ [] → answer ≡ Done → Calls m s (input.Ping time) (at b ds) answer
+      mid ≡ state_move (Clock time) s → b ≡ state_move (Ask mid.keys.highest) mid → ds ≡ [] → answer ≡ Done → Calls m s (input.Ping time) (at b ds) answer
   unfolding began input_after called IsAllowed answer_of move_to deeds_move
   calls_ping m s mid time b ds answer is_mid is_b is_ds e = record {
-    leads = ap (λ (x : List Did). at b x) is_ds ∙ ap (λ (x : View t). at x []) (is_b ∙ ap (λ (x : View t). state_move (Ask Initial) x) is_mid);
+    leads = ap (λ (x : List Did). at b x) is_ds ∙ ap (λ (x : View t). at x []) (is_b ∙ ap (λ (x : View t). state_move (Ask x.keys.highest) x) is_mid);
     allowed = tt;
     answers = e;
   }
@@ -82,20 +105,31 @@ module _ {t : Types} where
     answers = e ∙ ap (λ (x : Bool). if x then Done else Dropped) (is_begins ∙ ap (is_readable mid) is_copy ∙ ap (λ (x : View t). is_readable x bytes) is_mid);
   }
 
-  -- the report of the reason leaves that of the end as it was
-  same_end : (s : View t) → drained_event (state_move ReportLost s).life ≡ drained_event s.life
-  unfolding drained_event state_move life_move lost_reported
+  -- reporting one thing leaves the reports of the others as they were
+  same_connected : (s : View t) → connected_event (state_move ReportReady s).life ≡ connected_event s.life
+  unfolding connected_event state_move life_move ready_reported
+  same_connected s = refl
+
+  -- so it is with the reason of the end
+  same_lost : (s : View t) → lost_event (state_move ReportConnected (state_move ReportReady s)).life ≡ lost_event s.life
+  unfolding lost_event state_move life_move ready_reported connected_reported
+  same_lost s = refl
+
+  -- and with the end
+  same_end : (s : View t) → drained_event (state_move ReportLost (state_move ReportConnected (state_move ReportReady s))).life ≡ drained_event s.life
+  unfolding drained_event state_move life_move ready_reported connected_reported lost_reported
   same_end s = refl
 
+  -- a step of a call, whose answer and reports stand in it
   pub is_step : (m : Meaning t) (k : ℕ) (s : View t) (i : Input) (x : Step) (b : At t) (s' : View t) →
       s.timers.greatest ≤ time_of i → Calls m s i b x.answer → x.did ≡ b.did →
-      s' ≡ state_move ReportDrained (state_move ReportLost b.state) →
-      x.events ≡ option_to_list (lost_event b.state.life) → x.endpoint ≡ option_to_list (drained_event (state_move ReportLost b.state).life) →
+      s' ≡ reported b.state →
+      x.events ≡ waiting_events b.state.life → x.endpoint ≡ option_to_list (drained_event b.state.life) →
       x.timeout ≡ next_timeout s'.timers → x.at ≡ k → x.word ≡ word_of i → x.now ≡ time_of i → IsStep m k s i x s'
-  unfolding reported step_after
+  unfolding step_after
   is_step m k s i x b s' forward h is_did is_s' is_events is_endpoint is_timeout is_at is_word is_now =
       let same : b ≡ called m s i x.did = h.leads ∙ ap (λ (ds : List Did). called m s i ds) (sym is_did) in
-      let state : s' ≡ step_after m s i x.did = is_s' ∙ ap (λ (y : At t). state_move ReportDrained (state_move ReportLost y.state)) same in
+      let state : s' ≡ step_after m s i x.did = is_s' ∙ ap (λ (y : At t). reported y.state) same in
       record {
         numbers = ap (λ (v : View t). v.numbers) state;
         keys = ap (λ (v : View t). v.keys) state;
@@ -109,8 +143,8 @@ module _ {t : Types} where
         deeds = is_did ∙ ap (λ (y : At t). y.did) same;
         allowed = subst (λ (ds : List Did). IsAllowed i ds (began s (time_of i)).state) (sym is_did) h.allowed;
         answer = h.answers ∙ ap (λ (ds : List Did). answer_of m i ds (began s (time_of i)).state) (sym is_did);
-        events = is_events ∙ ap (λ (y : At t). option_to_list (lost_event y.state.life)) same;
-        endpoint = is_endpoint ∙ ap option_to_list (same_end b.state) ∙ ap (λ (y : At t). option_to_list (drained_event y.state.life)) same;
+        events = is_events ∙ ap (λ (y : At t). waiting_events y.state.life) same;
+        endpoint = is_endpoint ∙ ap (λ (y : At t). option_to_list (drained_event y.state.life)) same;
         timeout = is_timeout;
         place = is_at;
         word = is_word;
@@ -143,14 +177,39 @@ module _ {t : Types} where
   transmits_began m s mid time ds b sent buffer is_mid is_ds h =
       subst (λ (a : At t). Transmits m time a b sent buffer) (ap (λ (x : List Did). at mid x) is_ds ∙ ap (λ (x : View t). at x []) is_mid) h
 
-  -- a step of a call, the report of the reason, and the report of the end
-  pub is_step_by : (m : Meaning t) (k : ℕ) (s : View t) (i : Input) (x : Step) (ds : List Did) (s2 s3 s4 : View t) →
-      s.timers.greatest ≤ time_of i → Calls m s i (at s2 ds) x.answer → x.did ≡ ds → s3 ≡ state_move ReportLost s2 → s4 ≡ state_move ReportDrained s3 →
-      x.events ≡ option_to_list (lost_event s2.life) → x.endpoint ≡ option_to_list (drained_event s3.life) →
-      x.timeout ≡ next_timeout s4.timers → x.at ≡ k → x.word ≡ word_of i → x.now ≡ time_of i → IsStep m k s i x s4
-  is_step_by m k s i x ds s2 s3 s4 forward h is_did is_s3 is_s4 is_events is_endpoint is_timeout is_at is_word is_now =
-      is_step m k s i x (at s2 ds) s4 forward h is_did (is_s4 ∙ ap (λ (v : View t). state_move ReportDrained v) is_s3) is_events
-      (is_endpoint ∙ ap (λ (v : View t). option_to_list (drained_event v.life)) is_s3) is_timeout is_at is_word is_now
+  -- what is reported, one after the other, is all that waited
+  pub events_wait : (s2 s3 s4 : View t) → s3 ≡ state_move ReportReady s2 → s4 ≡ state_move ReportConnected s3 →
+      option_to_list (ready_event s2.life) ++ (option_to_list (connected_event s3.life) ++ option_to_list (lost_event s4.life)) ≡ waiting_events s2.life
+  unfolding waiting_events
+  events_wait s2 s3 s4 is_s3 is_s4 =
+      let e4 : s4 ≡ state_move ReportConnected (state_move ReportReady s2) = is_s4 ∙ ap (λ (v : View t). state_move ReportConnected v) is_s3 in
+      let connected : connected_event s3.life ≡ connected_event s2.life = ap (λ (v : View t). connected_event v.life) is_s3 ∙ same_connected s2 in
+      let lost : lost_event s4.life ≡ lost_event s2.life = ap (λ (v : View t). lost_event v.life) e4 ∙ same_lost s2 in
+      ap (λ (o : Option Event). option_to_list (ready_event s2.life) ++ (option_to_list o ++ option_to_list (lost_event s4.life))) connected
+      ∙ ap (λ (o : Option Event). option_to_list (ready_event s2.life) ++ (option_to_list (connected_event s2.life) ++ option_to_list o)) lost
+
+  -- a step of a call, of all reports to the application, and of the report of the end
+  pub is_step_reported : (m : Meaning t) (k : ℕ) (s : View t) (i : Input) (x : Step) (ds : List Did) (s2 s5 s6 : View t) →
+      s.timers.greatest ≤ time_of i → Calls m s i (at s2 ds) x.answer → x.did ≡ ds →
+      s5 ≡ state_move ReportLost (state_move ReportConnected (state_move ReportReady s2)) → s6 ≡ state_move ReportDrained s5 →
+      x.events ≡ waiting_events s2.life → x.endpoint ≡ option_to_list (drained_event s5.life) →
+      x.timeout ≡ next_timeout s6.timers → x.at ≡ k → x.word ≡ word_of i → x.now ≡ time_of i → IsStep m k s i x s6
+  unfolding reported
+  is_step_reported m k s i x ds s2 s5 s6 forward h is_did is_s5 is_s6 is_events is_endpoint is_timeout is_at is_word is_now =
+      is_step m k s i x (at s2 ds) s6 forward h is_did (is_s6 ∙ ap (λ (v : View t). state_move ReportDrained v) is_s5) is_events
+      (is_endpoint ∙ ap (λ (v : View t). option_to_list (drained_event v.life)) is_s5 ∙ ap option_to_list (same_end s2)) is_timeout is_at is_word is_now
+
+  -- a step of a call and of the reports behind it: that the handshake's data is ready, that the handshake is over, the reason of
+  -- the end, and the end
+  pub is_step_by : (m : Meaning t) (k : ℕ) (s : View t) (i : Input) (x : Step) (ds : List Did) (s2 s3 s4 s5 s6 : View t) →
+      s.timers.greatest ≤ time_of i → Calls m s i (at s2 ds) x.answer → x.did ≡ ds →
+      s3 ≡ state_move ReportReady s2 → s4 ≡ state_move ReportConnected s3 → s5 ≡ state_move ReportLost s4 → s6 ≡ state_move ReportDrained s5 →
+      x.events ≡ waiting_events s2.life → x.endpoint ≡ option_to_list (drained_event s5.life) →
+      x.timeout ≡ next_timeout s6.timers → x.at ≡ k → x.word ≡ word_of i → x.now ≡ time_of i → IsStep m k s i x s6
+  is_step_by m k s i x ds s2 s3 s4 s5 s6 forward h is_did is_s3 is_s4 is_s5 is_s6 is_events is_endpoint is_timeout is_at is_word is_now =
+      let e4 : s4 ≡ state_move ReportConnected (state_move ReportReady s2) = is_s4 ∙ ap (λ (v : View t). state_move ReportConnected v) is_s3 in
+      let e5 : s5 ≡ state_move ReportLost (state_move ReportConnected (state_move ReportReady s2)) = is_s5 ∙ ap (λ (v : View t). state_move ReportLost v) e4 in
+      is_step_reported m k s i x ds s2 s5 s6 forward h is_did e5 is_s6 is_events is_endpoint is_timeout is_at is_word is_now
 
   -- the empty trace
   pub ran_none : (m : Meaning t) (k : ℕ) (s : View t) (is : List Input) (xs : List Step) → xs ≡ [] → Ran m k s is xs

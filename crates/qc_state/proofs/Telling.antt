@@ -12,13 +12,13 @@ use Rattle.qc_state.specs.declared.life.State.{State}
 use Rattle.qc_state.specs.declared.life.State.TheVariants as state
 use Rattle.qc_path.specs.Arrived.{Window, is_new, arrived}
 use Rattle.qc_state.specs.declared.deeds.Verdict.{Verdict}
-use Rattle.qc_state.specs.declared.deeds.Verdict.TheVariants as verdict
-use Rattle.qc_state.specs.Headline.{is_space, sealed_in, reasons_in, lives_in, entered_number, entered_in, EachNew, came_with, CloseFrom, RisesFrom, Kernel, kernel_of, kernel_after, Tells}
-use Rattle.qc_state.specs.Life.{rank_of, is_open, is_drained, reason_given, life_raised, life_closed, life_drained, lost_reported, drained_reported}
-use Rattle.qc_state.specs.Moves.{Move, ClosesOnly, Clock, Ask, Take, Seal, Enter, Fail, Accept, Fix, Hear, Ack, Calm, Tell, Drain, Leave, Owe, IsTold, enters, Shut, Raise, Give, Say, ReportLost, ReportDrained, state_move, move_to, deeds_move, MayMove, told, numbers_move, life_move, timers_move}
+use Rattle.qc_state.specs.Headline.{sealed_in, reasons_in, lives_in, entered_number, entered_in, EachNew, came_with, CloseFrom, RisesFrom, Kernel, kernel_of, kernel_after, Tells}
+use Rattle.qc_state.specs.Life.{rank_of, is_open, is_drained, reason_given, life_raised, life_closed, life_drained, life_established, data_ready, ready_reported, connected_reported, lost_reported, drained_reported}
+use Rattle.qc_state.specs.Moves.{Move, ClosesOnly, Clock, Ask, Take, Seal, Forget, Enter, Fail, Accept, Fix, Hear, Ack, Calm, Come, Read, Write, Ready, Learn, Establish, Tell, Drain, Leave, Owe, IsTold, enters, Shut, Raise, Give, Say, ReportReady, ReportConnected, ReportLost, ReportDrained, state_move, move_to, deeds_move, MayMove, told, numbers_move, life_move, timers_move}
 use Rattle.qc_state.specs.Numbers.{next_number, came_in, is_new_in, number_used, used_in, number_entered, number_accepted, number_acked}
 use Rattle.qc_state.specs.Numbers as numbers
-use Rattle.qc_state.specs.Spaces.{space_of, with_space}
+use Rattle.qc_state.specs.Setup.{idle_limit_now}
+use Rattle.qc_state.specs.Spaces.{is_space, space_of, with_space}
 use Rattle.qc_state.specs.declared.numbers.SpaceNumbers.{SpaceNumbers}
 use Rattle.qc_state.specs.Timers.{timers_sealed, timers_accepted, timers_settled, timers_stopped, timers_closing}
 use Rattle.qc_state.specs.declared.timers.Timers.{Timers}
@@ -212,18 +212,25 @@ module _ {t : Types} where
   unfolding Tells reason_given
   give_tells id s why h = (h, rw h refl)
 
-  pub move_tells : (id : SpaceId) (x : Move) (s : View t) → MayMove x s → Tells id (kernel id s) (deeds_move x s) (kernel id (state_move x s))
-  unfolding Tells MayMove deeds_move state_move numbers_move life_move life_raised life_closed life_drained lost_reported drained_reported number_entered number_accepted number_acked numbers.entered_in numbers.accepted_in numbers.acked_in
+  pub move_tells : (id : SpaceId) (x : Move t) (s : View t) → MayMove x s → Tells id (kernel id s) (deeds_move x s) (kernel id (state_move x s))
+  unfolding Tells MayMove deeds_move state_move numbers_move life_move life_raised life_closed life_drained lost_reported drained_reported life_established data_ready ready_reported connected_reported number_entered number_accepted number_acked numbers.entered_in numbers.accepted_in numbers.acked_in
   move_tells id (Clock time) s h = absurd h
   move_tells id (Ask space) s h = refl
   move_tells id (Take space fs) s h = refl
-  move_tells id (Enter space n) s h = enter_tells id space s n verdict.ReadForClose (λ w. numbers.entered_in n w) h refl (λ w. refl) (λ w. refl)
+  move_tells id (Forget space) s h = refl
+  move_tells id (Enter space n v) s h = enter_tells id space s n v (λ w. numbers.entered_in n w) h.0 h.1 (λ w. refl) (λ w. refl)
   move_tells id Fail s h = refl
-  move_tells id (Accept time space n v) s h = enter_tells id space s n v (λ w. numbers.accepted_in n w) h.0 h.1 (λ w. refl) (λ w. refl)
+  move_tells id (Accept time space n e v) s h = enter_tells id space s n v (λ w. numbers.accepted_in n w) h.0 h.1 (λ w. refl) (λ w. refl)
   move_tells id (Fix cid) s h = refl
   move_tells id (Hear bytes) s h = refl
   move_tells id (Ack space n rs) s h = next_same id space s (λ w. numbers.acked_in n w) refl refl
   move_tells id Calm s h = refl
+  move_tells id (Come space offset bytes) s h = refl
+  move_tells id (Read space count session) s h = refl
+  move_tells id (Write bytes keys session) s h = refl
+  move_tells id Ready s h = refl
+  move_tells id (Learn parameters) s h = refl
+  move_tells id Establish s h = (h, refl)
   move_tells id (Tell d) s h = told_tells id d s h
   move_tells id Drain s h = (h, refl)
   move_tells id (Leave time) s h = (h, refl)
@@ -233,31 +240,42 @@ module _ {t : Types} where
   move_tells id (Raise to) s h = (h, refl)
   move_tells id (Give why) s h = give_tells id s why h
   move_tells id (Say q) s h = (tt, refl)
+  move_tells id ReportReady s h = refl
+  move_tells id ReportConnected s h = refl
   move_tells id ReportLost s h = refl
   move_tells id ReportDrained s h = refl
 
   -- no move but the first of a call sets the clock
-  clock_kept : (x : Move) (s : View t) → MayMove x s → (state_move x s).timers.greatest ≡ s.timers.greatest
+  clock_kept : (x : Move t) (s : View t) → MayMove x s → (state_move x s).timers.greatest ≡ s.timers.greatest
   unfolding MayMove state_move timers_move timers_accepted timers_settled timers_stopped timers_closing
   clock_kept (Clock time) s h = absurd h
   clock_kept (Ask space) s h = refl
   clock_kept (Take space fs) s h = refl
-  clock_kept (Enter space n) s h = refl
+  clock_kept (Forget space) s h = refl
+  clock_kept (Enter space n v) s h = refl
   clock_kept Fail s h = refl
-  clock_kept (Accept time space n v) s h = refl
+  clock_kept (Accept time space n e v) s h = refl
   clock_kept (Fix cid) s h = refl
   clock_kept (Hear bytes) s h = refl
   clock_kept (Ack space n rs) s h = refl
   clock_kept Calm s h = refl
+  clock_kept (Come space offset bytes) s h = refl
+  clock_kept (Read space count session) s h = refl
+  clock_kept (Write bytes keys session) s h = refl
+  clock_kept Ready s h = refl
+  clock_kept (Learn parameters) s h = refl
+  clock_kept Establish s h = refl
   clock_kept (Tell d) s h = refl
   clock_kept Drain s h = refl
   clock_kept (Leave time) s h = refl
   clock_kept Owe s h = refl
-  clock_kept (Seal time space n size fs) s h = sealed_clock s.timers s.setup.fixed.idle_limit time (list_any elicits fs)
+  clock_kept (Seal time space n size fs) s h = sealed_clock s.timers (idle_limit_now s.setup) time (list_any elicits fs)
   clock_kept (Shut time close) s h = refl
   clock_kept (Raise to) s h = refl
   clock_kept (Give why) s h = refl
   clock_kept (Say q) s h = refl
+  clock_kept ReportReady s h = refl
+  clock_kept ReportConnected s h = refl
   clock_kept ReportLost s h = refl
   clock_kept ReportDrained s h = refl
 
@@ -280,7 +298,7 @@ module _ {t : Types} where
     tells = tells_append id (kernel id a.state) (kernel id b.state) (kernel id c.state) g.since h.since g.tells h.tells;
   }
 
-  pub told_move : (id : SpaceId) (x : Move) (a : At t) → MayMove x a.state → Told id a (move_to x a)
+  pub told_move : (id : SpaceId) (x : Move t) (a : At t) → MayMove x a.state → Told id a (move_to x a)
   unfolding move_to
   told_move id x a h = record { since = deeds_move x a.state; appended = told_appends a.did (deeds_move x a.state); clock = clock_kept x a.state h; tells = move_tells id x a.state h }
 

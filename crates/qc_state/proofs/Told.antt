@@ -1,9 +1,10 @@
 -- The deeds of a run come where they may, and what follows from that.
-use Rattle.std.proofs.Common.{◌≡◌, ℕ, ◌+◌, ◌≤◌, List, [], ◌∷◌, length, replicate, take, refl, ap, sym, ◌∙◌, subst, Bool, true, false, Option, Some, None, if◌then◌else◌, arith}
+use Rattle.std.proofs.Common.{◌≡◌, ℕ, ◌+◌, ◌≤◌, List, [], ◌∷◌, ◌++◌, length, replicate, take, refl, ap, sym, ◌∙◌, subst, Bool, true, false, Option, Some, None, if◌then◌else◌, arith}
 use Rattle.std.specs.Prelude.{option_to_list, ◌||◌, ◌&&◌, not}
 use Rattle.std.specs.List.{list_any}
+use Rattle.std.proofs.lemmas.List.Folds.{list_any-append}
 use Rattle.qc_base.specs.declared.side.SpaceId.{SpaceId}
-use Rattle.qc_base.specs.declared.side.SpaceId.TheVariants.{Initial}
+use Rattle.qc_base.specs.declared.side.SpaceId.TheVariants.{Initial, Handshake, «Data»}
 use Rattle.qc_frame.specs.Frame.{FrameValue}
 use Rattle.qc_frame.specs.declared.frames.FrameOf.TheVariants.{Padding}
 use Rattle.qc_state.specs.declared.deeds.Did.{Did}
@@ -16,12 +17,13 @@ use Rattle.qc_state.specs.declared.life.ConnectionError.{ConnectionError}
 use Rattle.qc_state.specs.declared.life.State.{State}
 use Rattle.qc_state.specs.declared.life.State.TheVariants as state
 use Rattle.qc_state.specs.declared.trace.Step.{Step}
-use Rattle.qc_state.specs.Headline.{deeds_of, sealed_in, reasons_in, lives_in, entered_in, EachNew, CloseFrom, RisesFrom, Kernel, Tells, EachRises, EachAdmitted, LifeRises, OnlyCloses, LosesOnce}
-use Rattle.qc_state.specs.Life.{rank_of, is_open, is_closed, is_drained, lost_reported, drained_reported}
-use Rattle.qc_state.specs.Moves.{ClosesOnly, is_close, Ask, Take, Seal, Shut, Raise, Say, state_move, move_to, MayMove, numbers_move, life_move, timers_move}
+use Rattle.qc_state.specs.Headline as headline
+use Rattle.qc_state.specs.Headline.{deeds_of, reasons_in, lives_in, entered_in, EachNew, CloseFrom, RisesFrom, Kernel, Tells, EachRises, EachAdmitted, LifeRises, OnlyCloses, LosesOnce}
+use Rattle.qc_state.specs.Life.{rank_of, is_open, is_closed, is_drained, ready_reported, connected_reported, lost_reported, drained_reported}
+use Rattle.qc_state.specs.Moves.{ClosesOnly, is_close, Ask, Take, Seal, Forget, Calm, Shut, Raise, Say, state_move, move_to, MayMove, numbers_move, life_move, timers_move, calmed}
 use Rattle.qc_state.specs.Numbers.{next_number, came_in}
 use Rattle.qc_state.specs.Run.{time_of, packets_of, began, close_after, input_after, called, reported, step_after, IsAllowed, IsStep, Run, Ran}
-use Rattle.qc_state.specs.Sending.{close_frame, told_close, closing_frame, is_silent, owes, internal_error, given_after, killed_after, quiet_after, packet_after, transmit_after, Carries, MaySeal, MayTransmit}
+use Rattle.qc_state.specs.Sending.{close_frame, application_close, told_close, closing_frame, Closes, is_silent, owes, sending_space, internal_error, given_after, killed_after, quiet_after, drops_initial, initial_left, sealed_in, packet_after, transmit_after, Carries, MaySeal, MayTransmit}
 use Rattle.qc_state.specs.Timers.{clock_set}
 use Rattle.qc_state.specs.Types.{Types, Meaning}
 use Rattle.qc_state.specs.View.{View, At}
@@ -29,7 +31,7 @@ use Rattle.qc_state.proofs.Telling.{tells_append, rises, reasons, lives, closes,
 use Rattle.qc_state.proofs.ToldReceiving.{told_datagram}
 
 -- a connection that isn't silent has not ended, and it owes a close once it has closed
-loud_alive : (s : State) (o : Bool) → (is_drained s || (not (is_open s) && not o)) ≡ false → is_drained s ≡ false
+pub loud_alive : (s : State) (o : Bool) → (is_drained s || (not (is_open s) && not o)) ≡ false → is_drained s ≡ false
 loud_alive state.Handshake o h = refl
 loud_alive state.Established o h = refl
 loud_alive state.Closed o h = refl
@@ -46,14 +48,29 @@ loud_owes state.Draining false h r = cc
 loud_owes state.Drained o h r = cc
 
 -- what this end sends as its close is a close
-closing_closes : (b : Bool) (c : Option Close) → is_close (if b then told_close c else close_frame 0x00 None) ≡ true
-closing_closes true None = refl
-closing_closes true (Some (Connection c)) = refl
-closing_closes true (Some (Application c)) = refl
-closing_closes false c = refl
+application_closes : (id : SpaceId) (code : ℕ) (kept : List ℕ) → is_close (application_close id code kept) ≡ true
+application_closes Initial code kept = refl
+application_closes Handshake code kept = refl
+application_closes Data code kept = refl
+
+closing_closes : (id : SpaceId) (kept : List ℕ) (b : Bool) (c : Option Close) → is_close (if b then told_close id kept c else close_frame 0x00 None) ≡ true
+closing_closes id kept true None = refl
+closing_closes id kept true (Some (Connection c)) = refl
+closing_closes id kept true (Some (Application c)) = application_closes id c.error_code kept
+closing_closes id kept false c = refl
 
 any_first : (f : FrameValue) (fs : List FrameValue) → is_close f ≡ true → list_any is_close (f ∷ fs) ≡ true
 any_first f fs e = rw e refl
+
+-- one test more changes nothing of one that holds
+any_more : (a b : Bool) → b ≡ true → (a || b) ≡ true
+any_more true b h = refl
+any_more false b h = h
+
+-- behind other frames too
+any_behind : (fs gs : List FrameValue) → list_any is_close gs ≡ true → list_any is_close (fs ++ gs) ≡ true
+any_behind [] gs h = h
+any_behind (f ∷ fs) gs h = any_more (is_close f) _ (any_behind fs gs h)
 
 module _ {t : Types} where
   told_killed : (id : SpaceId) (why : ConnectionError) (a : At t) → is_drained a.state.life.state ≡ false → Told id a (killed_after why a)
@@ -66,22 +83,44 @@ module _ {t : Types} where
   quiet_by id a false true h = told_next id a (killed_after internal_error a) _ (told_killed id internal_error a (loud_alive a.state.life.state a.state.waiting.close_owed h)) (told_move id (Say Killed) (killed_after internal_error a) tt)
   quiet_by id a false false h = told_move id (Say NothingOwed) a tt
 
+  -- an ACK and a close hold a close
+  closes_close : (time : ℕ) (s : View t) (id : SpaceId) (gs : List FrameValue) → Closes time s id gs → list_any is_close gs ≡ true
+  closes_close time s id gs (Closes.closing acks part kept reason is) =
+      ap (list_any is_close) is ∙ any_behind acks (closing_frame id kept s.life ∷ []) (any_first (closing_frame id kept s.life) [] (closing_closes id kept (is_closed s.life.state) s.life.close))
+
   -- a packet that may be sealed holds a close, once the connection has closed
-  closes_only : (s : View t) (fs : List FrameValue) → MaySeal s fs → ClosesOnly (rank_of s.life.state) fs
+  pub closes_only : (time : ℕ) (s : View t) (fs : List FrameValue) → MaySeal time s fs → ClosesOnly (rank_of s.life.state) fs
   unfolding is_silent
-  closes_only s fs may = carried_closes may.carries
+  closes_only time s fs may = carried_closes may.carries
     where
-      carried_closes : Carries s fs → ClosesOnly (rank_of s.life.state) fs
-      carried_closes (Carries.a_close owed n is) = λ r. ap (list_any is_close) is ∙ any_first (closing_frame s.life) (replicate n Padding) (closing_closes (is_closed s.life.state) s.life.close)
+      carried_closes : Carries time s (sending_space s) fs → ClosesOnly (rank_of s.life.state) fs
+      carried_closes (Carries.a_close owed gs closes n is) = λ r.
+          ap (list_any is_close) is ∙ list_any-append is_close gs (replicate n Padding) ∙ ap (λ (b : Bool). b || list_any is_close (replicate n Padding)) (closes_close time s (sending_space s) gs closes)
       carried_closes (Carries.what_waits free wait holds) = λ r. cc (loud_owes s.life.state s.waiting.close_owed may.alive r, free)
 
-  told_packet : (id : SpaceId) (time : ℕ) (fs : List FrameValue) (a : At t) → MaySeal a.state fs → Told id a (packet_after time fs a)
-  unfolding packet_after MayMove move_to state_move numbers_move life_move
-  told_packet id time fs a may =
-      let b : At t = move_to (Take Initial fs) a in
-      told_next id a b _ (told_move id (Take Initial fs) a tt) (told_move id (Seal time Initial (next_number a.state.numbers Initial) 1200 fs) b (refl, closes_only a.state fs may))
+  -- nothing more may be in flight
+  told_calm_by : (id : SpaceId) (a : At t) (b : Bool) → Told id a (if b then move_to Calm a else a)
+  unfolding MayMove
+  told_calm_by id a true = told_move id Calm a tt
+  told_calm_by id a false = told_here id a
 
-  told_transmit : (id : SpaceId) (time : ℕ) (ps : List (List FrameValue)) (a : At t) → MayTransmit a.state ps → Told id a (transmit_after time ps a)
+  -- the Initial keys are dropped, or not
+  told_left_by : (id : SpaceId) (a : At t) (b : Bool) → Told id a (if b then calmed (move_to (Forget Initial) a) else a)
+  unfolding calmed MayMove
+  told_left_by id a true = told_next id a (move_to (Forget Initial) a) _ (told_move id (Forget Initial) a tt) (told_calm_by id (move_to (Forget Initial) a) _)
+  told_left_by id a false = told_here id a
+
+  -- a packet is sealed
+  told_packet : (id : SpaceId) (time : ℕ) (fs : List FrameValue) (a : At t) → MaySeal time a.state fs → Told id a (packet_after time fs a)
+  unfolding packet_after sealed_in initial_left MayMove move_to state_move numbers_move life_move
+  told_packet id time fs a may =
+      let space : SpaceId = sending_space a.state in
+      let b : At t = move_to (Take space fs) a in
+      let c : At t = move_to (Seal time space (next_number a.state.numbers space) 1200 fs) b in
+      told_next id a b _ (told_move id (Take space fs) a tt)
+      (told_next id b c _ (told_move id (Seal time space (next_number a.state.numbers space) 1200 fs) b (refl, closes_only time a.state fs may)) (told_left_by id c (drops_initial c.state space)))
+
+  told_transmit : (id : SpaceId) (time : ℕ) (ps : List (List FrameValue)) (a : At t) → MayTransmit time a.state ps → Told id a (transmit_after time ps a)
   unfolding MayTransmit transmit_after quiet_after
   told_transmit id time [] a may = quiet_by id a (is_silent a.state) (owes a.state) refl
   told_transmit id time (fs ∷ []) a may = told_packet id time fs a may
@@ -97,10 +136,10 @@ module _ {t : Types} where
   told_input id m (input.Datagram time remote ecn bytes) ds a h = told_datagram id m time remote bytes a
   told_input id m (input.Transmit time max) ds a h = told_transmit id time (packets_of ds) a h
   told_input id m (input.Close time code reason) ds a h = closed_by id time _ a _ refl
-  told_input id m (input.Ping time) ds a h = told_move id (Ask Initial) a tt
+  told_input id m (input.Ping time) ds a h = told_move id (Ask a.state.keys.highest) a tt
 
   step_tells : (id : SpaceId) (m : Meaning t) (k : ℕ) (s : View t) (i : Input) (x : Step) (s' : View t) → IsStep m k s i x s' → Tells id (kernel id s) x.did (kernel id s')
-  unfolding called began step_after reported state_move numbers_move life_move lost_reported drained_reported
+  unfolding called began step_after reported state_move numbers_move life_move ready_reported connected_reported lost_reported drained_reported
   step_tells id m k s i x s' h =
       let a : At t = began s (time_of i) in
       let b : At t = input_after m i x.did a in
@@ -168,7 +207,7 @@ module _ {t : Types} where
   -- the empty trace
   pub none_rises : (s : View t) (xs : List Step) → xs ≡ [] → EachRises s xs
   unfolding EachRises
-  none_rises s xs e = subst (λ (ys : List Step). (id : SpaceId) → RisesFrom (next_number s.numbers id) (sealed_in id (deeds_of ys))) (sym e) (λ id. tt)
+  none_rises s xs e = subst (λ (ys : List Step). (id : SpaceId) → RisesFrom (next_number s.numbers id) (headline.sealed_in id (deeds_of ys))) (sym e) (λ id. tt)
 
   pub none_admits : (s : View t) (xs : List Step) → xs ≡ [] → EachAdmitted s xs
   unfolding EachAdmitted

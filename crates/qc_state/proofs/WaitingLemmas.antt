@@ -1,26 +1,34 @@
 -- What waits once frames are sealed, for lists that are joined, and for the frames that this end takes.
-use Rattle.std.proofs.Common.{◌≡◌, ℕ, zero, suc, ◌+◌, ◌-◌, ◌%◌, ◌<◌, ◌≤◌, List, [], ◌∷◌, ◌++◌, length, take, replicate, min, refl, ap, ◌∙◌, Bool, true, false, ◌||◌, not, ◌==◌, nat_le, if◌then◌else◌, arith, length-append}
+use Rattle.std.proofs.Common.{◌≡◌, ℕ, zero, suc, ◌+◌, ◌-◌, ◌%◌, ◌<◌, ◌≤◌, List, [], ◌∷◌, ◌++◌, length, take, replicate, min, refl, ap, sym, ◌∙◌, subst, Bool, true, false, ◌||◌, not, ◌==◌, nat_le, if◌then◌else◌, Option, arith, length-append}
 use Rattle.std.proofs.lemmas.Bool.Decides.{nat_tests}
-use Rattle.std.proofs.lemmas.List.{length-take, length-take-le}
+use Rattle.std.proofs.lemmas.List.{length-reverse, length-take, length-take-le}
+use Rattle.std.proofs.lemmas.List.Folds.{list_any-append}
 use Rattle.std.proofs.lemmas.Grind.{flat_map-append}
 use Rattle.qc_base.specs.Varint.{varint, spelled, limit, one, two, four, eight}
-use Rattle.qc_state.specs.Unsent.{Unsent}
 use Rattle.std.specs.List.{list_any}
-use Rattle.qc_frame.specs.Frame.{FrameValue}
-use Rattle.qc_frame.specs.FrameSpelling.{elicits, spelling, frames_spelling}
-use Rattle.qc_frame.specs.declared.frames.FrameOf.TheVariants.{Padding, Ping, Crypto}
+use Rattle.qc_frame.specs.Frame.{FrameValue, AckValue}
+use Rattle.qc_frame.specs.AckRanges.{ranges_of}
+use Rattle.qc_frame.specs.FrameFits.{Fits}
+use Rattle.qc_frame.specs.FrameSpelling.{spelling, ecn_spelling, frames_spelling}
+use Rattle.qc_frame.specs.declared.frames.EcnCounts.{EcnCounts}
+use Rattle.qc_frame.specs.declared.frames.FrameOf.TheVariants.{Padding, Ping, Ack, Crypto}
+use Rattle.qc_frame.proofs.Lengths.{ack_size_max}
+use Rattle.qc_path.specs.Acks.{PendingValues}
+use Rattle.qc_state.specs.Acks.{AckPart, SaysAck, ack_sent, is_ack_owed}
 use Rattle.qc_state.specs.declared.waiting.SpaceWaiting.{SpaceWaiting}
-use Rattle.qc_state.specs.Waiting.{Waits, WaitAll, without, without_all, waits_here, ping_part, crypto_part, taken_part}
+use Rattle.qc_state.specs.Waiting.{Waits, WaitAll, without, without_all, waits_here, is_told, ping_part, crypto_part, TakenPart}
 
+-- what waits once joined lists are sealed
 pub without_all_append : (w : SpaceWaiting) (fs gs : List FrameValue) → without_all w (fs ++ gs) ≡ without_all (without_all w fs) gs
 unfolding without_all
 without_all_append w [] gs = refl
 without_all_append w (f ∷ fs) gs = without_all_append (without w f) fs gs
 
-pub wait_all_append : (w : SpaceWaiting) (fs gs : List FrameValue) → WaitAll w fs → WaitAll (without_all w fs) gs → WaitAll w (fs ++ gs)
+-- joined lists wait, where the second one waits behind the first
+pub wait_all_append : (time : ℕ) (w : SpaceWaiting) (fs gs : List FrameValue) → WaitAll time w fs → WaitAll time (without_all w fs) gs → WaitAll time w (fs ++ gs)
 unfolding WaitAll without_all
-wait_all_append w [] gs a b = b
-wait_all_append w (f ∷ fs) gs a b = (a.0, wait_all_append (without w f) fs gs a.1 b)
+wait_all_append time w [] gs a b = b
+wait_all_append time w (f ∷ fs) gs a b = (a.0, wait_all_append time (without w f) fs gs a.1 b)
 
 -- PADDING changes nothing of what waits
 pub padding_stays : (w : SpaceWaiting) (n : ℕ) → without_all w (replicate n Padding) ≡ w
@@ -28,68 +36,95 @@ unfolding without_all without
 padding_stays w zero = refl
 padding_stays w (suc n) = padding_stays w n
 
-pub padding_waits : (w : SpaceWaiting) (n : ℕ) → WaitAll w (replicate n Padding)
+-- PADDING may always stand
+pub padding_waits : (time : ℕ) (w : SpaceWaiting) (n : ℕ) → WaitAll time w (replicate n Padding)
 unfolding WaitAll Waits without
-padding_waits w zero = tt
-padding_waits w (suc n) = (tt, padding_waits w n)
+padding_waits time w zero = tt
+padding_waits time w (suc n) = (tt, padding_waits time w n)
 
--- PADDING behind frames
+-- PADDING behind frames changes nothing of what waits
 pub without_padded : (w : SpaceWaiting) (fs : List FrameValue) (n : ℕ) → without_all w (fs ++ replicate n Padding) ≡ without_all w fs
 without_padded w fs n = without_all_append w fs (replicate n Padding) ∙ padding_stays (without_all w fs) n
 
-pub waits_padded : (w : SpaceWaiting) (fs : List FrameValue) (n : ℕ) → WaitAll w fs → WaitAll w (fs ++ replicate n Padding)
-waits_padded w fs n h = wait_all_append w fs (replicate n Padding) h (padding_waits (without_all w fs) n)
+-- PADDING may stand behind frames that wait
+pub waits_padded : (time : ℕ) (w : SpaceWaiting) (fs : List FrameValue) (n : ℕ) → WaitAll time w fs → WaitAll time w (fs ++ replicate n Padding)
+waits_padded time w fs n h = wait_all_append time w fs (replicate n Padding) h (padding_waits time (without_all w fs) n)
 
--- the frames that this end takes wait
-ping_waits_by : (w : SpaceWaiting) (b : Bool) → w.ping ≡ b → WaitAll w (if b then Ping ∷ [] else [])
+-- the CRYPTO bytes that this end takes wait
+crypto_waits_by : (time : ℕ) (w : SpaceWaiting) (n : ℕ) (b : Bool) → n ≤ length w.crypto.bytes → WaitAll time w (if b then [] else Crypto w.crypto.offset (take n w.crypto.bytes) ∷ [])
 unfolding WaitAll Waits
-ping_waits_by w true h = (h, tt)
-ping_waits_by w false h = tt
-
-ping_waits : (w : SpaceWaiting) → WaitAll w (ping_part w)
-unfolding ping_part
-ping_waits w = ping_waits_by w w.ping refl
-
-crypto_waits_by : (w : SpaceWaiting) (n : ℕ) (b : Bool) → n ≤ length w.crypto.bytes → WaitAll w (if b then [] else Crypto w.crypto.offset (take n w.crypto.bytes) ∷ [])
-unfolding WaitAll Waits
-crypto_waits_by w n true h = tt
-crypto_waits_by w n false h =
+crypto_waits_by time w n true h = tt
+crypto_waits_by time w n false h =
     let e : length (take n w.crypto.bytes) ≡ n = length-take-le n w.crypto.bytes h in
     ((refl, rw e h, rw e refl), tt)
 
-crypto_waits : (w : SpaceWaiting) (room : ℕ) → WaitAll w (crypto_part w room)
+-- so they do for each room
+crypto_waits : (time : ℕ) (w : SpaceWaiting) (room : ℕ) → WaitAll time w (crypto_part w room)
 unfolding crypto_part
-crypto_waits w room = crypto_waits_by w (min (length w.crypto.bytes) (room - 17)) _ (omega arith)
+crypto_waits time w room = crypto_waits_by time w (min (length w.crypto.bytes) (room - 17)) _ (omega arith)
 
-pub taken_waits : (w : SpaceWaiting) (room : ℕ) → WaitAll w (taken_part w room)
-unfolding taken_part
-taken_waits w room = wait_all_append w (ping_part w) (crypto_part (without_all w (ping_part w)) (room - 1)) (ping_waits w) (crypto_waits (without_all w (ping_part w)) (room - 1))
+-- the ACK waits where it is owed, and the CRYPTO bytes behind it
+behind_waits : (time : ℕ) (w : SpaceWaiting) (room : ℕ) (acks : List FrameValue) (b : Bool) → AckPart time w.acks acks b → is_ack_owed w.acks ≡ b → WaitAll time w (acks ++ crypto_part w room)
+unfolding WaitAll Waits without crypto_part
+behind_waits time w room acks true (AckPart.one ack says is) h =
+    subst (λ (x : List FrameValue). WaitAll time w (x ++ crypto_part w room)) (sym is) ((h, says), crypto_waits time (record w { acks = ack_sent w.acks }) room)
+behind_waits time w room acks false (AckPart.none is) h = subst (λ (x : List FrameValue). WaitAll time w (x ++ crypto_part w room)) (sym is) (crypto_waits time w room)
 
--- a PING leaves the CRYPTO bytes where they are
-same_crypto_by : (w : SpaceWaiting) (b : Bool) → (without_all w (if b then Ping ∷ [] else [])).crypto ≡ w.crypto
-unfolding without_all without
-same_crypto_by w true = refl
-same_crypto_by w false = refl
+-- the PING waits where it was asked for, and the others behind it
+front_waits : (time : ℕ) (w : SpaceWaiting) (room : ℕ) (acks : List FrameValue) (b : Bool) → w.ping ≡ b → AckPart time w.acks acks (is_ack_owed w.acks) → WaitAll time w ((if b then Ping ∷ [] else []) ++ (acks ++ crypto_part w room))
+unfolding WaitAll Waits without crypto_part
+front_waits time w room acks true h part = (h, behind_waits time (record w { ping = false }) room acks (is_ack_owed w.acks) part refl)
+front_waits time w room acks false h part = behind_waits time w room acks (is_ack_owed w.acks) part refl
 
-same_crypto : (w : SpaceWaiting) → (without_all w (ping_part w)).crypto ≡ w.crypto
+-- the frames that this end takes wait
+pub taken_waits : (time : ℕ) (w : SpaceWaiting) (room : ℕ) (fs : List FrameValue) → TakenPart time w room fs → WaitAll time w fs
 unfolding ping_part
-same_crypto w = same_crypto_by w w.ping
+taken_waits time w room fs taken =
+    subst (λ (x : List FrameValue). WaitAll time w x) (sym taken.all) (front_waits time w (room - 1 - length (frames_spelling taken.acks)) taken.acks w.ping refl taken.ack)
 
--- they ask for an acknowledgement, where something waits and there is room for more than the head of a CRYPTO frame
-elicits_by : (w : SpaceWaiting) (room : ℕ) (p e l : Bool) → (length w.crypto.bytes == 0) ≡ e → nat_le room 17 ≡ l → (p || not e) ≡ true → l ≡ false →
-    list_any elicits ((if p then Ping ∷ [] else []) ++ crypto_part w room) ≡ true
-unfolding elicits crypto_part
-elicits_by w room true e l is_e is_l h k = refl
-elicits_by w room false true l is_e is_l h k = cc
-elicits_by w room false false true is_e is_l h k = cc
-elicits_by w room false false false is_e is_l h k = rw (is_e, is_l) refl
+-- some of them is no PADDING, where something waits and there is room for more than the head of a CRYPTO frame
+crypto_told : (w : SpaceWaiting) (room : ℕ) (e l : Bool) → (length w.crypto.bytes == 0) ≡ e → nat_le room 17 ≡ l → not e ≡ true → l ≡ false → list_any is_told (crypto_part w room) ≡ true
+unfolding crypto_part
+crypto_told w room true l is_e is_l h k = cc
+crypto_told w room false true is_e is_l h k = cc
+crypto_told w room false false is_e is_l h k = rw (is_e, is_l) refl
 
-pub taken_elicits : (w : SpaceWaiting) (room : ℕ) → waits_here w ≡ true → 19 ≤ room → list_any elicits (taken_part w room) ≡ true
-unfolding taken_part ping_part
-taken_elicits w room h r =
-    let w' : SpaceWaiting = without_all w (ping_part w) in
-    let same : length w'.crypto.bytes ≡ length w.crypto.bytes = ap (λ (q : Unsent). length q.bytes) (same_crypto w) in
-    elicits_by w' (room - 1) w.ping (length w'.crypto.bytes == 0) (nat_le (room - 1) 17) refl refl (rw same h) (grind (arith, nat_tests))
+-- without a PING
+behind_told : (time : ℕ) (w : SpaceWaiting) (room : ℕ) (acks : List FrameValue) (b : Bool) → AckPart time w.acks acks b → is_ack_owed w.acks ≡ b → (b || not (length w.crypto.bytes == 0)) ≡ true → 19 ≤ room →
+    list_any is_told (acks ++ crypto_part w (room - 1 - length (frames_spelling acks))) ≡ true
+behind_told time w room acks true (AckPart.one ack says is) owed h r = ap (λ (x : List FrameValue). list_any is_told (x ++ crypto_part w (room - 1 - length (frames_spelling acks)))) is
+behind_told time w room acks false (AckPart.none is) owed h r =
+    ap (λ (x : List FrameValue). list_any is_told (x ++ crypto_part w (room - 1 - length (frames_spelling x)))) is
+    ∙ crypto_told w (room - 1 - 0) (length w.crypto.bytes == 0) (nat_le (room - 1 - 0) 17) refl refl h (grind (arith, nat_tests))
+
+-- with a PING or without
+front_told : (time : ℕ) (w : SpaceWaiting) (room : ℕ) (acks : List FrameValue) (b : Bool) → AckPart time w.acks acks (is_ack_owed w.acks) → (b || is_ack_owed w.acks || not (length w.crypto.bytes == 0)) ≡ true → 19 ≤ room →
+    list_any is_told ((if b then Ping ∷ [] else []) ++ (acks ++ crypto_part w (room - 1 - length (frames_spelling acks)))) ≡ true
+front_told time w room acks true part h r = refl
+front_told time w room acks false part h r = behind_told time w room acks (is_ack_owed w.acks) part refl h r
+
+-- not all of the frames that this end takes are PADDING, where something waits and there is room for more than the head of a
+-- CRYPTO frame
+pub taken_told : (time : ℕ) (w : SpaceWaiting) (room : ℕ) (fs : List FrameValue) → TakenPart time w room fs → waits_here w ≡ true → 19 ≤ room → list_any is_told fs ≡ true
+unfolding ping_part
+taken_told time w room fs taken h r = ap (list_any is_told) taken.all ∙ front_told time w room taken.acks w.ping taken.ack h r
+
+-- PADDING behind frames takes none of them away
+pub told_padded : (fs : List FrameValue) (n : ℕ) → list_any is_told fs ≡ true → list_any is_told (fs ++ replicate n Padding) ≡ true
+told_padded fs n h = list_any-append is_told fs (replicate n Padding) ∙ ap (λ b. b || list_any is_told (replicate n Padding)) h
+
+-- an ACK of at most 64 ranges has at most 1041 bytes
+ack_short : (time : ℕ) (p : PendingValues) (ack : AckValue) → SaysAck time p ack → length p.ranges ≤ 64 → length (frames_spelling (Ack ack ∷ [])) ≤ 1041
+unfolding Fits
+ack_short time p ack says few =
+    let count : length (ranges_of ack) ≡ length p.ranges = ap length says.ranges ∙ length-reverse p.ranges in
+    let no_counts : length (ecn_spelling ack.ecn) ≡ 0 = ap (λ (x : Option EcnCounts). length (ecn_spelling x)) says.ecn in
+    omega (arith, length-append (spelling (Ack ack)) [], ack_size_max ack says.fits.2, count, no_counts)
+
+-- the ACK, where there is one, has at most 1041 bytes
+pub acks_fit : (time : ℕ) (p : PendingValues) (acks : List FrameValue) (b : Bool) → AckPart time p acks b → length p.ranges ≤ 64 → length (frames_spelling acks) ≤ 1041
+acks_fit time p acks true (AckPart.one ack says is) few = subst (λ (x : List FrameValue). length (frames_spelling x) ≤ 1041) (sym is) (ack_short time p ack says few)
+acks_fit time p acks false (AckPart.none is) few = subst (λ (x : List FrameValue). length (frames_spelling x) ≤ 1041) (sym is) (omega arith)
 
 -- they fit into the room
 short_by : (a b c : Bool) (x y z u : List ℕ) → length x ≤ 8 → length y ≤ 8 → length z ≤ 8 → length u ≤ 8 → length (if a then x else if b then y else if c then z else u) ≤ 8
@@ -131,9 +166,21 @@ ping_fits : (w : SpaceWaiting) → length (frames_spelling (ping_part w)) ≤ 1
 unfolding ping_part
 ping_fits w = ping_fits_by w.ping
 
-pub taken_fits : (w : SpaceWaiting) (room : ℕ) → 18 ≤ room → length (frames_spelling (taken_part w room)) ≤ room
-unfolding taken_part
-taken_fits w room r =
-    let rest : List FrameValue = crypto_part (without_all w (ping_part w)) (room - 1) in
-    let both : length (frames_spelling (ping_part w ++ rest)) ≡ length (frames_spelling (ping_part w)) + length (frames_spelling rest) = ap length (flat_map-append spelling (ping_part w) rest) ∙ length-append (frames_spelling (ping_part w)) (frames_spelling rest) in
-    omega (arith, both, ping_fits w, crypto_fits (without_all w (ping_part w)) (room - 1))
+-- the bytes of joined frames are those of both
+pub bytes_append : (fs gs : List FrameValue) → length (frames_spelling (fs ++ gs)) ≡ length (frames_spelling fs) + length (frames_spelling gs)
+bytes_append fs gs = ap length (flat_map-append spelling fs gs) ∙ length-append (frames_spelling fs) (frames_spelling gs)
+
+-- the frames that this end takes fit into the room
+pub taken_fits : (time : ℕ) (w : SpaceWaiting) (room : ℕ) (fs : List FrameValue) → TakenPart time w room fs → length w.acks.ranges ≤ 64 → 1042 ≤ room → length (frames_spelling fs) ≤ room
+taken_fits time w room fs taken few r =
+    let rest : List FrameValue = crypto_part w (room - 1 - length (frames_spelling taken.acks)) in
+    let same : length (frames_spelling fs) ≡ length (frames_spelling (ping_part w ++ (taken.acks ++ rest))) = ap (λ (x : List FrameValue). length (frames_spelling x)) taken.all in
+    omega (
+      arith,
+      same,
+      bytes_append (ping_part w) (taken.acks ++ rest),
+      bytes_append taken.acks rest,
+      ping_fits w,
+      acks_fit time w.acks taken.acks (is_ack_owed w.acks) taken.ack few,
+      crypto_fits w (room - 1 - length (frames_spelling taken.acks)),
+    )

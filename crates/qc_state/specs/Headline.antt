@@ -1,18 +1,23 @@
 -- Laws over whole runs, said of the deeds of a trace.
-use Rattle.std.specs.Prelude.{◌≡◌, ℕ, ◌+◌, ◌<◌, ◌≤◌, Bool, true, false, ◌&&◌, IfSome, if◌then◌else◌, List, [], ◌∷◌, ◌++◌, length, Option, Some, None, option_to_list}
+use Rattle.std.specs.Prelude.{◌≡◌, ℕ, ◌+◌, ◌<◌, ◌≤◌, ◌⊎◌, true, false, ◌&&◌, IfSome, if◌then◌else◌, List, [], ◌∷◌, ◌++◌, length, Option, Some, None, option_to_list}
+use Rattle.qc_base.specs.RangeSet.{Member}
 use Rattle.qc_base.specs.declared.side.SpaceId.{SpaceId}
-use Rattle.qc_base.specs.declared.side.SpaceId.TheVariants.{Initial, Handshake, «Data»}
+use Rattle.qc_frame.specs.AckRanges.{Acknowledges}
+use Rattle.qc_frame.specs.Frame.{FrameValue}
+use Rattle.qc_frame.specs.declared.frames.FrameOf.TheVariants as frames
 use Rattle.qc_state.specs.declared.deeds.Did.{Did}
 use Rattle.qc_state.specs.declared.deeds.Did.TheVariants.{Piece, Gave, Sealed, Rose, Lost, Quiet}
 use Rattle.qc_state.specs.declared.life.ConnectionError.{ConnectionError}
 use Rattle.qc_state.specs.declared.life.Life.{Life}
 use Rattle.qc_state.specs.declared.numbers.Numbers.{Numbers}
 use Rattle.qc_state.specs.declared.trace.Step.{Step}
+use Rattle.qc_state.specs.declared.waiting.Waiting.{Waiting}
 use Rattle.qc_state.specs.Life.{rank_of}
 use Rattle.qc_path.specs.Arrived.{Window, is_among, is_new, arrived}
 use Rattle.qc_state.specs.declared.deeds.Verdict.{Verdict}
-use Rattle.qc_state.specs.Moves.{ClosesOnly, enters}
+use Rattle.qc_state.specs.Moves.{ClosesOnly, accepts, enters}
 use Rattle.qc_state.specs.Numbers.{next_number, came_in}
+use Rattle.qc_state.specs.Spaces.{is_space, space_of}
 use Rattle.qc_state.specs.Types.{Types}
 use Rattle.qc_state.specs.View.{View}
 
@@ -20,12 +25,6 @@ use Rattle.qc_state.specs.View.{View}
 abbrev pub deeds_of : List Step → List Did
 deeds_of [] = []
 deeds_of (x ∷ xs) = x.did ++ deeds_of xs
-
-abbrev pub is_space : SpaceId → SpaceId → Bool
-is_space Initial Initial = true
-is_space Handshake Handshake = true
-is_space Data Data = true
-is_space _ _ = false
 
 -- the numbers that were sealed in a space, in order
 abbrev pub sealed_in : SpaceId → List Did → List ℕ
@@ -94,6 +93,44 @@ CloseFrom rank (Rose life ∷ ds) = CloseFrom life ds
 CloseFrom rank (Lost why ∷ ds) = CloseFrom rank ds
 CloseFrom rank (Quiet why ∷ ds) = CloseFrom rank ds
 
+-- the number of a packet that is to be acknowledged from then on, where a deed tells of one
+abbrev pub accepted_number : SpaceId → Option SpaceId → Option ℕ → Verdict → Option ℕ
+accepted_number id None number verdict = None
+accepted_number id (Some space) None verdict = None
+accepted_number id (Some space) (Some number) verdict = if is_space id space && accepts verdict then Some number else None
+
+-- the numbers that are known behind a deed: that of a packet which was accepted, and those that were known before
+abbrev pub KnownBehind : SpaceId → (ℕ → Type 0) → Did → ℕ → Type 0
+KnownBehind id Known (Piece space number verdict) n = (accepted_number id space number verdict ≡ Some n) ⊎ Known n
+KnownBehind id Known _ n = Known n
+
+-- each ACK among the frames acknowledges known numbers only
+abbrev pub AcksOnly : (ℕ → Type 0) → List FrameValue → Type 0
+AcksOnly Known [] = Unit {0}
+AcksOnly Known (frames.Ack ack ∷ fs) = ((n : ℕ) → Acknowledges ack n → Known n) × AcksOnly Known fs
+AcksOnly Known (_ ∷ fs) = AcksOnly Known fs
+
+-- a packet that is sealed in the space acknowledges known numbers only
+abbrev pub SealsKnown : SpaceId → (ℕ → Type 0) → Did → Type 0
+SealsKnown id Known (Sealed space number epoch early fs) = is_space id space ≡ true → AcksOnly Known fs
+SealsKnown id Known _ = Unit {0}
+
+-- each packet that is sealed in a space acknowledges known numbers only; the number of each packet that was accepted there is
+-- known from then on
+abbrev pub AcksKnown : SpaceId → (ℕ → Type 0) → List Did → Type 0
+AcksKnown id Known [] = Unit {0}
+AcksKnown id Known (d ∷ ds) = SealsKnown id Known d × AcksKnown id (KnownBehind id Known d) ds
+
+-- the numbers of the packets that were accepted in a space, in order
+abbrev pub accepted_in : SpaceId → List Did → List ℕ
+accepted_in id [] = []
+accepted_in id (Piece space number verdict ∷ ds) = option_to_list (accepted_number id space number verdict) ++ accepted_in id ds
+accepted_in id (_ ∷ ds) = accepted_in id ds
+
+-- the number is kept to be acknowledged in the space
+abbrev pub IsKept : SpaceId → Waiting → ℕ → Type 0
+IsKept id v n = Member n (space_of v.spaces id).acks.ranges
+
 -- numbers rise strictly, from a least one on
 abbrev pub RisesFrom : ℕ → List ℕ → Type 0
 RisesFrom least [] = Unit {0}
@@ -106,6 +143,7 @@ pub record Kernel : Type 0 where
   pub reason : Option ConnectionError
   pub rank : ℕ
 
+-- the kernel of a view's numbers and life
 abbrev pub kernel_of : SpaceId → Numbers → Life → Kernel
 kernel_of id numbers life = record { next = next_number numbers id; came = came_in numbers id; reason = life.reason; rank = rank_of life.state }
 
@@ -146,6 +184,11 @@ module _ {t : Types} where
   -- in each space, no packet number that came counts twice, as far as they are remembered
   unfoldable pub EachAdmitted : View t → List Step → Type 0
   EachAdmitted s xs = (id : SpaceId) → EachNew (came_in s.numbers id) (entered_in id (deeds_of xs))
+
+  -- in each space, each number that a sealed ACK acknowledges is that of a packet which was accepted before, or was kept to be
+  -- acknowledged at the start
+  unfoldable pub EachAcksKnown : View t → List Step → Type 0
+  EachAcksKnown s xs = (id : SpaceId) → AcksKnown id (IsKept id s.waiting) (deeds_of xs)
 
   -- the life never falls, and no rank is risen to twice
   unfoldable pub LifeRises : View t → List Step → Type 0

@@ -1,6 +1,8 @@
 -- The keys of a connection (RFC 9001, sections 4 and 6.6).
 use Rattle.std.specs.Prelude.{Option, Some, None}
 use Rattle.qc_base.specs.declared.side.SpaceId.{SpaceId}
+use Rattle.qc_base.specs.declared.side.SpaceId.TheVariants.{Initial, Handshake, «Data»}
+use Rattle.qc_crypto.specs.declared.keys.Keys.{Keys}
 use Rattle.qc_base.specs.Time.{plus}
 use Rattle.qc_state.specs.declared.keys.KeyGroup.{KeyGroup}
 use Rattle.qc_state.specs.declared.keys.SpaceKeys.{SpaceKeys}
@@ -23,3 +25,22 @@ module _ {H P : Type 0} where
   -- a packet didn't open
   unfoldable pub failure_counted : KeyGroup H P → KeyGroup H P
   failure_counted v = record v { failures = plus v.failures 1 }
+
+  -- a key under which nothing was sealed
+  abbrev pub new_keys : Keys H P → Option (SpaceKeys H P)
+  new_keys keys = Some (record { keys = keys; sealed = 0 })
+
+  -- the keys of the space behind the one that was the highest, which is the highest from then on; behind Data there is none
+  abbrev pub keys_behind : KeyGroup H P → SpaceId → Keys H P → KeyGroup H P
+  keys_behind v Initial keys = record v { spaces = with_space v.spaces Handshake (new_keys keys); highest = Handshake }
+  keys_behind v Handshake keys = record v { spaces = with_space v.spaces «Data» (new_keys keys); highest = «Data» }
+  keys_behind v «Data» keys = v
+
+  -- the session gave these keys with a write, if it gave any
+  unfoldable pub keys_given : KeyGroup H P → Option (Keys H P) → KeyGroup H P
+  keys_given v None = v
+  keys_given v (Some keys) = keys_behind v v.highest keys
+
+  -- the keys of a space are dropped (RFC 9001, section 4.9)
+  unfoldable pub keys_dropped : KeyGroup H P → SpaceId → KeyGroup H P
+  keys_dropped v id = record v { spaces = with_space v.spaces id None }

@@ -1,12 +1,12 @@
 -- The life of a connection, the reason of its end, and what waits to be reported (RFC 9000, section 10).
-use Rattle.std.specs.Prelude.{ℕ, Bool, true, false, ◌||◌, ◌==◌, if◌then◌else◌, Option, Some, None, is_none, option_map}
+use Rattle.std.specs.Prelude.{ℕ, Bool, true, false, ◌||◌, ◌==◌, if◌then◌else◌, List, ◌++◌, Option, Some, None, is_none, option_map, option_to_list}
 use Rattle.qc_state.specs.declared.life.State.{State}
 use Rattle.qc_state.specs.declared.life.State.TheVariants.{Handshake, Established, Closed, Draining, Drained}
 use Rattle.qc_state.specs.declared.life.ConnectionError.{ConnectionError}
 use Rattle.qc_state.specs.declared.life.Close.{Close}
 use Rattle.qc_state.specs.declared.life.Life.{Life}
 use Rattle.qc_state.specs.declared.events.Event.{Event}
-use Rattle.qc_state.specs.declared.events.Event.TheVariants.{ConnectionLost}
+use Rattle.qc_state.specs.declared.events.Event.TheVariants.{HandshakeDataReady, Connected, ConnectionLost}
 use Rattle.qc_state.specs.declared.events.EndpointEvent.{EndpointEvent}
 use Rattle.qc_state.specs.declared.events.EndpointEvent.TheVariants as endpoint
 
@@ -33,6 +33,11 @@ is_closed _ = false
 abbrev pub is_handshake : State → Bool
 is_handshake Handshake = true
 is_handshake _ = false
+
+-- the handshake is over, and neither end has closed
+abbrev pub is_established : State → Bool
+is_established Established = true
+is_established _ = false
 
 -- the connection drains, or has ended: nothing that comes counts any more
 abbrev pub is_over : State → Bool
@@ -61,6 +66,34 @@ life_closed v close = record v { state = Closed; close = Some close }
 unfoldable pub life_drained : Life → Life
 life_drained v = record v { state = Draining }
 
+-- the handshake is over, which waits to be reported
+unfoldable pub life_established : Life → Life
+life_established v = record v { state = Established; connected = true }
+
+-- what the handshake settles is ready, which waits to be reported
+unfoldable pub data_ready : Life → Life
+data_ready v = record v { ready = true }
+
+-- an event, while its report waits
+abbrev pub event_if : Bool → Event → Option Event
+event_if waits event = if waits then Some event else None
+
+-- that the handshake's data is ready, while its report waits
+unfoldable pub ready_event : Life → Option Event
+ready_event v = event_if v.ready HandshakeDataReady
+
+-- it was reported
+unfoldable pub ready_reported : Life → Life
+ready_reported v = record v { ready = false }
+
+-- that the handshake is over, while its report waits
+unfoldable pub connected_event : Life → Option Event
+connected_event v = event_if v.connected Connected
+
+-- it was reported
+unfoldable pub connected_reported : Life → Life
+connected_reported v = record v { connected = false }
+
 -- the reason, while its report waits
 unfoldable pub lost_event : Life → Option Event
 lost_event v = option_map ConnectionLost v.lost
@@ -76,3 +109,7 @@ drained_event v = if v.drained then Some endpoint.Drained else None
 -- the end was reported
 unfoldable pub drained_reported : Life → Life
 drained_reported v = record v { drained = false }
+
+-- the events that wait to be reported, in their order
+unfoldable pub waiting_events : Life → List Event
+waiting_events v = option_to_list (ready_event v) ++ (option_to_list (connected_event v) ++ option_to_list (lost_event v))

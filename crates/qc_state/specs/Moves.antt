@@ -1,8 +1,10 @@
 -- The small moves that every step is made of, and what each makes of each group: one table a group, which says
 -- "everything else stays" in its last line.
-use Rattle.std.specs.Prelude.{◌≡◌, ℕ, ◌<◌, ◌≤◌, Bool, true, false, if◌then◌else◌, List, [], ◌∷◌, ◌++◌, Some, None}
+use Rattle.std.specs.Prelude.{◌≡◌, ℕ, ◌<◌, ◌≤◌, Bool, true, false, if◌then◌else◌, List, [], ◌∷◌, ◌++◌, Option, Some, None}
 use Rattle.std.specs.List.{list_any}
+use Rattle.rand_core.specs.Stream.{Stream}
 use Rattle.qc_base.specs.declared.side.SpaceId.{SpaceId}
+use Rattle.qc_crypto.specs.declared.keys.Keys.{Keys}
 use Rattle.qc_frame.specs.Frame.{FrameValue}
 use Rattle.qc_frame.specs.FrameSpelling.{elicits}
 use Rattle.qc_frame.specs.declared.frames.FrameOf.TheVariants as frames
@@ -14,45 +16,28 @@ use Rattle.qc_state.specs.declared.life.State.{State}
 use Rattle.qc_state.specs.declared.life.ConnectionError.{ConnectionError}
 use Rattle.qc_state.specs.declared.paths.Paths.{Paths}
 use Rattle.qc_state.specs.declared.timers.Timers.{Timers}
+use Rattle.qc_params.specs.declared.params.TransportParameters.{TransportParameters}
+use Rattle.qc_path.specs.Arrived.{arrived}
 use Rattle.qc_state.specs.declared.waiting.Waiting.{Waiting}
+use Rattle.qc_state.specs.declared.setup.Setup.{Setup}
+use Rattle.qc_state.specs.declared.lower.Lower.{Lower}
 use Rattle.qc_state.specs.declared.deeds.Did.{Did}
 use Rattle.qc_state.specs.declared.deeds.Did.TheVariants as did
 use Rattle.qc_state.specs.declared.deeds.Quiet.{Quiet}
 use Rattle.qc_state.specs.declared.deeds.Verdict.{Verdict}
 use Rattle.qc_state.specs.declared.deeds.Verdict.TheVariants as verdict
 use Rattle.qc_base.specs.declared.range_set.NumberRange.{NumberRange}
-use Rattle.qc_state.specs.Life.{rank_of, reason_given, life_raised, life_closed, life_drained, lost_reported, drained_reported}
-use Rattle.qc_state.specs.Numbers.{next_number, number_used, is_new_in, number_entered, number_accepted, number_acked}
-use Rattle.qc_state.specs.Keys.{key_used, failure_counted}
+use Rattle.qc_state.specs.Life.{rank_of, reason_given, life_raised, life_closed, life_drained, life_established, data_ready, ready_reported, connected_reported, lost_reported, drained_reported}
+use Rattle.qc_state.specs.Numbers.{next_number, number_used, is_new_in, came_in, number_entered, number_accepted, number_acked}
+use Rattle.qc_state.specs.Keys.{key_used, failure_counted, keys_given, keys_dropped}
+use Rattle.qc_state.specs.Lower.{bytes_came, session_read, session_wrote}
 use Rattle.qc_state.specs.Paths.{path_sent, path_received, peer_fixed}
+use Rattle.qc_state.specs.Setup.{idle_limit_now, parameters_known}
+use Rattle.qc_state.specs.Spaces.{is_space}
 use Rattle.qc_state.specs.Timers.{timers_sealed, timers_stopped, timers_closing, timers_accepted, timers_settled, clock_set}
 use Rattle.qc_state.specs.Types.{Types}
 use Rattle.qc_state.specs.View.{View, At, at}
-use Rattle.qc_state.specs.Waiting.{ping_asked, waiting_without, close_begun, close_ended, packet_flown, packets_settled}
-
--- the moves
-pub data Move : Type 0 where
-  Clock : (time : ℕ) → Move  -- the connection is told a time
-  Ask : (id : SpaceId) → Move  -- a PING is asked for
-  Take : (id : SpaceId) → (frames : List FrameValue) → Move  -- frames leave what waits, to be sealed
-  Seal : (time : ℕ) → (id : SpaceId) → (number size : ℕ) → (frames : List FrameValue) → Move  -- a packet is sealed
-  Enter : (id : SpaceId) → (number : ℕ) → Move  -- a packet came once this end had closed, and is only read for a close
-  Fail : Move  -- a packet didn't open
-  Accept : (time : ℕ) → (id : SpaceId) → (number : ℕ) → (verdict : Verdict) → Move  -- a packet was accepted
-  Fix : (cid : List ℕ) → Move  -- the peer has chosen its id
-  Hear : (bytes : ℕ) → Move  -- so many bytes came from the path's address
-  Ack : (id : SpaceId) → (largest : ℕ) → (ranges : List NumberRange) → Move  -- the peer acknowledged packets
-  Calm : Move  -- nothing in flight elicits an acknowledgement any more
-  Tell : (did : Did) → Move  -- a packet that enters no number is told of, or a frame is given to a layer
-  Drain : Move  -- the peer closed as well
-  Leave : (time : ℕ) → Move  -- the peer closed
-  Owe : Move  -- a close is owed again
-  Shut : (time : ℕ) → (close : Close) → Move  -- this end closes
-  Raise : (to : State) → Move  -- the life rises
-  Give : (why : ConnectionError) → Move  -- a reason for the end is given
-  Say : (quiet : Quiet) → Move  -- a transmit sends nothing, for this cause
-  ReportLost : Move  -- the reason of the end is reported
-  ReportDrained : Move  -- the end is reported
+use Rattle.qc_state.specs.Waiting.{ping_asked, waiting_without, close_begun, packet_told, packet_came, packet_flown, packets_settled, crypto_written, space_left, is_calm}
 
 -- whether a frame closes the connection (RFC 9000, section 19.19)
 abbrev pub is_close : FrameValue → Bool
@@ -71,8 +56,15 @@ enters verdict.Failure = false
 enters verdict.BadBits = false
 enters verdict.Seen = false
 enters verdict.ReadForClose = true
+enters verdict.NumberOnly = true
 enters verdict.AckOnly = true
 enters verdict.Admitted = true
+
+-- whether a packet with this verdict is to be acknowledged from then on
+abbrev pub accepts : Verdict → Bool
+accepts verdict.AckOnly = true
+accepts verdict.Admitted = true
+accepts _ = false
 
 -- a deed that tells of a packet whose number doesn't count, or of a frame that was given to a layer
 abbrev pub IsTold : Did → Type 0
@@ -85,58 +77,113 @@ abbrev pub told : List Did → List Did → List Did
 told ds [] = ds
 told ds (e ∷ es) = told (ds ++ e ∷ []) es
 
+-- the moves
+pub data Move (t : Types) : Type 0 where
+  Clock : (time : ℕ) → Move t  -- the connection is told a time
+  Ask : (id : SpaceId) → Move t  -- a PING is asked for
+  Take : (id : SpaceId) → (frames : List FrameValue) → Move t  -- frames leave what waits, to be sealed
+  Seal : (time : ℕ) → (id : SpaceId) → (number size : ℕ) → (frames : List FrameValue) → Move t  -- a packet is sealed
+  Forget : (id : SpaceId) → Move t  -- the keys of a space are dropped
+  Enter : (id : SpaceId) → (number : ℕ) → (verdict : Verdict) → Move t  -- a packet came whose number counts, and whose frames don't
+  Fail : Move t  -- a packet didn't open
+  Accept : (time : ℕ) → (id : SpaceId) → (number : ℕ) → (eliciting : Bool) → (verdict : Verdict) → Move t  -- a packet was accepted
+  Fix : (cid : List ℕ) → Move t  -- the peer has chosen its id
+  Hear : (bytes : ℕ) → Move t  -- so many bytes came from the path's address
+  Ack : (id : SpaceId) → (largest : ℕ) → (ranges : List NumberRange) → Move t  -- the peer acknowledged packets
+  Calm : Move t  -- nothing in flight elicits an acknowledgement any more
+  Come : (id : SpaceId) → (offset : ℕ) → (bytes : List ℕ) → Move t  -- bytes of a CRYPTO stream came
+  Read : (id : SpaceId) → (count : ℕ) → (session : t.S) → Move t  -- the session was given so many of them
+  Write : (bytes : List ℕ) → (keys : Option (Keys t.H t.P)) → (session : t.S) → Move t  -- the session wrote bytes, and gave keys
+  Ready : Move t  -- what the handshake settles is ready
+  Learn : (parameters : TransportParameters) → Move t  -- the peer's parameters were read
+  Establish : Move t  -- the handshake is over
+  Tell : (did : Did) → Move t  -- a packet that enters no number is told of, or a frame is given to a layer
+  Drain : Move t  -- the peer closed as well
+  Leave : (time : ℕ) → Move t  -- the peer closed
+  Owe : Move t  -- a close is owed again
+  Shut : (time : ℕ) → (close : Close) → Move t  -- this end closes
+  Raise : (to : State) → Move t  -- the life rises
+  Give : (why : ConnectionError) → Move t  -- a reason for the end is given
+  Say : (quiet : Quiet) → Move t  -- a transmit sends nothing, for this cause
+  ReportReady : Move t  -- that the handshake's data is ready is reported
+  ReportConnected : Move t  -- that the handshake is over is reported
+  ReportLost : Move t  -- the reason of the end is reported
+  ReportDrained : Move t  -- the end is reported
+
 module _ {t : Types} where
-  unfoldable pub numbers_move : Move → View t → Numbers
+  unfoldable pub numbers_move : Move t → View t → Numbers
   numbers_move (Seal time id n size fs) s = number_used s.numbers id n
-  numbers_move (Enter id n) s = number_entered s.numbers id n
-  numbers_move (Accept time id n v) s = number_accepted s.numbers id n
+  numbers_move (Enter id n v) s = number_entered s.numbers id n
+  numbers_move (Accept time id n e v) s = number_accepted s.numbers id n
   numbers_move (Ack id n rs) s = number_acked s.numbers id n
   numbers_move _ s = s.numbers
 
-  unfoldable pub keys_move : Move → View t → KeyGroup t.H t.P
+  unfoldable pub keys_move : Move t → View t → KeyGroup t.H t.P
   keys_move (Seal time id n size fs) s = key_used s.keys id
+  keys_move (Forget id) s = keys_dropped s.keys id
   keys_move Fail s = failure_counted s.keys
+  keys_move (Write bytes keys session) s = keys_given s.keys keys
   keys_move _ s = s.keys
 
-  unfoldable pub life_move : Move → View t → Life
+  unfoldable pub life_move : Move t → View t → Life
   life_move (Shut time close) s = life_closed s.life close
   life_move (Leave time) s = life_drained s.life
   life_move Drain s = life_drained s.life
+  life_move Ready s = data_ready s.life
+  life_move Establish s = life_established s.life
   life_move (Raise to) s = life_raised s.life to
   life_move (Give why) s = reason_given s.life why
+  life_move ReportReady s = ready_reported s.life
+  life_move ReportConnected s = connected_reported s.life
   life_move ReportLost s = lost_reported s.life
   life_move ReportDrained s = drained_reported s.life
   life_move _ s = s.life
 
-  unfoldable pub paths_move : Move → View t → Paths
+  unfoldable pub paths_move : Move t → View t → Paths
   paths_move (Seal time id n size fs) s = path_sent s.paths size
   paths_move (Fix cid) s = peer_fixed s.paths cid
   paths_move (Hear bytes) s = path_received s.paths bytes
   paths_move _ s = s.paths
 
-  unfoldable pub timers_move : Move → View t → Timers
+  unfoldable pub timers_move : Move t → View t → Timers
   timers_move (Clock time) s = clock_set s.timers time
-  timers_move (Seal time id n size fs) s = if list_any elicits fs then timers_sealed s.timers s.setup.fixed.idle_limit time else s.timers
-  timers_move (Accept time id n v) s = timers_accepted s.timers s.setup.fixed.idle_limit time
+  timers_move (Seal time id n size fs) s = if list_any elicits fs then timers_sealed s.timers (idle_limit_now s.setup) time else s.timers
+  timers_move (Accept time id n e v) s = timers_accepted s.timers (idle_limit_now s.setup) time
   timers_move Calm s = timers_settled s.timers
   timers_move (Shut time close) s = timers_closing s.timers time
   timers_move (Leave time) s = timers_closing s.timers time
   timers_move (Raise to) s = timers_stopped s.timers
   timers_move _ s = s.timers
 
-  unfoldable pub waiting_move : Move → View t → Waiting
+  unfoldable pub waiting_move : Move t → View t → Waiting
   waiting_move (Ask id) s = ping_asked s.waiting id
   waiting_move (Take id fs) s = waiting_without s.waiting id fs
-  waiting_move (Seal time id n size fs) s = if list_any elicits fs then packet_flown (close_ended s.waiting) id n else close_ended s.waiting
+  waiting_move (Seal time id n size fs) s =
+      let told : Waiting = packet_told s.waiting id (is_space id s.keys.highest) in
+      if list_any elicits fs then packet_flown told id n else told
+  waiting_move (Forget id) s = space_left s.waiting id
+  waiting_move (Accept time id n e v) s = packet_came s.waiting id (arrived n (came_in s.numbers id)) (record { number = n; at = time; ack_eliciting = e; ce = false })
+  waiting_move (Write bytes keys session) s = crypto_written s.waiting s.keys.highest bytes
   waiting_move (Ack id n rs) s = packets_settled s.waiting id rs
   waiting_move Owe s = close_begun s.waiting
   waiting_move (Shut time close) s = close_begun s.waiting
   waiting_move _ s = s.waiting
 
-  unfoldable pub deeds_move : Move → View t → List Did
+  unfoldable pub setup_move : Move t → View t → Setup Stream
+  setup_move (Learn parameters) s = parameters_known s.setup parameters
+  setup_move _ s = s.setup
+
+  unfoldable pub lower_move : Move t → View t → Lower t.S
+  lower_move (Come id offset bytes) s = bytes_came s.lower id offset bytes
+  lower_move (Read id count session) s = session_read s.lower id count session
+  lower_move (Write bytes keys session) s = session_wrote s.lower session
+  lower_move _ s = s.lower
+
+  unfoldable pub deeds_move : Move t → View t → List Did
   deeds_move (Seal time id n size fs) s = did.Sealed id n 0 false fs ∷ []
-  deeds_move (Enter id n) s = did.Piece (Some id) (Some n) verdict.ReadForClose ∷ []
-  deeds_move (Accept time id n v) s = did.Piece (Some id) (Some n) v ∷ []
+  deeds_move (Enter id n v) s = did.Piece (Some id) (Some n) v ∷ []
+  deeds_move (Accept time id n e v) s = did.Piece (Some id) (Some n) v ∷ []
+  deeds_move Establish s = did.Rose 1 ∷ []
   deeds_move (Tell d) s = d ∷ []
   deeds_move (Shut time close) s = did.Rose 2 ∷ []
   deeds_move (Leave time) s = did.Rose 3 ∷ []
@@ -146,7 +193,7 @@ module _ {t : Types} where
   deeds_move (Say q) s = did.Quiet q ∷ []
   deeds_move _ s = []
 
-  unfoldable pub state_move : Move → View t → View t
+  unfoldable pub state_move : Move t → View t → View t
   state_move x s = record {
     numbers = numbers_move x s;
     keys = keys_move x s;
@@ -154,16 +201,17 @@ module _ {t : Types} where
     paths = paths_move x s;
     timers = timers_move x s;
     waiting = waiting_move x s;
-    setup = s.setup;
-    lower = s.lower;
+    setup = setup_move x s;
+    lower = lower_move x s;
   }
 
   -- where a move may be made once a call has begun, for which the time was told
-  unfoldable pub MayMove : Move → View t → Type 0
+  unfoldable pub MayMove : Move t → View t → Type 0
   MayMove (Clock time) s = ⊥
   MayMove (Seal time id n size fs) s = (n ≡ next_number s.numbers id) × ClosesOnly (rank_of s.life.state) fs
-  MayMove (Accept time id n v) s = (is_new_in s.numbers id n ≡ true) × (enters v ≡ true)
-  MayMove (Enter id n) s = is_new_in s.numbers id n ≡ true
+  MayMove (Accept time id n e v) s = (is_new_in s.numbers id n ≡ true) × (enters v ≡ true)
+  MayMove (Enter id n v) s = (is_new_in s.numbers id n ≡ true) × (enters v ≡ true)
+  MayMove Establish s = rank_of s.life.state < 1
   MayMove (Tell d) s = IsTold d
   MayMove (Shut time close) s = rank_of s.life.state < 2
   MayMove (Leave time) s = rank_of s.life.state < 3
@@ -172,5 +220,9 @@ module _ {t : Types} where
   MayMove (Give why) s = s.life.reason ≡ None
   MayMove _ s = Unit {0}
 
-  unfoldable pub move_to : Move → At t → At t
+  unfoldable pub move_to : Move t → At t → At t
   move_to x a = at (state_move x a.state) (told a.did (deeds_move x a.state))
+
+  -- nothing more may be in flight that elicits an acknowledgement
+  unfoldable pub calmed : At t → At t
+  calmed a = if is_calm a.state.waiting then move_to Calm a else a

@@ -1,6 +1,6 @@
--- Taking the protection off a packet that came (RFC 9001, sections 5.3 and 5.4). So far Initial and Handshake packets are
--- opened, and those of the other forms are not taken.
-use Rattle.std.specs.Prelude.{ℕ, ◌+◌, ◌==◌, nat_lt, if◌then◌else◌, List, [], length, take, drop, Option, None, Some}
+-- Taking the protection off a packet that came (RFC 9001, sections 5.3 and 5.4). Initial, Handshake and 1-RTT packets are
+-- opened, those of the other forms are not taken so far, and neither are 1-RTT packets of another key phase than the first.
+use Rattle.std.specs.Prelude.{ℕ, ◌+◌, ◌==◌, Bool, false, nat_lt, if◌then◌else◌, List, [], length, take, drop, Option, None, Some}
 use Rattle.qc_base.specs.Mask.{first_byte}
 use Rattle.qc_base.specs.Time.{plus}
 use Rattle.qc_base.specs.declared.packet_number.PacketNumber.{PacketNumber}
@@ -32,7 +32,7 @@ opened_space (Initial dst_cid src_cid token_start token_len version) = Some spac
 opened_space (Long long.Handshake dst_cid src_cid version) = Some space.Handshake
 opened_space (Long long.ZeroRtt dst_cid src_cid version) = None
 opened_space (Retry dst_cid src_cid version) = None
-opened_space (Short spin dst_cid) = None
+opened_space (Short spin dst_cid) = Some space.Data
 opened_space (VersionNegotiate random src_cid dst_cid) = None
 
 -- the source id of a long header
@@ -49,6 +49,11 @@ abbrev pub whole_number : Option PacketNumber → ℕ → ℕ
 whole_number None rx = 0
 whole_number (Some number) rx = expanded number (plus rx 1)
 
+-- a 1-RTT packet of the other key phase (RFC 9001, section 6)
+abbrev pub is_other_phase : Header → Bool
+is_other_phase (header.Short spin key_phase dst_cid number) = key_phase
+is_other_phase _ = false
+
 -- what its key made of the payload, where the key opens it
 abbrev pub judged : Header → ℕ → List ℕ → Option (List ℕ) → Opening
 judged header number header_data None = Unopened
@@ -59,7 +64,8 @@ module _ {P : Type 0} where
   -- an unmasked packet under the peer's packet key: its header, the header's bytes, and the bytes behind it
   unfoldable pub opened_by : (opening : P → OpeningFunction) → P → (rx : ℕ) → Header → (header_data sealed : List ℕ) → Opening
   opened_by opening key rx header header_data sealed =
-      judged header (whole_number (header_number header) rx) header_data (opening key (whole_number (header_number header) rx) header_data sealed)
+      if is_other_phase header then Unreadable
+      else judged header (whole_number (header_number header) rx) header_data (opening key (whole_number (header_number header) rx) header_data sealed)
 
   -- a packet whose mask was taken off
   abbrev pub unmasked_under : (opening : P → OpeningFunction) → P → (rx : ℕ) → Piece → (bytes : List ℕ) → Opening

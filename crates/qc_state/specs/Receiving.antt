@@ -1,14 +1,15 @@
 -- What a datagram does: its packets one after the other, each by its verdict (RFC 9000, sections 5.2, 7.2, 10.2, 12.2 to
 -- 12.4 and 13.1).
-use Rattle.std.specs.Prelude.{ℕ, Bool, false, ◌&&◌, not, nat_le, is_ok, if◌then◌else◌, List, [], ◌∷◌, length, Option, Some, None, Ok, Err}
+use Rattle.std.specs.Prelude.{ℕ, ◌+◌, ◌-◌, ◌^◌, Bool, true, false, ◌&&◌, ◌||◌, not, nat_lt, nat_le, is_ok, if◌then◌else◌, List, [], ◌∷◌, length, Option, Some, None, Result, Ok, Err}
 use Rattle.std.specs.List.{list_any}
 use Rattle.std.specs.declared.net.SocketAddr.{SocketAddr}
+use Rattle.qc_assembler.specs.Assembly.{Assembly, inserted, part_count}
 use Rattle.qc_base.specs.declared.transport_error.TransportError.{TransportError}
 use Rattle.qc_base.specs.declared.side.SpaceId.{SpaceId}
 use Rattle.qc_base.specs.declared.side.SpaceId.TheVariants.{Initial, Handshake, «Data»}
 use Rattle.qc_frame.specs.AckRanges.{ranges_of}
 use Rattle.qc_frame.specs.Frame.{FrameValue, AckValue, TypedValue}
-use Rattle.qc_frame.specs.FrameSpelling.{spelling}
+use Rattle.qc_frame.specs.FrameSpelling.{elicits, spelling}
 use Rattle.qc_frame.specs.Payload.{Item, items_of}
 use Rattle.qc_frame.specs.declared.frames.FrameOf.TheVariants as frames
 use Rattle.qc_header.specs.HeaderGrammar.{DatagramItem}
@@ -19,45 +20,52 @@ use Rattle.qc_state.specs.declared.deeds.Did.TheVariants as did
 use Rattle.qc_state.specs.declared.deeds.Layer.TheVariants as layer
 use Rattle.qc_state.specs.declared.deeds.Verdict.{Verdict}
 use Rattle.qc_state.specs.declared.deeds.Verdict.TheVariants as verdict
-use Rattle.qc_state.specs.declared.life.Close.TheVariants as close
 use Rattle.qc_state.specs.declared.life.ConnectionError.{ConnectionError}
 use Rattle.qc_state.specs.declared.life.ConnectionError.TheVariants as lost
 use Rattle.qc_state.specs.declared.opening.Opening.{Opening}
 use Rattle.qc_state.specs.declared.opening.Opening.TheVariants.{Unreadable, Unopened, Reserved, Opened}
-use Rattle.qc_state.specs.Life.{is_open, is_over}
-use Rattle.qc_state.specs.Moves.{is_close, Enter, Fail, Accept, Fix, Hear, Ack, Calm, Tell, Drain, Leave, Owe, Shut, move_to}
+use Rattle.qc_state.specs.Life.{is_open, is_over, is_established}
+use Rattle.qc_state.specs.Lower.{ready_bytes, stream_of}
+use Rattle.qc_state.specs.Moves.{is_close, Forget, Enter, Fail, Accept, Fix, Hear, Ack, Come, Read, Ready, Tell, Drain, Leave, Owe, move_to, calmed}
 use Rattle.qc_state.specs.Numbers.{next_number}
 use Rattle.qc_state.specs.Opening.{opening_of}
 use Rattle.qc_state.specs.Paths.{same_address}
+use Rattle.qc_state.specs.Progress.{progress_after}
 use Rattle.qc_state.specs.Sending.{given_after}
+use Rattle.qc_state.specs.Stopping.{internal_error_at, encoding_error_at, violation_at, buffer_error_at, stopped_after}
 use Rattle.qc_state.specs.Types.{Types, Meaning}
 use Rattle.qc_state.specs.Verdicts.{verdict_of}
 use Rattle.qc_state.specs.View.{View, At}
-use Rattle.qc_state.specs.Waiting.{is_calm}
 
--- the errors with which receiving closes, each with the type of the frame at fault, if there is one (RFC 9000, section 20.1)
-abbrev pub internal_error_at : Option ℕ → TransportError
-internal_error_at type = record { code = 0x01; frame = type }
-
--- a frame that can't be read
-abbrev pub encoding_error_at : Option ℕ → TransportError
-encoding_error_at type = record { code = 0x07; frame = type }
-
--- a rule of the protocol was broken
-abbrev pub violation_at : Option ℕ → TransportError
-violation_at type = record { code = 0x0a; frame = type }
-
--- The error with which a frame of this type stops its packet, if it does, where this end's next number is `next`: an
--- acknowledgement of a number that was never sealed; a frame of another kind than PADDING, PING, ACK, CRYPTO and the
--- closes, which may not stand in an Initial or Handshake packet (RFC 9000, section 12.4). CRYPTO isn't taken so far.
+-- The error with which a frame of this type stops its packet by its kind, if it does, where this end's next number is `next`:
+-- an acknowledgement of a number that was never sealed; in an Initial or Handshake packet a frame of another kind than PADDING,
+-- PING, ACK, CRYPTO and the closes, which may not stand there (RFC 9000, section 12.4). What stops a CRYPTO frame is told below.
 abbrev pub frame_stop : (next type : ℕ) → FrameValue → Option TransportError
 frame_stop next type frames.Padding = None
 frame_stop next type frames.Ping = None
 frame_stop next type (frames.Ack ack) = if nat_le next ack.largest then Some (violation_at None) else None
-frame_stop next type (frames.Crypto offset body) = Some (internal_error_at (Some type))
+frame_stop next type (frames.Crypto offset body) = None
 frame_stop next type (frames.ConnectionClose code frame_type reason) = None
 frame_stop next type (frames.ApplicationClose code reason) = None
 frame_stop next type _ = Some (violation_at (Some type))
+
+-- the same in a 1-RTT packet that a client receives: HANDSHAKE_DONE stops nothing (RFC 9000, section 19.20), and frames of
+-- kinds that aren't taken so far stop it with INTERNAL_ERROR
+abbrev pub data_stop : (next type : ℕ) → FrameValue → Option TransportError
+data_stop next type frames.Padding = None
+data_stop next type frames.Ping = None
+data_stop next type (frames.Ack ack) = if nat_le next ack.largest then Some (violation_at None) else None
+data_stop next type (frames.Crypto offset body) = None
+data_stop next type (frames.ConnectionClose code frame_type reason) = None
+data_stop next type (frames.ApplicationClose code reason) = None
+data_stop next type frames.HandshakeDone = None
+data_stop next type _ = Some (internal_error_at (Some type))
+
+-- by the space of the packet
+abbrev pub stop_in : SpaceId → (next type : ℕ) → FrameValue → Option TransportError
+stop_in Initial next type frame = frame_stop next type frame
+stop_in Handshake next type frame = frame_stop next type frame
+stop_in Data next type frame = data_stop next type frame
 
 -- the reason that a close of the peer's gives for the end
 abbrev pub reason_of : FrameValue → Option ConnectionError
@@ -65,60 +73,142 @@ reason_of (frames.ConnectionClose code frame_type reason) = Some (lost.Connectio
 reason_of (frames.ApplicationClose code reason) = Some (lost.ApplicationClosed (record { error_code = code; reason = reason }))
 reason_of _ = None
 
+-- whether an item of a payload is a frame that elicits an acknowledgement (RFC 9002, section 2)
+abbrev pub is_eliciting_item : Item → Bool
+is_eliciting_item (Ok read) = elicits read.frame
+is_eliciting_item (Err fault) = false
+
+-- the first error whose test holds
+abbrev pub first_stop : List (Bool × TransportError) → Option TransportError
+first_stop [] = None
+first_stop (row ∷ rows) = if row.0 then Some row.1 else first_stop rows
+
+-- whether a space lies below another one
+abbrev pub is_below : SpaceId → SpaceId → Bool
+is_below Initial Handshake = true
+is_below Initial Data = true
+is_below Handshake Data = true
+is_below _ _ = false
+
 -- whether an item of a payload is a close
 abbrev pub is_close_item : Item → Bool
 is_close_item (Ok read) = is_close read.frame
 is_close_item (Err fault) = false
 
-module _ {t : Types} where
-  -- this end closes for this error, where it hasn't closed before (RFC 9000, section 10.2)
-  unfoldable pub stopped_after : (time : ℕ) → TransportError → At t → At t
-  stopped_after time error a =
-      if is_open a.state.life.state
-      then given_after (lost.TransportError error) (move_to (Shut time (close.Connection (record { error_code = error.code; frame_type = error.frame; reason = [] }))) a)
-      else a
+-- the space whose CRYPTO bytes are expected before the handshake is over, where this is the highest space: Initial where that
+-- is the highest, else Handshake
+abbrev pub expected_below : SpaceId → SpaceId
+expected_below Initial = Initial
+expected_below Handshake = Handshake
+expected_below Data = Handshake
 
+module _ {t : Types} where
   -- the peer closed, for this reason: the connection drains, if it was open
   unfoldable pub left_after : (time : ℕ) → ConnectionError → At t → At t
   left_after time why a = if is_open a.state.life.state then given_after why (move_to (Leave time) a) else a
-
-  -- nothing more may be in flight that elicits an acknowledgement
-  unfoldable pub calmed : At t → At t
-  calmed a = if is_calm a.state.waiting then move_to Calm a else a
 
   -- the layer of loss recovery is given an ACK of this space: what it acknowledges is in flight no longer
   unfoldable pub acked_after : SpaceId → AckValue → At t → At t
   acked_after id ack a = calmed (move_to (Ack id ack.largest (ranges_of ack)) (move_to (Tell (did.Gave layer.Recovery (spelling (frames.Ack ack)))) a))
 
+  -- the server has confirmed the handshake: the Handshake keys are dropped (RFC 9001, section 4.9.2)
+  unfoldable pub confirmed_after : At t → At t
+  confirmed_after a = calmed (move_to (Forget Handshake) (move_to (Tell (did.Gave layer.Life (spelling frames.HandshakeDone))) a))
+
   -- a frame that stops nothing is applied
   unfoldable pub applied_after : SpaceId → FrameValue → At t → At t
   applied_after id (frames.Ack ack) a = acked_after id ack a
+  applied_after id frames.HandshakeDone a = confirmed_after a
   applied_after id _ a = a
 
-  -- a close of the peer's, for this reason, is given to the life
-  unfoldable pub closed_by_peer : (time : ℕ) → FrameValue → ConnectionError → At t → At t
-  closed_by_peer time frame why a = left_after time why (move_to (Tell (did.Gave layer.Life (spelling frame))) a)
+  -- a close of the peer's is given to the life
+  unfoldable pub close_given : FrameValue → At t → At t
+  close_given frame a = move_to (Tell (did.Gave layer.Life (spelling frame))) a
 
-  -- a frame that isn't a close, and behind it what `others` makes of the frames that are left
-  abbrev pub frame_and : SpaceId → FrameValue → Option TransportError → (time : ℕ) → (At t → At t) → At t → At t
-  frame_and id frame (Some error) time others a = stopped_after time error a
-  frame_and id frame None time others a = others (applied_after id frame a)
+  -- the peer closed with this reason in a 1-RTT packet: where the connection was open, one packet that tells that it ended is
+  -- owed (RFC 9000, section 10.2.2)
+  unfoldable pub closed_in_data : (time : ℕ) → ConnectionError → At t → At t
+  closed_in_data time why a = if is_open a.state.life.state then move_to Owe (left_after time why a) else a
 
-  -- the first close ends a packet; any other frame stops it or is applied
-  abbrev pub read_and : SpaceId → TypedValue → Option ConnectionError → (time : ℕ) → (At t → At t) → At t → At t
-  read_and id read (Some why) time others a = closed_by_peer time read.frame why a
-  read_and id read None time others a = frame_and id read.frame (frame_stop (next_number a.state.numbers id) read.ty read.frame) time others a
+  -- a close: in an Initial or Handshake packet the first one ends the packet, and the connection drains; in a 1-RTT packet what
+  -- `others` makes of the frames that are left comes behind, and the last close counts
+  abbrev pub close_and : (time : ℕ) → SpaceId → FrameValue → ConnectionError → (Option ConnectionError → At t → At t) → At t → At t
+  close_and time Initial frame why others a = left_after time why (close_given frame a)
+  close_and time Handshake frame why others a = left_after time why (close_given frame a)
+  close_and time Data frame why others a = others (Some why) (close_given frame a)
 
-  -- the frames of a packet, in order, up to the first stop or close
-  abbrev pub items_after : SpaceId → (time : ℕ) → List Item → At t → At t
-  items_after id time [] a = a
-  items_after id time (Err fault ∷ items) a = stopped_after time (encoding_error_at fault.ty) a
-  items_after id time (Ok read ∷ items) a = read_and id read (reason_of read.frame) time (items_after id time items) a
+  -- behind the last frame, where none stopped: the handshake goes on, or the last close of a 1-RTT packet counts
+  abbrev pub end_after : Meaning t → (time : ℕ) → SpaceId → Option ConnectionError → At t → At t
+  end_after m time id None a = progress_after m time id a
+  end_after m time id (Some why) a = closed_in_data time why a
+
+  -- the space whose CRYPTO bytes are expected: Data once the handshake is over
+  unfoldable pub expected_space : View t → SpaceId
+  expected_space s = if is_established s.life.state then «Data» else expected_below s.keys.highest
+
+  -- The error with which a CRYPTO frame of this type, whose bytes end at `end`, stops its packet, if it does: new bytes of a
+  -- space that is over; bytes too far ahead of those that the session was given, or past the end of any stream; too many parts
+  -- kept, once these bytes are (RFC 9000, sections 7.5 and 19.6; RFC 9001, section 4.1.3).
+  unfoldable pub crypto_stop : View t → SpaceId → (type offset : ℕ) → (body : List ℕ) → Option TransportError
+  crypto_stop s id type offset body =
+      let stream : Assembly = stream_of s.lower id in
+      let end : ℕ = offset + length body in
+      first_stop
+      ((nat_lt stream.read end && is_below id (expected_space s), violation_at (Some type))
+      ∷ (nat_le (2 ^ 62) end || nat_lt s.setup.fixed.crypto_buffer_size (end - stream.read), buffer_error_at (Some type))
+      ∷ (nat_lt 1024 (part_count (inserted offset body stream).came), internal_error_at (Some type))
+      ∷ [])
+
+  -- the session answered a read: where it refused the bytes, this end closes for its error; else `others` comes behind, once
+  -- it is noted whether the handshake's data is ready
+  abbrev pub answered_and : (time : ℕ) → Result Bool TransportError → (At t → At t) → At t → At t
+  answered_and time (Err error) others a = stopped_after time error a
+  answered_and time (Ok true) others a = others (move_to Ready a)
+  answered_and time (Ok false) others a = others a
+
+  -- the session is given bytes of the space's CRYPTO stream that can be read in order, if there are any
+  abbrev pub given_and : Meaning t → (time : ℕ) → SpaceId → List ℕ → (At t → At t) → At t → At t
+  given_and m time id [] others a = others a
+  given_and m time id (b ∷ bytes) others a =
+      answered_and time (m.reads a.state.lower.session (b ∷ bytes)) others
+      (move_to (Read id (length (b ∷ bytes)) (m.after_read a.state.lower.session (b ∷ bytes))) (move_to (Tell (did.Gave layer.Session (b ∷ bytes))) a))
+
+  -- bytes of the space's CRYPTO stream came: the session is given all that can be read in order from then on
+  unfoldable pub kept_and : Meaning t → (time : ℕ) → SpaceId → (offset : ℕ) → (body : List ℕ) → (At t → At t) → At t → At t
+  kept_and m time id offset body others a =
+      let b : At t = move_to (Come id offset body) a in
+      given_and m time id (ready_bytes (stream_of b.state.lower id)) others b
+
+  -- a CRYPTO frame, by the error with which it stops, if it does
+  abbrev pub crypto_and : Meaning t → (time : ℕ) → SpaceId → (offset : ℕ) → (body : List ℕ) → Option TransportError → (At t → At t) → At t → At t
+  crypto_and m time id offset body (Some error) others a = stopped_after time error a
+  crypto_and m time id offset body None others a = kept_and m time id offset body others a
+
+  -- a frame that stops nothing by its kind, and behind it what `others` makes of the frames that are left
+  abbrev pub taken_and : Meaning t → (time : ℕ) → SpaceId → TypedValue → FrameValue → (At t → At t) → At t → At t
+  taken_and m time id read (frames.Crypto offset body) others a = crypto_and m time id offset body (crypto_stop a.state id read.ty offset body) others a
+  taken_and m time id read frame others a = others (applied_after id frame a)
+
+  -- a frame that isn't a close stops its packet by its kind, or is taken
+  abbrev pub frame_and : Meaning t → (time : ℕ) → SpaceId → TypedValue → Option TransportError → (At t → At t) → At t → At t
+  frame_and m time id read (Some error) others a = stopped_after time error a
+  frame_and m time id read None others a = taken_and m time id read read.frame others a
+
+  -- a close, or another frame, which stops its packet or is taken; `close` is the last close so far
+  abbrev pub read_and : Meaning t → (time : ℕ) → SpaceId → TypedValue → Option ConnectionError → (close : Option ConnectionError) → (Option ConnectionError → At t → At t) → At t → At t
+  read_and m time id read (Some why) close others a = close_and time id read.frame why others a
+  read_and m time id read None close others a = frame_and m time id read (stop_in id (next_number a.state.numbers id) read.ty read.frame) (others close) a
+
+  -- the frames of a packet, in order, up to the first stop, or the first close of an Initial or Handshake packet
+  abbrev pub items_after : Meaning t → (time : ℕ) → SpaceId → List Item → (close : Option ConnectionError) → At t → At t
+  items_after m time id [] close a = end_after m time id close a
+  items_after m time id (Err fault ∷ items) close a = stopped_after time (encoding_error_at fault.ty) a
+  items_after m time id (Ok read ∷ items) close a = read_and m time id read (reason_of read.frame) close (items_after m time id items) a
 
   -- a payload: an empty one breaks a rule (RFC 9000, section 12.4)
-  unfoldable pub payload_after : SpaceId → (time : ℕ) → List ℕ → At t → At t
-  payload_after id time [] a = stopped_after time (violation_at None) a
-  payload_after id time (b ∷ bytes) a = items_after id time (items_of (b ∷ bytes)) a
+  unfoldable pub payload_after : Meaning t → (time : ℕ) → SpaceId → List ℕ → At t → At t
+  payload_after m time id [] a = stopped_after time (violation_at None) a
+  payload_after m time id (b ∷ bytes) a = items_after m time id (items_of (b ∷ bytes)) None a
 
   -- the first Initial packet that a client admits fixes the id that the peer chose (RFC 9000, section 7.2)
   abbrev pub fixes_peer : SpaceId → View t → Bool
@@ -137,38 +227,40 @@ module _ {t : Types} where
   -- again
   unfoldable pub read_for_close : SpaceId → (number : ℕ) → (payload : List ℕ) → At t → At t
   read_for_close id number payload a =
-      let b = move_to (Enter id number) a in
+      let b = move_to (Enter id number verdict.ReadForClose) a in
       if list_any is_close_item (items_of payload) then move_to Drain b else move_to Owe b
 
   -- a packet that is admitted
-  unfoldable pub admitted_after : (time : ℕ) → SpaceId → (source : List ℕ) → (number : ℕ) → (payload : List ℕ) → At t → At t
-  admitted_after time id source number payload a = payload_after id time payload (fixed_after id source (move_to (Accept time id number verdict.Admitted) a))
+  unfoldable pub admitted_after : Meaning t → (time : ℕ) → SpaceId → (source : List ℕ) → (number : ℕ) → (payload : List ℕ) → At t → At t
+  admitted_after m time id source number payload a =
+      payload_after m time id payload (fixed_after id source (move_to (Accept time id number (list_any is_eliciting_item (items_of payload)) verdict.Admitted) a))
 
   -- what a packet does that opened, by its verdict; it has no other one
-  abbrev pub verdict_after : (time : ℕ) → SpaceId → (source : List ℕ) → (number : ℕ) → (payload : List ℕ) → Verdict → At t → At t
-  verdict_after time id source number payload verdict.Seen a = piece_told (Some id) (Some number) verdict.Seen a
-  verdict_after time id source number payload verdict.ReadForClose a = read_for_close id number payload a
-  verdict_after time id source number payload verdict.AckOnly a = move_to (Accept time id number verdict.AckOnly) a
-  verdict_after time id source number payload verdict.Admitted a = admitted_after time id source number payload a
-  verdict_after time id source number payload _ a = a
+  abbrev pub verdict_after : Meaning t → (time : ℕ) → SpaceId → (source : List ℕ) → (number : ℕ) → (payload : List ℕ) → Verdict → At t → At t
+  verdict_after m time id source number payload verdict.Seen a = piece_told (Some id) (Some number) verdict.Seen a
+  verdict_after m time id source number payload verdict.ReadForClose a = read_for_close id number payload a
+  verdict_after m time id source number payload verdict.NumberOnly a = move_to (Enter id number verdict.NumberOnly) a
+  verdict_after m time id source number payload verdict.AckOnly a = move_to (Accept time id number false verdict.AckOnly) a
+  verdict_after m time id source number payload verdict.Admitted a = admitted_after m time id source number payload a
+  verdict_after m time id source number payload _ a = a
 
   -- a packet that opened in this space
-  unfoldable pub received_after : (time : ℕ) → SpaceId → (source : List ℕ) → (number : ℕ) → (payload : List ℕ) → At t → At t
-  received_after time id source number payload a = verdict_after time id source number payload (verdict_of a.state id source number) a
+  unfoldable pub received_after : Meaning t → (time : ℕ) → SpaceId → (source : List ℕ) → (number : ℕ) → (payload : List ℕ) → At t → At t
+  received_after m time id source number payload a = verdict_after m time id source number payload (verdict_of a.state id source number) a
 
   -- a packet of a form with this space, by what came of taking its protection off
-  abbrev pub opening_after : (time : ℕ) → Option SpaceId → Opening → At t → At t
-  opening_after time space Unreadable a = piece_told space None verdict.Ignored a
-  opening_after time space Unopened a = piece_told space None verdict.Failure (move_to Fail a)
-  opening_after time space (Reserved number) a = stopped_after time (violation_at None) (piece_told space (Some number) verdict.BadBits a)
-  opening_after time (Some id) (Opened source number payload) a = received_after time id source number payload a
-  opening_after time None (Opened source number payload) a = piece_told None None verdict.Ignored a
+  abbrev pub opening_after : Meaning t → (time : ℕ) → Option SpaceId → Opening → At t → At t
+  opening_after m time space Unreadable a = piece_told space None verdict.Ignored a
+  opening_after m time space Unopened a = piece_told space None verdict.Failure (move_to Fail a)
+  opening_after m time space (Reserved number) a = stopped_after time (violation_at None) (piece_told space (Some number) verdict.BadBits a)
+  opening_after m time (Some id) (Opened source number payload) a = received_after m time id source number payload a
+  opening_after m time None (Opened source number payload) a = piece_told None None verdict.Ignored a
 
   -- one packet; behind one that ended the connection, or made it drain, it is ignored
   unfoldable pub piece_after : Meaning t → (time : ℕ) → Piece → At t → At t
   piece_after m time p a =
       if is_over a.state.life.state then piece_told (space_of p.header) None verdict.Ignored a
-      else opening_after time (space_of p.header) (opening_of m a.state p) a
+      else opening_after m time (space_of p.header) (opening_of m a.state p) a
 
   -- the packets of a datagram, up to the first bytes that begin with none
   abbrev pub pieces_after : Meaning t → (time : ℕ) → List DatagramItem → At t → At t

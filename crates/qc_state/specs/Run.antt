@@ -1,6 +1,5 @@
 -- The steps of a driven connection, and its runs: lists of steps, each beginning where the one before ended.
 use Rattle.std.specs.Prelude.{◌≡◌, ℕ, ◌+◌, ◌≤◌, List, [], ◌∷◌, ◌++◌, length, take, if◌then◌else◌, Option, Some, None, option_to_list}
-use Rattle.qc_base.specs.declared.side.SpaceId.TheVariants.{Initial}
 use Rattle.qc_frame.specs.Frame.{FrameValue}
 use Rattle.qc_state.specs.declared.deeds.Did.{Did}
 use Rattle.qc_state.specs.declared.deeds.Did.TheVariants as did
@@ -13,8 +12,8 @@ use Rattle.qc_state.specs.declared.trace.Answer.{Answer}
 use Rattle.qc_state.specs.declared.trace.Answer.TheVariants.{Done, Dropped, Nothing, Out}
 use Rattle.qc_state.specs.declared.trace.Step.{Step}
 use Rattle.qc_state.specs.declared.transmit.Transmit as transmit
-use Rattle.qc_state.specs.Life.{is_open, lost_event, drained_event}
-use Rattle.qc_state.specs.Moves.{Clock, Ask, Shut, ReportLost, ReportDrained, move_to, state_move}
+use Rattle.qc_state.specs.Life.{is_open, waiting_events, drained_event}
+use Rattle.qc_state.specs.Moves.{Clock, Ask, Shut, ReportReady, ReportConnected, ReportLost, ReportDrained, move_to, state_move}
 use Rattle.qc_state.specs.Receiving.{is_readable, datagram_after}
 use Rattle.qc_state.specs.Sending.{MayTransmit, transmit_after, transmit_bytes, transmit_of}
 use Rattle.qc_state.specs.Timers.{next_timeout}
@@ -61,14 +60,14 @@ module _ {t : Types} where
   input_after m (Datagram time remote ecn bytes) ds a = datagram_after m time remote bytes a
   input_after m (Transmit time max) ds a = transmit_after time (packets_of ds) a
   input_after m (Close time code reason) ds a = close_after time code reason a
-  input_after m (Ping time) ds a = move_to (Ask Initial) a
+  input_after m (Ping time) ds a = move_to (Ask a.state.keys.highest) a
 
   unfoldable pub called : Meaning t → View t → Input → List Did → At t
   called m s i ds = input_after m i ds (began s (time_of i))
 
   -- whatever waited to be reported was reported
   unfoldable pub reported : View t → View t
-  reported s = state_move ReportDrained (state_move ReportLost s)
+  reported s = state_move ReportDrained (state_move ReportLost (state_move ReportConnected (state_move ReportReady s)))
 
   -- the view after a step
   unfoldable pub step_after : Meaning t → View t → Input → List Did → View t
@@ -77,7 +76,7 @@ module _ {t : Types} where
   -- what an input may do
   unfoldable pub IsAllowed : Input → List Did → View t → Type 0
   IsAllowed (Datagram time remote ecn bytes) ds s = Unit {0}
-  IsAllowed (Transmit time max) ds s = MayTransmit s (packets_of ds)
+  IsAllowed (Transmit time max) ds s = MayTransmit time s (packets_of ds)
   IsAllowed (Close time code reason) ds s = Unit {0}
   IsAllowed (Ping time) ds s = Unit {0}
 
@@ -102,7 +101,7 @@ module _ {t : Types} where
     pub deeds : x.did ≡ (called m s i x.did).did
     pub allowed : IsAllowed i x.did (began s (time_of i)).state
     pub answer : x.answer ≡ answer_of m i x.did (began s (time_of i)).state
-    pub events : x.events ≡ option_to_list (lost_event (called m s i x.did).state.life)
+    pub events : x.events ≡ waiting_events (called m s i x.did).state.life
     pub endpoint : x.endpoint ≡ option_to_list (drained_event (called m s i x.did).state.life)
     pub timeout : x.timeout ≡ next_timeout s'.timers
     pub place : x.at ≡ k
@@ -114,6 +113,11 @@ module _ {t : Types} where
   Run m k s [] [] s' = s' ≡ s
   Run m k s (i ∷ is) (x ∷ xs) s' = (mid : View t) × IsStep m k s i x mid × Run m (k + 1) mid is xs s'
   Run m k s _ _ s' = ⊥
+
+-- the same steps, with so many before them
+abbrev pub placed_behind : ℕ → List Step → List Step
+placed_behind n [] = []
+placed_behind n (x ∷ xs) = record x { at = n + x.at } ∷ placed_behind n xs
 
 module _ {t : Types} where
   -- what a call makes of an input, before anything is reported, and its answer

@@ -1,13 +1,19 @@
 -- What a transmit may send, and what it leaves. Which of the waiting frames a packet carries is free, where no close is
--- owed; all else is a function of that choice. So far a transmit seals at most one packet, an Initial in a datagram of its own.
-use Rattle.std.specs.Prelude.{◌≡◌, ℕ, ◌-◌, ◌^◌, ◌==◌, Bool, true, false, ◌||◌, ◌&&◌, not, nat_lt, nat_le, if◌then◌else◌, List, [], ◌∷◌, length, replicate, Option, Some, None, is_some, is_none}
+-- owed; all else is a function of that choice. So far a transmit seals at most one packet, in a datagram of its own.
+use Rattle.std.specs.Prelude.{◌≡◌, ℕ, ◌-◌, ◌^◌, ◌==◌, Bool, true, false, ◌||◌, ◌&&◌, not, nat_lt, nat_le, if◌then◌else◌, List, [], ◌∷◌, ◌++◌, length, replicate, Option, Some, None, is_some, is_none}
 use Rattle.std.specs.List.{list_any}
 use Rattle.qc_base.specs.declared.ecn.EcnCodepoint.TheVariants.{Ect0}
-use Rattle.qc_base.specs.declared.side.SpaceId.TheVariants.{Initial}
+use Rattle.qc_base.specs.declared.side.LongType.TheVariants as long
+use Rattle.qc_base.specs.declared.side.Side.TheVariants.{Client}
+use Rattle.qc_base.specs.declared.side.SpaceId.{SpaceId}
+use Rattle.qc_base.specs.declared.side.SpaceId.TheVariants.{Initial, Handshake, «Data»}
+use Rattle.qc_base.specs.declared.side.Side.{Side}
 use Rattle.qc_base.specs.PacketNumber.{number_of}
 use Rattle.qc_frame.specs.Frame.{FrameValue}
-use Rattle.qc_frame.specs.FrameSpelling.{frames_spelling, elicits}
+use Rattle.qc_frame.specs.FrameSpelling.{frames_spelling}
 use Rattle.qc_frame.specs.declared.frames.FrameOf.TheVariants as frames
+use Rattle.qc_frame.specs.Sizes.{IsLongestReason}
+use Rattle.qc_header.specs.HeaderSpelling.{header_spelling}
 use Rattle.qc_header.specs.declared.header.Header.{Header}
 use Rattle.qc_header.specs.declared.header.Header.TheVariants as header
 use Rattle.qc_packet.specs.PacketSpelling.{packet_spelling}
@@ -23,12 +29,13 @@ use Rattle.qc_state.specs.declared.transmit.TheConstants.{DATAGRAM_SIZE}
 use Rattle.qc_state.specs.declared.keys.SpaceKeys.{SpaceKeys}
 use Rattle.qc_state.specs.Keys.{keys_of}
 use Rattle.qc_state.specs.Life.{is_open, is_closed, is_drained}
-use Rattle.qc_state.specs.Moves.{Seal, Take, Raise, Give, Say, move_to}
+use Rattle.qc_state.specs.Acks.{AckPart, may_acknowledge}
+use Rattle.qc_state.specs.Moves.{Seal, Take, Forget, Raise, Give, Say, move_to, calmed}
 use Rattle.qc_state.specs.Numbers.{next_number, acked_number}
 use Rattle.qc_state.specs.Spaces.{space_of}
 use Rattle.qc_state.specs.Types.{Types, Meaning}
 use Rattle.qc_state.specs.View.{View, At}
-use Rattle.qc_state.specs.Waiting.{waits_in, taken_part, WaitAll}
+use Rattle.qc_state.specs.Waiting.{waits_in, WaitAll, TakenPart, is_told}
 
 -- INTERNAL_ERROR (RFC 9000, section 20.1), without the type of a frame
 abbrev pub internal_error : ConnectionError
@@ -47,48 +54,84 @@ abbrev pub told_type : Option ℕ → Option ℕ
 told_type None = None
 told_type (Some type) = if (type == 0) || nat_le (2 ^ 62) type then None else Some type
 
--- the close of this end in an Initial packet: before the handshake is over the peer isn't told what the application's code
--- and reason are, only that it closed (APPLICATION_ERROR; RFC 9000, section 10.2.3)
-abbrev pub told_close : Option Close → FrameValue
-told_close None = close_frame 0x00 None
-told_close (Some (Connection c)) = close_frame (told_code c.error_code) (told_type c.frame_type)
-told_close (Some (Application c)) = close_frame 0x0c None
+-- the code of an application's close, as far as it has room in its field
+abbrev pub told_application_code : ℕ → ℕ
+told_application_code code = if nat_lt code (2 ^ 62) then code else 0
+
+-- the application's close with so much of its reason, in a packet of this space: before the handshake is over the peer isn't
+-- told what code and reason are, only that the application closed (APPLICATION_ERROR; RFC 9000, section 10.2.3)
+abbrev pub application_close : SpaceId → (code : ℕ) → (kept : List ℕ) → FrameValue
+application_close Initial code kept = close_frame 0x0c None
+application_close Handshake code kept = close_frame 0x0c None
+application_close Data code kept = frames.ApplicationClose (told_application_code code) kept
+
+-- the close of this end, with so much of the application's reason
+abbrev pub told_close : SpaceId → (kept : List ℕ) → Option Close → FrameValue
+told_close id kept None = close_frame 0x00 None
+told_close id kept (Some (Connection c)) = close_frame (told_code c.error_code) (told_type c.frame_type)
+told_close id kept (Some (Application c)) = application_close id c.error_code kept
 
 -- the close that is sent: this end's own, until the peer has closed too; then one without an error (RFC 9000, section 10.2.2)
-abbrev pub closing_frame : Life → FrameValue
-closing_frame v = if is_closed v.state then told_close v.close else close_frame 0x00 None
+abbrev pub closing_frame : SpaceId → (kept : List ℕ) → Life → FrameValue
+closing_frame id kept v = if is_closed v.state then told_close id kept v.close else close_frame 0x00 None
+
+-- the longest front of the application's reason with which its close has at most so many bytes
+abbrev pub IsKeptReason : ℕ → (kept : List ℕ) → Option Close → Type 0
+IsKeptReason room kept (Some (Application c)) = IsLongestReason (frames.ApplicationClose (told_application_code c.error_code)) c.reason room kept
+IsKeptReason room kept _ = kept ≡ []
 
 -- A packet number lies so far above the greatest acknowledged one that no packet can spell it, or is the greatest of all
 -- (RFC 9000, sections 12.3 and 17.1): the connection ends.
 abbrev pub is_past_limit : (number acked : ℕ) → Bool
 is_past_limit number acked = nat_le (2 ^ 62 - 1) number || nat_le (2 ^ 31) (number - acked)
 
+-- a Handshake packet of a client
+abbrev pub is_handshake_of_client : Side → SpaceId → Bool
+is_handshake_of_client Client Handshake = true
+is_handshake_of_client _ _ = false
+
 module _ {t : Types} where
   -- nothing is sent: the connection has ended, or has closed and owes no close
   unfoldable pub is_silent : View t → Bool
   is_silent s = is_drained s.life.state || (not (is_open s.life.state) && not s.waiting.close_owed)
 
-  -- a space with keys owes what waits there, and a close that is owed
+  -- a space with keys owes what waits there; while a close is owed, it owes a packet that tells it, unless it sealed one
+  -- since
+  unfoldable pub owes_in : View t → SpaceId → Bool
+  owes_in s id = is_some (keys_of s.keys id) && (if s.waiting.close_owed then not (space_of s.waiting.spaces id).told else waits_in s.waiting id)
+
+  -- the space of the next packet: the first one that owes something
+  unfoldable pub sending_space : View t → SpaceId
+  sending_space s = if owes_in s Initial then Initial else if owes_in s Handshake then Handshake else Data
+
+  -- something is owed
   unfoldable pub owes : View t → Bool
-  owes s = is_some (keys_of s.keys Initial) && (s.waiting.close_owed || waits_in s.waiting Initial)
+  owes s = owes_in s (sending_space s)
 
   -- the next packet's number is past the limit
   unfoldable pub is_used_up : View t → Bool
-  is_used_up s = is_past_limit (next_number s.numbers Initial) (acked_number s.numbers Initial)
+  is_used_up s = is_past_limit (next_number s.numbers (sending_space s)) (acked_number s.numbers (sending_space s))
 
   -- nothing may be sealed: the end came before, nothing is owed, or the limit stands
   unfoldable pub may_be_quiet : View t → Bool
   may_be_quiet s = is_silent s || not (owes s) || is_used_up s
 
-  -- the header of the next packet (RFC 9000, section 17.2.2)
-  unfoldable pub header_of : View t → Header
-  header_of s = header.Initial (record {
+  -- the header of the next packet in a space (RFC 9000, sections 17.2.2, 17.2.4 and 17.3.1); a 1-RTT packet has the first key
+  -- phase, and no spin, so far
+  abbrev pub header_in : View t → SpaceId → Header
+  header_in s Initial = header.Initial (record {
     dst_cid = s.paths.remote_cid;
     src_cid = s.setup.fixed.local_cid;
     token = [];
     number = number_of (next_number s.numbers Initial) (acked_number s.numbers Initial);
     version = s.setup.fixed.version;
   })
+  header_in s Handshake = header.Long long.Handshake s.paths.remote_cid s.setup.fixed.local_cid (number_of (next_number s.numbers Handshake) (acked_number s.numbers Handshake)) s.setup.fixed.version
+  header_in s Data = header.Short false false s.paths.remote_cid (number_of (next_number s.numbers Data) (acked_number s.numbers Data))
+
+  -- the header of the next packet
+  unfoldable pub header_of : View t → Header
+  header_of s = header_in s (sending_space s)
 
   -- a packet under the local keys; none without keys
   abbrev pub sealed_with : Meaning t → Option (SpaceKeys t.H t.P) → Header → ℕ → List ℕ → List ℕ
@@ -97,28 +140,53 @@ module _ {t : Types} where
 
   -- the bytes of the next packet, with these frames
   unfoldable pub packet_bytes : Meaning t → View t → List FrameValue → List ℕ
-  packet_bytes m s fs = sealed_with m (keys_of s.keys Initial) (header_of s) (next_number s.numbers Initial) (frames_spelling fs)
+  packet_bytes m s fs = sealed_with m (keys_of s.keys (sending_space s)) (header_of s) (next_number s.numbers (sending_space s)) (frames_spelling fs)
 
-  -- the frames of a packet: where a close is owed, the close and PADDING behind it; else each waits as its turn comes or is
-  -- PADDING, and not all are PADDING
-  pub data Carries (s : View t) (fs : List FrameValue) : Type 0 where
-    a_close : s.waiting.close_owed ≡ true → (padding : ℕ) → fs ≡ closing_frame s.life ∷ replicate padding frames.Padding → Carries s fs
-    what_waits : s.waiting.close_owed ≡ false → WaitAll (space_of s.waiting.spaces Initial) fs → list_any elicits fs ≡ true → Carries s fs
+  -- how much room an ACK leaves for a close in a datagram of its own: beside header, tag and the 4 bytes that make sure of a
+  -- sample (RFC 9001, section 5.4.2)
+  unfoldable pub close_room : View t → SpaceId → List FrameValue → ℕ
+  close_room s id acks = DATAGRAM_SIZE - 20 - length (header_spelling (header_in s id) 0) - length (frames_spelling acks)
 
-  -- a packet with these frames may be sealed: something is owed, and it carries what it may
-  pub record MaySeal (s : View t) (fs : List FrameValue) : Type 0 where
+  -- an ACK, if there is something to acknowledge, and the close with the reason that fits behind it
+  pub data Closes (time : ℕ) (s : View t) (id : SpaceId) (fs : List FrameValue) : Type 0 where
+    closing : (acks : List FrameValue) → AckPart time (space_of s.waiting.spaces id).acks acks (may_acknowledge (space_of s.waiting.spaces id).acks) →
+        (kept : List ℕ) → IsKeptReason (close_room s id acks) kept s.life.close → fs ≡ acks ++ closing_frame id kept s.life ∷ [] → Closes time s id fs
+
+  -- the frames that this end takes at a time for a packet of this space with so much room: where a close is owed, it alone, else
+  -- frames that wait
+  pub data TakenNow (time : ℕ) (s : View t) (id : SpaceId) (room : ℕ) (fs : List FrameValue) : Type 0 where
+    a_close : s.waiting.close_owed ≡ true → Closes time s id fs → TakenNow time s id room fs
+    what_waits : s.waiting.close_owed ≡ false → TakenPart time (space_of s.waiting.spaces id) room fs → TakenNow time s id room fs
+
+  -- the frames of a packet of this space at a time: where a close is owed, it alone with PADDING behind it; else each waits as
+  -- its turn comes or is PADDING, and not all are PADDING
+  pub data Carries (time : ℕ) (s : View t) (id : SpaceId) (fs : List FrameValue) : Type 0 where
+    a_close : s.waiting.close_owed ≡ true → (gs : List FrameValue) → Closes time s id gs → (padding : ℕ) → fs ≡ gs ++ replicate padding frames.Padding → Carries time s id fs
+    what_waits : s.waiting.close_owed ≡ false → WaitAll time (space_of s.waiting.spaces id) fs → list_any is_told fs ≡ true → Carries time s id fs
+
+  -- a packet with these frames may be sealed at a time: something is owed, and it carries what it may
+  pub record MaySeal (time : ℕ) (s : View t) (fs : List FrameValue) : Type 0 where
     pub alive : is_silent s ≡ false
     pub owed : owes s ≡ true
     pub spelled : is_used_up s ≡ false
-    pub carries : Carries s fs
+    pub carries : Carries time s (sending_space s) fs
 
-  -- the frames that this end takes for a packet with so much room
-  unfoldable pub taken_now : View t → ℕ → List FrameValue
-  taken_now s room = if s.waiting.close_owed then closing_frame s.life ∷ [] else taken_part (space_of s.waiting.spaces Initial) room
+  -- a client that seals a Handshake packet drops the keys of its Initial space, if it has them still (RFC 9001, section
+  -- 4.9.1)
+  unfoldable pub drops_initial : View t → SpaceId → Bool
+  drops_initial s id = is_handshake_of_client s.setup.fixed.side id && is_some (keys_of s.keys Initial)
 
-  -- a packet is sealed: its frames wait no longer, and its number is used
+  -- the Initial space is left, where the sealing of a packet in this space says so
+  unfoldable pub initial_left : SpaceId → At t → At t
+  initial_left id a = if drops_initial a.state id then calmed (move_to (Forget Initial) a) else a
+
+  -- a packet of this space is sealed: its frames wait no longer, and its number is used
+  unfoldable pub sealed_in : ℕ → SpaceId → List FrameValue → At t → At t
+  sealed_in time id fs a = initial_left id (move_to (Seal time id (next_number a.state.numbers id) DATAGRAM_SIZE fs) (move_to (Take id fs) a))
+
+  -- the next packet is sealed
   unfoldable pub packet_after : ℕ → List FrameValue → At t → At t
-  packet_after time fs a = move_to (Seal time Initial (next_number a.state.numbers Initial) DATAGRAM_SIZE fs) (move_to (Take Initial fs) a)
+  packet_after time fs a = sealed_in time (sending_space a.state) fs a
 
   -- a reason for the end is given, unless one was given before
   unfoldable pub given_after : ConnectionError → At t → At t
@@ -143,10 +211,10 @@ module _ {t : Types} where
 
   -- which packets a transmit may seal: one with something owed, and none only where the end came before, nothing is
   -- owed, or the limit stands
-  unfoldable pub MayTransmit : View t → List (List FrameValue) → Type 0
-  MayTransmit s [] = may_be_quiet s ≡ true
-  MayTransmit s (fs ∷ []) = MaySeal s fs
-  MayTransmit s _ = ⊥
+  unfoldable pub MayTransmit : ℕ → View t → List (List FrameValue) → Type 0
+  MayTransmit time s [] = may_be_quiet s ≡ true
+  MayTransmit time s (fs ∷ []) = MaySeal time s fs
+  MayTransmit time s _ = ⊥
 
   -- the bytes of the datagrams
   unfoldable pub transmit_bytes : Meaning t → List (List FrameValue) → View t → List ℕ
@@ -167,7 +235,7 @@ module _ {t : Types} where
   -- a packet was sealed into an empty buffer, with frames of its choice, and fills a datagram
   pub record SealsOne (m : Meaning t) (time : ℕ) (a b : At t) (buffer : List ℕ) : Type 0 where
     pub frames : List FrameValue
-    pub may : MaySeal a.state frames
+    pub may : MaySeal time a.state frames
     pub leads : b ≡ packet_after time frames a
     pub bytes : buffer ≡ packet_bytes m a.state frames
     pub full : length buffer ≡ DATAGRAM_SIZE
@@ -175,7 +243,7 @@ module _ {t : Types} where
   -- a transmit into an empty buffer
   pub record Transmits (m : Meaning t) (time : ℕ) (a b : At t) (sent : Option Transmit) (buffer : List ℕ) : Type 0 where
     pub packets : List (List FrameValue)
-    pub may : MayTransmit a.state packets
+    pub may : MayTransmit time a.state packets
     pub leads : b ≡ transmit_after time packets a
     pub answer : sent ≡ transmit_of packets a.state
     pub bytes : buffer ≡ transmit_bytes m packets a.state

@@ -1,6 +1,32 @@
--- What a connection was made with, seen with the stream of its random source.
+-- What a connection was made with, what it knows of the peer's parameters, and the limit on idle time that comes of both.
+use Rattle.std.specs.Prelude.{ℕ, ◌==◌, if◌then◌else◌, Option, Some, None}
 use Rattle.rand_core.specs.Stream.{Stream}
+use Rattle.qc_base.specs.Time.{times}
+use Rattle.qc_params.specs.declared.params.TransportParameters.{TransportParameters}
+use Rattle.qc_state.specs.declared.setup.Fixed.{Fixed}
 use Rattle.qc_state.specs.declared.setup.Setup.{Setup}
+use Rattle.qc_state.specs.Timers.{least}
 
+-- the same with the source of random words as its stream
 unfoldable pub ideal_setup : {R : Type 0} → (R → Stream) → Setup R → Setup Stream
-ideal_setup stream s = record { fixed = s.fixed; random = stream s.random }
+ideal_setup stream s = record { fixed = s.fixed; peer = s.peer; random = stream s.random }
+
+-- a limit on idle time in nanoseconds, of one in milliseconds: none, and 0, are no limit (RFC 9000, section 10.1)
+abbrev pub idle_limit_of : Option ℕ → Option ℕ
+idle_limit_of None = None
+idle_limit_of (Some millis) = if millis == 0 then None else Some (times millis 1000000)
+
+-- the limit on idle time that holds: this end's own one, and once the peer's parameters were read the lesser of the two ends'
+-- (RFC 9000, section 10.1)
+abbrev pub idle_limit_with : Fixed → Option TransportParameters → Option ℕ
+idle_limit_with fixed None = fixed.idle_limit
+idle_limit_with fixed (Some peer) = least fixed.idle_limit (idle_limit_of (Some peer.max_idle_timeout))
+
+module _ {R : Type 0} where
+  -- the limit of a connection
+  unfoldable pub idle_limit_now : Setup R → Option ℕ
+  idle_limit_now s = idle_limit_with s.fixed s.peer
+
+  -- the peer's parameters were read
+  unfoldable pub parameters_known : Setup R → TransportParameters → Setup R
+  parameters_known s parameters = record s { peer = Some parameters }

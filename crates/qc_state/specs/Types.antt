@@ -1,10 +1,12 @@
 -- The types that a connection stands on, and what the calls on them mean.
-use Rattle.std.specs.Prelude.{ℕ, List, Option}
+use Rattle.std.specs.Prelude.{ℕ, Bool, List, Option, Result}
 use Rattle.qc_base.specs.declared.side.Side.{Side}
+use Rattle.qc_base.specs.declared.transport_error.TransportError.{TransportError}
 use Rattle.qc_base.specs.declared.mask.HeaderMask.{Ghosts as HeaderMaskGhosts}
 use Rattle.qc_crypto.specs.declared.keys.Keys.{Keys}
 use Rattle.qc_crypto.specs.declared.packet_key.PacketKey.{Ghosts as PacketKeyGhosts}
 use Rattle.qc_crypto.specs.declared.session.Session.{Ghosts as SessionGhosts}
+use Rattle.qc_params.specs.declared.params.TransportParameters.{TransportParameters}
 
 -- the session, its header keys, its packet keys, its handshake data and its peer's identity
 pub record Types : Type 1 where
@@ -20,8 +22,28 @@ pub record Meaning (t : Types) : Type 0 where
   pub seal : t.P → ℕ → List ℕ → List ℕ → List ℕ
   pub opening : t.P → ℕ → List ℕ → List ℕ → Option (List ℕ)
   pub initial : t.S → List ℕ → Side → Keys t.H t.P
+  pub reads : t.S → List ℕ → Result Bool TransportError
+  pub after_read : t.S → List ℕ → t.S
   pub writes : t.S → List ℕ
+  pub write_keys : t.S → Option (Keys t.H t.P)
   pub after_write : t.S → t.S
+  pub left : t.S → ℕ
+  pub handshaking : t.S → Bool
+  pub parameters : t.S → Result (Option TransportParameters) TransportError
 
+-- the meaning that the traits give
 abbrev pub meaning : {t : Types} → SessionGhosts t.S t.H t.P t.D t.I → HeaderMaskGhosts t.H → PacketKeyGhosts t.P → Meaning t
-meaning s h p = record { mask = h.mask_of; seal = p.seal; opening = p.opening; initial = s.initial; writes = s.writes; after_write = s.after_write }
+meaning s h p = record {
+  mask = h.mask_of;
+  seal = p.seal;
+  opening = p.opening;
+  initial = s.initial;
+  reads = s.reads;
+  after_read = s.after_read;
+  writes = s.writes;
+  write_keys = s.write_keys;
+  after_write = s.after_write;
+  left = s.left;
+  handshaking = s.handshaking;
+  parameters = s.parameters;
+}

@@ -3,8 +3,10 @@
 use Rattle.std.specs.Prelude.{ℕ, ◌&&◌, not, nat_eq, Bool, if◌then◌else◌, List, [], ◌∷◌}
 use Rattle.std.specs.Cmp.Lexicographic.{pointwise}
 use Rattle.qc_base.specs.declared.side.SpaceId.{SpaceId}
+use Rattle.qc_base.specs.declared.side.SpaceId.TheVariants as space
+use Rattle.qc_state.specs.Spaces.{is_space}
 use Rattle.qc_state.specs.declared.deeds.Verdict.{Verdict}
-use Rattle.qc_state.specs.declared.deeds.Verdict.TheVariants.{Seen, ReadForClose, AckOnly, Admitted}
+use Rattle.qc_state.specs.declared.deeds.Verdict.TheVariants.{Seen, ReadForClose, NumberOnly, AckOnly, Admitted}
 use Rattle.qc_state.specs.Life.{is_handshake, is_closed}
 use Rattle.qc_state.specs.Numbers.{is_new_in}
 use Rattle.qc_state.specs.Types.{Types}
@@ -18,12 +20,13 @@ first_row (row ∷ rows) other = if row.0 then row.1 else first_row rows other
 module _ {t : Types} where
   -- The rows for a packet of this space with this source id and number that opened and whose reserved bits are 0. Those
   -- before stand in the opening: Ignored without a key or a sample, Failure where its key doesn't open it, BadBits. Not
-  -- there so far: a stateless reset (behind Ignored), a bad key update (behind BadBits), and, behind ReadForClose,
-  -- NumberOnly for 1-RTT packets during the handshake and for a server's Initial packets with another token.
+  -- there so far: a stateless reset (behind Ignored), a bad key update (behind BadBits), and NumberOnly for a server's Initial
+  -- packets with another token.
   abbrev pub rows : View t → SpaceId → List ℕ → ℕ → List (Bool × Verdict)
   rows s id source number =
       (not (is_new_in s.numbers id number), Seen)
       ∷ (is_closed s.life.state, ReadForClose)
+      ∷ (is_handshake s.life.state && is_space id space.Data, NumberOnly)
       ∷ (is_handshake s.life.state && (s.paths.peer_fixed && not (pointwise nat_eq source s.paths.remote_cid)), AckOnly)
       ∷ []
 

@@ -1,7 +1,7 @@
 //! The bytes of one space's CRYPTO stream that wait to be sealed.
 
 ghost use Rattle.std.specs.Prelude.{◌≡◌, ◌==◌, ◌+◌, ◌≤◌, ◌<◌, ◌^◌, length, take, OnOk, OnErr, IfOk};
-ghost use Rattle.qc_state.specs.Unsent.{unsent_after, from_start};
+ghost use Rattle.qc_state.specs.Unsent.{unsent_after, unsent_with, from_start};
 
 use std::alloc::{AllocError, Global};
 use std::marker::Model;
@@ -58,6 +58,28 @@ impl CryptoQueue {
         ensures bound { result < 2 ^ 62 }
     {
         self.offset
+    }
+
+    /// More bytes wait behind them, where the stream, which ends at 2^62, has room for them. Want of memory is the only
+    /// refusal, and then those that waited wait as before.
+    #[tactic(auto, unfolding(crate::specs::Unsent::unsent_with))]
+    pub fn push(&mut self, more: &[u8]) -> Result<(), AllocError>
+        ensures ok { OnOk result (self.new ≡ unsent_with self.old more.now) }
+        ensures err { OnErr result (self.new ≡ self.old) }
+    {
+        let end = self.offset + self.len() as u64;
+        if more.len() as u64 >= (1 << 62) - end {
+            return Ok(());
+        }
+        self.bytes.extend_from_slice(more)
+    }
+
+    /// None of the bytes waits any more.
+    pub fn skip(&mut self)
+        ensures { self.new ≡ unsent_after self.old (length self.old.bytes) }
+    {
+        self.offset += self.len() as u64;
+        self.taken = self.bytes.len();
     }
 
     /// Takes the first `count` bytes. Want of memory is the only refusal, and then all of them wait as before.

@@ -20,8 +20,8 @@ pub enum Quiet {
     Killed,
 }
 
-/// What became of a packet that came. Verdicts on 1-RTT packets, on packets with another token, on stateless resets, on
-/// Retry and on Version Negotiation aren't given yet.
+/// What became of a packet that came. Verdicts on packets with another token, on stateless resets, on Retry and on Version
+/// Negotiation aren't given yet.
 #[derive(Clone, Copy)]
 pub enum Verdict {
     /// It changed nothing: a key that its form needs is missing, or it is too short to be unmasked.
@@ -34,6 +34,8 @@ pub enum Verdict {
     Seen,
     /// This end had closed: only a close in it counts.
     ReadForClose,
+    /// It is a 1-RTT packet that came before the handshake was over (RFC 9001, 5.7): only its number counts.
+    NumberOnly,
     /// Its source id isn't the peer's (RFC 9000, 7.2): it is acknowledged, and its frames don't count.
     AckOnly,
     /// Its frames were applied.
@@ -45,6 +47,8 @@ pub enum Verdict {
 pub enum Layer {
     /// Loss recovery: acknowledgements.
     Recovery,
+    /// The session: bytes of the handshake.
+    Session,
     /// The life of the connection: closes.
     Life,
 }

@@ -9,6 +9,10 @@ use std::marker::Model;
 /// What a connection reports to the application.
 #[derive(Drop)]
 pub enum Event {
+    /// What the handshake settles is known. It is given once.
+    HandshakeDataReady,
+    /// The handshake is over. It is given once.
+    Connected,
     /// The connection was lost. It is given once.
     ConnectionLost {
         /// Why.
@@ -46,6 +50,26 @@ impl Events {
         Events {
             events: Vec::new(alloc),
         }
+    }
+
+    /// The report that the handshake's data is ready, after the others. Want of memory is the only refusal, and then the
+    /// list is as before.
+    pub fn push_ready(&mut self) -> Result<(), AllocError>
+        ensures ok { OnOk result (self.new ≡ self.old ++ Event.HandshakeDataReady ∷ []) }
+        ensures err { OnErr result (self.new ≡ self.old) }
+    {
+        self.events.push(Event::HandshakeDataReady)?;
+        Ok(())
+    }
+
+    /// The report that the handshake is over, after the others. Want of memory is the only refusal, and then the list is as
+    /// before.
+    pub fn push_connected(&mut self) -> Result<(), AllocError>
+        ensures ok { OnOk result (self.new ≡ self.old ++ Event.Connected ∷ []) }
+        ensures err { OnErr result (self.new ≡ self.old) }
+    {
+        self.events.push(Event::Connected)?;
+        Ok(())
     }
 
     /// The report of the end's reason, after the others. Want of memory is the only refusal, and then the list is as

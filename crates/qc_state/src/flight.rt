@@ -43,6 +43,13 @@ impl Flight {
         }
     }
 
+    /// None of the packets is in flight any more.
+    pub fn clear(&mut self)
+        ensures { self.new ≡ [] }
+    {
+        self.numbers.clear();
+    }
+
     /// A packet with this number was sealed. Want of memory is the only refusal, and then the list is as before.
     pub fn push(&mut self, number: u64) -> Result<(), AllocError>
         ensures ok { OnOk result (self.new ≡ self.old ++ number ∷ []) }

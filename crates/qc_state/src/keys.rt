@@ -2,7 +2,7 @@
 
 ghost use Rattle.std.specs.Prelude.{◌≡◌};
 ghost use Rattle.std.specs.Option.{option_copied};
-ghost use Rattle.qc_state.specs.Keys.{keys_of, key_used, failure_counted, count_one};
+ghost use Rattle.qc_state.specs.Keys.{keys_of, key_used, failure_counted, count_one, keys_given, keys_dropped};
 
 use crate::spaces::Spaces;
 use qc_base::SpaceId;
@@ -22,6 +22,9 @@ pub struct SpaceKeys<H, P> {
 pub struct KeyGroup<H, P> {
     /// One entry a space.
     pub spaces: Spaces<Option<SpaceKeys<H, P>>>,
+    /// The highest space for which the session gave keys; the Initial space before it gave any. Dropping keys doesn't change
+    /// it.
+    pub highest: SpaceId,
     /// Packets of the peer that their key didn't open (RFC 9001, 6.6). It stands still at 2^64 - 1.
     pub failures: u64,
 }
@@ -36,8 +39,8 @@ fn count<H, P>(keys: &mut Option<SpaceKeys<H, P>>)
     }
 }
 
-#[tactic(auto, unfolding(crate::specs::Keys::keys_of, crate::specs::Keys::key_used, crate::specs::Keys::failure_counted))]
-impl<H, P> KeyGroup<H, P> {
+#[tactic(auto, unfolding(crate::specs::Keys::keys_of, crate::specs::Keys::key_used, crate::specs::Keys::failure_counted, crate::specs::Keys::keys_given, crate::specs::Keys::keys_dropped))]
+impl<H: Drop, P: Drop> KeyGroup<H, P> {
     /// The keys of the space. None exactly where it has none.
     pub fn get(&self, space: SpaceId) -> Option<&SpaceKeys<H, P>>
         ensures { option_copied result ≡ keys_of self.now space }
@@ -50,6 +53,37 @@ impl<H, P> KeyGroup<H, P> {
         ensures { self.new ≡ failure_counted self.old }
     {
         self.failures = self.failures.saturating_add(1);
+    }
+
+    /// The session gave these keys, if it gave any: those of the space behind the highest one, which is the highest from
+    /// then on.
+    pub fn give(&mut self, keys: Option<Keys<H, P>>)
+        ensures { self.new ≡ keys_given self.old keys }
+    {
+        if let Some(keys) = keys {
+            match self.highest {
+                SpaceId::Initial => {
+                    self.spaces.handshake = Some(SpaceKeys { keys, sealed: 0 });
+                    self.highest = SpaceId::Handshake;
+                }
+                SpaceId::Handshake => {
+                    self.spaces.application = Some(SpaceKeys { keys, sealed: 0 });
+                    self.highest = SpaceId::Data;
+                }
+                SpaceId::Data => {}
+            }
+        }
+    }
+
+    /// The keys of the space are dropped.
+    pub fn forget(&mut self, space: SpaceId)
+        ensures { self.new ≡ keys_dropped self.old space }
+    {
+        match space {
+            SpaceId::Initial => self.spaces.initial = None,
+            SpaceId::Handshake => self.spaces.handshake = None,
+            SpaceId::Data => self.spaces.application = None,
+        }
     }
 
     /// A packet was sealed in the space: its key's count rises by one.

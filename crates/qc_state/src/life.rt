@@ -1,7 +1,7 @@
 //! The life of a connection, the reason of its end, and what of both waits to be reported.
 
 ghost use Rattle.std.specs.Prelude.{◌≡◌, IfOk};
-ghost use Rattle.qc_state.specs.Life.{rank_of, is_open, is_closed, is_handshake, is_over, is_drained, life_closed, life_drained, reason_given, life_raised, lost_event, lost_reported, drained_event, drained_reported};
+ghost use Rattle.qc_state.specs.Life.{rank_of, is_open, is_closed, is_handshake, is_established, is_over, is_drained, life_closed, life_drained, life_established, data_ready, reason_given, life_raised, ready_event, ready_reported, connected_event, connected_reported, lost_event, lost_reported, drained_event, drained_reported};
 
 use crate::events::{EndpointEvent, Event};
 use bytes::Bytes;
@@ -71,6 +71,10 @@ pub struct Life {
     pub state: State,
     /// The first reason for the end, once one was given.
     pub reason: Option<ConnectionError>,
+    /// Whether `HandshakeDataReady` waits to be given.
+    pub ready: bool,
+    /// Whether `Connected` waits to be given.
+    pub connected: bool,
     /// The reason, while its report `ConnectionLost` waits to be given.
     pub lost: Option<ConnectionError>,
     /// Whether `Drained` waits to be given.
@@ -138,7 +142,7 @@ pub fn rank(state: State) -> u8
     }
 }
 
-#[tactic(auto, unfolding(crate::specs::Life::life_raised, crate::specs::Life::life_closed, crate::specs::Life::life_drained, crate::specs::Life::reason_given, crate::specs::Life::lost_event, crate::specs::Life::lost_reported, crate::specs::Life::drained_event, crate::specs::Life::drained_reported))]
+#[tactic(auto, unfolding(crate::specs::Life::life_raised, crate::specs::Life::life_closed, crate::specs::Life::life_drained, crate::specs::Life::life_established, crate::specs::Life::data_ready, crate::specs::Life::ready_event, crate::specs::Life::ready_reported, crate::specs::Life::connected_event, crate::specs::Life::connected_reported, crate::specs::Life::reason_given, crate::specs::Life::lost_event, crate::specs::Life::lost_reported, crate::specs::Life::drained_event, crate::specs::Life::drained_reported))]
 impl Life {
     /// Whether this end hasn't closed, and nothing has ended the connection.
     pub fn is_open(&self) -> bool
@@ -183,6 +187,55 @@ impl Life {
             State::Handshake => true,
             State::Established | State::Closed | State::Draining | State::Drained => false,
         }
+    }
+
+    /// Whether the handshake is over, and neither end has closed.
+    pub fn is_established(&self) -> bool
+        ensures { result ≡ is_established self.now.state }
+    {
+        match self.state {
+            State::Established => true,
+            State::Handshake | State::Closed | State::Draining | State::Drained => false,
+        }
+    }
+
+    /// The handshake is over: the life rises to `Established`.
+    pub fn establish(&mut self)
+        ensures { self.new ≡ life_established self.old }
+    {
+        self.state = State::Established;
+        self.connected = true;
+    }
+
+    /// What the handshake settles is ready.
+    pub fn data_ready(&mut self)
+        ensures { self.new ≡ data_ready self.old }
+    {
+        self.ready = true;
+    }
+
+    /// The report that the handshake's data is ready, once.
+    pub fn take_ready(&mut self) -> Option<Event>
+        ensures event { result ≡ ready_event self.old }
+        ensures rest { self.new ≡ ready_reported self.old }
+    {
+        let waits = self.ready;
+        self.ready = false;
+        if waits {
+            Some(Event::HandshakeDataReady)
+        } else {
+            None
+        }
+    }
+
+    /// The report that the handshake is over, once.
+    pub fn take_connected(&mut self) -> Option<Event>
+        ensures event { result ≡ connected_event self.old }
+        ensures rest { self.new ≡ connected_reported self.old }
+    {
+        let waits = self.connected;
+        self.connected = false;
+        if waits { Some(Event::Connected) } else { None }
     }
 
     /// Whether the connection drains or has ended: nothing that comes counts any more.

@@ -1,7 +1,7 @@
 //! The packet numbers of the three spaces.
 
 ghost use Rattle.std.specs.Prelude.{◌≡◌, ◌≤◌, ◌<◌, ◌^◌};
-ghost use Rattle.qc_state.specs.Numbers.{no_numbers, next_number, acked_number, number_used, used_in, received_number, is_new_in, number_entered, entered_in, number_accepted, accepted_in, number_acked, acked_in};
+ghost use Rattle.qc_state.specs.Numbers.{no_numbers, next_number, acked_number, number_used, used_in, received_number, came_in, is_new_in, number_entered, entered_in, number_accepted, accepted_in, number_acked, acked_in};
 
 use crate::spaces::Spaces;
 use qc_base::SpaceId;
@@ -111,6 +111,13 @@ impl Numbers {
         ensures { result ≡ is_new_in self.now space number }
     {
         self.spaces.get(space).came.is_new(number)
+    }
+
+    /// What came in the space.
+    pub fn came(&self, space: SpaceId) -> &Dedup
+        ensures { result.now ≡ came_in self.now space }
+    {
+        &self.spaces.get(space).came
     }
 
     /// A packet with this number came.

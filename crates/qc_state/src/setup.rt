@@ -1,6 +1,12 @@
 //! What a connection was made with, and its source of random words.
 
-use qc_base::{ConnectionId, Duration, Side};
+ghost use Rattle.std.specs.Prelude.{◌≡◌, ℕ, Option, None, Some};
+ghost use Rattle.std.specs.Option.{option_map};
+ghost use Rattle.qc_state.specs.Setup.{idle_limit_of, idle_limit_with, idle_limit_now, parameters_known};
+ghost use Rattle.qc_state.specs.Timers.{least};
+
+use qc_base::{ConnectionId, Duration, Side, VarInt};
+use qc_params::TransportParameters;
 use std::net::IpAddr;
 
 /// The values that a connection was made with. They don't change.
@@ -12,10 +18,14 @@ pub struct Fixed {
     pub version: u32,
     /// This end's id: the source of its long headers (RFC 9000, 5.1).
     pub local_cid: ConnectionId,
+    /// The destination id of a client's first packets (RFC 9000, 7.2).
+    pub first_cid: ConnectionId,
     /// The address to send from, where one was given.
     pub local_ip: Option<IpAddr>,
     /// This end's limit on idle time; none where it has none (RFC 9000, 10.1).
     pub idle_limit: Option<Duration>,
+    /// How many bytes of a CRYPTO stream beyond those that the session was given are kept (RFC 9000, 7.5).
+    pub crypto_buffer_size: usize,
     /// Whether this end takes packets whose fixed bit isn't set (RFC 9287).
     pub grease_quic_bit: bool,
 }
@@ -25,6 +35,76 @@ pub struct Fixed {
 pub struct Setup<R> {
     /// The values that don't change.
     pub fixed: Fixed,
+    /// The peer's transport parameters, once this end has read them (RFC 9000, 7.4).
+    pub peer: Option<TransportParameters>,
     /// The source of random words. Contracts know it by its stream alone.
     pub random: R,
+}
+
+/// The limit on idle time of a number of milliseconds: none where it is 0 (RFC 9000, 10.1).
+pub fn limit_of_millis(millis: u64) -> Option<Duration>
+    ensures { result ≡ idle_limit_of (Some millis) }
+{
+    if millis == 0 {
+        return None;
+    }
+    Some(Duration::from_millis(millis))
+}
+
+/// The limit on idle time that two ends come to of theirs in milliseconds: the lesser one; none and 0 are no limit (RFC 9000,
+/// 10.1).
+pub fn negotiate_max_idle_timeout(x: Option<VarInt>, y: Option<VarInt>) -> Option<Duration>
+    ensures { result ≡ least (idle_limit_of x) (idle_limit_of y) }
+{
+    lesser(limit_of(x), limit_of(y))
+}
+
+/// The limit of a number of milliseconds, where there is one.
+fn limit_of(millis: Option<VarInt>) -> Option<Duration>
+    ensures { result ≡ idle_limit_of millis }
+{
+    match millis {
+        None => None,
+        Some(millis) => limit_of_millis(millis.into_inner()),
+    }
+}
+
+/// The lesser of two limits, where there is one.
+fn lesser(a: Option<Duration>, b: Option<Duration>) -> Option<Duration>
+    ensures { result ≡ least a b }
+{
+    match (a, b) {
+        (None, limit) => limit,
+        (Some(limit), None) => Some(limit),
+        (Some(a), Some(b)) => {
+            if a.nanos() <= b.nanos() {
+                Some(a)
+            } else {
+                Some(b)
+            }
+        }
+    }
+}
+
+#[tactic(auto, unfolding(crate::specs::Setup::idle_limit_now, crate::specs::Setup::parameters_known))]
+impl<R> Setup<R> {
+    /// The limit on idle time: this end's own one, and once the peer's parameters were read the lesser of the two ends'.
+    pub fn idle_limit(&self) -> Option<Duration>
+        ensures { result ≡ idle_limit_now self.now }
+    {
+        match &self.peer {
+            None => self.fixed.idle_limit,
+            Some(peer) => lesser(
+                self.fixed.idle_limit,
+                limit_of_millis(peer.max_idle_timeout.into_inner()),
+            ),
+        }
+    }
+
+    /// The peer's parameters were read.
+    pub fn learn(&mut self, parameters: TransportParameters)
+        ensures { self.new ≡ parameters_known self.old parameters }
+    {
+        self.peer = Some(parameters);
+    }
 }

@@ -1,7 +1,7 @@
 //! One value for each packet number space.
 
 ghost use Rattle.std.specs.Prelude.{◌≡◌};
-ghost use Rattle.qc_state.specs.Spaces.{space_of};
+ghost use Rattle.qc_state.specs.Spaces.{is_space, space_of};
 
 use qc_base::SpaceId;
 
@@ -26,5 +26,17 @@ impl<T> Spaces<T> {
             SpaceId::Handshake => &self.handshake,
             SpaceId::Data => &self.application,
         }
+    }
+}
+
+/// Whether two spaces are one.
+pub fn is_space(a: SpaceId, b: SpaceId) -> bool
+    ensures { result ≡ is_space a b }
+{
+    match (a, b) {
+        (SpaceId::Initial, SpaceId::Initial)
+        | (SpaceId::Handshake, SpaceId::Handshake)
+        | (SpaceId::Data, SpaceId::Data) => true,
+        _ => false,
     }
 }

@@ -1,15 +1,21 @@
 //! The frames that wait to be sealed.
 
-ghost use Rattle.std.specs.Prelude.{◌≡◌, ◌++◌, OnOk, IfOk};
-ghost use Rattle.qc_state.specs.Waiting.{waits_in, ping_asked, close_begun, close_ended, flown_in, settled_in, packet_flown, packets_settled, is_calm};
+ghost use Rattle.std.specs.Prelude.{◌≡◌, ◌≤◌, ◌++◌, ◌∷◌, [], true, List, length, OnOk, IfOk};
+ghost use Rattle.qc_frame.specs.AckRanges.{ArePackets};
+ghost use Rattle.qc_frame.specs.Frame.{FrameValue};
+ghost use Rattle.qc_frame.specs.FrameSpelling.{frames_spelling};
+ghost use Rattle.qc_state.specs.Acks.{AckPart, SaysAck, ack_sent, is_ack_owed, may_acknowledge};
+ghost use Rattle.qc_frame.specs.declared.frames.FrameOf.TheVariants as frames;
+ghost use Rattle.qc_state.specs.Waiting.{TakenPart, TakesAck, waits_in, ping_asked, came_in, packet_came, close_begun, packet_told, crypto_written, nothing_left, space_left, untold, flown_in, settled_in, packet_flown, packets_settled, is_calm};
 ghost use Rattle.qc_frame.specs.AckRanges.{ranges_of};
 ghost use Rattle.qc_frame.specs.Frame.{ack_map};
 
 use crate::crypto_queue::CryptoQueue;
 use crate::flight::Flight;
 use crate::spaces::Spaces;
-use qc_base::SpaceId;
-use qc_frame::{Ack, FrameList, FrameOf};
+use qc_base::{Instant, SpaceId};
+use qc_frame::{Ack, FrameList, FrameOf, OwnedAck, put_frame};
+use qc_path::{Arrival, Dedup, PendingAcks};
 use std::alloc::{AllocError, Global};
 
 /// The greatest size of a CRYPTO frame's type, offset and length together, in bytes.
@@ -22,8 +28,12 @@ pub struct SpaceWaiting {
     pub ping: bool,
     /// The bytes of CRYPTO frames that wait (RFC 9000, 19.6).
     pub crypto: CryptoQueue,
+    /// The numbers of packets that came and are to be acknowledged, and whether an ACK is owed (RFC 9000, 13.2).
+    pub acks: PendingAcks,
     /// The packets that were sealed, elicit an acknowledgement and aren't acknowledged.
     pub flight: Flight,
+    /// Whether a packet of the space was sealed since a close began to be owed (RFC 9000, 10.2).
+    pub told: bool,
 }
 
 /// What waits to be sealed.
@@ -31,7 +41,7 @@ pub struct SpaceWaiting {
 pub struct Waiting {
     /// One record a space.
     pub spaces: Spaces<SpaceWaiting>,
-    /// Whether a close is owed: the connection closed, and no packet of the highest space has told so (RFC 9000, 10.2).
+    /// Whether a close is owed: the connection closed, and no packet of the last space has told so (RFC 9000, 10.2).
     pub close_owed: bool,
 }
 
@@ -55,7 +65,82 @@ fn settle(space: &mut SpaceWaiting, alloc: Global, ack: &Ack<'_>) -> Result<(), 
 fn waits(space: &SpaceWaiting) -> bool
     ensures { result ≡ waits_here space.now }
 {
-    space.ping || !space.crypto.is_empty()
+    space.ping || (is_ack_owed(&space.acks) || !space.crypto.is_empty())
+}
+
+/// Whether there is something to acknowledge, and each number is one of a packet.
+#[tactic(auto, unfolding(crate::specs::Acks::may_acknowledge), using(crate::proofs::AckLemmas::packets_by))]
+fn may_acknowledge(acks: &PendingAcks) -> bool
+    ensures value { result ≡ may_acknowledge acks.now }
+    ensures packets { result ≡ true → ArePackets acks.now.ranges }
+    ensures most { length acks.now.ranges ≤ 64 }
+{
+    let ranges = acks.ranges().as_slice();
+    if ranges.is_empty() {
+        return false;
+    }
+    ranges[ranges.len() - 1].last < 1 << 62
+}
+
+/// Whether an ACK is owed.
+#[tactic(auto, unfolding(crate::specs::Acks::is_ack_owed))]
+fn is_ack_owed(acks: &PendingAcks) -> bool
+    ensures value { result ≡ is_ack_owed acks.now }
+    ensures packets { result ≡ true → ArePackets acks.now.ranges }
+    ensures most { length acks.now.ranges ≤ 64 }
+{
+    let may = may_acknowledge(acks);
+    acks.owes() && may
+}
+
+/// The ACK of the numbers to acknowledge at a time. Want of memory is the only refusal.
+#[tactic(auto, using(crate::proofs::AckLemmas::says, crate::proofs::AckLemmas::small_delay))]
+fn ack_of(alloc: Global, now: Instant, acks: &PendingAcks) -> Result<OwnedAck, AllocError>
+    requires { ArePackets acks.now.ranges }
+    ensures { IfOk result (λ ack. SaysAck now acks.now (ack_map (λ bytes. bytes.items) ack)) }
+{
+    let delay = acks.delay(now);
+    match OwnedAck::of_numbers(alloc, acks.ranges(), delay, None)? {
+        Some(ack) => Ok(ack),
+        None => unreachable!(),
+    }
+}
+
+/// How many bytes an ACK has. Want of memory is the only refusal.
+fn ack_len(alloc: Global, ack: &OwnedAck) -> Result<usize, AllocError>
+    ensures { IfOk result (λ n. n ≡ length (frames_spelling (frames.Ack (ack_map (λ bytes. bytes.items) ack.now) ∷ []))) }
+{
+    let mut bytes = Vec::new(alloc);
+    let frame = FrameOf::Ack(Ack {
+        largest: ack.largest,
+        delay: ack.delay,
+        additional: ack.additional.as_slice(),
+        ecn: ack.ecn,
+    });
+    put_frame(&mut bytes, &frame)?;
+    Ok(bytes.len())
+}
+
+/// Takes the ACK, where it is due, and answers how many bytes it has. Want of memory is the only refusal.
+#[tactic(auto, unfolding(crate::specs::Waiting::without_all, crate::specs::Waiting::without))]
+fn take_ack(
+    space: &mut SpaceWaiting,
+    alloc: Global,
+    now: Instant,
+    due: bool,
+    frames: &mut FrameList,
+) -> Result<usize, AllocError>
+    requires { due ≡ true → ArePackets space.old.acks.ranges }
+    ensures { IfOk result (λ n. TakesAck now due space.old space.new frames.old frames.new n) }
+{
+    if !due {
+        return Ok(0);
+    }
+    let ack = ack_of(alloc, now, &space.acks)?;
+    let len = ack_len(alloc, &ack)?;
+    frames.push(FrameOf::Ack(ack))?;
+    space.acks.sent();
+    Ok(len)
 }
 
 /// Takes the PING that waits. After want of memory it waits as before.
@@ -92,22 +177,64 @@ fn take_crypto(
     frames.push(FrameOf::Crypto { offset, body })
 }
 
-/// Takes frames that wait for a packet with so much room.
-#[tactic(auto, using(crate::proofs::WaitingLemmas::without_all_append), unfolding(crate::specs::Waiting::taken_part))]
-fn take(space: &mut SpaceWaiting, alloc: Global, room: usize) -> Result<FrameList, AllocError>
-    ensures frames { IfOk result (λ frames. frames ≡ taken_part space.old room) }
+/// Takes frames that wait at a time for a packet with so much room. Want of memory is the only refusal.
+fn take(
+    space: &mut SpaceWaiting,
+    alloc: Global,
+    now: Instant,
+    room: usize,
+) -> Result<FrameList, AllocError>
+    ensures frames { IfOk result (λ frames. TakenPart now space.old room frames) }
     ensures rest { IfOk result (λ frames. space.new ≡ without_all space.old frames) }
+    ensures most { OnOk result (length space.old.acks.ranges ≤ 64) }
 {
     let mut frames = FrameList::new(alloc);
+    let due = is_ack_owed(&space.acks);
     take_ping(space, &mut frames)?;
-    take_crypto(space, alloc, room.saturating_sub(1), &mut frames)?;
+    let len = take_ack(space, alloc, now, due, &mut frames)?;
+    take_crypto(
+        space,
+        alloc,
+        room.saturating_sub(1).saturating_sub(len),
+        &mut frames,
+    )?;
     Ok(frames)
 }
 
-ghost use Rattle.qc_state.specs.Waiting.{waits_here, without_all, ping_part, crypto_part, taken_part, waiting_without};
+/// Takes the ACK at a time, where there is something to acknowledge. Want of memory is the only refusal.
+fn ack_alone(space: &mut SpaceWaiting, alloc: Global, now: Instant) -> Result<FrameList, AllocError>
+    ensures frames { IfOk result (λ frames. AckPart now space.old.acks frames (may_acknowledge space.old.acks)) }
+    ensures rest { IfOk result (λ frames. space.new ≡ without_all space.old frames) }
+    ensures most { OnOk result (length space.old.acks.ranges ≤ 64) }
+{
+    let mut frames = FrameList::new(alloc);
+    let due = may_acknowledge(&space.acks);
+    take_ack(space, alloc, now, due, &mut frames)?;
+    Ok(frames)
+}
+
+/// A packet came and was accepted.
+#[tactic(auto, unfolding(crate::specs::Waiting::came_in))]
+fn came(space: &mut SpaceWaiting, seen: &Dedup, packet: &Arrival)
+    ensures { space.new ≡ came_in seen.now packet.now space.old }
+{
+    let _ = space.acks.received(false, seen, packet);
+}
+
+/// Nothing waits any more, and nothing is in flight.
+#[tactic(auto, unfolding(crate::specs::Waiting::nothing_left))]
+fn leave(space: &mut SpaceWaiting)
+    ensures { space.new ≡ nothing_left space.old }
+{
+    space.ping = false;
+    space.crypto.skip();
+    space.flight.clear();
+}
+
+ghost use Rattle.qc_state.specs.Waiting.{waits_here, without_all, ping_part, crypto_part, waiting_without};
 ghost use Rattle.qc_state.specs.Spaces.{space_of};
 
-#[tactic(auto, unfolding(crate::specs::Waiting::packet_flown, crate::specs::Waiting::packets_settled, crate::specs::Waiting::is_calm, crate::specs::Waiting::close_begun, crate::specs::Waiting::close_ended, crate::specs::Waiting::waits_in, crate::specs::Waiting::ping_asked, crate::specs::Waiting::waiting_without))]
+#[tactic(auto, unfolding(crate::specs::Waiting::packet_flown, crate::specs::Waiting::packets_settled, crate::specs::Waiting::is_calm, crate::specs::Waiting::packet_came, crate::specs::Waiting::crypto_written, crate::specs::Waiting::space_left, crate::specs::Waiting::close_begun, crate::specs::Waiting::packet_told, crate::specs::Waiting::waits_in, crate::specs::Waiting::ping_asked, crate::specs::Waiting::waiting_without))]
 impl Waiting {
     /// Whether something waits in the space.
     pub fn waits(&self, space: SpaceId) -> bool
@@ -147,18 +274,64 @@ impl Waiting {
             && self.spaces.application.flight.is_empty()
     }
 
-    /// A close is owed from now on.
+    /// A close is owed from now on; while one is owed, nothing begins anew.
     pub fn owe_close(&mut self)
         ensures { self.new ≡ close_begun self.old }
     {
+        if self.close_owed {
+            return;
+        }
+        self.spaces.initial.told = false;
+        self.spaces.handshake.told = false;
+        self.spaces.application.told = false;
         self.close_owed = true;
     }
 
-    /// A packet of the highest space was sealed: a close is owed no longer.
-    pub fn end_close(&mut self)
-        ensures { self.new ≡ close_ended self.old }
+    /// A packet of the space was sealed: in the last one, a close is owed no longer.
+    pub fn tell(&mut self, space: SpaceId, last: bool)
+        ensures { self.new ≡ packet_told self.old space last }
     {
-        self.close_owed = false;
+        match space {
+            SpaceId::Initial => self.spaces.initial.told = true,
+            SpaceId::Handshake => self.spaces.handshake.told = true,
+            SpaceId::Data => self.spaces.application.told = true,
+        }
+        if last {
+            self.close_owed = false;
+        }
+    }
+
+    /// A packet of the space came and was accepted, whose number `seen` has already.
+    pub fn came(&mut self, space: SpaceId, seen: &Dedup, packet: &Arrival)
+        ensures { self.new ≡ packet_came self.old space seen.now packet.now }
+    {
+        match space {
+            SpaceId::Initial => came(&mut self.spaces.initial, seen, packet),
+            SpaceId::Handshake => came(&mut self.spaces.handshake, seen, packet),
+            SpaceId::Data => came(&mut self.spaces.application, seen, packet),
+        }
+    }
+
+    /// The session wrote bytes for the space's CRYPTO stream. Want of memory is the only refusal.
+    pub fn write(&mut self, space: SpaceId, bytes: &[u8]) -> Result<(), AllocError>
+        ensures { OnOk result (self.new ≡ crypto_written self.old space bytes.now) }
+    {
+        match space {
+            SpaceId::Initial => self.spaces.initial.crypto.push(bytes),
+            SpaceId::Handshake => self.spaces.handshake.crypto.push(bytes),
+            SpaceId::Data => self.spaces.application.crypto.push(bytes),
+        }
+    }
+
+    /// The keys of the space were dropped: nothing waits in it any more, and none of its packets is in flight.
+    pub fn forget(&mut self, space: SpaceId)
+        ensures { self.new ≡ space_left self.old space }
+    {
+        match space {
+            SpaceId::Initial => leave(&mut self.spaces.initial),
+            SpaceId::Handshake => leave(&mut self.spaces.handshake),
+            SpaceId::Data => leave(&mut self.spaces.application),
+        }
     }
 
     /// A PING waits from now on in the space.
@@ -172,20 +345,41 @@ impl Waiting {
         }
     }
 
-    /// Takes frames that wait in the space, for a packet with so much room for them.
+    /// Takes frames that wait in the space at a time, for a packet with so much room for them. Want of memory is the only
+    /// refusal.
     pub fn take(
         &mut self,
         alloc: Global,
+        now: Instant,
         space: SpaceId,
         room: usize,
     ) -> Result<FrameList, AllocError>
-        ensures frames { IfOk result (λ frames. frames ≡ taken_part (space_of self.old.spaces space) room) }
+        ensures frames { IfOk result (λ frames. TakenPart now (space_of self.old.spaces space) room frames) }
         ensures rest { IfOk result (λ frames. self.new ≡ waiting_without self.old space frames) }
+        ensures most { OnOk result (length (space_of self.old.spaces space).acks.ranges ≤ 64) }
     {
         match space {
-            SpaceId::Initial => take(&mut self.spaces.initial, alloc, room),
-            SpaceId::Handshake => take(&mut self.spaces.handshake, alloc, room),
-            SpaceId::Data => take(&mut self.spaces.application, alloc, room),
+            SpaceId::Initial => take(&mut self.spaces.initial, alloc, now, room),
+            SpaceId::Handshake => take(&mut self.spaces.handshake, alloc, now, room),
+            SpaceId::Data => take(&mut self.spaces.application, alloc, now, room),
+        }
+    }
+
+    /// Takes the ACK of the space at a time, where there is something to acknowledge. Want of memory is the only refusal.
+    pub fn take_ack(
+        &mut self,
+        alloc: Global,
+        now: Instant,
+        space: SpaceId,
+    ) -> Result<FrameList, AllocError>
+        ensures frames { IfOk result (λ frames. AckPart now (space_of self.old.spaces space).acks frames (may_acknowledge (space_of self.old.spaces space).acks)) }
+        ensures rest { IfOk result (λ frames. self.new ≡ waiting_without self.old space frames) }
+        ensures most { OnOk result (length (space_of self.old.spaces space).acks.ranges ≤ 64) }
+    {
+        match space {
+            SpaceId::Initial => ack_alone(&mut self.spaces.initial, alloc, now),
+            SpaceId::Handshake => ack_alone(&mut self.spaces.handshake, alloc, now),
+            SpaceId::Data => ack_alone(&mut self.spaces.application, alloc, now),
         }
     }
 }

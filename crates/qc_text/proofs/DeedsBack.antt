@@ -10,14 +10,14 @@ use Rattle.qc_frame.specs.Frame.{FrameValue}
 use Rattle.qc_state.specs.declared.deeds.Did.{Did}
 use Rattle.qc_state.specs.declared.deeds.Did.TheVariants as deed
 use Rattle.qc_state.specs.declared.deeds.Layer.{Layer}
-use Rattle.qc_state.specs.declared.deeds.Layer.TheVariants.{Recovery, Life}
+use Rattle.qc_state.specs.declared.deeds.Layer.TheVariants.{Recovery, Session, Life}
 use Rattle.qc_state.specs.declared.deeds.Quiet.{Quiet}
 use Rattle.qc_state.specs.declared.deeds.Quiet.TheVariants.{NothingOwed, Silent, Killed}
 use Rattle.qc_state.specs.declared.deeds.Verdict.{Verdict}
-use Rattle.qc_state.specs.declared.deeds.Verdict.TheVariants.{Ignored, Failure, BadBits, Seen, ReadForClose, AckOnly, Admitted}
-use Rattle.qc_text.specs.TraceText.{number_or_dash, frames_text, space_name, option_space_name, verdict_name, layer_name, type_name, given_name, epoch_text, packet_text, sealed_text, piece_text, gave_text, quiet_name, did_text}
+use Rattle.qc_state.specs.declared.deeds.Verdict.TheVariants.{Ignored, Failure, BadBits, Seen, ReadForClose, NumberOnly, AckOnly, Admitted}
+use Rattle.qc_text.specs.TraceText.{number_or_dash, frames_text, space_name, option_space_name, verdict_name, layer_name, type_name, given_name, named_text, given_text, epoch_text, packet_text, sealed_text, piece_text, gave_text, quiet_name, did_text}
 use Rattle.qc_text.specs.OneText.{IsOptionInRange, IsDeedInRange, IsDeedPlain}
-use Rattle.qc_text.proofs.Tokens.{is_mark, is_token, token_back, number_back, bytes_back, decimal_is_token, first_digit, decimal_injective_wide}
+use Rattle.qc_text.proofs.Tokens.{is_token, token_back, number_back, bytes_back, decimal_is_token, first_digit, decimal_injective_wide}
 use Rattle.qc_text.proofs.FieldsBack.{option_back}
 use Rattle.qc_text.proofs.FramesBack.{IsTold, frames_back, frames_mark}
 use Rattle.qc_text.proofs.ReasonsBack.{reason_back}
@@ -75,10 +75,11 @@ verdict_is_token Failure = refl
 verdict_is_token BadBits = refl
 verdict_is_token Seen = refl
 verdict_is_token ReadForClose = refl
+verdict_is_token NumberOnly = refl
 verdict_is_token AckOnly = refl
 verdict_is_token Admitted = refl
 
--- the third letters differ
+-- the fourth letters differ
 verdict_injective : (a b : Verdict) → verdict_name a ≡ verdict_name b → a ≡ b
 unfolding verdict_name
 verdict_injective Ignored Ignored e = refl
@@ -86,18 +87,21 @@ verdict_injective Failure Failure e = refl
 verdict_injective BadBits BadBits e = refl
 verdict_injective Seen Seen e = refl
 verdict_injective ReadForClose ReadForClose e = refl
+verdict_injective NumberOnly NumberOnly e = refl
 verdict_injective AckOnly AckOnly e = refl
 verdict_injective Admitted Admitted e = refl
-verdict_injective _ _ e = absurd (omega (arith, ap (λ (a : List ℕ). get_or a 2 0) e))
+verdict_injective _ _ e = absurd (omega (arith, ap (λ (a : List ℕ). get_or a 3 0) e))
 
 layer_is_token : (layer : Layer) → is_token (layer_name layer) ≡ true
 unfolding layer_name
 layer_is_token Recovery = refl
+layer_is_token Session = refl
 layer_is_token Life = refl
 
 layer_injective : (a b : Layer) → layer_name a ≡ layer_name b → a ≡ b
 unfolding layer_name
 layer_injective Recovery Recovery e = refl
+layer_injective Session Session e = refl
 layer_injective Life Life e = refl
 layer_injective _ _ e = absurd (omega (arith, ap (λ (a : List ℕ). get_or a 0 0) e))
 
@@ -180,10 +184,29 @@ piece_back space space' m n u v r s p q e =
     same : space ≡ space' → m ≡ n → u ≡ v → deed.Piece space m u ≡ deed.Piece space' n v
     same a b c = cc
 
--- ---- frames that layers are given
+-- ---- what layers are given
 
-gave_parts : (layer : Layer) (body r : List ℕ) → gave_text layer body ++ r
-    ≡ codes "gave " ++ (layer_name layer ++ 32 ∷ (given_name body ++ 47 ∷ (encode_lower body ++ 10 ∷ r)))
+named_parts : (body r : List ℕ) → named_text body ++ r ≡ given_name body ++ 47 ∷ (encode_lower body ++ r)
+unfolding named_text
+named_parts body r = simp append_assoc
+
+named_back : (a b r s : List ℕ) → IsBytes a → IsBytes b → named_text a ++ 10 ∷ r ≡ named_text b ++ 10 ∷ s → (a ≡ b) × (r ≡ s)
+named_back a b r s p q e =
+    let parts = sym (named_parts a (10 ∷ r)) ∙ e ∙ named_parts b (10 ∷ s) in
+    let named = token_back (given_name a) (given_name b) 47 47 _ _ (given_is_token a) (given_is_token b) refl refl parts in
+    let body = bytes_back a b 10 10 r s p q refl refl (ap (drop 1) named.1) in
+    (body.0, ap (drop 1) body.1)
+
+-- where the layer is known
+given_back : (layer : Layer) (a b r s : List ℕ) → IsBytes a → IsBytes b → given_text layer a ++ 10 ∷ r ≡ given_text layer b ++ 10 ∷ s → (a ≡ b) × (r ≡ s)
+unfolding given_text
+given_back Recovery a b r s p q e = named_back a b r s p q e
+given_back Session a b r s p q e =
+    let body = bytes_back a b 10 10 r s p q refl refl e in
+    (body.0, ap (drop 1) body.1)
+given_back Life a b r s p q e = named_back a b r s p q e
+
+gave_parts : (layer : Layer) (body r : List ℕ) → gave_text layer body ++ r ≡ codes "gave " ++ (layer_name layer ++ 32 ∷ (given_text layer body ++ 10 ∷ r))
 unfolding gave_text
 gave_parts layer body r = simp append_assoc
 
@@ -192,9 +215,10 @@ gave_back : (x y : Layer) (a b r s : List ℕ) → IsBytes a → IsBytes b
 gave_back x y a b r s p q e =
     let parts = sym (gave_parts x a r) ∙ e ∙ gave_parts y b s in
     let layer = token_back (layer_name x) (layer_name y) 32 32 _ _ (layer_is_token x) (layer_is_token y) refl refl (ap (drop 5) parts) in
-    let named = token_back (given_name a) (given_name b) 47 47 _ _ (given_is_token a) (given_is_token b) refl refl (ap (drop 1) layer.1) in
-    let body = bytes_back a b 10 10 r s p q refl refl (ap (drop 1) named.1) in
-    (same (layer_injective x y layer.0) body.0, ap (drop 1) body.1)
+    let one : x ≡ y = layer_injective x y layer.0 in
+    let other : given_text x b ++ 10 ∷ s ≡ given_text y b ++ 10 ∷ s = ap (λ (z : Layer). given_text z b ++ 10 ∷ s) one in
+    let body = given_back x a b r s p q (ap (drop 1) layer.1 ∙ sym other) in
+    (same one body.0, body.1)
   where
     same : x ≡ y → a ≡ b → deed.Gave x a ≡ deed.Gave y b
     same i j = cc

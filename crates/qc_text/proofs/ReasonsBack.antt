@@ -1,6 +1,6 @@
 -- The text of a reason for the end tells the reason.
 use Rattle.std.proofs.Common.{◌≡◌, ℕ, true, List, ◌∷◌, ◌++◌, drop, get_or, Option, refl, sym, ap, ◌∙◌, append_assoc, arith}
-use Rattle.std.specs.Prelude.{decimal, codes}
+use Rattle.std.specs.Prelude.{decimal}
 use Rattle.qc_base.specs.declared.transport_error.TransportError.{TransportError as TransportFault}
 use Rattle.qc_state.specs.declared.life.ApplicationClose.{ApplicationClose}
 use Rattle.qc_state.specs.declared.life.ConnectionClose.{ConnectionClose}

@@ -8,7 +8,7 @@ use Rattle.qc_state.specs.declared.deeds.Did.TheVariants as deed
 use Rattle.qc_state.specs.declared.events.EndpointEvent.{EndpointEvent}
 use Rattle.qc_state.specs.declared.events.EndpointEvent.TheVariants.{Drained}
 use Rattle.qc_state.specs.declared.events.Event.{Event}
-use Rattle.qc_state.specs.declared.events.Event.TheVariants.{ConnectionLost}
+use Rattle.qc_state.specs.declared.events.Event.TheVariants.{HandshakeDataReady, Connected, ConnectionLost}
 use Rattle.qc_state.specs.declared.input.Word.{Word}
 use Rattle.qc_state.specs.declared.input.Word.TheVariants as word
 use Rattle.qc_state.specs.declared.trace.Answer.{Answer}
@@ -56,10 +56,13 @@ head_back m n v w x y r s p q k l e =
 
 event_back : (a b : Event) (r s : List ℕ) → IsEventInRange a → IsEventInRange b → event_text a ++ r ≡ event_text b ++ s → (a ≡ b) × (r ≡ s)
 unfolding event_text
+event_back HandshakeDataReady HandshakeDataReady r s p q e = (refl, ap (drop 21) e)
+event_back Connected Connected r s p q e = (refl, ap (drop 16) e)
 event_back (ConnectionLost a) (ConnectionLost b) r s p q e =
     let parts = simp append_assoc at e in
     let reason = reason_back a b r s p q (ap (drop 11) parts) in
     (ap ConnectionLost reason.0, reason.1)
+event_back _ _ r s p q e = absurd (omega (arith, ap (λ (a : List ℕ). get_or a 6 0) e))
 
 endpoint_back : (a b : EndpointEvent) (r s : List ℕ) → Unit {0} → Unit {0} → endpoint_text a ++ r ≡ endpoint_text b ++ s → (a ≡ b) × (r ≡ s)
 unfolding endpoint_text
@@ -109,6 +112,8 @@ answer_is_no_deed w (answer.Out destination segment ecn bytes) r h = refl
 
 event_begins : (a : Event) (r : List ℕ) → (is_event (event_text a ++ r) ≡ true) × (is_after_answer (event_text a ++ r) ≡ true)
 unfolding is_event event_text
+event_begins HandshakeDataReady r = (refl, refl)
+event_begins Connected r = (refl, refl)
 event_begins (ConnectionLost reason) r = (refl, refl)
 
 endpoint_begins : (a : EndpointEvent) (r : List ℕ) → (is_event (endpoint_text a ++ r) ≡ false) × (is_endpoint (endpoint_text a ++ r) ≡ true) × (is_after_answer (endpoint_text a ++ r) ≡ true)

@@ -15,7 +15,7 @@ use Rattle.qc_frame.specs.FrameSpelling.{spelling}
 use Rattle.qc_state.specs.declared.deeds.Did.{Did}
 use Rattle.qc_state.specs.declared.deeds.Did.TheVariants as deed
 use Rattle.qc_state.specs.declared.events.Event.{Event}
-use Rattle.qc_state.specs.declared.events.Event.TheVariants.{ConnectionLost}
+use Rattle.qc_state.specs.declared.events.Event.TheVariants.{HandshakeDataReady, Connected, ConnectionLost}
 use Rattle.qc_state.specs.declared.life.ConnectionError.{ConnectionError}
 use Rattle.qc_state.specs.declared.life.ConnectionError.TheVariants.{TransportError, ConnectionClosed, ApplicationClosed}
 use Rattle.qc_state.specs.declared.trace.Answer.{Answer}
@@ -26,6 +26,7 @@ use Rattle.qc_state.specs.Types.{Types, Meaning}
 use Rattle.qc_state.specs.View.{View}
 use Rattle.qc_state.specs.declared.input.Input.{Input}
 use Rattle.qc_state.specs.declared.paths.Paths.{Paths}
+use Rattle.qc_state.specs.declared.waiting.SpaceWaiting.{SpaceWaiting}
 use Rattle.qc_state.specs.declared.waiting.Waiting.{Waiting}
 
 -- ---- values that their types hold
@@ -77,8 +78,10 @@ IsAnswerInRange answer.Dropped = Unit {0}
 IsAnswerInRange answer.Nothing = Unit {0}
 IsAnswerInRange (answer.Out destination segment ecn bytes) = IsAddressInRange destination × IsOptionInRange segment × (length bytes < 2 ^ 64) × IsBytes bytes
 
--- a report that the connection was lost, with a reason in range
+-- a report that the connection was lost has a reason in range; the other ones hold nothing
 abbrev pub IsEventInRange : Event → Type 0
+IsEventInRange HandshakeDataReady = Unit {0}
+IsEventInRange Connected = Unit {0}
 IsEventInRange (ConnectionLost reason) = IsReasonInRange reason
 
 -- each number of a step is one of 64 bits, each byte is a byte, and an address has its octets and a port of 16 bits
@@ -117,9 +120,13 @@ pub record IsPlain (step : Step) : Type 0 where
 
 -- ---- where such traces come from
 
--- the CRYPTO bytes that wait lie below 2^62 in their stream (RFC 9000, section 19.6)
+-- the CRYPTO bytes that wait in a space lie below 2^62 in their stream (RFC 9000, section 19.6)
+abbrev pub IsSpaceBelowLimit : SpaceWaiting → Type 0
+IsSpaceBelowLimit space = space.crypto.offset + length space.crypto.bytes < 2 ^ 62
+
+-- so do those of every space
 abbrev pub IsBelowLimit : Waiting → Type 0
-IsBelowLimit waiting = waiting.spaces.initial.crypto.offset + length waiting.spaces.initial.crypto.bytes < 2 ^ 62
+IsBelowLimit waiting = IsSpaceBelowLimit waiting.spaces.initial × IsSpaceBelowLimit waiting.spaces.handshake × IsSpaceBelowLimit waiting.spaces.application
 
 -- a state whose traces leave nothing out of their text
 pub record IsPlainStart (waiting : Waiting) (paths : Paths) : Type 0 where

@@ -18,15 +18,15 @@ use Rattle.qc_frame.specs.declared.frames.FrameOf.TheVariants as frames
 use Rattle.qc_state.specs.declared.deeds.Did.{Did}
 use Rattle.qc_state.specs.declared.deeds.Did.TheVariants as deed
 use Rattle.qc_state.specs.declared.deeds.Layer.{Layer}
-use Rattle.qc_state.specs.declared.deeds.Layer.TheVariants.{Recovery, Life}
+use Rattle.qc_state.specs.declared.deeds.Layer.TheVariants.{Recovery, Session, Life}
 use Rattle.qc_state.specs.declared.deeds.Quiet.{Quiet}
 use Rattle.qc_state.specs.declared.deeds.Quiet.TheVariants.{NothingOwed, Silent, Killed}
 use Rattle.qc_state.specs.declared.deeds.Verdict.{Verdict}
-use Rattle.qc_state.specs.declared.deeds.Verdict.TheVariants.{Ignored, Failure, BadBits, Seen, ReadForClose, AckOnly, Admitted}
+use Rattle.qc_state.specs.declared.deeds.Verdict.TheVariants.{Ignored, Failure, BadBits, Seen, ReadForClose, NumberOnly, AckOnly, Admitted}
 use Rattle.qc_state.specs.declared.events.EndpointEvent.{EndpointEvent}
 use Rattle.qc_state.specs.declared.events.EndpointEvent.TheVariants.{Drained}
 use Rattle.qc_state.specs.declared.events.Event.{Event}
-use Rattle.qc_state.specs.declared.events.Event.TheVariants.{ConnectionLost}
+use Rattle.qc_state.specs.declared.events.Event.TheVariants.{HandshakeDataReady, Connected, ConnectionLost}
 use Rattle.qc_state.specs.declared.input.Word.{Word}
 use Rattle.qc_state.specs.declared.input.Word.TheVariants as word
 use Rattle.qc_state.specs.declared.life.ConnectionError.{ConnectionError}
@@ -113,6 +113,7 @@ verdict_name Failure = codes "Failure"
 verdict_name BadBits = codes "BadBits"
 verdict_name Seen = codes "Seen"
 verdict_name ReadForClose = codes "ReadForClose"
+verdict_name NumberOnly = codes "NumberOnly"
 verdict_name AckOnly = codes "AckOnly"
 verdict_name Admitted = codes "Admitted"
 
@@ -121,9 +122,10 @@ unfoldable pub piece_text : Option SpaceId → Option ℕ → Verdict → List �
 piece_text space number verdict =
     codes "piece " ++ option_space_name space ++ codes " " ++ number_or_dash number ++ codes " " ++ verdict_name verdict ++ codes "\n"
 
--- the layer that a frame was given to
+-- a layer that was given something
 unfoldable pub layer_name : Layer → List ℕ
 layer_name Recovery = codes "recovery"
+layer_name Session = codes "session"
 layer_name Life = codes "life"
 
 -- the name of the kind of frames with this type, of the kinds that layers are given (RFC 9000, sections 19.3, 19.19 and
@@ -149,10 +151,19 @@ IsGiven (frames.ApplicationClose code reason) = Unit {0}
 IsGiven frames.HandshakeDone = Unit {0}
 IsGiven _ = ⊥
 
--- the line of a frame that a layer was given: the layer, and, as in the line of a sealed packet, the name and the hex of
--- the spelling
+-- a frame that is spelled by these bytes: as in the line of a sealed packet, its name and the hex of its spelling
+unfoldable pub named_text : List ℕ → List ℕ
+named_text body = given_name body ++ codes "/" ++ encode_lower body
+
+-- what a layer was given: a frame; the session bytes of CRYPTO frames without a head (RFC 9001, section 4), as their hex
+unfoldable pub given_text : Layer → List ℕ → List ℕ
+given_text Recovery body = named_text body
+given_text Session body = encode_lower body
+given_text Life body = named_text body
+
+-- the line of what a layer was given: the layer, and what it was
 unfoldable pub gave_text : Layer → List ℕ → List ℕ
-gave_text layer body = codes "gave " ++ layer_name layer ++ codes " " ++ given_name body ++ codes "/" ++ encode_lower body ++ codes "\n"
+gave_text layer body = codes "gave " ++ layer_name layer ++ codes " " ++ given_text layer body ++ codes "\n"
 
 -- the kind of a reason for the end
 unfoldable pub reason_name : ConnectionError → List ℕ
@@ -189,8 +200,8 @@ quiet_name NothingOwed = codes "NothingOwed"
 quiet_name Silent = codes "Silent"
 quiet_name Killed = codes "Killed"
 
--- the line of a deed: a packet that was sealed, one that came, a frame that a layer was given, a rise in the life, a
--- reason for the end, or a transmit that sent nothing
+-- the line of a deed: a packet that was sealed, one that came, what a layer was given, a rise in the life, a reason for
+-- the end, or a transmit that sent nothing
 unfoldable pub did_text : Did → List ℕ
 did_text (deed.Sealed space number epoch early frames) = sealed_text space number epoch early frames
 did_text (deed.Piece space number verdict) = piece_text space number verdict
@@ -233,8 +244,11 @@ answer_text w (answer.Out destination segment ecn bytes) = out_text destination 
 
 -- ---- steps
 
--- the line of what the application is told: that the connection was lost, and why
+-- the line of what the application is told: that what the handshake settles is known, that the handshake is over, or that
+-- the connection was lost, and why
 unfoldable pub event_text : Event → List ℕ
+event_text HandshakeDataReady = codes "event handshake-data\n"
+event_text Connected = codes "event connected\n"
 event_text (ConnectionLost reason) = codes "event lost " ++ reason_text reason ++ codes "\n"
 
 -- the line of what the endpoint is told: that the connection's state can be dropped

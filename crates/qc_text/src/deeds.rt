@@ -4,7 +4,7 @@ ghost use Rattle.std.specs.Prelude.{◌≡◌, ◌<◌, ◌^◌, ◌++◌, codes
 ghost use Rattle.std.specs.List.{All, flat_map};
 ghost use Rattle.qc_base.specs.Grammar.{IsBytes};
 ghost use Rattle.qc_text.specs.OneText.{IsApplicationCloseInRange, IsConnectionCloseInRange, IsDeedInRange, IsErrorInRange, IsOptionInRange, IsReasonInRange};
-ghost use Rattle.qc_text.specs.TraceText.{application_close_text, connection_close_text, did_text, epoch_text, error_text, gave_text, packet_text, piece_text, quiet_name, reason_text, reason_values, sealed_text};
+ghost use Rattle.qc_text.specs.TraceText.{application_close_text, connection_close_text, did_text, epoch_text, error_text, gave_text, given_text, named_text, packet_text, piece_text, quiet_name, reason_text, reason_values, sealed_text};
 
 use crate::digits::put_hex;
 use crate::frames::put_frames;
@@ -113,7 +113,7 @@ fn put_piece(
     out.extend_from_slice(b"\n")
 }
 
-/// Appends the line of a frame that a layer was given.
+/// Appends the line of what a layer was given.
 #[tactic(auto, unfolding(crate::specs::TraceText::gave_text))]
 fn put_gave(out: &mut Vec<u8>, layer: Layer, body: &[u8]) -> Result<(), AllocError>
     ensures text { OnOk result (out.new.items ≡ out.old.items ++ gave_text layer body.now) }
@@ -122,10 +122,32 @@ fn put_gave(out: &mut Vec<u8>, layer: Layer, body: &[u8]) -> Result<(), AllocErr
     out.extend_from_slice(b"gave ")?;
     out.extend_from_slice(layer_of(layer))?;
     out.extend_from_slice(b" ")?;
+    put_given(out, layer, body)?;
+    out.extend_from_slice(b"\n")
+}
+
+/// Appends what a layer was given: the session's bytes, which are no frame, as they are.
+#[tactic(auto, unfolding(crate::specs::TraceText::given_text))]
+fn put_given(out: &mut Vec<u8>, layer: Layer, body: &[u8]) -> Result<(), AllocError>
+    ensures text { OnOk result (out.new.items ≡ out.old.items ++ given_text layer body.now) }
+    ensures in_range { OnOk result (IsBytes body.now) }
+{
+    match layer {
+        Layer::Recovery => put_named(out, body),
+        Layer::Session => put_hex(out, body),
+        Layer::Life => put_named(out, body),
+    }
+}
+
+/// Appends the name and the bytes of a frame.
+#[tactic(auto, unfolding(crate::specs::TraceText::named_text))]
+fn put_named(out: &mut Vec<u8>, body: &[u8]) -> Result<(), AllocError>
+    ensures text { OnOk result (out.new.items ≡ out.old.items ++ named_text body.now) }
+    ensures in_range { OnOk result (IsBytes body.now) }
+{
     out.extend_from_slice(given_of(body))?;
     out.extend_from_slice(b"/")?;
-    put_hex(out, body)?;
-    out.extend_from_slice(b"\n")
+    put_hex(out, body)
 }
 
 fn put_rose(out: &mut Vec<u8>, life: u8) -> Result<(), AllocError>

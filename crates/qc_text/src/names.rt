@@ -53,6 +53,7 @@ pub fn verdict_of(verdict: Verdict) -> &'static [u8]
         Verdict::BadBits => b"BadBits",
         Verdict::Seen => b"Seen",
         Verdict::ReadForClose => b"ReadForClose",
+        Verdict::NumberOnly => b"NumberOnly",
         Verdict::AckOnly => b"AckOnly",
         Verdict::Admitted => b"Admitted",
     }
@@ -65,6 +66,7 @@ pub fn layer_of(layer: Layer) -> &'static [u8]
 {
     match layer {
         Layer::Recovery => b"recovery",
+        Layer::Session => b"session",
         Layer::Life => b"life",
     }
 }

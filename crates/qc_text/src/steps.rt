@@ -140,6 +140,8 @@ fn put_event(out: &mut Vec<u8>, event: &Event) -> Result<(), AllocError>
     ensures in_range { OnOk result (IsEventInRange event.now) }
 {
     match event {
+        Event::HandshakeDataReady => out.extend_from_slice(b"event handshake-data\n"),
+        Event::Connected => out.extend_from_slice(b"event connected\n"),
         Event::ConnectionLost { reason } => put_reason(out, b"event lost ", reason),
     }
 }

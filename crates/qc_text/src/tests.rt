@@ -56,11 +56,12 @@ fn packets_that_came(rt: HostRuntime) -> Result<(), Fail> {
     did.push_piece(Some(SpaceId::Initial), Some(1), Verdict::AckOnly)?;
     did.push_piece(Some(SpaceId::Initial), Some(2), Verdict::BadBits)?;
     did.push_piece(Some(SpaceId::Initial), Some(3), Verdict::ReadForClose)?;
+    did.push_piece(Some(SpaceId::Data), Some(4), Verdict::NumberOnly)?;
     let step = step(rt.alloc(), Word::Datagram, did, Answer::Done);
     let text = text(rt.alloc(), step)?;
     assert_eq!(rt;
         text.as_str(),
-        "qconn 1\nstep 0 datagram 5\npiece initial 0 Admitted\npiece handshake - Failure\npiece data 7 Seen\npiece - - Ignored\npiece initial 1 AckOnly\npiece initial 2 BadBits\npiece initial 3 ReadForClose\nanswer done\ntimer -\nend\n"
+        "qconn 1\nstep 0 datagram 5\npiece initial 0 Admitted\npiece handshake - Failure\npiece data 7 Seen\npiece - - Ignored\npiece initial 1 AckOnly\npiece initial 2 BadBits\npiece initial 3 ReadForClose\npiece data 4 NumberOnly\nanswer done\ntimer -\nend\n"
     );
     Ok(())
 }
@@ -103,6 +104,34 @@ fn frames_that_layers_are_given(rt: HostRuntime) -> Result<(), Fail> {
     given_frames_have_their_names();
     let none = given(rt.alloc(), Layer::Life, &[])?;
     assert!(rt; none.as_str().contains("\ngave life -/\n"));
+    Ok(())
+}
+
+// They begin like an ACK, and have no name: they are no frame.
+#[test]
+fn bytes_that_the_session_is_given(rt: HostRuntime) -> Result<(), Fail> {
+    let bytes = given(rt.alloc(), Layer::Session, &[2, 0, 0x16, 0xff])?;
+    assert_eq!(rt;
+        bytes.as_str(),
+        "qconn 1\nstep 0 datagram 5\ngave session 020016ff\nanswer done\ntimer -\nend\n"
+    );
+    Ok(())
+}
+
+#[test]
+fn the_handshake(rt: HostRuntime) -> Result<(), Fail> {
+    let mut did = Dids::new(rt.alloc());
+    did.push_rose(1)?;
+    let mut step = step(rt.alloc(), Word::Datagram, did, Answer::Done);
+    let mut events = Events::new(rt.alloc());
+    events.push_ready()?;
+    events.push_connected()?;
+    step.events = events;
+    let text = text(rt.alloc(), step)?;
+    assert_eq!(rt;
+        text.as_str(),
+        "qconn 1\nstep 0 datagram 5\nlife 1\nanswer done\nevent handshake-data\nevent connected\ntimer -\nend\n"
+    );
     Ok(())
 }
 
@@ -197,6 +226,28 @@ fn a_packet_that_was_sent(rt: HostRuntime) -> Result<(), Fail> {
     assert_eq!(rt;
         text.as_str(),
         "qconn 1\nstep 0 transmit 5\nseal handshake 12 0 PING/01 PADDING*3\nout c0000201/4433 2 - 2 ab01\ntimer -\nend\n"
+    );
+    Ok(())
+}
+
+// An application's close with code 7 and the reason "bye", in a 1-RTT packet, and two PADDING frames behind it.
+#[test]
+fn a_close_of_this_application(rt: HostRuntime) -> Result<(), Fail> {
+    let mut reason = Vec::new(rt.alloc());
+    reason.extend_from_slice(b"bye")?;
+    let mut frames = FrameList::new(rt.alloc());
+    frames.push(FrameOf::ApplicationClose {
+        error_code: VarInt::from_u32(7),
+        reason,
+    })?;
+    frames.push_padding(2)?;
+    let mut did = Dids::new(rt.alloc());
+    did.push_sealed(SpaceId::Data, 3, frames)?;
+    let step = step(rt.alloc(), Word::Transmit, did, Answer::Nothing);
+    let text = text(rt.alloc(), step)?;
+    assert_eq!(rt;
+        text.as_str(),
+        "qconn 1\nstep 0 transmit 5\nseal data 3 0 APPLICATION_CLOSE/1d0703627965 PADDING*2\ntimer -\nend\n"
     );
     Ok(())
 }

@@ -75,6 +75,6 @@ script_plain address h = (h.plain.1, h.plain.2)
 -- what the setup is made of makes the client that a script sets up
 pub script_made : (s : Sessions) (h : HeaderMaskGhosts ToyHeaderKey) (p : PacketKeyGhosts ToyPacketKey) (client : Seen toy ZeroRandom) (session : ToySession) (random : ZeroRandom) (version : ℕ) (local : List ℕ) (ip : Option IpAddr) (transport : TransportValues) (grease : Bool) (remote : SocketAddr) (first : List ℕ) (time : ℕ)
     → IsScriptAddress remote → session ≡ script_session → version ≡ 1 → local ≡ local_cid → ip ≡ None → transport ≡ default_transport → grease ≡ true → first ≡ first_cid → time ≡ 0
-    → client.core ≡ first_view (meaning s h p) session random (client_fixed version local ip transport.max_idle_timeout grease) remote first time → IsScriptClient s h p client
+    → client.core ≡ first_view (meaning s h p) session random (client_fixed version local first ip transport.max_idle_timeout transport.crypto_buffer_size grease) remote first time → IsScriptClient s h p client
 script_made s h p client session random version local ip transport grease remote first time address es ev el ei et eg ef en e =
     record { remote = remote; address = address; made = rw (es, ev, el, ei, et, eg, ef, en) at e }

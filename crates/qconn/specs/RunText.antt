@@ -77,9 +77,10 @@ pub record IsRunText {t : Types} (m : Meaning t) (first : View t) (inputs : List
 abbrev pub Sessions : Type 1
 Sessions = SessionGhosts ToySession ToyHeaderKey ToyPacketKey (Unit {0}) (Unit {0})
 
--- that client as it was made at time 0: QUIC version 1, a limit on idle time of 30 seconds, and no address to send from
+-- that client as it was made at time 0: QUIC version 1, a limit on idle time of 30 seconds, room for 16384 bytes of a CRYPTO
+-- stream, and no address to send from
 abbrev pub script_view : Sessions → HeaderMaskGhosts ToyHeaderKey → PacketKeyGhosts ToyPacketKey → SocketAddr → Held toy ZeroRandom
-script_view s h p remote = first_view (meaning s h p) script_session (record {}) (client_fixed 1 local_cid None (Some 30000) true) remote first_cid 0
+script_view s h p remote = first_view (meaning s h p) script_session (record {}) (client_fixed 1 local_cid first_cid None (Some 30000) 16384 true) remote first_cid 0
 
 -- the connection is the client that a script sets up
 pub record IsScriptClient (s : Sessions) (h : HeaderMaskGhosts ToyHeaderKey) (p : PacketKeyGhosts ToyPacketKey) (client : Seen toy ZeroRandom) : Type 0 where

@@ -2,6 +2,8 @@
 //! and writes the text of the trace to standard output.
 #![tactic(auto)]
 
+#[cfg(test)]
+mod handshake_tests;
 mod perform;
 #[cfg(test)]
 mod receiving_tests;

@@ -7,7 +7,7 @@ use std::alloc::Global;
 use std::test::Fail;
 
 /// An Initial packet, number 0, with a PING.
-const PING: &str =
+pub(crate) const PING: &str =
     "cd000000010801010101010101010804040404040404040040142a050404992ec356eb7e14a83dd267fc9126bb50";
 
 /// A Handshake packet, number 0, with a PING.
@@ -42,16 +42,12 @@ const FORBIDDEN: &str =
 const OTHER_SOURCE: &str =
     "cd00000001080101010101010101080505050505050505004014ed050404f9eee3d6cbbeb4a89d92877c71665b50";
 
-/// An Initial packet, number 8, with a CRYPTO frame.
-const CRYPTO: &str =
-    "c40000000108010101010101010108040404040404040400401577020405007bf269de55ca42b82fa61d940b82f970";
-
 /// An Initial packet, number 9, with an application close, code 7 and reason `bye`, and then a CONNECTION_CLOSE.
 const TWO_CLOSES: &str =
     "c40000000108010101010101010108040404040404040400401b76190307607b651d050000ead0b69a80644b3016fce2c8ae947a60";
 
 /// The path's address.
-const PATH: &str = "00000000000000000000000000000001/4433";
+pub(crate) const PATH: &str = "00000000000000000000000000000001/4433";
 
 /// Whether a client writes this text of these lines, its own first line and the last one aside.
 fn writes(alloc: Global, lines: &str, text: &str) -> Result<bool, Fail> {
@@ -115,14 +111,13 @@ fn each_packet_has_its_verdict(rt: HostRuntime) -> Result<(), Fail> {
     Ok(())
 }
 
-// A frame that can't be read, one that may not stand in an Initial packet, and a CRYPTO frame, which isn't taken so far:
-// each stops its packet with its code and its type.
+// A frame that can't be read, and one that may not stand in an Initial packet: each stops its packet with its code and its
+// type.
 #[test]
 fn each_stop_has_its_code(rt: HostRuntime) -> Result<(), Fail> {
     for (packet, piece, error) in [
         (UNREADABLE, "piece initial 5 Admitted", "7 33"),
         (FORBIDDEN, "piece initial 6 Admitted", "10 30"),
-        (CRYPTO, "piece initial 8 Admitted", "1 6"),
     ] {
         let line = came(rt.alloc(), packet)?;
         let text = format!(in rt.alloc();
@@ -210,7 +205,8 @@ fn a_closed_end_reads_for_a_close(rt: HostRuntime) -> Result<(), Fail> {
     Ok(())
 }
 
-// An ACK takes its packets out of flight: the loss timer stops, and the idle timer stays. An error is told with its code.
+// An ACK takes its packets out of flight: the loss timer stops, and the idle timer stays. An error is told with its code,
+// behind an ACK of the packets that came.
 #[test]
 fn an_acknowledgement_stops_the_loss_timer(rt: HostRuntime) -> Result<(), Fail> {
     let alloc = rt.alloc();
@@ -222,7 +218,7 @@ fn an_acknowledgement_stops_the_loss_timer(rt: HostRuntime) -> Result<(), Fail> 
     for part in [
         "timer 999000000\nstep 1 datagram 5\npiece initial 1 Admitted\ngave recovery ACK/0200000000\nanswer done\ntimer 30000000005\n",
         "step 2 datagram 6\npiece initial 2 Admitted\nlife 2\nlost TransportError 10 -\nanswer done\nevent lost TransportError 10 -\ntimer 2997000006\n",
-        "step 3 transmit 7\nseal initial 1 0 CONNECTION_CLOSE/1c0a0000 PADDING*",
+        "step 3 transmit 7\nseal initial 1 0 ACK/0202000001 CONNECTION_CLOSE/1c0a0000 PADDING*",
     ] {
         assert!(rt; text.as_str().contains(part), "{part} {text}");
     }

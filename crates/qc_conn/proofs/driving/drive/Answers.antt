@@ -1,3 +1,4 @@
+use Rattle.qc_state.proofs.AcksAccepted.{none_acks_known}
 use Rattle.qc_state.proofs.Steps.{ran_none}
 use Rattle.qc_state.proofs.Told.{none_rises, none_admits, none_life_rises, none_closes, none_loses_once}
 use Rattle.qc_conn.proofs.driving.drive.Goals as goal
@@ -20,3 +21,6 @@ returns-then-is_failed-clause-closing_part g c = none_closes _ _ c.new.ensures
 
 pub returns-then-is_failed-clause-admitted_part : goal.returns-then-is_failed-clause-admitted_part
 returns-then-is_failed-clause-admitted_part g c = none_admits _ _ c.new.ensures
+
+pub returns-then-is_failed-clause-acknowledged_part : goal.returns-then-is_failed-clause-acknowledged_part
+returns-then-is_failed-clause-acknowledged_part g c = none_acks_known _ _ c.new.ensures

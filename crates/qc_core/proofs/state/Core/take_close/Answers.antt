@@ -1,0 +1,17 @@
+use Rattle.qc_state.specs.View.{ideal}
+use Rattle.qc_core.proofs.Closing.{reason_fits, close_pushed}
+use Rattle.qc_state.proofs.Seals.{close_taken, takes_close}
+use Rattle.qc_core.proofs.state.Core.take_close.Goals as goal
+
+-- the ACK, where there is something to acknowledge, and the close
+pub returns-clause-frames : goal.returns-clause-frames
+returns-clause-frames g c =
+    takes_close _ (ideal g.U.Random.Rng.stream c.args.self.now) _ _ c.kept_reason.result.now c.in_ok-frames.frames _ c.requires.owed c.in_ok-frames.ensures.frames
+    (reason_fits (ideal g.U.Random.Rng.stream c.args.self.now) _ _ _ _ _ _ c.in_ok-frames.ensures.leads c.requires.room c.in_ok-left.ensures c.kept_reason.ensures)
+    (close_pushed (ideal g.U.Random.Rng.stream c.args.self.now) _ _ _ _ _ _ c.in_ok-frames.ensures.leads c.in_ok-close.ensures c.in_ok-push.ensures.ok)
+
+-- the close leaves all that waits
+pub returns-clause-leads : goal.returns-clause-leads
+returns-clause-leads g c =
+    close_taken (ideal g.U.Random.Rng.stream c.args.self.now) _ _ c.kept_reason.result.now c.in_ok-frames.frames _ c.in_ok-frames.ensures.leads
+    (close_pushed (ideal g.U.Random.Rng.stream c.args.self.now) _ _ _ _ _ _ c.in_ok-frames.ensures.leads c.in_ok-close.ensures c.in_ok-push.ensures.ok)

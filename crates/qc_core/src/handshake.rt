@@ -1,0 +1,346 @@
+//! How the handshake goes on: the bytes of CRYPTO frames, what the session writes, and its end.
+
+ghost use Rattle.std.specs.Prelude.{◌≡◌, ◌+◌, ◌-◌, ◌<◌, ◌^◌, ◌||◌, ◌&&◌, ◌==◌, not, nat_lt, nat_le, if◌then◌else◌, [], true, false, Some, None, length, OnOk, IfOk, IfSome, IfNone, is_none};
+ghost use Rattle.qc_assembler.specs.Assembly.{inserted, part_count};
+ghost use Rattle.qc_base.specs.declared.transport_error.TransportError.{TransportError};
+ghost use Rattle.qc_core.specs.Reading.{HasRead, HasWritten};
+ghost use Rattle.qc_state.specs.Lower.{ready_bytes, stream_of};
+ghost use Rattle.qc_state.specs.Progress.{ended_after, ids_fit, is_end, is_written, names_id, parameters_and, progress_after, written_after};
+ghost use Rattle.qc_state.specs.Life.{is_handshake};
+ghost use Rattle.qc_state.specs.Receiving.{answered_and, crypto_and, crypto_stop, expected_below, expected_space, given_and, is_below};
+ghost use Rattle.qc_state.specs.Stopping.{internal_error_at};
+ghost use Rattle.qc_state.specs.Types.{meaning};
+ghost use Rattle.qc_state.specs.View.{At, ideal, held};
+
+use crate::admitting::error_at;
+use crate::state::Core;
+use bytes::Bytes;
+use qc_assembler::InsertError;
+use qc_base::{ConnectionId, Instant, SpaceId, TransportError, TransportErrorCode};
+use qc_crypto::{Keys, Session, SessionError};
+use qc_params::TransportParameters;
+use qc_state::{Body, Dids, Layer, SoundSession, Suite};
+use std::alloc::{AllocError, Global};
+
+/// Whether bytes at an offset reach past those that were read.
+fn reaches_past(read: u64, offset: u64, len: usize) -> bool
+    ensures { result ≡ nat_lt read (offset + len) }
+{
+    match offset.checked_add(len as u64) {
+        None => true,
+        Some(end) => read < end,
+    }
+}
+
+/// Whether bytes at an offset reach past the end of any stream, or by more than `size` past those that were read.
+fn is_too_far(size: usize, read: u64, offset: u64, len: usize) -> bool
+    ensures { result ≡ (nat_le (2 ^ 62) (offset + len) || nat_lt size ((offset + len) - read)) }
+{
+    match offset.checked_add(len as u64) {
+        None => true,
+        Some(end) => 0x4000_0000_0000_0000 <= end || (size as u64) < end.saturating_sub(read),
+    }
+}
+
+/// Whether a space lies below another one.
+fn is_below(a: SpaceId, b: SpaceId) -> bool
+    ensures { result ≡ is_below a b }
+{
+    match (a, b) {
+        (SpaceId::Initial, SpaceId::Handshake)
+        | (SpaceId::Initial, SpaceId::Data)
+        | (SpaceId::Handshake, SpaceId::Data) => true,
+        _ => false,
+    }
+}
+
+/// The space whose CRYPTO bytes are expected before the handshake is over, where this is the highest space.
+fn expected_below(highest: SpaceId) -> SpaceId
+    ensures { result ≡ expected_below highest }
+{
+    match highest {
+        SpaceId::Initial => SpaceId::Initial,
+        SpaceId::Handshake | SpaceId::Data => SpaceId::Handshake,
+    }
+}
+
+/// Whether the handshake is over behind a packet of this space.
+fn is_end(space: SpaceId, handshaking: bool) -> bool
+    ensures { result ≡ is_end space handshaking }
+{
+    match space {
+        SpaceId::Handshake => !handshaking,
+        SpaceId::Initial | SpaceId::Data => false,
+    }
+}
+
+/// Whether an id is named, and is this one.
+fn names_id(named: Option<ConnectionId>, id: ConnectionId) -> bool
+    ensures { result ≡ names_id named id }
+{
+    match named {
+        None => false,
+        Some(named) => named.as_slice() == id.as_slice(),
+    }
+}
+
+/// What a session answers to these bytes, which it is given. Want of memory is the only refusal.
+fn answer_of<S: Session>(
+    session: &mut SoundSession<S>,
+    bytes: &[u8],
+) -> Result<Result<bool, TransportError>, AllocError>
+    ensures answer { IfOk result (λ answer. answer ≡ S.reads session.old bytes.now) }
+    ensures after { OnOk result (session.new ≡ S.after_read session.old bytes.now) }
+{
+    match session.read(bytes) {
+        Ok(ready) => Ok(Ok(ready)),
+        Err(SessionError::Transport(error)) => Ok(Err(error)),
+        Err(SessionError::OutOfMemory) => Err(AllocError),
+    }
+}
+
+/// Whether there are neither bytes nor keys.
+fn is_nothing<H: Drop, P: Drop>(bytes: &[u8], keys: &Option<Keys<H, P>>) -> bool
+    ensures { result ≡ ((length bytes.now == 0) && is_none keys.now) }
+{
+    bytes.is_empty() && keys.is_none()
+}
+
+impl<U: Suite> Core<U> {
+    /// The space whose CRYPTO bytes are expected: Data once the handshake is over.
+    #[tactic(auto, unfolding(qc_state::specs::Receiving::expected_space))]
+    fn expected_space(&self) -> SpaceId
+        ensures { result ≡ expected_space (ideal U.Random.stream self.now) }
+    {
+        if self.life.is_established() {
+            return SpaceId::Data;
+        }
+        expected_below(self.keys.highest)
+    }
+
+    /// Whether bytes that are new come of a space that is over.
+    fn is_late(&self, space: SpaceId, offset: u64, len: usize) -> bool
+        ensures { result ≡ (nat_lt (stream_of self.now.lower space).read (offset + len) && is_below space (expected_space (ideal U.Random.stream self.now))) }
+    {
+        let read = self.lower.stream(space).bytes_read();
+        reaches_past(read, offset, len) && is_below(space, self.expected_space())
+    }
+
+    /// Whether bytes come too far ahead of those that the session was given, or past the end of any stream.
+    fn is_ahead(&self, space: SpaceId, offset: u64, len: usize) -> bool
+        ensures { result ≡ (nat_le (2 ^ 62) (offset + len) || nat_lt self.now.setup.fixed.crypto_buffer_size ((offset + len) - (stream_of self.now.lower space).read)) }
+    {
+        let read = self.lower.stream(space).bytes_read();
+        is_too_far(self.setup.fixed.crypto_buffer_size, read, offset, len)
+    }
+
+    /// The error with which a CRYPTO frame stops its packet before its bytes are kept, if it does.
+    fn crypto_refusal(
+        &self,
+        space: SpaceId,
+        ty: u64,
+        offset: u64,
+        body: &[u8],
+    ) -> Option<TransportError>
+        ensures refused { IfSome result (λ error. crypto_stop (ideal U.Random.stream self.now) space ty offset body.now ≡ Some error) }
+        ensures kept { IfNone result (crypto_stop (ideal U.Random.stream self.now) space ty offset body.now ≡ (if nat_lt 1024 (part_count (inserted offset body.now (stream_of self.now.lower space)).came) then Some (internal_error_at (Some ty)) else None)) }
+        ensures within { IfNone result (offset + length body.now < 2 ^ 62) }
+    {
+        if self.is_late(space, offset, body.len()) {
+            return Some(error_at(TransportErrorCode::PROTOCOL_VIOLATION, Some(ty)));
+        }
+        if self.is_ahead(space, offset, body.len()) {
+            return Some(error_at(TransportErrorCode::CRYPTO_BUFFER_EXCEEDED, Some(ty)));
+        }
+        None
+    }
+
+    /// The session reads all bytes of the space's CRYPTO stream that can be read in order, and answers. None exactly where
+    /// there are none; then nothing changes. Want of memory is the only refusal.
+    fn do_read(
+        &mut self,
+        alloc: Global,
+        did: &mut Dids,
+        space: SpaceId,
+    ) -> Result<Option<Result<bool, TransportError>>, AllocError>
+        ensures { IfOk result (λ told. HasRead (meaning U.Session.Session U.Session.HeaderKey.HeaderMask U.Session.PacketKey.PacketKey) space (ready_bytes (stream_of self.old.lower space)) told (held U.Random.stream self.old did.old) (held U.Random.stream self.new did.new)) }
+    {
+        let bytes = self.lower.take_ready(alloc, space)?;
+        if bytes.as_slice().is_empty() {
+            return Ok(None);
+        }
+        let answer = answer_of(&mut self.lower.session, bytes.as_slice())?;
+        did.push_gave(Layer::Session, Body::from_vec(bytes))?;
+        Ok(Some(answer))
+    }
+
+    /// The session answered a read. Answers whether it refused the bytes, and this end closes.
+    fn answered(
+        &mut self,
+        did: &mut Dids,
+        now: Instant,
+        answer: Result<bool, TransportError>,
+    ) -> Result<bool, AllocError>
+        ensures ends { IfOk result (λ ends. ends ≡ true → (others : At _ → At _) → (held U.Random.stream self.new did.new) ≡ answered_and now answer others (held U.Random.stream self.old did.old)) }
+        ensures goes { IfOk result (λ ends. ends ≡ false → (others : At _ → At _) → others (held U.Random.stream self.new did.new) ≡ answered_and now answer others (held U.Random.stream self.old did.old)) }
+    {
+        match answer {
+            Err(error) => {
+                self.stopped(did, now, error)?;
+                Ok(true)
+            }
+            Ok(ready) => {
+                if ready {
+                    self.do_ready();
+                }
+                Ok(false)
+            }
+        }
+    }
+
+    /// The session is given all bytes of the space's CRYPTO stream that can be read in order. Answers whether it refused
+    /// them, and this end closes.
+    fn given(
+        &mut self,
+        alloc: Global,
+        did: &mut Dids,
+        now: Instant,
+        space: SpaceId,
+    ) -> Result<bool, AllocError>
+        ensures ends { IfOk result (λ ends. ends ≡ true → (others : At _ → At _) → (held U.Random.stream self.new did.new) ≡ given_and (meaning U.Session.Session U.Session.HeaderKey.HeaderMask U.Session.PacketKey.PacketKey) now space (ready_bytes (stream_of self.old.lower space)) others (held U.Random.stream self.old did.old)) }
+        ensures goes { IfOk result (λ ends. ends ≡ false → (others : At _ → At _) → others (held U.Random.stream self.new did.new) ≡ given_and (meaning U.Session.Session U.Session.HeaderKey.HeaderMask U.Session.PacketKey.PacketKey) now space (ready_bytes (stream_of self.old.lower space)) others (held U.Random.stream self.old did.old)) }
+    {
+        match self.do_read(alloc, did, space)? {
+            None => Ok(false),
+            Some(answer) => self.answered(did, now, answer),
+        }
+    }
+
+    /// A CRYPTO frame of this type. Answers whether it ends its packet: it does where it stops it, or the session refuses
+    /// the bytes.
+    pub(crate) fn crypto(
+        &mut self,
+        alloc: Global,
+        did: &mut Dids,
+        now: Instant,
+        space: SpaceId,
+        ty: u64,
+        offset: u64,
+        body: &[u8],
+    ) -> Result<bool, AllocError>
+        ensures ends { IfOk result (λ ends. ends ≡ true → (others : At _ → At _) → (held U.Random.stream self.new did.new) ≡ crypto_and (meaning U.Session.Session U.Session.HeaderKey.HeaderMask U.Session.PacketKey.PacketKey) now space offset body.now (crypto_stop (ideal U.Random.stream self.old) space ty offset body.now) others (held U.Random.stream self.old did.old)) }
+        ensures goes { IfOk result (λ ends. ends ≡ false → (others : At _ → At _) → others (held U.Random.stream self.new did.new) ≡ crypto_and (meaning U.Session.Session U.Session.HeaderKey.HeaderMask U.Session.PacketKey.PacketKey) now space offset body.now (crypto_stop (ideal U.Random.stream self.old) space ty offset body.now) others (held U.Random.stream self.old did.old)) }
+    {
+        if let Some(error) = self.crypto_refusal(space, ty, offset, body) {
+            self.stopped(did, now, error)?;
+            return Ok(true);
+        }
+        let bytes = Bytes::copy_from_slice(alloc, body)?;
+        match self.do_come(space, offset, bytes) {
+            Ok(()) => self.given(alloc, did, now, space),
+            Err(InsertError::TooManyParts) => {
+                self.stopped(
+                    did,
+                    now,
+                    error_at(TransportErrorCode::INTERNAL_ERROR, Some(ty)),
+                )?;
+                Ok(true)
+            }
+            Err(InsertError::OutOfMemory) => Err(AllocError),
+        }
+    }
+
+    /// The session writes once. Answers whether it wrote something or gave keys; otherwise nothing changes. Want of memory
+    /// is the only refusal.
+    fn write_once(&mut self, alloc: Global, did: &Dids) -> Result<bool, AllocError>
+        ensures { IfOk result (λ wrote. HasWritten (meaning U.Session.Session U.Session.HeaderKey.HeaderMask U.Session.PacketKey.PacketKey) wrote (held U.Random.stream self.old did.now) (held U.Random.stream self.new did.now)) }
+    {
+        let mut bytes = Vec::new(alloc);
+        let keys = self.lower.session.write(&mut bytes)?;
+        if is_nothing(bytes.as_slice(), &keys) {
+            return Ok(false);
+        }
+        self.waiting.write(self.keys.highest, bytes.as_slice())?;
+        self.keys.give(keys);
+        Ok(true)
+    }
+
+    /// The session writes until nothing is left. Want of memory is the only refusal.
+    fn written(&mut self, alloc: Global, did: &Dids) -> Result<(), AllocError>
+        ensures { OnOk result ((held U.Random.stream self.new did.now) ≡ written_after (meaning U.Session.Session U.Session.HeaderKey.HeaderMask U.Session.PacketKey.PacketKey) (held U.Random.stream self.old did.now)) }
+    {
+        loop {
+            if !self.write_once(alloc, did)? {
+                return Ok(());
+            }
+        }
+    }
+
+    /// Whether the ids that a server's parameters name are those of this connection.
+    #[tactic(auto, unfolding(qc_state::specs::Progress::ids_fit, qc_state::specs::Setup::ideal_setup))]
+    fn ids_fit(&self, parameters: &TransportParameters) -> bool
+        ensures { result ≡ ids_fit (ideal U.Random.stream self.now) parameters.now }
+    {
+        names_id(parameters.initial_src_cid, self.paths.remote_cid)
+            && (names_id(parameters.original_dst_cid, self.setup.fixed.first_cid)
+                && parameters.retry_src_cid.is_none())
+    }
+
+    /// The peer's parameters, as the session gives them once its handshake is over: with them the connection is
+    /// established.
+    fn established(
+        &mut self,
+        did: &mut Dids,
+        now: Instant,
+        answer: Result<Option<TransportParameters>, TransportError>,
+    ) -> Result<(), AllocError>
+        ensures { OnOk result ((held U.Random.stream self.new did.new) ≡ parameters_and now answer (held U.Random.stream self.old did.old)) }
+    {
+        match answer {
+            Err(error) => self.stopped(did, now, error),
+            Ok(None) => self.stopped(did, now, error_at(TransportErrorCode::crypto(0x6d), None)),
+            Ok(Some(parameters)) => {
+                if !self.ids_fit(&parameters) {
+                    let error = error_at(TransportErrorCode::TRANSPORT_PARAMETER_ERROR, None);
+                    return self.stopped(did, now, error);
+                }
+                self.do_learn(parameters);
+                self.do_establish(did)
+            }
+        }
+    }
+
+    /// Whether the handshake is over behind a packet of this space.
+    fn is_ended(&self, space: SpaceId) -> bool
+        ensures { result ≡ (is_handshake self.now.life.state && is_end space (U.Session.handshaking self.now.lower.session)) }
+    {
+        self.life.is_handshake() && is_end(space, self.lower.session.is_handshaking())
+    }
+
+    /// Behind a Handshake packet, where the handshake goes on no longer, the connection is established.
+    #[tactic(auto, unfolding(qc_state::specs::Progress::ended_after))]
+    fn ended(&mut self, did: &mut Dids, now: Instant, space: SpaceId) -> Result<(), AllocError>
+        ensures { OnOk result ((held U.Random.stream self.new did.new) ≡ ended_after (meaning U.Session.Session U.Session.HeaderKey.HeaderMask U.Session.PacketKey.PacketKey) now space (held U.Random.stream self.old did.old)) }
+    {
+        if !self.is_ended(space) {
+            return Ok(());
+        }
+        let answer = self.lower.session.transport_parameters();
+        self.established(did, now, answer)
+    }
+
+    /// Behind the frames of a packet the session writes, and where its handshake has ended, the connection is established.
+    #[tactic(auto, unfolding(qc_state::specs::Progress::progress_after))]
+    pub(crate) fn progress(
+        &mut self,
+        alloc: Global,
+        did: &mut Dids,
+        now: Instant,
+        space: SpaceId,
+    ) -> Result<(), AllocError>
+        ensures { OnOk result ((held U.Random.stream self.new did.new) ≡ progress_after (meaning U.Session.Session U.Session.HeaderKey.HeaderMask U.Session.PacketKey.PacketKey) now space (held U.Random.stream self.old did.old)) }
+    {
+        self.written(alloc, did)?;
+        self.ended(did, now, space)
+    }
+}

@@ -1,0 +1,340 @@
+-- Each number that a run acknowledges is that of a packet which was accepted before.
+use Rattle.std.proofs.Common.{◌≡◌, ℕ, ◌+◌, ◌⊎◌, inl, inr, List, [], ◌∷◌, ◌++◌, length, take, refl, ap, sym, ◌∙◌, subst, Bool, true, false, Some, None, if◌then◌else◌, append_assoc, append-nil}
+use Rattle.std.specs.List.{list_any}
+use Rattle.std.specs.Prelude.{is_none}
+use Rattle.std.specs.declared.net.SocketAddr.{SocketAddr}
+use Rattle.qc_base.specs.RangeSet.{Member}
+use Rattle.qc_base.specs.declared.side.SpaceId.{SpaceId}
+use Rattle.qc_base.specs.declared.side.SpaceId.TheVariants.{Initial, Handshake, «Data»}
+use Rattle.qc_frame.specs.Frame.{FrameValue}
+use Rattle.qc_frame.specs.FrameSpelling.{elicits}
+use Rattle.qc_path.specs.Arrived.{Window, arrived}
+use Rattle.qc_path.specs.declared.pending_acks.Arrival.{Arrival}
+use Rattle.qc_state.specs.declared.deeds.Did.{Did}
+use Rattle.qc_state.specs.declared.deeds.Did.TheVariants as did
+use Rattle.qc_state.specs.declared.deeds.Quiet.TheVariants.{NothingOwed, Silent, Killed}
+use Rattle.qc_state.specs.declared.deeds.Verdict.{Verdict}
+use Rattle.qc_state.specs.declared.input.Input.{Input}
+use Rattle.qc_state.specs.declared.input.Input.TheVariants as input
+use Rattle.qc_state.specs.declared.life.Close.{Close}
+use Rattle.qc_state.specs.declared.life.ConnectionError.{ConnectionError}
+use Rattle.qc_state.specs.declared.life.State.TheVariants as state
+use Rattle.qc_state.specs.declared.trace.Step.{Step}
+use Rattle.qc_state.specs.declared.waiting.SpaceWaiting.{SpaceWaiting}
+use Rattle.qc_state.specs.declared.waiting.Waiting.{Waiting}
+use Rattle.qc_state.specs.Headline.{deeds_of, KnownBehind, AcksOnly, SealsKnown, AcksKnown, IsKept, EachAcksKnown}
+use Rattle.qc_state.specs.Life.{is_open, is_drained}
+use Rattle.qc_state.specs.Moves.{Move, Clock, Ask, Take, Seal, Forget, Enter, Fail, Accept, Fix, Hear, Ack, Calm, Come, Read, Write, Ready, Learn, Establish, Tell, Drain, Leave, Owe, Shut, Raise, Give, Say, ReportReady, ReportConnected, ReportLost, ReportDrained, accepts, state_move, move_to, deeds_move, waiting_move, numbers_move, life_move, MayMove, IsTold, calmed, told}
+use Rattle.qc_state.specs.Numbers.{next_number}
+use Rattle.qc_state.specs.Numbers as numbers
+use Rattle.qc_state.specs.Run.{time_of, packets_of, began, close_after, input_after, called, reported, step_after, IsAllowed, IsStep, Run, Ran}
+use Rattle.qc_state.specs.Sending.{is_silent, owes, sending_space, internal_error, given_after, killed_after, quiet_after, drops_initial, initial_left, sealed_in, packet_after, transmit_after, MaySeal, MayTransmit}
+use Rattle.qc_state.specs.Spaces.{space_of, with_space, is_space}
+use Rattle.qc_state.specs.Receiving.{datagram_after}
+use Rattle.qc_state.specs.Types.{Types, Meaning}
+use Rattle.qc_state.specs.View.{View, At}
+use Rattle.qc_state.specs.Waiting.{ping_asked, waiting_without, close_begun, packet_told, untold, flown_in, packet_flown, settled_in, packets_settled, came_in, packet_came, crypto_written, nothing_left, space_left}
+use Rattle.qc_state.proofs.AcksKnown.{received_has, KnownSince, known_more, since_more, known_append, since_append, only_more, without_all_keeps, carries_known}
+use Rattle.qc_state.proofs.Receives.{IsReceived, holds_datagram}
+use Rattle.qc_state.proofs.Telling.{is_none_none, low_rank, open_rank}
+use Rattle.qc_state.proofs.Told.{loud_alive, closes_only}
+
+-- ---- what is kept in a space, where one space changes
+
+-- a space whose numbers to acknowledge stay
+same_kept : (id space : SpaceId) (v : Waiting) (w : SpaceWaiting) (owed : Bool) → w.acks.ranges ≡ (space_of v.spaces space).acks.ranges
+    → (n : ℕ) → IsKept id (record { spaces = with_space v.spaces space w; close_owed = owed }) n → IsKept id v n
+same_kept Initial Initial v w owed same n m = subst (Member n) same m
+same_kept Initial Handshake v w owed same n m = m
+same_kept Initial Data v w owed same n m = m
+same_kept Handshake Initial v w owed same n m = m
+same_kept Handshake Handshake v w owed same n m = subst (Member n) same m
+same_kept Handshake Data v w owed same n m = m
+same_kept Data Initial v w owed same n m = m
+same_kept Data Handshake v w owed same n m = m
+same_kept Data Data v w owed same n m = subst (Member n) same m
+
+-- the frames of a packet were taken
+taken_kept : (space : SpaceId) (v : Waiting) (fs : List FrameValue) (n : ℕ) → IsKept space v n → IsKept space (waiting_without v space fs) n
+unfolding waiting_without
+taken_kept Initial v fs n m = subst (Member n) (sym (without_all_keeps v.spaces.initial fs)) m
+taken_kept Handshake v fs n m = subst (Member n) (sym (without_all_keeps v.spaces.handshake fs)) m
+taken_kept Data v fs n m = subst (Member n) (sym (without_all_keeps v.spaces.application fs)) m
+
+-- a close begins to be owed
+begun_kept : (id : SpaceId) (v : Waiting) (b : Bool) (n : ℕ)
+    → IsKept id (if b then v else record { spaces = record { initial = untold v.spaces.initial; handshake = untold v.spaces.handshake; application = untold v.spaces.application }; close_owed = true }) n → IsKept id v n
+begun_kept id v true n m = m
+begun_kept Initial v false n m = m
+begun_kept Handshake v false n m = m
+begun_kept Data v false n m = m
+
+-- a packet was sealed, which may elicit an acknowledgement
+sealed_kept : (id space : SpaceId) (v : Waiting) (last : Bool) (number : ℕ) (b : Bool) (n : ℕ)
+    → IsKept id (if b then packet_flown (packet_told v space last) space number else packet_told v space last) n → IsKept id v n
+unfolding packet_flown packet_told flown_in
+sealed_kept id space v last number true n m =
+    same_kept id space v (record (space_of v.spaces space) { told = true }) (packet_told v space last).close_owed refl n
+    (same_kept id space (packet_told v space last) (flown_in number (space_of (packet_told v space last).spaces space)) (packet_told v space last).close_owed refl n m)
+sealed_kept id space v last number false n m = same_kept id space v (record (space_of v.spaces space) { told = true }) (packet_told v space last).close_owed refl n m
+
+-- a packet was accepted: what is kept is its number, or was kept before
+accepted_by : (number n : ℕ) (v : Verdict) (K : Type 0) → accepts v ≡ true → (number ≡ n) ⊎ K → ((if accepts v then Some number else None) ≡ Some n) ⊎ K
+accepted_by number n v K e (inl is) = inl (rw e (ap Some is))
+accepted_by number n v K e (inr there) = inr there
+
+-- so it is in each space
+came_kept : (id space : SpaceId) (v : Waiting) (seen : Window) (a : Arrival) (verdict : Verdict) → accepts verdict ≡ true
+    → (n : ℕ) → IsKept id (packet_came v space seen a) n → KnownBehind id (IsKept id v) (did.Piece (Some space) (Some a.number) verdict) n
+unfolding packet_came came_in
+came_kept Initial Initial v seen a verdict e n m = accepted_by a.number n verdict (IsKept Initial v n) e (received_has false seen a v.spaces.initial.acks n m)
+came_kept Initial Handshake v seen a verdict e n m = inr m
+came_kept Initial Data v seen a verdict e n m = inr m
+came_kept Handshake Initial v seen a verdict e n m = inr m
+came_kept Handshake Handshake v seen a verdict e n m = accepted_by a.number n verdict (IsKept Handshake v n) e (received_has false seen a v.spaces.handshake.acks n m)
+came_kept Handshake Data v seen a verdict e n m = inr m
+came_kept Data Initial v seen a verdict e n m = inr m
+came_kept Data Handshake v seen a verdict e n m = inr m
+came_kept Data Data v seen a verdict e n m = accepted_by a.number n verdict (IsKept Data v n) e (received_has false seen a v.spaces.application.acks n m)
+
+-- what a packet acknowledges, said of its space
+said_there : (id space : SpaceId) (v : Waiting) (fs : List FrameValue) → AcksOnly (IsKept space v) fs → is_space id space ≡ true → AcksOnly (IsKept id v) fs
+said_there Initial Initial v fs h same = h
+said_there Initial Handshake v fs h same = cc
+said_there Initial Data v fs h same = cc
+said_there Handshake Initial v fs h same = cc
+said_there Handshake Handshake v fs h same = h
+said_there Handshake Data v fs h same = cc
+said_there Data Initial v fs h same = cc
+said_there Data Handshake v fs h same = cc
+said_there Data Data v fs h same = h
+
+module _ {t : Types} where
+  -- where a move may be made: a packet that is sealed acknowledges what is kept, and one that is accepted has a verdict which
+  -- says so
+  abbrev pub IsKnowing : Move t → View t → Type 0
+  IsKnowing (Seal time space n size fs) s = AcksOnly (IsKept space s.waiting) fs
+  IsKnowing (Accept time space n e v) s = accepts v ≡ true
+  IsKnowing _ s = Unit {0}
+
+  -- from one moment to another, what is acknowledged is known, and so is what is kept at the end
+  pub record Knows (id : SpaceId) (a b : At t) : Type 0 where
+    pub since : List Did
+    pub appended : b.did ≡ a.did ++ since
+    pub known : AcksKnown id (IsKept id a.state.waiting) since
+    pub kept : (n : ℕ) → IsKept id b.state.waiting n → KnownSince id (IsKept id a.state.waiting) since n
+
+  -- where no time passes
+  knows_here : (id : SpaceId) (a : At t) → Knows id a a
+  knows_here id a = record { since = []; appended = sym (append-nil a.did); known = tt; kept = λ n m. m }
+
+  -- over two times, one after the other
+  knows_next : (id : SpaceId) (a b c : At t) → Knows id a b → Knows id b c → Knows id a c
+  knows_next id a b c g h =
+      let K : ℕ → Type 0 = IsKept id a.state.waiting in
+      let L : ℕ → Type 0 = IsKept id b.state.waiting in
+      record {
+        since = g.since ++ h.since;
+        appended = h.appended ∙ ap (λ (x : List Did). x ++ h.since) g.appended ∙ append_assoc a.did g.since h.since;
+        known = known_append id K g.since h.since g.known (known_more id L (KnownSince id K g.since) g.kept h.since h.known);
+        kept = λ n m. since_append id K g.since h.since n (since_more id L (KnownSince id K g.since) g.kept h.since n (h.kept n m));
+      }
+
+  -- a move without a deed that leaves what is kept
+  silent_knows : (id : SpaceId) (x : Move t) (a : At t) → deeds_move x a.state ≡ [] → ((n : ℕ) → IsKept id (waiting_move x a.state) n → IsKept id a.state.waiting n) → Knows id a (move_to x a)
+  unfolding move_to state_move
+  silent_knows id x a none same = record { since = []; appended = ap (λ (ds : List Did). told a.did ds) none ∙ sym (append-nil a.did); known = tt; kept = same }
+
+  -- a move with one deed
+  deed_knows : (id : SpaceId) (x : Move t) (d : Did) (a : At t) → deeds_move x a.state ≡ d ∷ [] → SealsKnown id (IsKept id a.state.waiting) d
+      → ((n : ℕ) → IsKept id (waiting_move x a.state) n → KnownBehind id (IsKept id a.state.waiting) d n) → Knows id a (move_to x a)
+  unfolding move_to state_move
+  deed_knows id x d a one seals same = record { since = d ∷ []; appended = ap (λ (ds : List Did). told a.did ds) one; known = (seals, tt); kept = same }
+
+  -- a deed that is told beside the others
+  tell_knows : (id : SpaceId) (d : Did) (a : At t) → IsTold d → Knows id a (move_to (Tell d) a)
+  unfolding deeds_move waiting_move
+  tell_knows id (did.Piece space number v) a h = deed_knows id (Tell (did.Piece space number v)) (did.Piece space number v) a refl tt (λ n m. inr m)
+  tell_knows id (did.Gave layer body) a h = deed_knows id (Tell (did.Gave layer body)) (did.Gave layer body) a refl tt (λ n m. m)
+  tell_knows id _ a h = absurd h
+
+  -- over each move
+  pub knows_move : (id : SpaceId) (x : Move t) (a : At t) → MayMove x a.state → IsKnowing x a.state → Knows id a (move_to x a)
+  unfolding MayMove deeds_move waiting_move ping_asked waiting_without packets_settled settled_in crypto_written space_left nothing_left close_begun
+  knows_move id (Clock time) a h k = absurd h
+  knows_move id (Ask space) a h k = silent_knows id (Ask space) a refl (same_kept id space a.state.waiting _ a.state.waiting.close_owed refl)
+  knows_move id (Take space fs) a h k = silent_knows id (Take space fs) a refl (same_kept id space a.state.waiting _ a.state.waiting.close_owed (without_all_keeps (space_of a.state.waiting.spaces space) fs))
+  knows_move id (Seal time space n size fs) a h k =
+      deed_knows id (Seal time space n size fs) (did.Sealed space n 0 false fs) a refl (said_there id space a.state.waiting fs k)
+      (sealed_kept id space a.state.waiting (is_space space a.state.keys.highest) n (list_any elicits fs))
+  knows_move id (Forget space) a h k = silent_knows id (Forget space) a refl (same_kept id space a.state.waiting _ a.state.waiting.close_owed refl)
+  knows_move id (Enter space n v) a h k = deed_knows id (Enter space n v) _ a refl tt (λ n m. inr m)
+  knows_move id Fail a h k = silent_knows id Fail a refl (λ n m. m)
+  knows_move id (Accept time space n e v) a h k =
+      deed_knows id (Accept time space n e v) (did.Piece (Some space) (Some n) v) a refl tt
+      (came_kept id space a.state.waiting (arrived n (numbers.came_in a.state.numbers space)) (record { number = n; at = time; ack_eliciting = e; ce = false }) v k)
+  knows_move id (Fix cid) a h k = silent_knows id (Fix cid) a refl (λ n m. m)
+  knows_move id (Hear bytes) a h k = silent_knows id (Hear bytes) a refl (λ n m. m)
+  knows_move id (Ack space n rs) a h k = silent_knows id (Ack space n rs) a refl (same_kept id space a.state.waiting _ a.state.waiting.close_owed refl)
+  knows_move id Calm a h k = silent_knows id Calm a refl (λ n m. m)
+  knows_move id (Come space offset bytes) a h k = silent_knows id (Come space offset bytes) a refl (λ n m. m)
+  knows_move id (Read space count session) a h k = silent_knows id (Read space count session) a refl (λ n m. m)
+  knows_move id (Write bytes keys session) a h k = silent_knows id (Write bytes keys session) a refl (same_kept id a.state.keys.highest a.state.waiting _ a.state.waiting.close_owed refl)
+  knows_move id Ready a h k = silent_knows id Ready a refl (λ n m. m)
+  knows_move id (Learn parameters) a h k = silent_knows id (Learn parameters) a refl (λ n m. m)
+  knows_move id Establish a h k = deed_knows id Establish _ a refl tt (λ n m. m)
+  knows_move id (Tell d) a h k = tell_knows id d a h
+  knows_move id Drain a h k = deed_knows id Drain _ a refl tt (λ n m. m)
+  knows_move id (Leave time) a h k = deed_knows id (Leave time) _ a refl tt (λ n m. m)
+  knows_move id Owe a h k = silent_knows id Owe a refl (begun_kept id a.state.waiting a.state.waiting.close_owed)
+  knows_move id (Shut time close) a h k = deed_knows id (Shut time close) _ a refl tt (begun_kept id a.state.waiting a.state.waiting.close_owed)
+  knows_move id (Raise to) a h k = deed_knows id (Raise to) _ a refl tt (λ n m. m)
+  knows_move id (Give why) a h k = deed_knows id (Give why) _ a refl tt (λ n m. m)
+  knows_move id (Say q) a h k = deed_knows id (Say q) _ a refl tt (λ n m. m)
+  knows_move id ReportReady a h k = silent_knows id ReportReady a refl (λ n m. m)
+  knows_move id ReportConnected a h k = silent_knows id ReportConnected a refl (λ n m. m)
+  knows_move id ReportLost a h k = silent_knows id ReportLost a refl (λ n m. m)
+  knows_move id ReportDrained a h k = silent_knows id ReportDrained a refl (λ n m. m)
+
+  -- ---- inputs
+
+  -- a reason is given, or not
+  given_by : (id : SpaceId) (why : ConnectionError) (a : At t) (b : Bool) → is_none a.state.life.reason ≡ b → Knows id a (if b then move_to (Give why) a else a)
+  unfolding MayMove
+  given_by id why a true h = knows_move id (Give why) a (is_none_none a.state.life.reason h) tt
+  given_by id why a false h = knows_here id a
+
+  -- the connection ends at once
+  knows_killed : (id : SpaceId) (why : ConnectionError) (a : At t) → is_drained a.state.life.state ≡ false → Knows id a (killed_after why a)
+  unfolding killed_after given_after MayMove
+  knows_killed id why a h = knows_next id a (move_to (Raise state.Drained) a) _ (knows_move id (Raise state.Drained) a (low_rank a.state.life.state h) tt) (given_by id why (move_to (Raise state.Drained) a) _ refl)
+
+  -- nothing is sealed
+  quiet_by : (id : SpaceId) (a : At t) (x y : Bool) → is_silent a.state ≡ x → Knows id a (if x then move_to (Say Silent) a else if y then move_to (Say Killed) (killed_after internal_error a) else move_to (Say NothingOwed) a)
+  unfolding MayMove is_silent
+  quiet_by id a true y h = knows_move id (Say Silent) a tt tt
+  quiet_by id a false true h = knows_next id a (killed_after internal_error a) _ (knows_killed id internal_error a (loud_alive a.state.life.state a.state.waiting.close_owed h)) (knows_move id (Say Killed) (killed_after internal_error a) tt tt)
+  quiet_by id a false false h = knows_move id (Say NothingOwed) a tt tt
+
+  -- nothing more may be in flight
+  calm_by : (id : SpaceId) (a : At t) (b : Bool) → Knows id a (if b then move_to Calm a else a)
+  unfolding MayMove
+  calm_by id a true = knows_move id Calm a tt tt
+  calm_by id a false = knows_here id a
+
+  -- the Initial keys are dropped, or not
+  left_by : (id : SpaceId) (a : At t) (b : Bool) → Knows id a (if b then calmed (move_to (Forget Initial) a) else a)
+  unfolding calmed MayMove
+  left_by id a true = knows_next id a (move_to (Forget Initial) a) _ (knows_move id (Forget Initial) a tt tt) (calm_by id (move_to (Forget Initial) a) _)
+  left_by id a false = knows_here id a
+
+  -- a packet is sealed
+  knows_packet : (id : SpaceId) (time : ℕ) (fs : List FrameValue) (a : At t) → MaySeal time a.state fs → Knows id a (packet_after time fs a)
+  unfolding packet_after sealed_in initial_left MayMove move_to state_move numbers_move life_move waiting_move
+  knows_packet id time fs a may =
+      let space : SpaceId = sending_space a.state in
+      let b : At t = move_to (Take space fs) a in
+      let n : ℕ = next_number a.state.numbers space in
+      let c : At t = move_to (Seal time space n 1200 fs) b in
+      let said : AcksOnly (IsKept space (waiting_without a.state.waiting space fs)) fs =
+      only_more (IsKept space a.state.waiting) (IsKept space (waiting_without a.state.waiting space fs)) (taken_kept space a.state.waiting fs) fs (carries_known time a.state space fs may.carries) in
+      knows_next id a b _ (knows_move id (Take space fs) a tt tt)
+      (knows_next id b c _ (knows_move id (Seal time space n 1200 fs) b (refl, closes_only time a.state fs may) said) (left_by id c (drops_initial c.state space)))
+
+  -- a transmit seals a packet or none
+  knows_transmit : (id : SpaceId) (time : ℕ) (ps : List (List FrameValue)) (a : At t) → MayTransmit time a.state ps → Knows id a (transmit_after time ps a)
+  unfolding MayTransmit transmit_after quiet_after
+  knows_transmit id time [] a may = quiet_by id a (is_silent a.state) (owes a.state) refl
+  knows_transmit id time (fs ∷ []) a may = knows_packet id time fs a may
+  knows_transmit id time (fs ∷ gs ∷ rest) a may = absurd may
+
+  -- the application closes, or has closed before
+  closed_by : (id : SpaceId) (time : ℕ) (close : Close) (a : At t) (b : Bool) → is_open a.state.life.state ≡ b → Knows id a (if b then move_to (Shut time close) a else a)
+  unfolding MayMove
+  closed_by id time close a true h = knows_move id (Shut time close) a (open_rank a.state.life.state h) tt
+  closed_by id time close a false h = knows_here id a
+
+  -- what is received seals nothing, and accepts what it says that it accepts
+  received_knows : (x : Move t) (s : View t) → IsReceived x → IsKnowing x s
+  received_knows (Forget id) s r = tt
+  received_knows (Enter id n v) s r = tt
+  received_knows Fail s r = tt
+  received_knows (Accept time id n e v) s r = r
+  received_knows (Fix cid) s r = tt
+  received_knows (Hear bytes) s r = tt
+  received_knows (Ack id n rs) s r = tt
+  received_knows Calm s r = tt
+  received_knows (Come id offset bytes) s r = tt
+  received_knows (Read id count session) s r = tt
+  received_knows (Write bytes keys session) s r = tt
+  received_knows Ready s r = tt
+  received_knows (Learn parameters) s r = tt
+  received_knows Establish s r = tt
+  received_knows (Tell d) s r = tt
+  received_knows Drain s r = tt
+  received_knows (Leave time) s r = tt
+  received_knows Owe s r = tt
+  received_knows (Shut time close) s r = tt
+  received_knows (Give why) s r = tt
+  received_knows _ s r = absurd r
+
+  -- a datagram
+  knows_datagram : (id : SpaceId) (m : Meaning t) (time : ℕ) (remote : SocketAddr) (bytes : List ℕ) (a : At t) → Knows id a (datagram_after m time remote bytes a)
+  knows_datagram id m time remote bytes a =
+      holds_datagram (Knows id) (knows_here id) (knows_next id) (λ x received b may. knows_move id x b may (received_knows x b.state received)) m time remote bytes a
+
+  -- each input
+  knows_input : (id : SpaceId) (m : Meaning t) (i : Input) (ds : List Did) (a : At t) → IsAllowed i ds a.state → Knows id a (input_after m i ds a)
+  unfolding IsAllowed input_after close_after MayMove
+  knows_input id m (input.Datagram time remote ecn bytes) ds a h = knows_datagram id m time remote bytes a
+  knows_input id m (input.Transmit time max) ds a h = knows_transmit id time (packets_of ds) a h
+  knows_input id m (input.Close time code reason) ds a h = closed_by id time _ a _ refl
+  knows_input id m (input.Ping time) ds a h = knows_move id (Ask a.state.keys.highest) a tt tt
+
+  -- ---- runs
+
+  -- what the deeds of a step acknowledge is known, and so is what is kept behind it
+  record StepKnows (id : SpaceId) (s : View t) (ds : List Did) (s' : View t) : Type 0 where
+    pub known : AcksKnown id (IsKept id s.waiting) ds
+    pub kept : (n : ℕ) → IsKept id s'.waiting n → KnownSince id (IsKept id s.waiting) ds n
+
+  -- each step does
+  step_knows : (id : SpaceId) (m : Meaning t) (k : ℕ) (s : View t) (i : Input) (x : Step) (s' : View t) → IsStep m k s i x s' → StepKnows id s x.did s'
+  unfolding called began step_after reported state_move waiting_move
+  step_knows id m k s i x s' h =
+      let a : At t = began s (time_of i) in
+      let b : At t = input_after m i x.did a in
+      let knows : Knows id a b = knows_input id m i x.did a h.allowed in
+      let deeds : x.did ≡ knows.since = h.deeds ∙ knows.appended in
+      let waiting : s'.waiting ≡ b.state.waiting = h.waiting in
+      record {
+        known = subst (AcksKnown id (IsKept id s.waiting)) (sym deeds) knows.known;
+        kept = λ n m. subst (λ (ds : List Did). KnownSince id (IsKept id s.waiting) ds n) (sym deeds) (knows.kept n (subst (λ (v : Waiting). IsKept id v n) waiting m));
+      }
+
+  -- the packets of a run acknowledge known numbers only
+  run_known : (id : SpaceId) (m : Meaning t) (k : ℕ) (s : View t) (is : List Input) (xs : List Step) (s' : View t) → Run m k s is xs s' → AcksKnown id (IsKept id s.waiting) (deeds_of xs)
+  unfolding Run
+  run_known id m k s [] [] s' r = tt
+  run_known id m k s (i ∷ is) (x ∷ xs) s' r =
+      let K : ℕ → Type 0 = IsKept id s.waiting in
+      let mid : View t = r.0 in
+      let step : StepKnows id s x.did mid = step_knows id m k s i x mid r.1 in
+      known_append id K x.did (deeds_of xs) step.known
+      (known_more id (IsKept id mid.waiting) (KnownSince id K x.did) step.kept (deeds_of xs) (run_known id m (k + 1) mid is xs s' r.2))
+  run_known id m k s [] (x ∷ xs) s' r = absurd r
+  run_known id m k s (i ∷ is) [] s' r = absurd r
+
+  -- each number that a run acknowledges was accepted before, or was kept at its start
+  pub run_acks_known : (m : Meaning t) (k : ℕ) (s : View t) (is : List Input) (xs : List Step) (s' : View t) → Run m k s is xs s' → EachAcksKnown s xs
+  unfolding EachAcksKnown
+  run_acks_known m k s is xs s' r = λ id. run_known id m k s is xs s' r
+
+  -- the same of a run over the first inputs
+  pub ran_acks_known : (m : Meaning t) (k : ℕ) (s : View t) (is : List Input) (xs : List Step) → Ran m k s is xs → EachAcksKnown s xs
+  ran_acks_known m k s is xs r = run_acks_known m k s (take (length xs) is) xs r.last r.run
+
+  -- the empty trace
+  pub none_acks_known : (s : View t) (xs : List Step) → xs ≡ [] → EachAcksKnown s xs
+  unfolding EachAcksKnown
+  none_acks_known s xs e = subst (λ (ys : List Step). (id : SpaceId) → AcksKnown id (IsKept id s.waiting) (deeds_of ys)) (sym e) (λ id. tt)

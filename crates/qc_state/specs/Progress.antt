@@ -1,0 +1,62 @@
+-- How the handshake goes on behind the frames of a packet (RFC 9001, sections 4.1 and 8.2; RFC 9000, section 7.3).
+use Rattle.std.specs.Prelude.{ℕ, zero, suc, ◌==◌, ◌&&◌, not, nat_eq, Bool, false, if◌then◌else◌, List, length, Option, None, Some, Result, Ok, Err, is_none}
+use Rattle.std.specs.Cmp.Lexicographic.{pointwise}
+use Rattle.qc_base.specs.declared.side.SpaceId.{SpaceId}
+use Rattle.qc_base.specs.declared.side.SpaceId.TheVariants.{Initial, Handshake, «Data»}
+use Rattle.qc_base.specs.declared.transport_error.TransportError.{TransportError}
+use Rattle.qc_params.specs.declared.params.TransportParameters.{TransportParameters}
+use Rattle.qc_state.specs.Life.{is_handshake}
+use Rattle.qc_state.specs.Moves.{Write, Learn, Establish, move_to}
+use Rattle.qc_state.specs.Stopping.{missing_parameters, parameter_error, stopped_after}
+use Rattle.qc_state.specs.Types.{Types, Meaning}
+use Rattle.qc_state.specs.View.{View, At}
+
+-- an id that is named is this one
+abbrev pub names_id : Option (List ℕ) → List ℕ → Bool
+names_id None id = false
+names_id (Some named) id = pointwise nat_eq named id
+
+-- the handshake is over behind a Handshake packet
+abbrev pub is_end : SpaceId → Bool → Bool
+is_end Initial handshaking = false
+is_end Handshake handshaking = not handshaking
+is_end Data handshaking = false
+
+module _ {t : Types} where
+  -- the session writes nothing now, and gives no keys
+  unfoldable pub is_written : Meaning t → t.S → Bool
+  is_written m session = (length (m.writes session) == 0) && is_none (m.write_keys session)
+
+  -- the session writes once: its bytes wait in the highest space, and the keys that it gives are those of the next one
+  unfoldable pub write_after : Meaning t → At t → At t
+  write_after m a = move_to (Write (m.writes a.state.lower.session) (m.write_keys a.state.lower.session) (m.after_write a.state.lower.session)) a
+
+  -- the session writes until it writes nothing, at most so many times
+  abbrev pub writes_after : ℕ → Meaning t → At t → At t
+  writes_after zero m a = a
+  writes_after (suc n) m a = if is_written m a.state.lower.session then a else writes_after n m (write_after m a)
+
+  -- the session writes until nothing is left: the number `left` falls with each write that writes or gives something
+  unfoldable pub written_after : Meaning t → At t → At t
+  written_after m a = writes_after (m.left a.state.lower.session) m a
+
+  -- the ids that a server's parameters name are those of this connection: the source id of its first packet, the destination
+  -- id of this end's first one, and none of a Retry (RFC 9000, section 7.3)
+  unfoldable pub ids_fit : View t → TransportParameters → Bool
+  ids_fit s p = names_id p.initial_src_cid s.paths.remote_cid && (names_id p.original_dst_cid s.setup.fixed.first_cid && is_none p.retry_src_cid)
+
+  -- the peer's parameters, as the session gives them once its handshake is over: with them the connection is established
+  abbrev pub parameters_and : (time : ℕ) → Result (Option TransportParameters) TransportError → At t → At t
+  parameters_and time (Err error) a = stopped_after time error a
+  parameters_and time (Ok None) a = stopped_after time missing_parameters a
+  parameters_and time (Ok (Some p)) a = if ids_fit a.state p then move_to Establish (move_to (Learn p) a) else stopped_after time parameter_error a
+
+  -- behind a Handshake packet, where the handshake goes on no longer, the connection is established
+  unfoldable pub ended_after : Meaning t → (time : ℕ) → SpaceId → At t → At t
+  ended_after m time id a =
+      if is_handshake a.state.life.state && is_end id (m.handshaking a.state.lower.session) then parameters_and time (m.parameters a.state.lower.session) a else a
+
+  -- behind the frames of a packet of this space, where none stopped it and none was a close: the session writes, and where its
+  -- handshake has ended, the connection is established
+  unfoldable pub progress_after : Meaning t → (time : ℕ) → SpaceId → At t → At t
+  progress_after m time id a = ended_after m time id (written_after m a)
