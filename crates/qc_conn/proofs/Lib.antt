@@ -1,3 +1,4 @@
 pub mod Refusals
 pub mod RunsPlain
 pub mod Reports
+pub mod Firsts

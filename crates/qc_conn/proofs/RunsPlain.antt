@@ -1,4 +1,5 @@
 -- The steps of a run leave nothing out of their text.
+use Rattle.std.specs.Prelude.{is_none}
 use Rattle.std.proofs.Common.{◌≡◌, ℕ, ◌+◌, ◌<◌, ◌≤◌, ◌^◌, ◌==◌, ◌||◌, Bool, true, false, if◌then◌else◌, List, [], ◌∷◌, ◌++◌, length, length-append, replicate, take, zero, suc, Option, Some, None, refl, sym, ap, ◌∙◌, subst, arith}
 use Rattle.std.specs.Prelude.{nat_lt, nat_le}
 use Rattle.std.specs.List.{All, list_any}
@@ -7,6 +8,7 @@ use Rattle.std.proofs.lemmas.List.{length-drop}
 use Rattle.std.proofs.lemmas.Bool.Decides.{nat_tests}
 use Rattle.std.proofs.lemmas.List.Elements.{All-nil, All-cons, All-append}
 use Rattle.qc_base.specs.Varint.{IsNumber}
+use Rattle.qc_base.specs.declared.side.Side.TheVariants.{Client}
 use Rattle.qc_base.specs.declared.side.SpaceId.{SpaceId}
 use Rattle.qc_base.specs.declared.side.SpaceId.TheVariants.{Initial, Handshake, «Data»}
 use Rattle.qc_frame.specs.Frame.{FrameValue, AckValue}
@@ -18,7 +20,7 @@ use Rattle.qc_frame.proofs.Lengths.{length-application_close}
 use Rattle.qc_state.specs.Acks.{AckPart, SaysAck, may_acknowledge}
 use Rattle.qc_state.specs.declared.deeds.Did.{Did}
 use Rattle.qc_state.specs.declared.deeds.Did.TheVariants as deed
-use Rattle.qc_state.specs.declared.deeds.Quiet.TheVariants.{NothingOwed, Silent, Killed}
+use Rattle.qc_state.specs.declared.deeds.Quiet.TheVariants.{NothingOwed, Silent, Killed, Amplification}
 use Rattle.qc_state.specs.declared.input.Input.{Input}
 use Rattle.qc_state.specs.declared.input.Input.TheVariants as input
 use Rattle.qc_state.specs.declared.life.Close.{Close}
@@ -32,19 +34,19 @@ use Rattle.qc_state.specs.declared.trace.Answer.TheVariants as answer
 use Rattle.qc_state.specs.declared.waiting.SpaceWaiting.{SpaceWaiting}
 use Rattle.qc_state.specs.declared.waiting.Waiting.{Waiting}
 use Rattle.qc_state.specs.Life.{is_closed}
-use Rattle.qc_state.specs.Moves.{Move, Clock, Take, Seal, Forget, Raise, Say, Give, Enter, Fail, Accept, Fix, Hear, Ack, Calm, Come, Read, Write, Ready, Learn, Establish, Tell, Drain, Leave, Owe, Shut, IsTold, MayMove, state_move, move_to, deeds_move, paths_move, waiting_move, keys_move, calmed}
+use Rattle.qc_state.specs.Moves.{Move, Clock, Take, Seal, Forget, Raise, Say, Give, Enter, Fail, Accept, Fix, Hear, Ack, Calm, Come, Read, Write, Ready, Learn, Establish, Tell, Drain, Leave, Owe, Shut, IsTold, MayMove, state_move, move_to, deeds_move, paths_move, waiting_move, keys_move, calmed, Expect, Validate, Confirm}
 use Rattle.qc_state.specs.Numbers.{next_number}
-use Rattle.qc_state.specs.Paths.{path_sent, path_received, peer_fixed}
-use Rattle.qc_state.specs.Receiving.{is_readable, datagram_after}
+use Rattle.qc_state.specs.Paths.{path_sent, path_received, peer_fixed, path_validated, is_blocked}
+use Rattle.qc_state.specs.Receiving.{datagram_after, is_taken}
 use Rattle.qc_state.specs.Run.{time_of, packets_of, began, close_after, input_after, called, reported, step_after, IsAllowed, out_of, answer_of, IsStep, Run, Ran}
-use Rattle.qc_state.specs.Sending.{told_code, told_type, told_application_code, told_close, close_frame, closing_frame, IsKeptReason, close_room, Closes, sending_space, Carries, drops_initial, initial_left, sealed_in, internal_error, given_after, killed_after, quiet_after, packet_after, transmit_after, MayTransmit, transmit_bytes, transmit_of}
+use Rattle.qc_state.specs.Sending.{told_code, told_type, told_application_code, told_close, close_frame, closing_frame, IsKeptReason, close_room, Closes, sending_space, Carries, drops_initial, initial_left, sealed_in, internal_error, given_after, killed_after, quiet_after, packet_after, transmit_after, MayTransmit, transmit_bytes, transmit_of, owed_quiet_after, is_silent, owes}
 use Rattle.qc_state.specs.Spaces.{space_of, with_space, is_space}
 use Rattle.qc_state.specs.Types.{Types, Meaning}
 use Rattle.qc_state.specs.Unsent.{unsent_with}
 use Rattle.qc_state.specs.View.{Held, View, At, at}
-use Rattle.qc_state.specs.First.{first_view}
+use Rattle.qc_state.specs.First.{first_view, server_view}
 use Rattle.qc_state.specs.declared.setup.Fixed.{Fixed}
-use Rattle.qc_state.specs.Waiting.{ping_asked, waiting_without, close_begun, packet_told, untold, flown_in, packet_flown, settled_in, packets_settled, came_in, packet_came, crypto_written, nothing_left, space_left, is_calm, without, Waits, without_all, WaitAll}
+use Rattle.qc_state.specs.Waiting.{ping_asked, waiting_without, close_begun, packet_told, untold, flown_in, packet_flown, settled_in, packets_settled, came_in, packet_came, crypto_written, nothing_left, space_left, is_calm, without, Waits, without_all, WaitAll, done_asked}
 use Rattle.qc_state.proofs.Receives.{IsReceived, holds_datagram}
 use Rattle.qc_text.specs.OneText.{IsSpelled, IsDeedPlain, IsPlainAddress, IsAnswerPlain, IsPlain, IsSpaceBelowLimit, IsBelowLimit, IsPlainStart, IsTellingRun}
 use Rattle.qc_text.specs.TraceText.{trace_text}
@@ -59,6 +61,7 @@ ack_spelled time w ack says =
 frame_spelled : (time : ℕ) (w : SpaceWaiting) (f : FrameValue) → Waits time w f → IsSpaceBelowLimit w → IsSpelled f × IsSpaceBelowLimit (without w f)
 unfolding Waits without Fits
 frame_spelled time w frames.Padding h b = ((tt, refl), b)
+frame_spelled time w frames.HandshakeDone h b = ((tt, refl), b)
 frame_spelled time w frames.Ping h b = ((tt, refl), b)
 frame_spelled time w (frames.Ack ack) h b = (ack_spelled time w ack h.1, b)
 frame_spelled time w (frames.Crypto offset body) h b =
@@ -248,18 +251,19 @@ done_plain true = tt
 done_plain false = tt
 
 module _ {t : Types} where
-  quiet_by : (a : At t) (x y z : Bool) → let b : At t = move_to (Raise Drained) a in
-      let q : At t = if x then move_to (Say Silent) a else if y then move_to (Say Killed) (if z then move_to (Give internal_error) b else b) else move_to (Say NothingOwed) a in
+  quiet_by : (a : At t) (x y u z : Bool) → let b : At t = move_to (Raise Drained) a in
+      let q : At t = if x then move_to (Say Silent) a else if y then (if u then move_to (Say Amplification) a else move_to (Say Killed) (if z then move_to (Give internal_error) b else b)) else move_to (Say NothingOwed) a in
       (q.state.waiting ≡ a.state.waiting) × (q.state.paths ≡ a.state.paths)
   unfolding move_to state_move waiting_move paths_move
-  quiet_by a true y z = (refl, refl)
-  quiet_by a false true true = (refl, refl)
-  quiet_by a false true false = (refl, refl)
-  quiet_by a false false z = (refl, refl)
+  quiet_by a true y u z = (refl, refl)
+  quiet_by a false true true z = (refl, refl)
+  quiet_by a false true false true = (refl, refl)
+  quiet_by a false true false false = (refl, refl)
+  quiet_by a false false u z = (refl, refl)
 
   quiet_stays : (a : At t) → ((quiet_after a).state.waiting ≡ a.state.waiting) × ((quiet_after a).state.paths ≡ a.state.paths)
-  unfolding quiet_after killed_after given_after
-  quiet_stays a = quiet_by a _ _ _
+  unfolding quiet_after owed_quiet_after killed_after given_after
+  quiet_stays a = quiet_by a (is_silent a.state) (owes a.state) (is_blocked a.state.paths) (is_none (move_to (Raise Drained) a).state.life.reason)
 
   room_below : (s : View t) (id : SpaceId) (acks : List FrameValue) → close_room s id acks < 2 ^ 62
   unfolding close_room
@@ -285,10 +289,10 @@ module _ {t : Types} where
   left_by a true false = (refl, λ h. (nothing_below a.state.waiting.spaces.initial h.0, h.1, h.2), refl)
   left_by a false y = (refl, λ h. h, refl)
 
-  initial_stays : (id : SpaceId) (a : At t) → let r : At t = initial_left id a in
+  initial_stays : (id : SpaceId) (a : At t) → let r : At t = initial_left Client id a in
       (r.did ≡ a.did) × (IsBelowLimit a.state.waiting → IsBelowLimit r.state.waiting) × (r.state.paths ≡ a.state.paths)
   unfolding initial_left calmed
-  initial_stays id a = left_by a (drops_initial a.state id) (is_calm (move_to (Forget Initial) a).state.waiting)
+  initial_stays id a = left_by a (drops_initial Client a.state id) (is_calm (move_to (Forget Initial) a).state.waiting)
 
   -- what a transmit does
   sealed_plain : (time : ℕ) (id : SpaceId) (fs : List FrameValue) (s : View t) → Carries time s id fs → IsBelowLimit s.waiting
@@ -345,12 +349,14 @@ module _ {t : Types} where
   keeps_next a b c g h = record { deeds = λ p. h.deeds (g.deeds p); crypto = λ p. h.crypto (g.crypto p); path = h.path ∙ g.path }
 
   keeps_move : (x : Move t) → IsReceived x → (a : At t) → MayMove x a.state → Keeps a (move_to x a)
-  unfolding MayMove move_to state_move deeds_move waiting_move close_begun space_left packet_came came_in packets_settled settled_in crypto_written paths_move path_received peer_fixed
+  unfolding MayMove move_to state_move deeds_move waiting_move close_begun space_left packet_came came_in packets_settled settled_in crypto_written done_asked paths_move path_received path_validated peer_fixed
   keeps_move (Forget id) r a h = record { deeds = λ p. p; crypto = set_below a.state.waiting id _ (nothing_below (space_of a.state.waiting.spaces id)); path = refl }
   keeps_move (Enter id n v) r a h = record { deeds = one_more a.did _ tt; crypto = λ p. p; path = refl }
+  keeps_move (Expect token) r a h = record { deeds = λ p. p; crypto = λ p. p; path = refl }
   keeps_move Fail r a h = record { deeds = λ p. p; crypto = λ p. p; path = refl }
   keeps_move (Accept time id n e v) r a h = record { deeds = one_more a.did _ tt; crypto = set_below a.state.waiting id _ (λ p. p); path = refl }
   keeps_move (Fix cid) r a h = record { deeds = λ p. p; crypto = λ p. p; path = refl }
+  keeps_move Validate r a h = record { deeds = λ p. p; crypto = λ p. p; path = refl }
   keeps_move (Hear bytes) r a h = record { deeds = λ p. p; crypto = λ p. p; path = refl }
   keeps_move (Ack id n rs) r a h = record { deeds = λ p. p; crypto = set_below a.state.waiting id _ (λ p. p); path = refl }
   keeps_move Calm r a h = record { deeds = λ p. p; crypto = λ p. p; path = refl }
@@ -359,6 +365,7 @@ module _ {t : Types} where
   keeps_move (Write bytes keys session) r a h = record { deeds = λ p. p; crypto = set_below a.state.waiting a.state.keys.highest _ (unsent_below (space_of a.state.waiting.spaces a.state.keys.highest) bytes); path = refl }
   keeps_move Ready r a h = record { deeds = λ p. p; crypto = λ p. p; path = refl }
   keeps_move (Learn parameters) r a h = record { deeds = λ p. p; crypto = λ p. p; path = refl }
+  keeps_move Confirm r a h = record { deeds = λ p. p; crypto = set_below a.state.waiting «Data» (record (space_of a.state.waiting.spaces «Data») { done = true }) (λ p. p); path = refl }
   keeps_move Establish r a h = record { deeds = one_more a.did _ tt; crypto = λ p. p; path = refl }
   keeps_move (Tell d) r a h = record { deeds = one_more a.did d (told_plain d h); crypto = λ p. p; path = refl }
   keeps_move Drain r a h = record { deeds = one_more a.did _ tt; crypto = λ p. p; path = refl }
@@ -401,7 +408,7 @@ module _ {t : Types} where
 
   answer_plain : (m : Meaning t) (i : Input) (ds : List Did) (s : View t) → IsPlainAddress s.paths.remote → IsAnswerPlain (answer_of m i ds s)
   unfolding answer_of
-  answer_plain m (input.Datagram time remote ecn bytes) ds s h = done_plain (is_readable s bytes)
+  answer_plain m (input.Datagram time remote ecn bytes) ds s h = done_plain (is_taken m s remote bytes)
   answer_plain m (input.Transmit time max) ds s h = out_plain m (packets_of ds) s h
   answer_plain m (input.Close time code reason) ds s h = tt
   answer_plain m (input.Ping time) ds s h = tt
@@ -465,6 +472,17 @@ module _ {t : Types} {R : Type 0} where
   unfolding first_view
   first_plain m session random fixed remote first_cid time v made hello plain =
       let start : v.waiting.spaces.initial.crypto.offset ≡ 0 = ap (λ (v : Held t R). v.waiting.spaces.initial.crypto.offset) made in
+      let after : v.waiting.spaces.handshake.crypto.offset + length v.waiting.spaces.handshake.crypto.bytes ≡ 0 = ap (λ (v : Held t R). v.waiting.spaces.handshake.crypto.offset + length v.waiting.spaces.handshake.crypto.bytes) made in
+      let last : v.waiting.spaces.application.crypto.offset + length v.waiting.spaces.application.crypto.bytes ≡ 0 = ap (λ (v : Held t R). v.waiting.spaces.application.crypto.offset + length v.waiting.spaces.application.crypto.bytes) made in
+      let path : v.paths.remote ≡ remote = ap (λ (v : Held t R). v.paths.remote) made in
+      record { crypto = (omega arith, omega arith, omega arith); address = subst IsPlainAddress (sym path) plain }
+
+  -- a server that was just made
+  pub server_plain : (m : Meaning t) (session : t.S) (random : R) (fixed : Fixed) (remote : SocketAddr) (remote_cid : List ℕ) (validated : Bool) (time : ℕ) (v : Held t R) → v ≡ server_view m session random fixed remote remote_cid validated time
+      → IsPlainAddress remote → IsPlainStart v.waiting v.paths
+  unfolding server_view
+  server_plain m session random fixed remote remote_cid validated time v made plain =
+      let before : v.waiting.spaces.initial.crypto.offset + length v.waiting.spaces.initial.crypto.bytes ≡ 0 = ap (λ (v : Held t R). v.waiting.spaces.initial.crypto.offset + length v.waiting.spaces.initial.crypto.bytes) made in
       let after : v.waiting.spaces.handshake.crypto.offset + length v.waiting.spaces.handshake.crypto.bytes ≡ 0 = ap (λ (v : Held t R). v.waiting.spaces.handshake.crypto.offset + length v.waiting.spaces.handshake.crypto.bytes) made in
       let last : v.waiting.spaces.application.crypto.offset + length v.waiting.spaces.application.crypto.bytes ≡ 0 = ap (λ (v : Held t R). v.waiting.spaces.application.crypto.offset + length v.waiting.spaces.application.crypto.bytes) made in
       let path : v.paths.remote ≡ remote = ap (λ (v : Held t R). v.paths.remote) made in

@@ -3,23 +3,26 @@
 ghost use Rattle.std.specs.Prelude.{◌≡◌, ◌≤◌, [], true, false, Err, OnOk, OnErr, IfOk};
 ghost use Rattle.qc_text.specs.OneText.{IsPlainAddress, IsPlainStart};
 ghost use Rattle.qc_conn.specs.Seen.{Sends};
-ghost use Rattle.qc_state.specs.First.{first_view, client_fixed};
+ghost use Rattle.qc_state.specs.Receiving.{datagram_after, is_taken};
+ghost use Rattle.qc_state.specs.Setup.{is_first_awaited};
+ghost use Rattle.qc_state.specs.First.{first_view, server_view, fixed_of};
 ghost use Rattle.qc_state.specs.Life.{drained_event};
 ghost use Rattle.qc_state.specs.Moves.{Ask, ReportDrained, state_move};
 ghost use Rattle.qc_state.specs.Polls.{first_event, polled};
-ghost use Rattle.qc_state.specs.Run.{time_of, close_after, IsStep};
+ghost use Rattle.qc_state.specs.Run.{began, time_of, close_after, IsStep};
 ghost use Rattle.qc_state.specs.Timers.{next_timeout};
 ghost use Rattle.qc_state.specs.Types.{meaning};
 ghost use Rattle.qc_state.specs.View.{at, ideal};
 
-use crate::steps::{core_send, core_step};
-use bytes::Bytes;
-use qc_base::{Fault, Instant, Side, SpaceId, VarInt};
+use crate::steps::{core_first, core_send, core_step};
+use bytes::{Bytes, BytesMut};
+use qc_base::{EcnCodepoint, Fault, Instant, Side, SpaceId, VarInt};
 use qc_config::TokenStore;
-use qc_core::{ClientSetup, Core};
+use qc_core::{ClientSetup, Core, ServerSetup};
 use qc_state::{EndpointEvent, Event, Input, Step, Suite, Transmit};
 use std::alloc::{AllocError, Global};
 use std::marker::Model;
+use std::net::SocketAddr;
 
 /// A connection. It does no input or output: inputs are handed in, and what is to be sent comes out of `poll_transmit`.
 ///
@@ -55,7 +58,7 @@ impl<U: Suite> Connection<U> {
     ) -> Result<Connection<U>, AllocError>
         requires fresh { U.Session.is_fresh setup.session }
         requires client { U.Session.side_of setup.session ≡ Side.Client }
-        ensures made { IfOk result (λ c. c.core ≡ first_view (meaning U.Session.Session U.Session.HeaderKey.HeaderMask U.Session.PacketKey.PacketKey) setup.session setup.random (client_fixed setup.version setup.local_cid setup.first_cid setup.local_ip setup.transport.max_idle_timeout setup.transport.crypto_buffer_size setup.grease_quic_bit) setup.remote setup.first_cid now) }
+        ensures made { IfOk result (λ c. c.core ≡ first_view (meaning U.Session.Session U.Session.HeaderKey.HeaderMask U.Session.PacketKey.PacketKey) setup.session setup.random (fixed_of Side.Client setup.version setup.local_cid setup.first_cid setup.local_ip setup.transport.max_idle_timeout setup.transport.crypto_buffer_size setup.grease_quic_bit) setup.remote setup.first_cid now) }
         ensures plain { IsPlainAddress setup.remote → IfOk result (λ c. IsPlainStart c.core.waiting c.core.paths) }
         ensures alive { IfOk result (λ c. c.failed ≡ false) }
         ensures store { store.new ≡ store.old }
@@ -66,6 +69,68 @@ impl<U: Suite> Connection<U> {
             core,
             failed: false,
         })
+    }
+
+    /// A server's connection, made at `now` of a server's session that has neither read nor written, for a client whose first
+    /// packet came from `remote` with these ids: it waits for that packet.
+    ///
+    /// # Errors
+    ///
+    /// `AllocError` for want of memory alone.
+    pub fn new_server(
+        alloc: Global,
+        setup: ServerSetup<U>,
+        now: Instant,
+    ) -> Result<Connection<U>, AllocError>
+        requires fresh { U.Session.is_fresh setup.session }
+        ensures made { IfOk result (λ c. c.core ≡ server_view (meaning U.Session.Session U.Session.HeaderKey.HeaderMask U.Session.PacketKey.PacketKey) setup.session setup.random (fixed_of Side.Server setup.version setup.local_cid setup.first_cid setup.local_ip setup.transport.max_idle_timeout setup.transport.crypto_buffer_size setup.grease_quic_bit) setup.remote setup.remote_cid setup.validated now) }
+        ensures plain { IsPlainAddress setup.remote → IfOk result (λ c. IsPlainStart c.core.waiting c.core.paths) }
+        ensures alive { IfOk result (λ c. c.failed ≡ false) }
+    {
+        let core = Core::new_server(alloc, setup, now)?;
+        Ok(Connection {
+            core,
+            failed: false,
+        })
+    }
+
+    /// A datagram came from `remote` at `now` to a server that waits for its first packet. True exactly where it is taken: the
+    /// handshake goes on, it has at least 1200 bytes, it comes from the path's address, and it begins with an Initial packet
+    /// with the ids that this end was made with, which opens and whose reserved bits are 0. Its token is then expected of the
+    /// client's other Initial packets, and the datagram does what any other one does. Otherwise nothing changes but the
+    /// greatest time that was told. So far the mark of congestion isn't counted.
+    ///
+    /// # Errors
+    ///
+    /// `OutOfMemory` for want of memory; the connection is then marked as failed. `Failed` exactly where it was marked
+    /// before; then nothing changes.
+    pub fn first_datagram(
+        &mut self,
+        alloc: Global,
+        now: Instant,
+        remote: SocketAddr,
+        ecn: Option<EcnCodepoint>,
+        bytes: BytesMut,
+    ) -> Result<bool, Fault>
+        requires awaited { is_first_awaited self.old.core.setup ≡ true }
+        ensures answer { IfOk result (λ taken. taken ≡ is_taken (meaning U.Session.Session U.Session.HeaderKey.HeaderMask U.Session.PacketKey.PacketKey) (began (ideal U.Random.stream self.old.core) now).state remote bytes.items) }
+        ensures leads { OnOk result ((ideal U.Random.stream self.new.core) ≡ (datagram_after (meaning U.Session.Session U.Session.HeaderKey.HeaderMask U.Session.PacketKey.PacketKey) now remote bytes.items (began (ideal U.Random.stream self.old.core) now)).state) }
+        ensures alive { OnOk result (self.new.failed ≡ false) }
+        ensures failed { self.old.failed ≡ true → (result ≡ Err Fault.Failed) × (self.new ≡ self.old) }
+        ensures cause { result ≡ Err Fault.Failed → self.old.failed ≡ true }
+        ensures memory { result ≡ Err Fault.OutOfMemory → self.new.failed ≡ true }
+    {
+        let _mark = ecn;
+        if self.failed {
+            return Err(Fault::Failed);
+        }
+        match core_first(&mut self.core, alloc, now, remote, bytes) {
+            Ok(taken) => Ok(taken),
+            Err(_) => {
+                self.failed = true;
+                Err(Fault::OutOfMemory)
+            }
+        }
     }
 
     /// Seals what is due at `now` into `buf`, which is empty, and says where it goes: at most `max_datagrams` datagrams,

@@ -12,5 +12,5 @@ pub mod text;
 pub use connection::Connection;
 pub use driving::{BadWhy, DriveError, DriveKind, drive};
 pub use laws::text_tells_run;
-pub use qc_core::ClientSetup;
+pub use qc_core::{ClientSetup, ServerSetup};
 pub use qc_state::negotiate_max_idle_timeout;

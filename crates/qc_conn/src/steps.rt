@@ -1,10 +1,12 @@
 //! One input of a driven connection: its call, and the reports after it.
 
-ghost use Rattle.std.specs.Prelude.{◌≡◌, ◌≤◌, ◌++◌, [], OnOk, IfOk, option_to_list};
+ghost use Rattle.std.specs.Prelude.{◌≡◌, ◌≤◌, ◌++◌, [], true, OnOk, IfOk, option_to_list};
 ghost use Rattle.qc_conn.specs.Seen.{Sends};
 ghost use Rattle.qc_state.specs.Life.{waiting_events, drained_event};
 ghost use Rattle.qc_state.specs.Moves.{ReportReady, ReportConnected, ReportLost, ReportDrained, state_move};
-ghost use Rattle.qc_state.specs.Run.{time_of, word_of, out_of, close_after, Calls, IsStep};
+ghost use Rattle.qc_state.specs.Receiving.{datagram_after, is_taken};
+ghost use Rattle.qc_state.specs.Setup.{is_first_awaited};
+ghost use Rattle.qc_state.specs.Run.{began, time_of, word_of, out_of, close_after, Calls, IsStep};
 ghost use Rattle.qc_state.specs.Types.{meaning};
 ghost use Rattle.qc_state.specs.View.{ideal, held};
 
@@ -47,6 +49,25 @@ pub(crate) fn core_send<U: Suite>(
     core.clock(now);
     let sent = transmit(core, alloc, now, buf, &mut did)?;
     Ok(sent)
+}
+
+/// A datagram came from `remote` at `now` to a server that waits for its first packet, whose deeds no one keeps.
+#[tactic(auto, using(crate::proofs::Firsts::still_awaited, crate::proofs::Firsts::first_answer))]
+pub(crate) fn core_first<U: Suite>(
+    core: &mut Core<U>,
+    alloc: Global,
+    now: Instant,
+    remote: SocketAddr,
+    bytes: BytesMut,
+) -> Result<bool, AllocError>
+    requires { is_first_awaited core.old.setup ≡ true }
+    ensures answer { IfOk result (λ taken. taken ≡ is_taken (meaning U.Session.Session U.Session.HeaderKey.HeaderMask U.Session.PacketKey.PacketKey) (began (ideal U.Random.stream core.old) now).state remote bytes.items) }
+    ensures leads { OnOk result ((ideal U.Random.stream core.new) ≡ (datagram_after (meaning U.Session.Session U.Session.HeaderKey.HeaderMask U.Session.PacketKey.PacketKey) now remote bytes.items (began (ideal U.Random.stream core.old) now)).state) }
+{
+    let mut did = Dids::new(alloc);
+    core.clock(now);
+    let taken = core.first_datagram(alloc, &mut did, now, remote, bytes)?;
+    Ok(taken)
 }
 
 /// A transmit at `now`.

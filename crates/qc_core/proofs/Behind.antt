@@ -15,7 +15,7 @@ use Rattle.qc_header.proofs.Datagrams.{pieces_none, pieces_first, pieces_fault}
 use Rattle.qc_header.proofs.FrontPiece.{piece_ends}
 use Rattle.qc_state.specs.declared.deeds.Did.{Did}
 use Rattle.qc_state.specs.Moves.{Hear, move_to, state_move, deeds_move}
-use Rattle.qc_state.specs.Receiving.{piece_after, pieces_after, lets_in, cut_of, is_readable, datagram_after}
+use Rattle.qc_state.specs.Receiving.{piece_after, pieces_after, lets_in, cut_of, is_readable, heard_after}
 use Rattle.qc_state.specs.Types.{Types, Meaning}
 use Rattle.qc_state.specs.View.{View, At, at}
 
@@ -23,7 +23,7 @@ use Rattle.qc_state.specs.View.{View, At, at}
 pub fewer : (c : Cutting) (bytes : List ℕ) (p : Piece) (rest : List ℕ) → front_of c bytes ≡ Ok (p, rest) → length rest < length bytes
 fewer c bytes p rest e = let ends = piece_ends c.local_cid_len (c.version ∷ []) c.grease_quic_bit bytes p rest e in omega (arith, ends.1)
 
-front_first : (c : Cutting) (bytes : List ℕ) (p : Piece) (rest : List ℕ) → front_of c bytes ≡ Ok (p, rest) →
+pub front_first : (c : Cutting) (bytes : List ℕ) (p : Piece) (rest : List ℕ) → front_of c bytes ≡ Ok (p, rest) →
     pieces_of c.local_cid_len (c.version ∷ []) c.grease_quic_bit bytes ≡ Ok p ∷ pieces_of c.local_cid_len (c.version ∷ []) c.grease_quic_bit rest
 front_first c bytes p rest e = pieces_first c.local_cid_len (c.version ∷ []) c.grease_quic_bit bytes p rest (omega (arith, fewer c bytes p rest e)) e
 
@@ -74,7 +74,7 @@ module _ {t : Types} where
   same_front : (c : Cutting) (s : View t) (bytes : List ℕ) → Cuts s c → front_of c bytes ≡ piece_at (length s.setup.fixed.local_cid) (s.setup.fixed.version ∷ []) s.setup.fixed.grease_quic_bit bytes
   same_front c s bytes h = ap (λ k. piece_at k (c.version ∷ []) c.grease_quic_bit bytes) h.len ∙ ap (λ v. piece_at (length s.setup.fixed.local_cid) (v ∷ []) c.grease_quic_bit bytes) h.version ∙ ap (λ g. piece_at (length s.setup.fixed.local_cid) (s.setup.fixed.version ∷ []) g bytes) h.grease
 
-  same_cut : (c : Cutting) (s : View t) (bytes : List ℕ) → Cuts s c → pieces_of c.local_cid_len (c.version ∷ []) c.grease_quic_bit bytes ≡ cut_of s bytes
+  pub same_cut : (c : Cutting) (s : View t) (bytes : List ℕ) → Cuts s c → pieces_of c.local_cid_len (c.version ∷ []) c.grease_quic_bit bytes ≡ cut_of s bytes
   same_cut c s bytes h = ap (λ k. pieces_of k (c.version ∷ []) c.grease_quic_bit bytes) h.len ∙ ap (λ v. pieces_of (length s.setup.fixed.local_cid) (v ∷ []) c.grease_quic_bit bytes) h.version ∙ ap (λ g. pieces_of (length s.setup.fixed.local_cid) (s.setup.fixed.version ∷ []) g bytes) h.grease
 
   pub readable_is : (c : Cutting) (s : View t) (bytes : List ℕ) (p : Piece) (rest : List ℕ) → Cuts s c → front_of c bytes ≡ Ok (p, rest) → true ≡ is_readable s bytes
@@ -92,16 +92,16 @@ module _ {t : Types} where
 
   -- a datagram that counts
   pub heard_is : (m : Meaning t) (time : ℕ) (c : Cutting) (remote : SocketAddr) (bytes : List ℕ) (p : Piece) (rest : Option (BytesMut Global)) (a b d : At t) → Cuts a.state c → front_of c bytes ≡ Ok (p, rest_of rest) →
-      true ≡ lets_in a.state remote → b ≡ pieces_after m time (Ok p ∷ others_of c rest) a → d ≡ move_to (Hear (length bytes)) b → d ≡ datagram_after m time remote bytes a
-  unfolding datagram_after
+      true ≡ lets_in a.state remote → b ≡ pieces_after m time (Ok p ∷ others_of c rest) a → d ≡ move_to (Hear (length bytes)) b → d ≡ heard_after m time remote bytes a
+  unfolding heard_after
   heard_is m time c remote bytes p rest a b d h e lets is_b is_d =
       let readable : is_readable a.state bytes ≡ true = sym (readable_is c a.state bytes p (rest_of rest) h e) in
       let inside : lets_in a.state remote ≡ true = sym lets in
       rw (readable, inside) (is_d ∙ ap (λ (x : At t). move_to (Hear (length bytes)) x) (is_b ∙ ap (λ (items : List DatagramItem). pieces_after m time items a) (sym (front_first c bytes p (rest_of rest) e) ∙ same_cut c a.state bytes h)))
 
   -- a datagram that doesn't count
-  pub unheard_is : (m : Meaning t) (time : ℕ) (remote : SocketAddr) (bytes : List ℕ) (a : At t) → false ≡ lets_in a.state remote → a ≡ datagram_after m time remote bytes a
-  unfolding datagram_after
+  pub unheard_is : (m : Meaning t) (time : ℕ) (remote : SocketAddr) (bytes : List ℕ) (a : At t) → false ≡ lets_in a.state remote → a ≡ heard_after m time remote bytes a
+  unfolding heard_after
   unheard_is m time remote bytes a lets = unheard_by (is_readable a.state bytes) (lets_in a.state remote) (sym lets)
     where
       unheard_by : (x y : Bool) → y ≡ false → a ≡ (if x && y then move_to (Hear (length bytes)) (pieces_after m time (cut_of a.state bytes) a) else a)
@@ -109,6 +109,6 @@ module _ {t : Types} where
       unheard_by true false e = refl
       unheard_by false y e = refl
 
-  pub dropped_is : (m : Meaning t) (time : ℕ) (c : Cutting) (remote : SocketAddr) (bytes : List ℕ) (a : At t) → Cuts a.state c → IsErr (front_of c bytes) → a ≡ datagram_after m time remote bytes a
-  unfolding datagram_after
+  pub dropped_is : (m : Meaning t) (time : ℕ) (c : Cutting) (remote : SocketAddr) (bytes : List ℕ) (a : At t) → Cuts a.state c → IsErr (front_of c bytes) → a ≡ heard_after m time remote bytes a
+  unfolding heard_after
   dropped_is m time c remote bytes a h none = let not_readable : is_readable a.state bytes ≡ false = sym (unreadable_is c a.state bytes h none) in rw not_readable refl

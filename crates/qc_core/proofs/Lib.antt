@@ -10,5 +10,6 @@ mod Sessions
 mod Writes
 mod Taken
 mod Established
+mod FirstDatagrams
 mod Elicits
 mod Accepts

@@ -7,15 +7,15 @@ ghost use Rattle.qc_frame.specs.Frame.{ack_map, borrowed, typed};
 ghost use Rattle.qc_frame.specs.FrameSpelling.{spelling};
 ghost use Rattle.qc_frame.specs.Payload.{items_of};
 ghost use Rattle.qc_state.specs.Numbers.{next_number};
-ghost use Rattle.qc_state.specs.Receiving.{acked_after, admitted_after, applied_after, close_and, close_given, closed_in_data, confirmed_after, data_stop, end_after, fixed_after, fixes_peer, frame_and, frame_stop, is_close_item, is_eliciting_item, items_after, left_after, payload_after, read_and, read_for_close, reason_of, received_after, stop_in, taken_and};
+ghost use Rattle.qc_state.specs.Receiving.{accepted_after, acked_after, admitted_after, applied_after, close_and, close_given, closed_in_data, confirmed_after, data_stop, done_stop, end_after, fixed_after, fixes_peer, frame_and, frame_stop, is_close_item, is_eliciting_item, items_after, left_after, payload_after, read_and, read_for_close, reason_of, received_after, stop_in, taken_and, validated_after};
 ghost use Rattle.qc_state.specs.Stopping.{stopped_after, violation_at};
 ghost use Rattle.qc_state.specs.Types.{meaning};
-ghost use Rattle.qc_state.specs.Verdicts.{verdict_of};
+ghost use Rattle.qc_state.specs.Verdicts.{is_other_token, verdict_of};
 ghost use Rattle.qc_state.specs.View.{At, ideal, held};
 
 use crate::state::Core;
 use bytes::Bytes;
-use qc_base::{ConnectionId, Instant, SpaceId, TransportError, TransportErrorCode};
+use qc_base::{ConnectionId, Instant, Side, SpaceId, TransportError, TransportErrorCode};
 use qc_frame::{Ack, Frame, FrameOf, Iter, TypedFrame, put_frame};
 use qc_state::spaces::is_space;
 use qc_state::{
@@ -67,29 +67,55 @@ fn frame_stop(next: u64, ty: u64, frame: &Frame<'_>) -> Option<TransportError>
     }
 }
 
-/// The same in a 1-RTT packet that a client receives: frames of kinds that aren't taken so far stop it.
-fn data_stop(next: u64, ty: u64, frame: &Frame<'_>) -> Option<TransportError>
-    ensures { result ≡ data_stop next ty (borrowed frame.now) }
+/// The error with which a HANDSHAKE_DONE stops its packet, if it does: a server doesn't expect one.
+fn done_stop(side: Side, ty: u64) -> Option<TransportError>
+    ensures { result ≡ done_stop side ty }
+{
+    match side {
+        Side::Client => None,
+        Side::Server => Some(error_at(TransportErrorCode::PROTOCOL_VIOLATION, Some(ty))),
+    }
+}
+
+/// The same in a 1-RTT packet that an end of this side receives: frames of kinds that aren't taken so far stop it.
+fn data_stop(side: Side, next: u64, ty: u64, frame: &Frame<'_>) -> Option<TransportError>
+    ensures { result ≡ data_stop side next ty (borrowed frame.now) }
 {
     match frame {
         FrameOf::Padding
         | FrameOf::Ping
         | FrameOf::Crypto { .. }
         | FrameOf::ConnectionClose { .. }
-        | FrameOf::ApplicationClose { .. }
-        | FrameOf::HandshakeDone => None,
+        | FrameOf::ApplicationClose { .. } => None,
+        FrameOf::HandshakeDone => done_stop(side, ty),
         FrameOf::Ack(ack) => ack_stop(next, ack.largest),
         _ => Some(error_at(TransportErrorCode::INTERNAL_ERROR, Some(ty))),
     }
 }
 
 /// The same by the space of the packet.
-fn stop_in(space: SpaceId, next: u64, ty: u64, frame: &Frame<'_>) -> Option<TransportError>
-    ensures { result ≡ stop_in space next ty (borrowed frame.now) }
+fn stop_in(
+    side: Side,
+    space: SpaceId,
+    next: u64,
+    ty: u64,
+    frame: &Frame<'_>,
+) -> Option<TransportError>
+    ensures { result ≡ stop_in side space next ty (borrowed frame.now) }
 {
     match space {
         SpaceId::Initial | SpaceId::Handshake => frame_stop(next, ty, frame),
-        SpaceId::Data => data_stop(next, ty, frame),
+        SpaceId::Data => data_stop(side, next, ty, frame),
+    }
+}
+
+/// Whether a packet of this space has another token than the one that is expected, if one is: only Initial packets do.
+fn is_other_token(space: SpaceId, expected: &Option<Bytes>, token: &[u8]) -> bool
+    ensures { result ≡ is_other_token space expected.now token.now }
+{
+    match (space, expected) {
+        (SpaceId::Initial, Some(expected)) => token != expected.as_slice(),
+        _ => false,
     }
 }
 
@@ -357,9 +383,10 @@ impl<U: Suite> Core<U> {
         space: SpaceId,
         read: &TypedFrame<'_>,
     ) -> Result<Behind, AllocError>
-        ensures { IfOk result (λ behind. (close : Option ConnectionError) → Leads behind close (λ others. frame_and (meaning U.Session.Session U.Session.HeaderKey.HeaderMask U.Session.PacketKey.PacketKey) now space (typed read.now) (stop_in space (next_number self.old.numbers space) read.now.ty (borrowed read.now.frame)) (others close) (held U.Random.stream self.old did.old)) (held U.Random.stream self.new did.new)) }
+        ensures { IfOk result (λ behind. (close : Option ConnectionError) → Leads behind close (λ others. frame_and (meaning U.Session.Session U.Session.HeaderKey.HeaderMask U.Session.PacketKey.PacketKey) now space (typed read.now) (stop_in self.old.setup.fixed.side space (next_number self.old.numbers space) read.now.ty (borrowed read.now.frame)) (others close) (held U.Random.stream self.old did.old)) (held U.Random.stream self.new did.new)) }
     {
-        if let Some(error) = stop_in(space, self.numbers.next(space), read.ty, &read.frame) {
+        let side = self.setup.fixed.side;
+        if let Some(error) = stop_in(side, space, self.numbers.next(space), read.ty, &read.frame) {
             self.stopped(did, now, error)?;
             return Ok(Behind::Ends);
         }
@@ -488,6 +515,35 @@ impl<U: Suite> Core<U> {
         }
     }
 
+    /// A packet is accepted: with a Handshake packet a server leaves the Initial space.
+    #[tactic(auto, unfolding(qc_state::specs::Receiving::accepted_after))]
+    fn accepted(
+        &mut self,
+        did: &mut Dids,
+        now: Instant,
+        space: SpaceId,
+        number: u64,
+        eliciting: bool,
+        verdict: Verdict,
+    ) -> Result<(), AllocError>
+        ensures { OnOk result ((held U.Random.stream self.new did.new) ≡ accepted_after now space number eliciting verdict (held U.Random.stream self.old did.old)) }
+    {
+        self.do_accept(did, now, space, number, eliciting, verdict)?;
+        self.leave_initial(Side::Server, space, did);
+        Ok(())
+    }
+
+    /// A Handshake packet that is admitted shows that the peer gets what is sent to its address (RFC 9000, section 8.1).
+    #[tactic(auto, unfolding(qc_state::specs::Moves::move_to, qc_state::specs::Moves::deeds_move))]
+    fn validate(&mut self, space: SpaceId, did: &Dids)
+        ensures { (held U.Random.stream self.new did.now) ≡ validated_after space (held U.Random.stream self.old did.now) }
+    {
+        match space {
+            SpaceId::Handshake => self.do_validate(),
+            SpaceId::Initial | SpaceId::Data => {}
+        }
+    }
+
     /// A packet that is admitted.
     #[tactic(auto, unfolding(qc_state::specs::Receiving::admitted_after))]
     fn admitted(
@@ -502,7 +558,8 @@ impl<U: Suite> Core<U> {
     ) -> Result<(), AllocError>
         ensures { OnOk result ((held U.Random.stream self.new did.new) ≡ admitted_after (meaning U.Session.Session U.Session.HeaderKey.HeaderMask U.Session.PacketKey.PacketKey) now space source number payload.now (held U.Random.stream self.old did.old)) }
     {
-        self.do_accept(did, now, space, number, elicits(payload), Verdict::Admitted)?;
+        self.accepted(did, now, space, number, elicits(payload), Verdict::Admitted)?;
+        self.validate(space, did);
         self.fix(space, source, did);
         self.payload(alloc, did, now, space, payload)
     }
@@ -527,10 +584,10 @@ impl<U: Suite> Core<U> {
         Ok(())
     }
 
-    /// The verdict on a packet of this space with this source id and number that opened.
-    #[tactic(auto, unfolding(qc_state::specs::Verdicts::verdict_of))]
-    fn verdict(&self, space: SpaceId, source: ConnectionId, number: u64) -> Verdict
-        ensures { result ≡ verdict_of (ideal U.Random.stream self.now) space source number }
+    /// The verdict on a packet of this space with this source id, token and number that opened.
+    #[tactic(auto, unfolding(qc_state::specs::Verdicts::verdict_of, qc_state::specs::Setup::ideal_setup))]
+    fn verdict(&self, space: SpaceId, source: ConnectionId, token: &[u8], number: u64) -> Verdict
+        ensures { result ≡ verdict_of (ideal U.Random.stream self.now) space source token.now number }
     {
         if !self.numbers.is_new(space, number) {
             return Verdict::Seen;
@@ -538,7 +595,9 @@ impl<U: Suite> Core<U> {
         if self.life.is_closed() {
             return Verdict::ReadForClose;
         }
-        if self.life.is_handshake() && is_space(space, SpaceId::Data) {
+        if self.life.is_handshake()
+            && (is_space(space, SpaceId::Data) || is_other_token(space, &self.setup.token, token))
+        {
             return Verdict::NumberOnly;
         }
         if self.life.is_handshake()
@@ -558,16 +617,17 @@ impl<U: Suite> Core<U> {
         now: Instant,
         space: SpaceId,
         source: ConnectionId,
+        token: Bytes,
         number: u64,
         payload: Bytes,
     ) -> Result<(), AllocError>
-        ensures { OnOk result ((held U.Random.stream self.new did.new) ≡ received_after (meaning U.Session.Session U.Session.HeaderKey.HeaderMask U.Session.PacketKey.PacketKey) now space source number payload (held U.Random.stream self.old did.old)) }
+        ensures { OnOk result ((held U.Random.stream self.new did.new) ≡ received_after (meaning U.Session.Session U.Session.HeaderKey.HeaderMask U.Session.PacketKey.PacketKey) now space source token number payload (held U.Random.stream self.old did.old)) }
     {
-        match self.verdict(space, source, number) {
+        match self.verdict(space, source, token.as_slice(), number) {
             Verdict::Seen => { self.do_tell_piece(did, Some(space), Some(number), Verdict::Seen) }
             Verdict::ReadForClose => { self.read_for_close(did, space, number, payload.as_slice()) }
             Verdict::NumberOnly => self.do_enter(did, space, number, Verdict::NumberOnly),
-            Verdict::AckOnly => self.do_accept(did, now, space, number, false, Verdict::AckOnly),
+            Verdict::AckOnly => self.accepted(did, now, space, number, false, Verdict::AckOnly),
             Verdict::Admitted => {
                 self.admitted(alloc, did, now, space, source, number, payload.as_slice())
             }

@@ -5,8 +5,10 @@ ghost use Rattle.qc_assembler.specs.Assembly.{inserted, part_count};
 ghost use Rattle.qc_base.specs.declared.transport_error.TransportError.{TransportError};
 ghost use Rattle.qc_core.specs.Reading.{HasRead, HasWritten};
 ghost use Rattle.qc_state.specs.Lower.{ready_bytes, stream_of};
-ghost use Rattle.qc_state.specs.Progress.{ended_after, ids_fit, is_end, is_written, names_id, parameters_and, progress_after, written_after};
+ghost use Rattle.qc_state.specs.Progress.{ended_after, ids_fit, is_end, is_server_start, is_written, learned_after, names_id, over_after, parameters_and, progress_after, written_after};
 ghost use Rattle.qc_state.specs.Life.{is_handshake};
+ghost use Rattle.qc_state.specs.Moves.{Confirm, Establish, Forget, calmed, move_to};
+ghost use Rattle.qc_base.specs.declared.side.SpaceId.TheVariants.{Handshake};
 ghost use Rattle.qc_state.specs.Receiving.{answered_and, crypto_and, crypto_stop, expected_below, expected_space, given_and, is_below};
 ghost use Rattle.qc_state.specs.Stopping.{internal_error_at};
 ghost use Rattle.qc_state.specs.Types.{meaning};
@@ -16,7 +18,7 @@ use crate::admitting::error_at;
 use crate::state::Core;
 use bytes::Bytes;
 use qc_assembler::InsertError;
-use qc_base::{ConnectionId, Instant, SpaceId, TransportError, TransportErrorCode};
+use qc_base::{ConnectionId, Instant, Side, SpaceId, TransportError, TransportErrorCode};
 use qc_crypto::{Keys, Session, SessionError};
 use qc_params::TransportParameters;
 use qc_state::{Body, Dids, Layer, SoundSession, Suite};
@@ -71,6 +73,17 @@ fn is_end(space: SpaceId, handshaking: bool) -> bool
     match space {
         SpaceId::Handshake => !handshaking,
         SpaceId::Initial | SpaceId::Data => false,
+    }
+}
+
+/// Whether an end of this side is a server that leaves the Initial space, which was the highest one before its session wrote.
+fn is_server_start(side: Side, before: SpaceId, after: SpaceId) -> bool
+    ensures { result ≡ is_server_start side before after }
+{
+    match (side, before, after) {
+        (Side::Server, SpaceId::Initial, SpaceId::Handshake)
+        | (Side::Server, SpaceId::Initial, SpaceId::Data) => true,
+        _ => false,
     }
 }
 
@@ -276,37 +289,86 @@ impl<U: Suite> Core<U> {
         }
     }
 
-    /// Whether the ids that a server's parameters name are those of this connection.
+    /// Whether the ids that the peer's parameters name are those of this connection.
     #[tactic(auto, unfolding(qc_state::specs::Progress::ids_fit, qc_state::specs::Setup::ideal_setup))]
     fn ids_fit(&self, parameters: &TransportParameters) -> bool
         ensures { result ≡ ids_fit (ideal U.Random.stream self.now) parameters.now }
     {
-        names_id(parameters.initial_src_cid, self.paths.remote_cid)
-            && (names_id(parameters.original_dst_cid, self.setup.fixed.first_cid)
-                && parameters.retry_src_cid.is_none())
+        let fits = names_id(parameters.initial_src_cid, self.paths.remote_cid);
+        match self.setup.fixed.side {
+            Side::Client => {
+                fits && (names_id(parameters.original_dst_cid, self.setup.fixed.first_cid)
+                    && parameters.retry_src_cid.is_none())
+            }
+            Side::Server => fits,
+        }
     }
 
-    /// The peer's parameters, as the session gives them once its handshake is over: with them the connection is
-    /// established.
-    fn established(
+    /// The peer's parameters, as the session gives them. Answers whether they can be read and their ids fit; otherwise this end
+    /// closes.
+    fn learned(
         &mut self,
         did: &mut Dids,
         now: Instant,
         answer: Result<Option<TransportParameters>, TransportError>,
-    ) -> Result<(), AllocError>
-        ensures { OnOk result ((held U.Random.stream self.new did.new) ≡ parameters_and now answer (held U.Random.stream self.old did.old)) }
+    ) -> Result<bool, AllocError>
+        ensures ends { IfOk result (λ fits. fits ≡ false → (others : At _ → At _) → (held U.Random.stream self.new did.new) ≡ parameters_and now answer others (held U.Random.stream self.old did.old)) }
+        ensures goes { IfOk result (λ fits. fits ≡ true → (others : At _ → At _) → others (held U.Random.stream self.new did.new) ≡ parameters_and now answer others (held U.Random.stream self.old did.old)) }
     {
         match answer {
-            Err(error) => self.stopped(did, now, error),
-            Ok(None) => self.stopped(did, now, error_at(TransportErrorCode::crypto(0x6d), None)),
+            Err(error) => self.stopped(did, now, error)?,
+            Ok(None) => self.stopped(did, now, error_at(TransportErrorCode::crypto(0x6d), None))?,
             Ok(Some(parameters)) => {
-                if !self.ids_fit(&parameters) {
-                    let error = error_at(TransportErrorCode::TRANSPORT_PARAMETER_ERROR, None);
-                    return self.stopped(did, now, error);
+                if self.ids_fit(&parameters) {
+                    self.do_learn(parameters);
+                    return Ok(true);
                 }
-                self.do_learn(parameters);
-                self.do_establish(did)
+                let error = error_at(TransportErrorCode::TRANSPORT_PARAMETER_ERROR, None);
+                self.stopped(did, now, error)?;
             }
+        }
+        Ok(false)
+    }
+
+    /// A server reads the client's parameters as it leaves the Initial space; `before` was the highest space before its session
+    /// wrote.
+    #[tactic(auto, unfolding(qc_state::specs::Progress::learned_after, qc_state::specs::Setup::ideal_setup))]
+    fn learn(&mut self, did: &mut Dids, now: Instant, before: SpaceId) -> Result<(), AllocError>
+        ensures { OnOk result ((held U.Random.stream self.new did.new) ≡ learned_after (meaning U.Session.Session U.Session.HeaderKey.HeaderMask U.Session.PacketKey.PacketKey) now before (held U.Random.stream self.old did.old)) }
+    {
+        if !is_server_start(self.setup.fixed.side, before, self.keys.highest) {
+            return Ok(());
+        }
+        let answer = self.lower.session.transport_parameters();
+        let _fits = self.learned(did, now, answer)?;
+        Ok(())
+    }
+
+    /// A server confirms the handshake, and drops the Handshake keys (RFC 9001, sections 4.1.2 and 4.9.2).
+    #[tactic(auto, unfolding(qc_state::specs::Moves::move_to, qc_state::specs::Moves::deeds_move))]
+    fn confirm(&mut self, did: &mut Dids) -> Result<(), AllocError>
+        ensures { OnOk result ((held U.Random.stream self.new did.new) ≡ move_to Establish (calmed (move_to (Forget Handshake) (move_to Confirm (held U.Random.stream self.old did.old))))) }
+    {
+        self.do_confirm();
+        self.do_forget(SpaceId::Handshake);
+        self.calm(did);
+        self.do_establish(did)
+    }
+
+    /// The handshake is over: a client reads the server's parameters, a server confirms it.
+    #[tactic(auto, unfolding(qc_state::specs::Setup::ideal_setup))]
+    fn over(&mut self, did: &mut Dids, now: Instant) -> Result<(), AllocError>
+        ensures { OnOk result ((held U.Random.stream self.new did.new) ≡ over_after (meaning U.Session.Session U.Session.HeaderKey.HeaderMask U.Session.PacketKey.PacketKey) now self.old.setup.fixed.side (held U.Random.stream self.old did.old)) }
+    {
+        match self.setup.fixed.side {
+            Side::Client => {
+                let answer = self.lower.session.transport_parameters();
+                if self.learned(did, now, answer)? {
+                    return self.do_establish(did);
+                }
+                Ok(())
+            }
+            Side::Server => self.confirm(did),
         }
     }
 
@@ -318,18 +380,18 @@ impl<U: Suite> Core<U> {
     }
 
     /// Behind a Handshake packet, where the handshake goes on no longer, the connection is established.
-    #[tactic(auto, unfolding(qc_state::specs::Progress::ended_after))]
+    #[tactic(auto, unfolding(qc_state::specs::Progress::ended_after, qc_state::specs::Setup::ideal_setup))]
     fn ended(&mut self, did: &mut Dids, now: Instant, space: SpaceId) -> Result<(), AllocError>
         ensures { OnOk result ((held U.Random.stream self.new did.new) ≡ ended_after (meaning U.Session.Session U.Session.HeaderKey.HeaderMask U.Session.PacketKey.PacketKey) now space (held U.Random.stream self.old did.old)) }
     {
         if !self.is_ended(space) {
             return Ok(());
         }
-        let answer = self.lower.session.transport_parameters();
-        self.established(did, now, answer)
+        self.over(did, now)
     }
 
-    /// Behind the frames of a packet the session writes, and where its handshake has ended, the connection is established.
+    /// Behind the frames of a packet the session writes, a server that leaves the Initial space so reads the client's parameters, and
+    /// where the handshake has ended, the connection is established.
     #[tactic(auto, unfolding(qc_state::specs::Progress::progress_after))]
     pub(crate) fn progress(
         &mut self,
@@ -340,7 +402,9 @@ impl<U: Suite> Core<U> {
     ) -> Result<(), AllocError>
         ensures { OnOk result ((held U.Random.stream self.new did.new) ≡ progress_after (meaning U.Session.Session U.Session.HeaderKey.HeaderMask U.Session.PacketKey.PacketKey) now space (held U.Random.stream self.old did.old)) }
     {
+        let before = self.keys.highest;
         self.written(alloc, did)?;
+        self.learn(did, now, before)?;
         self.ended(did, now, space)
     }
 }

@@ -5,11 +5,14 @@ mod admitting;
 mod calls;
 mod client;
 mod handshake;
+mod making;
 mod moves;
 mod opening;
 mod receiving;
 mod sending;
+mod server;
 pub mod state;
 
 pub use client::ClientSetup;
+pub use server::ServerSetup;
 pub use state::Core;

@@ -7,7 +7,7 @@ ghost use Rattle.qc_state.specs.Life.{ready_event, connected_event, lost_event, 
 ghost use Rattle.qc_state.specs.Lower.{ready_bytes, stream_of};
 ghost use Rattle.qc_frame.specs.AckRanges.{ranges_of};
 ghost use Rattle.qc_frame.specs.Frame.{ack_map};
-ghost use Rattle.qc_state.specs.Moves.{Clock, Ask, Take, Seal, Forget, Enter, Fail, Accept, Fix, Hear, Ack, Calm, Come, Ready, Learn, Establish, Tell, Drain, Leave, Owe, Shut, Raise, Give, Say, ReportReady, ReportConnected, ReportLost, ReportDrained, move_to, state_move};
+ghost use Rattle.qc_state.specs.Moves.{Clock, Ask, Take, Seal, Forget, Expect, Enter, Fail, Accept, Fix, Validate, Hear, Ack, Calm, Come, Ready, Learn, Confirm, Establish, Tell, Drain, Leave, Owe, Shut, Raise, Give, Say, ReportReady, ReportConnected, ReportLost, ReportDrained, move_to, state_move};
 ghost use Rattle.qc_state.specs.Spaces.{space_of};
 ghost use Rattle.qc_state.specs.View.{ideal, held};
 ghost use Rattle.qc_state.specs.Waiting.{TakenPart};
@@ -26,7 +26,7 @@ use qc_state::{
 };
 use std::alloc::{AllocError, Global};
 
-#[tactic(auto, unfolding(qc_state::specs::Moves::move_to, qc_state::specs::Moves::state_move, qc_state::specs::Moves::numbers_move, qc_state::specs::Moves::keys_move, qc_state::specs::Moves::life_move, qc_state::specs::Moves::paths_move, qc_state::specs::Moves::timers_move, qc_state::specs::Moves::waiting_move, qc_state::specs::Moves::setup_move, qc_state::specs::Moves::lower_move, qc_state::specs::Moves::deeds_move, qc_state::specs::Setup::ideal_setup, qc_state::specs::Setup::idle_limit_now, qc_state::specs::Setup::parameters_known, qc_state::specs::Lower::session_wrote), using(qc_state::proofs::Arrivals::came_accepted))]
+#[tactic(auto, unfolding(qc_state::specs::Moves::move_to, qc_state::specs::Moves::state_move, qc_state::specs::Moves::numbers_move, qc_state::specs::Moves::keys_move, qc_state::specs::Moves::life_move, qc_state::specs::Moves::paths_move, qc_state::specs::Moves::timers_move, qc_state::specs::Moves::waiting_move, qc_state::specs::Moves::setup_move, qc_state::specs::Moves::lower_move, qc_state::specs::Moves::deeds_move, qc_state::specs::Setup::ideal_setup, qc_state::specs::Setup::idle_limit_now, qc_state::specs::Setup::parameters_known, qc_state::specs::Setup::token_expected, qc_state::specs::Lower::session_wrote), using(qc_state::proofs::Arrivals::came_accepted))]
 impl<U: Suite> Core<U> {
     /// The connection is told a time.
     pub(crate) fn do_clock(&mut self, now: Instant)
@@ -104,6 +104,13 @@ impl<U: Suite> Core<U> {
         self.waiting.forget(space);
     }
 
+    /// A server's first packet came, with this token.
+    pub(crate) fn do_expect(&mut self, token: Bytes)
+        ensures { (ideal U.Random.stream self.new) ≡ state_move (Expect token) (ideal U.Random.stream self.old) }
+    {
+        self.setup.expect(token);
+    }
+
     /// A packet came whose number counts, and whose frames don't.
     pub(crate) fn do_enter(
         &mut self,
@@ -154,6 +161,13 @@ impl<U: Suite> Core<U> {
         ensures { (ideal U.Random.stream self.new) ≡ state_move (Fix cid) (ideal U.Random.stream self.old) }
     {
         self.paths.fix(cid);
+    }
+
+    /// The peer has shown that it gets what is sent to its address.
+    pub(crate) fn do_validate(&mut self)
+        ensures { (ideal U.Random.stream self.new) ≡ state_move Validate (ideal U.Random.stream self.old) }
+    {
+        self.paths.validate();
     }
 
     /// So many bytes came from the path's address.
@@ -211,6 +225,13 @@ impl<U: Suite> Core<U> {
         ensures { (ideal U.Random.stream self.new) ≡ state_move (Learn parameters) (ideal U.Random.stream self.old) }
     {
         self.setup.learn(parameters);
+    }
+
+    /// A server has confirmed the handshake: a HANDSHAKE_DONE is owed.
+    pub(crate) fn do_confirm(&mut self)
+        ensures { (ideal U.Random.stream self.new) ≡ state_move Confirm (ideal U.Random.stream self.old) }
+    {
+        self.waiting.ask_done();
     }
 
     /// The handshake is over.

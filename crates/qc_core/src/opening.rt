@@ -4,7 +4,7 @@ ghost use Rattle.std.specs.Prelude.{◌≡◌, Some, IsSome, IfOk};
 ghost use Rattle.qc_base.specs.Mask.{first_byte};
 ghost use Rattle.qc_header.specs.HeaderSpelling.{header_number};
 ghost use Rattle.qc_packet.specs.OpenedPacket.{reserved_bits};
-ghost use Rattle.qc_state.specs.Opening.{is_other_phase, judged, opened_space, source_of, whole_number, opened_by, opened_under, opening_of};
+ghost use Rattle.qc_state.specs.Opening.{is_other_phase, judged, opened_space, source_of, token_of, whole_number, opened_by, opened_under, opening_of};
 ghost use Rattle.qc_state.specs.Types.{meaning};
 ghost use Rattle.qc_state.specs.View.{ideal};
 
@@ -42,6 +42,19 @@ fn source_of(header: &Header) -> ConnectionId
         Header::Retry { src_cid, .. } => *src_cid,
         Header::Short { .. } => ConnectionId::new(&[]),
         Header::VersionNegotiate { src_cid, .. } => *src_cid,
+    }
+}
+
+/// The token of a header; only Initial headers have one. Want of memory is the only refusal.
+fn token_of(header: &Header) -> Result<Bytes, AllocError>
+    ensures { IfOk result (λ token. token ≡ token_of header.now) }
+{
+    match header {
+        Header::Initial(header) => header.token.clone(),
+        Header::Long { .. }
+        | Header::Retry { .. }
+        | Header::Short { .. }
+        | Header::VersionNegotiate { .. } => Ok(Bytes::new()),
     }
 }
 
@@ -100,9 +113,11 @@ fn judged(number: u64, packet: Packet) -> Result<Opening, AllocError>
         return Ok(Opening::Reserved { number });
     }
     let source = source_of(&packet.header);
+    let token = token_of(&packet.header)?;
     match packet.payload.freeze() {
         Ok(payload) => Ok(Opening::Opened {
             source,
+            token,
             number,
             payload,
         }),

@@ -4,16 +4,16 @@ ghost use Rattle.std.specs.Prelude.{◌≡◌, ◌<◌, ◌≤◌, ◌++◌, ◌
 ghost use Rattle.qc_core.specs.Cutting.{Cuts, front_of, rest_of, others_of};
 ghost use Rattle.qc_frame.specs.Frame.{borrowed, typed};
 ghost use Rattle.qc_frame.specs.Payload.{items_of};
-ghost use Rattle.qc_state.specs.Receiving.{is_readable, lets_in, datagram_after, pieces_after, piece_after};
+ghost use Rattle.qc_state.specs.Receiving.{is_readable, is_taken, lets_in, has_first_ids, token_in_first, heard_after, datagram_after, opening_after, pieces_after, piece_after};
 ghost use Rattle.qc_state.specs.Types.{meaning};
 ghost use Rattle.qc_state.specs.View.{ideal, held};
 
 use crate::state::Core;
-use bytes::BytesMut;
-use qc_base::{Instant, SpaceId};
-use qc_header::{PacketDecodeError, PartialDecode};
+use bytes::{Bytes, BytesMut};
+use qc_base::{ConnectionId, Instant, SpaceId};
+use qc_header::{PacketDecodeError, PartialDecode, ProtectedHeader};
 use qc_state::paths::same_address;
-use qc_state::{Dids, Opening, Suite, Verdict};
+use qc_state::{DATAGRAM_SIZE, Dids, Opening, Suite, Verdict};
 use std::alloc::{AllocError, Global};
 use std::net::SocketAddr;
 
@@ -48,7 +48,24 @@ fn cut(
     }
 }
 
-ghost use Rattle.std.specs.Prelude.{IsErr};
+/// A packet that may be a server's first one, as it opened.
+#[derive(Drop)]
+struct First {
+    /// The source id of its header.
+    source: ConnectionId,
+    /// Its token.
+    token: Bytes,
+    /// Its whole number.
+    number: u64,
+    /// Its payload.
+    payload: Bytes,
+}
+
+ghost use Rattle.std.specs.Prelude.{IsErr, nat_le, ◌&&◌, None};
+ghost use Rattle.qc_state.specs.Life.{is_handshake};
+ghost use Rattle.qc_state.specs.Opening.{opening_of};
+ghost use Rattle.qc_state.specs.Paths.{same_address};
+ghost use Rattle.qc_state.specs.Setup.{is_first_awaited};
 
 impl<U: Suite> Core<U> {
     /// How datagrams are cut into packets.
@@ -61,6 +78,42 @@ impl<U: Suite> Core<U> {
             local_cid_len: self.setup.fixed.local_cid.len(),
             version: self.setup.fixed.version,
             grease_quic_bit: self.setup.fixed.grease_quic_bit,
+        }
+    }
+
+    /// What a packet does whose form has this space, by what came of taking its protection off. Want of memory is the only refusal.
+    #[tactic(auto, unfolding(qc_state::specs::Moves::move_to, qc_state::specs::Moves::deeds_move))]
+    fn opened(
+        &mut self,
+        alloc: Global,
+        did: &mut Dids,
+        now: Instant,
+        space: Option<SpaceId>,
+        opening: Opening,
+    ) -> Result<(), AllocError>
+        ensures { OnOk result ((held U.Random.stream self.new did.new) ≡ opening_after (meaning U.Session.Session U.Session.HeaderKey.HeaderMask U.Session.PacketKey.PacketKey) now space opening (held U.Random.stream self.old did.old)) }
+    {
+        match opening {
+            Opening::Unreadable => self.do_tell_piece(did, space, None, Verdict::Ignored),
+            Opening::Unopened => {
+                self.do_fail();
+                self.do_tell_piece(did, space, None, Verdict::Failure)
+            }
+            Opening::Reserved { number } => {
+                self.do_tell_piece(did, space, Some(number), Verdict::BadBits)?;
+                self.violated(did, now)
+            }
+            Opening::Opened {
+                source,
+                token,
+                number,
+                payload,
+            } => match space {
+                None => self.do_tell_piece(did, None, None, Verdict::Ignored),
+                Some(space) => {
+                    self.received(alloc, did, now, space, source, token, number, payload)
+                }
+            },
         }
     }
 
@@ -79,25 +132,34 @@ impl<U: Suite> Core<U> {
         if self.life.is_over() {
             return self.do_tell_piece(did, space, None, Verdict::Ignored);
         }
-        match self.open(partial)? {
-            Opening::Unreadable => self.do_tell_piece(did, space, None, Verdict::Ignored),
-            Opening::Unopened => {
-                self.do_fail();
-                self.do_tell_piece(did, space, None, Verdict::Failure)
+        let opening = self.open(partial)?;
+        self.opened(alloc, did, now, space, opening)
+    }
+
+    /// The packets of a datagram behind its first one. Want of memory is the only refusal.
+    fn others(
+        &mut self,
+        alloc: Global,
+        did: &mut Dids,
+        now: Instant,
+        cutting: Cutting,
+        behind: Option<BytesMut>,
+    ) -> Result<(), AllocError>
+        requires fits { cutting.local_cid_len ≤ 20 }
+        requires some { IfSome behind (λ b. 0 < length b.items) }
+        ensures { OnOk result ((held U.Random.stream self.new did.new) ≡ pieces_after (meaning U.Session.Session U.Session.HeaderKey.HeaderMask U.Session.PacketKey.PacketKey) now (others_of cutting behind) (held U.Random.stream self.old did.old)) }
+    {
+        let mut rest = behind;
+        while let Some(bytes) = rest {
+            match cut(cutting, bytes)? {
+                None => return Ok(()),
+                Some((piece, others)) => {
+                    self.piece(alloc, did, now, piece)?;
+                    rest = others;
+                }
             }
-            Opening::Reserved { number } => {
-                self.do_tell_piece(did, space, Some(number), Verdict::BadBits)?;
-                self.violated(did, now)
-            }
-            Opening::Opened {
-                source,
-                number,
-                payload,
-            } => match space {
-                None => self.do_tell_piece(did, None, None, Verdict::Ignored),
-                Some(space) => self.received(alloc, did, now, space, source, number, payload),
-            },
         }
+        Ok(())
     }
 
     /// The packets of a datagram: the first one, and those behind it. Want of memory is the only refusal.
@@ -115,23 +177,13 @@ impl<U: Suite> Core<U> {
         ensures { OnOk result ((held U.Random.stream self.new did.new) ≡ pieces_after (meaning U.Session.Session U.Session.HeaderKey.HeaderMask U.Session.PacketKey.PacketKey) now (Ok first ∷ others_of cutting behind) (held U.Random.stream self.old did.old)) }
     {
         self.piece(alloc, did, now, first)?;
-        let mut rest = behind;
-        while let Some(bytes) = rest {
-            match cut(cutting, bytes)? {
-                None => return Ok(()),
-                Some((piece, others)) => {
-                    self.piece(alloc, did, now, piece)?;
-                    rest = others;
-                }
-            }
-        }
-        Ok(())
+        self.others(alloc, did, now, cutting, behind)
     }
 
-    /// A datagram came from `remote` at `now`. Answers whether it begins with a packet; otherwise it changes nothing. Want
-    /// of memory is the only refusal.
+    /// A datagram came from `remote` at `now` to an end that doesn't wait for its first packet. Answers whether it begins with a
+    /// packet; otherwise it changes nothing. Want of memory is the only refusal.
     #[tactic(auto, unfolding(qc_state::specs::Moves::move_to, qc_state::specs::Moves::deeds_move), using(crate::proofs::Behind::readable_is, crate::proofs::Behind::unreadable_is, crate::proofs::Behind::heard_is, crate::proofs::Behind::unheard_is, crate::proofs::Behind::dropped_is))]
-    pub fn datagram(
+    fn heard(
         &mut self,
         alloc: Global,
         did: &mut Dids,
@@ -140,7 +192,7 @@ impl<U: Suite> Core<U> {
         bytes: BytesMut,
     ) -> Result<bool, AllocError>
         ensures answer { IfOk result (λ read. read ≡ is_readable (ideal U.Random.stream self.old) bytes.items) }
-        ensures leads { OnOk result ((held U.Random.stream self.new did.new) ≡ datagram_after (meaning U.Session.Session U.Session.HeaderKey.HeaderMask U.Session.PacketKey.PacketKey) now remote bytes.items (held U.Random.stream self.old did.old)) }
+        ensures leads { OnOk result ((held U.Random.stream self.new did.new) ≡ heard_after (meaning U.Session.Session U.Session.HeaderKey.HeaderMask U.Session.PacketKey.PacketKey) now remote bytes.items (held U.Random.stream self.old did.old)) }
     {
         let len = bytes.len() as u64;
         let cutting = self.cutting();
@@ -154,6 +206,125 @@ impl<U: Suite> Core<U> {
                 Ok(true)
             }
         }
+    }
+
+    /// Whether a datagram of this length from this address may be a server's first one: while the handshake goes on, it has at
+    /// least 1200 bytes (RFC 9000, section 14.1), and comes from the path's address.
+    fn may_begin(&self, remote: SocketAddr, len: usize) -> bool
+        ensures { result ≡ (is_handshake self.now.life.state && (nat_le DATAGRAM_SIZE len && same_address self.now.paths.remote remote)) }
+    {
+        self.life.is_handshake()
+            && (DATAGRAM_SIZE <= len as u64 && same_address(self.paths.remote, remote))
+    }
+
+    /// Whether a packet has the form and the ids of a server's first one.
+    #[tactic(auto, unfolding(qc_state::specs::Receiving::has_first_ids, qc_state::specs::Setup::ideal_setup))]
+    fn has_first_ids(&self, header: &ProtectedHeader) -> bool
+        ensures { result ≡ has_first_ids (ideal U.Random.stream self.now) header.now }
+    {
+        match header {
+            ProtectedHeader::Initial {
+                dst_cid,
+                src_cid,
+                ..
+            } => {
+                dst_cid.as_slice() == self.setup.fixed.first_cid.as_slice()
+                    && src_cid.as_slice() == self.paths.remote_cid.as_slice()
+            }
+            _ => false,
+        }
+    }
+
+    /// What came of taking the protection off a packet that may be a server's first one. None exactly where it may not: it
+    /// has another form or other ids, it doesn't open, or its reserved bits aren't 0. Want of memory is the only refusal.
+    #[tactic(auto, unfolding(qc_state::specs::Receiving::token_in_first))]
+    fn first_opened(&self, first: PartialDecode) -> Result<Option<First>, AllocError>
+        ensures some { IfOk result (λ r. IfSome r (λ x. (has_first_ids (ideal U.Random.stream self.now) first.header ≡ true) × (opening_of (meaning U.Session.Session U.Session.HeaderKey.HeaderMask U.Session.PacketKey.PacketKey) (ideal U.Random.stream self.now) first ≡ Opening.Opened x.source x.token x.number x.payload))) }
+        ensures none { IfOk result (λ r. IfNone r (token_in_first (meaning U.Session.Session U.Session.HeaderKey.HeaderMask U.Session.PacketKey.PacketKey) (ideal U.Random.stream self.now) first ≡ None)) }
+    {
+        if !self.has_first_ids(first.header()) {
+            return Ok(None);
+        }
+        match self.open(first)? {
+            Opening::Opened {
+                source,
+                token,
+                number,
+                payload,
+            } => Ok(Some(First {
+                source,
+                token,
+                number,
+                payload,
+            })),
+            Opening::Unreadable | Opening::Unopened | Opening::Reserved { .. } => Ok(None),
+        }
+    }
+
+    /// A datagram came from `remote` at `now` to a server that waits for its first packet. Answers whether it is taken: it may be
+    /// the server's first one, and its first packet's token is expected from then on; otherwise it changes nothing. Want of
+    /// memory is the only refusal.
+    pub fn first_datagram(
+        &mut self,
+        alloc: Global,
+        did: &mut Dids,
+        now: Instant,
+        remote: SocketAddr,
+        bytes: BytesMut,
+    ) -> Result<bool, AllocError>
+        requires { is_first_awaited self.old.setup ≡ true }
+        ensures answer { IfOk result (λ taken. taken ≡ is_taken (meaning U.Session.Session U.Session.HeaderKey.HeaderMask U.Session.PacketKey.PacketKey) (ideal U.Random.stream self.old) remote bytes.items) }
+        ensures leads { OnOk result ((held U.Random.stream self.new did.new) ≡ datagram_after (meaning U.Session.Session U.Session.HeaderKey.HeaderMask U.Session.PacketKey.PacketKey) now remote bytes.items (held U.Random.stream self.old did.old)) }
+    {
+        let len = bytes.len();
+        if !self.may_begin(remote, len) {
+            return Ok(false);
+        }
+        let cutting = self.cutting();
+        let (first, behind) = match cut(cutting, bytes)? {
+            None => return Ok(false),
+            Some(cut) => cut,
+        };
+        match self.first_opened(first)? {
+            None => Ok(false),
+            Some(first) => {
+                let token = first.token.clone()?;
+                self.do_expect(token);
+                self.received(
+                    alloc,
+                    did,
+                    now,
+                    SpaceId::Initial,
+                    first.source,
+                    first.token,
+                    first.number,
+                    first.payload,
+                )?;
+                self.others(alloc, did, now, cutting, behind)?;
+                self.do_hear(len as u64);
+                Ok(true)
+            }
+        }
+    }
+
+    /// A datagram came from `remote` at `now`. Answers whether it is taken: it begins with a packet, and where a server waits for
+    /// its first packet it may be that; otherwise it changes nothing. Want of memory is the only refusal.
+    #[tactic(auto, unfolding(qc_state::specs::Receiving::datagram_after, qc_state::specs::Receiving::is_taken, qc_state::specs::Setup::ideal_setup, qc_state::specs::Setup::is_first_awaited))]
+    pub fn datagram(
+        &mut self,
+        alloc: Global,
+        did: &mut Dids,
+        now: Instant,
+        remote: SocketAddr,
+        bytes: BytesMut,
+    ) -> Result<bool, AllocError>
+        ensures answer { IfOk result (λ taken. taken ≡ is_taken (meaning U.Session.Session U.Session.HeaderKey.HeaderMask U.Session.PacketKey.PacketKey) (ideal U.Random.stream self.old) remote bytes.items) }
+        ensures leads { OnOk result ((held U.Random.stream self.new did.new) ≡ datagram_after (meaning U.Session.Session U.Session.HeaderKey.HeaderMask U.Session.PacketKey.PacketKey) now remote bytes.items (held U.Random.stream self.old did.old)) }
+    {
+        if self.setup.is_first_awaited() {
+            return self.first_datagram(alloc, did, now, remote, bytes);
+        }
+        self.heard(alloc, did, now, remote, bytes)
     }
 
     /// Whether datagrams from this address count.

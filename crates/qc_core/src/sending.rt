@@ -9,7 +9,7 @@ ghost use Rattle.qc_header.specs.HeaderSpelling.{header_spelling, header_number}
 ghost use Rattle.qc_state.specs.Keys.{keys_of};
 ghost use Rattle.qc_state.specs.Moves.{Take, Seal, move_to, calmed, state_move};
 ghost use Rattle.qc_state.specs.Numbers.{next_number, acked_number};
-ghost use Rattle.qc_state.specs.Sending.{internal_error, told_code, told_type, told_application_code, application_close, closing_frame, IsKeptReason, TakenNow, close_frame, is_silent, owes, owes_in, sending_space, is_used_up, may_be_quiet, given_after, killed_after, quiet_after, header_in, drops_initial, initial_left, sealed_with, transmit_of};
+ghost use Rattle.qc_state.specs.Sending.{internal_error, told_code, told_type, told_application_code, application_close, closing_frame, IsKeptReason, TakenNow, close_frame, is_silent, owes, owes_in, sending_space, is_used_up, may_be_quiet, given_after, killed_after, owed_quiet_after, quiet_after, header_in, leaves_initial, drops_initial, initial_left, sealed_with, transmit_of};
 ghost use Rattle.qc_state.specs.Spaces.{space_of};
 ghost use Rattle.qc_state.specs.Types.{meaning};
 ghost use Rattle.qc_state.specs.View.{ideal, held};
@@ -97,6 +97,18 @@ fn application_close(
     }
 }
 
+/// Whether an end of the side `end` leaves the Initial space with a packet of this space, where ends of `side` may: a client that
+/// seals a Handshake packet, or a server that accepts one.
+fn leaves_initial(side: Side, end: Side, space: SpaceId) -> bool
+    ensures { result ≡ leaves_initial side end space }
+{
+    match (side, end, space) {
+        (Side::Client, Side::Client, SpaceId::Handshake)
+        | (Side::Server, Side::Server, SpaceId::Handshake) => true,
+        _ => false,
+    }
+}
+
 /// How much room of `room` these frames leave. Want of memory is the only refusal.
 fn room_left(alloc: Global, room: usize, frames: &FrameList) -> Result<usize, AllocError>
     ensures { IfOk result (λ left. left ≡ room - length (frames_spelling frames.now)) }
@@ -172,7 +184,7 @@ impl<U: Suite> Core<U> {
     pub fn may_be_quiet(&self) -> bool
         ensures { result ≡ may_be_quiet (ideal U.Random.stream self.now) }
     {
-        self.is_silent() || !self.owes() || self.is_used_up()
+        self.is_silent() || (!self.owes() || (self.paths.is_blocked() || self.is_used_up()))
     }
 
     /// A reason for the end is given, unless one was given before.
@@ -195,8 +207,25 @@ impl<U: Suite> Core<U> {
         self.give(did, why)
     }
 
-    /// A transmit sends nothing: because the end came before, because the packet numbers are used up, which is the end
-    /// now, or because nothing was owed.
+    /// A transmit sends nothing of what is owed: because the path is blocked, or because the packet numbers are used up, which is
+    /// the end now.
+    #[tactic(auto, unfolding(qc_state::specs::Sending::owed_quiet_after))]
+    fn owed_quiet(&mut self, did: &mut Dids) -> Result<(), AllocError>
+        ensures { OnOk result ((held U.Random.stream self.new did.new) ≡ owed_quiet_after (held U.Random.stream self.old did.old)) }
+    {
+        if self.paths.is_blocked() {
+            return self.do_say(did, Quiet::Amplification);
+        }
+        let why = ConnectionError::TransportError(TransportError {
+            code: TransportErrorCode::INTERNAL_ERROR,
+            frame: None,
+        });
+        self.kill(did, why)?;
+        self.do_say(did, Quiet::Killed)
+    }
+
+    /// A transmit sends nothing: because the end came before, because the path is blocked, because the packet numbers are used up,
+    /// which is the end now, or because nothing was owed.
     #[tactic(auto, unfolding(qc_state::specs::Sending::quiet_after))]
     pub fn quiet(&mut self, did: &mut Dids) -> Result<(), AllocError>
         ensures { OnOk result ((held U.Random.stream self.new did.new) ≡ quiet_after (held U.Random.stream self.old did.old)) }
@@ -205,12 +234,7 @@ impl<U: Suite> Core<U> {
             return self.do_say(did, Quiet::Silent);
         }
         if self.owes() {
-            let why = ConnectionError::TransportError(TransportError {
-                code: TransportErrorCode::INTERNAL_ERROR,
-                frame: None,
-            });
-            self.kill(did, why)?;
-            return self.do_say(did, Quiet::Killed);
+            return self.owed_quiet(did);
         }
         self.do_say(did, Quiet::NothingOwed)
     }
@@ -362,23 +386,22 @@ impl<U: Suite> Core<U> {
         }
     }
 
-    /// Whether a packet that is sealed in this space makes this end drop the keys of the Initial space.
+    /// Whether an end of this side leaves the Initial space with a packet of this space, and has keys of the Initial space still.
     #[tactic(auto, unfolding(qc_state::specs::Sending::drops_initial, qc_state::specs::Setup::ideal_setup))]
-    fn drops_initial(&self, space: SpaceId) -> bool
-        ensures { result ≡ drops_initial (ideal U.Random.stream self.now) space }
+    fn drops_initial(&self, side: Side, space: SpaceId) -> bool
+        ensures { result ≡ drops_initial side (ideal U.Random.stream self.now) space }
     {
-        match (self.setup.fixed.side, space) {
-            (Side::Client, SpaceId::Handshake) => self.keys.get(SpaceId::Initial).is_some(),
-            _ => false,
-        }
+        leaves_initial(side, self.setup.fixed.side, space)
+            && self.keys.get(SpaceId::Initial).is_some()
     }
 
-    /// A client that seals a Handshake packet drops the keys of its Initial space (RFC 9001, section 4.9.1).
+    /// The keys of the Initial space are dropped with a packet of this space, where this end is of the side that leaves it so: a
+    /// client as it seals a Handshake packet, a server as it accepts one (RFC 9001, section 4.9.1).
     #[tactic(auto, unfolding(qc_state::specs::Sending::initial_left, qc_state::specs::Moves::move_to, qc_state::specs::Moves::deeds_move))]
-    pub fn leave_initial(&mut self, space: SpaceId, did: &Dids)
-        ensures { (held U.Random.stream self.new did.now) ≡ initial_left space (held U.Random.stream self.old did.now) }
+    pub fn leave_initial(&mut self, side: Side, space: SpaceId, did: &Dids)
+        ensures { (held U.Random.stream self.new did.now) ≡ initial_left side space (held U.Random.stream self.old did.now) }
     {
-        if self.drops_initial(space) {
+        if self.drops_initial(side, space) {
             self.do_forget(SpaceId::Initial);
             self.calm(did);
         }

@@ -1,4 +1,6 @@
 pub mod FieldLemmas
+pub mod ItemLemmas
 pub mod LineLemmas
 pub mod NumberLemmas
 pub mod ScriptLemmas
+pub mod SettingLemmas

@@ -1,5 +1,5 @@
 -- The line of an input: its parts, and that no other input has it.
-use Rattle.std.proofs.Common.{◌≡◌, ◌≢◌, ℕ, ◌^◌, ◌<◌, List, [], ◌∷◌, ◌++◌, get_or, Option, refl, sym, ◌∙◌, ap, arith, rules, codes}
+use Rattle.std.proofs.Common.{◌≡◌, ◌≢◌, ℕ, ◌^◌, ◌<◌, List, [], ◌∷◌, ◌++◌, get_or, Option, refl, sym, ◌∙◌, ap, arith, codes}
 use Rattle.std.proofs.lemmas.List.{append_assoc, append_cancel_left, append_cancel_right}
 use Rattle.std.specs.Fmt.{decimal}
 use Rattle.std.proofs.lemmas.Fmt.{decimal_injective}
@@ -10,8 +10,8 @@ use Rattle.qc_state.specs.declared.input.Input.{Input}
 use Rattle.qc_state.specs.declared.input.Input.TheVariants.{Datagram, Transmit, Close, Ping}
 use Rattle.qc_script.specs.Fields.{Lacks, IsNumberText, hex_field, address_text, ecn_text, IsAddress, AreFields}
 use Rattle.qc_script.specs.Script.{input_line, IsWithin, IsTransmit, IsClose, IsDatagram, IsNext}
-use Rattle.qc_script.proofs.NumberLemmas.{Lacks-append, Lacks-decimal, first_split}
-use Rattle.qc_script.proofs.FieldLemmas.{Lacks-hex_field, hex_field_injective, Lacks-address, address_injective, Lacks-mark, mark_injective, fields_same}
+use Rattle.qc_script.proofs.NumberLemmas.{Lacks-decimal, first_split}
+use Rattle.qc_script.proofs.FieldLemmas.{hex_field_injective, Lacks-address, address_injective, Lacks-mark, mark_injective, fields_same}
 
 -- ---- lines as the reader takes them apart
 
@@ -216,39 +216,3 @@ input_line_injective (Ping t) (Ping t') h k e =
     let digits = append_cancel_left (codes "ping ") (decimal t) (decimal t') (append_cancel_right _ _ (10 ∷ []) (sym (ping_line t) ∙ e ∙ ping_line t')) in
     ap Ping (decimal_injective t t' h k digits)
 input_line_injective i j h k e = absurd (omega (arith, letters i j e))
-
--- an input's line is a text without LF, and LF
-pub record LineOf (j : Input) : Type 0 where
-  pub text : List ℕ
-  pub spelled : input_line j ≡ text ++ 10 ∷ []
-  pub lacks : Lacks 10 text
-
-Lacks-datagram : (t : ℕ) (a : SocketAddr) (m : Option EcnCodepoint) (bs : List ℕ) → t < 2 ^ 64 → IsAddress a → IsBytes bs → Lacks 10 (datagram_fields t a m bs)
-Lacks-datagram t a m bs small within are_bytes =
-    let last = Lacks-hex_field 10 bs (omega arith) are_bytes in
-    let marked = Lacks-append 10 (ecn_text m) (32 ∷ hex_field bs) (Lacks-mark 10 m (omega arith)) (omega arith, last) in
-    let addressed = Lacks-append 10 (address_text a) (32 ∷ (ecn_text m ++ 32 ∷ hex_field bs)) (Lacks-address 10 a (omega arith) within) (omega arith, marked) in
-    Lacks-append 10 (decimal t) (32 ∷ (address_text a ++ 32 ∷ (ecn_text m ++ 32 ∷ hex_field bs))) (Lacks-decimal 10 t (omega arith) small) (omega arith, addressed)
-
-pub line_of_input : (j : Input) → IsWithin j → LineOf j
-line_of_input (Datagram t a m bs) h = record {
-  text = codes "datagram " ++ datagram_fields t a m bs;
-  spelled = datagram_line t a m bs;
-  lacks = Lacks-append 10 (codes "datagram ") (datagram_fields t a m bs) (search rules) (Lacks-datagram t a m bs h.0 h.1 h.2);
-}
-line_of_input (Transmit t n) h = record {
-  text = codes "transmit " ++ (decimal t ++ 32 ∷ decimal n);
-  spelled = transmit_line t n;
-  lacks = Lacks-append 10 (codes "transmit ") (decimal t ++ 32 ∷ decimal n) (search rules) (Lacks-append 10 (decimal t) (32 ∷ decimal n) (Lacks-decimal 10 t (omega arith) h.0) (omega arith, Lacks-decimal 10 n (omega arith) h.1));
-}
-line_of_input (Close t c r) h = record {
-  text = codes "close " ++ (decimal t ++ 32 ∷ (decimal c ++ 32 ∷ hex_field r));
-  spelled = close_line t c r;
-  lacks = Lacks-append 10 (codes "close ") (decimal t ++ 32 ∷ (decimal c ++ 32 ∷ hex_field r)) (search rules) (Lacks-append 10 (decimal t) (32 ∷ (decimal c ++ 32 ∷ hex_field r)) (Lacks-decimal 10 t (omega arith) h.0)
-      (omega arith, Lacks-append 10 (decimal c) (32 ∷ hex_field r) (Lacks-decimal 10 c (omega arith) (omega (arith, h.1))) (omega arith, Lacks-hex_field 10 r (omega arith) h.2)));
-}
-line_of_input (Ping t) h = record {
-  text = codes "ping " ++ decimal t;
-  spelled = ping_line t;
-  lacks = Lacks-append 10 (codes "ping ") (decimal t) (search rules) (Lacks-decimal 10 t (omega arith) h);
-}

@@ -1,20 +1,34 @@
 -- The script of a run, as its user's document has it.
 --
--- A script is the line `set side client` and then input lines. Each line is ended by LF. An input line is
+-- A script is set lines and then input lines. Each line is ended by LF. The set lines come in this order, the first of them always
+-- and each other one at most once; without it the value is the usual one, here in parentheses:
+--     set side S        this end is the `client` or the `server`
+--     set time N        the connection is made at time N (0)
+--     set local H       this end's id (8 bytes 01)
+--     set remote H      on a client the destination id of its first packets, of 8 bytes at least, and on a server the client's
+--                       id (8 bytes 02)
+--     set first H       on a server the destination id of the client's first packets (8 bytes 03)
+--     set addr A        the peer's address (::1, port 4433)
+--     set secret H      the toy's secret, of 5 bytes (zeros)
+--     set idle N        this end's limit on idle time in milliseconds; 0 is none (30000)
+-- An input line is
 --     datagram T A E H  a datagram H came at time T from the address A with the mark E of congestion
 --     transmit T N      a transmit at time T of at most N datagrams
 --     close T C H       the application closes at time T, with the code C and the reason H
 --     ping T            a ping at time T
--- with one space between fields. Numbers are decimal, below 2^64, without leading zeros; a code is below 2^62. Bytes are
--- lower-case hex, and `-` where there are none. An address is its octets in hex, `/` and a port. A mark is its two bits
--- as a digit, or `-`. Times are in nanoseconds.
-use Rattle.std.specs.Prelude.{◌≡◌, ℕ, ◌+◌, ◌-◌, ◌^◌, ◌<◌, ◌≤◌, List, [], ◌∷◌, ◌++◌, length, take, map, codes, Bool, true, false, ◌==◌, Option, Some, None}
+-- with one space between fields. Numbers are decimal, below 2^64, without leading zeros; a code and a limit on idle time are below
+-- 2^62. Bytes are lower-case hex, and `-` where there are none; an id has at most 20. An address is its octets in hex, `/` and a
+-- port. A mark is its two bits as a digit, or `-`. Times are in nanoseconds.
+use Rattle.std.specs.Prelude.{◌≡◌, ℕ, ◌+◌, ◌-◌, ◌^◌, ◌<◌, ◌≤◌, List, [], ◌∷◌, ◌++◌, length, take, map, codes, Bool, true, false, ◌==◌, Option, Some, None, IfSome}
 use Rattle.std.specs.Fmt.{decimal}
 use Rattle.std.specs.declared.net.socket_addr.SocketAddr.{SocketAddr}
 use Rattle.qc_base.specs.Grammar.{IsBytes}
 use Rattle.qc_base.specs.declared.ecn.EcnCodepoint.{EcnCodepoint}
+use Rattle.qc_base.specs.declared.side.Side.{Side}
+use Rattle.qc_base.specs.declared.side.Side.TheVariants.{Client, Server}
 use Rattle.qc_state.specs.declared.input.Input.{Input}
 use Rattle.qc_state.specs.declared.input.Input.TheVariants.{Datagram, Transmit, Close, Ping}
+use Rattle.qc_script.specs.declared.settings.Settings.{Settings}
 use Rattle.qc_script.specs.declared.script.ScriptError.{ScriptError}
 use Rattle.qc_script.specs.declared.script.ScriptError.TheVariants.{BadLine, OutOfMemory}
 use Rattle.qc_script.specs.Fields.{hex_field, address_text, ecn_text, IsAddress}
@@ -30,9 +44,59 @@ unfoldable pub lines_of : List ℕ → List (List ℕ)
 lines_of [] = []
 lines_of (b ∷ bytes) = with_byte (b == 10) b (lines_of bytes)
 
--- the line that every script begins with: this end is the client
-abbrev pub first_line : List ℕ
-first_line = codes "set side client\n"
+-- the word of a side
+abbrev pub side_text : Side → List ℕ
+side_text Client = codes "client"
+side_text Server = codes "server"
+
+-- the line of a value, with these words in front, where there is a value
+abbrev pub line_if : {T : Type 0} → (words : List ℕ) → (T → List ℕ) → Option T → List (List ℕ)
+line_if words spell None = []
+line_if words spell (Some value) = (words ++ (spell value ++ 10 ∷ [])) ∷ []
+
+-- the line that every script begins with: which end this one is
+unfoldable pub side_line : Side → List ℕ
+side_line side = codes "set side " ++ (side_text side ++ 10 ∷ [])
+
+-- the set lines, in their order
+unfoldable pub set_lines : Settings → List (List ℕ)
+set_lines s =
+    side_line s.side
+    ∷ (line_if (codes "set time ") decimal s.time
+    ++ (line_if (codes "set local ") hex_field s.local
+    ++ (line_if (codes "set remote ") hex_field s.remote
+    ++ (line_if (codes "set first ") hex_field s.first
+    ++ (line_if (codes "set addr ") address_text s.addr
+    ++ (line_if (codes "set secret ") hex_field s.secret
+    ++ line_if (codes "set idle ") decimal s.idle))))))
+
+-- an id has at most 20 bytes
+abbrev pub IsId : List ℕ → Type 0
+IsId id = IsBytes id × (length id ≤ 20)
+
+-- the destination id of a client's first packets has 8 bytes at least (RFC 9000, section 7.2)
+abbrev pub IsRemote : Side → List ℕ → Type 0
+IsRemote Client id = IsId id × (8 ≤ length id)
+IsRemote Server id = IsId id
+
+-- only a server is told the destination id of the client's first packets
+abbrev pub IsFirst : Side → List ℕ → Type 0
+IsFirst Client id = ⊥
+IsFirst Server id = IsId id
+
+-- the toy's secret has 5 bytes
+abbrev pub IsSecret : List ℕ → Type 0
+IsSecret bytes = IsBytes bytes × (length bytes ≡ 5)
+
+-- what the set lines say lies within its bounds
+pub record AreSettings (s : Settings) : Type 0 where
+  pub time : IfSome s.time (λ n. n < 2 ^ 64)
+  pub local : IfSome s.local IsId
+  pub remote : IfSome s.remote (IsRemote s.side)
+  pub first : IfSome s.first (IsFirst s.side)
+  pub addr : IfSome s.addr IsAddress
+  pub secret : IfSome s.secret IsSecret
+  pub idle : IfSome s.idle (λ n. n < 2 ^ 62)
 
 -- the line of an input: its word, its time, for a datagram where it came from, its mark and its bytes, for a transmit how
 -- many datagrams it may send, and for a close its code and its reason
@@ -85,21 +149,18 @@ abbrev pub IsLineRead : List ℕ → Option Input → Type 0
 IsLineRead text None = (input : Input) → IsNext text input → ⊥
 IsLineRead text (Some input) = IsNext text input
 
--- the text begins with the line of this input, and goes on with others
-pub record NextLine (text : List ℕ) (input : Input) (others : List ℕ) : Type 0 where
-  pub spelled : text ≡ input_line input ++ others
-  pub within : IsWithin input
-
--- these lines are a script of these inputs
-pub record IsScript (lines : List (List ℕ)) (inputs : List Input) : Type 0 where
-  pub spelled : lines ≡ first_line ∷ map input_line inputs
+-- these lines are a script of these settings and inputs
+pub record IsScript (lines : List (List ℕ)) (settings : Settings) (inputs : List Input) : Type 0 where
+  pub spelled : lines ≡ set_lines settings ++ map input_line inputs
+  pub set : AreSettings settings
   pub within : AllWithin inputs
 
 -- some script begins with these lines
 pub record GoesOn (lines : List (List ℕ)) : Type 0 where
   pub more : List (List ℕ)
+  pub settings : Settings
   pub inputs : List Input
-  pub script : IsScript (lines ++ more) inputs
+  pub script : IsScript (lines ++ more) settings inputs
 
 -- line k, counted from 1, is the first with which no script goes on after the lines before it; where only lines are
 -- missing it is the line after the last
@@ -108,7 +169,7 @@ pub record IsFirstBad (lines : List (List ℕ)) (k : ℕ) : Type 0 where
   pub inside : k ≤ length lines + 1
   pub before : GoesOn (take (k - 1) lines)
   pub stops : k ≤ length lines → GoesOn (take k lines) → ⊥
-  pub missing : k ≡ length lines + 1 → (inputs : List Input) → IsScript lines inputs → ⊥
+  pub missing : k ≡ length lines + 1 → (settings : Settings) → (inputs : List Input) → IsScript lines settings inputs → ⊥
 
 -- why a text is no script
 abbrev pub IsRefusal : List (List ℕ) → ScriptError → Type 0

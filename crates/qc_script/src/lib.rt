@@ -1,17 +1,27 @@
-//! The script that a run follows, read into the inputs of a connection.
+//! The script that a run follows, read into what its set lines say and the inputs of a connection.
 //!
-//! ASCII lines, each ended by LF, fields separated by one space: first `set side client`, then input lines
-//! `datagram T A E HEX`, `transmit T N`, `close T CODE HEX` and `ping T`. Numbers are decimal, below 2^64, without leading
-//! zeros; a code is below 2^62. Bytes are lower-case hex, and `-` where there are none. An address is the 8 or 32
-//! lower-case hex digits of its octets, `/` and a port below 2^16; an IPv6 address has flow label 0 and scope 0. A mark
-//! of explicit congestion notification is its two bits, 1, 2 or 3 (RFC 3168, section 5), and `-` where there is none.
+//! ASCII lines, each ended by LF, fields separated by one space. First come the set lines, in this order: `set side S`,
+//! where S is `client` or `server`, and then at most one each of `set time N`, `set local HEX`, `set remote HEX`,
+//! `set first HEX`, `set addr A`, `set secret HEX` and `set idle N`. An id has at most 20 bytes; on a client the remote
+//! one has 8 at least (RFC 9000, section 7.2), and only a server has a first one. A secret has 5 bytes. A limit on idle
+//! time is in milliseconds and below 2^62 (RFC 9000, section 10.1). Then come the input lines `datagram T A E HEX`,
+//! `transmit T N`, `close T CODE HEX` and `ping T`.
+//!
+//! Numbers are decimal, below 2^64, without leading zeros; a code is below 2^62. Times are in nanoseconds. Bytes are
+//! lower-case hex, and `-` where there are none. An address is the 8 or 32 lower-case hex digits of its octets, `/` and a
+//! port below 2^16; an IPv6 address has flow label 0 and scope 0. A mark of explicit congestion notification is its two
+//! bits, 1, 2 or 3 (RFC 3168, section 5), and `-` where there is none.
 #![tactic(auto)]
 
 mod address;
 mod fields;
+mod items;
 mod lines;
 mod script;
+mod set_lines;
+mod settings;
 #[cfg(test)]
 mod tests;
 
-pub use script::{ScriptError, read_script};
+pub use script::{Script, ScriptError, read_script};
+pub use settings::Settings;

@@ -1,28 +1,41 @@
 //! Lines of each form, and those at the edges of them.
 
-use crate::script::{ScriptError, read_script};
-use qc_base::{EcnCodepoint, Instant};
+use crate::script::{Script, ScriptError, read_script};
+use crate::settings::Settings;
+use qc_base::{ConnectionId, EcnCodepoint, Instant, Side, VarInt};
 use qc_state::Input;
 use std::alloc::Global;
 use std::net::{IpAddr, Ipv4Addr, Ipv6Addr, SocketAddr};
 use std::test::Fail;
 
+/// What a script with this line behind the first says.
+fn script_with(alloc: Global, line: &str) -> Result<Script, Fail> {
+    let script = format!(in alloc; "set side server\n{line}\n")?;
+    match read_script(alloc, script.as_str().as_bytes()) {
+        Ok(script) => Ok(script),
+        Err(_) => Err("a bad line".into()),
+    }
+}
+
 /// The one input of a script with this line.
 fn input_of(alloc: Global, line: &str) -> Result<Input, Fail> {
-    let script = format!(in alloc; "set side client\n{line}\n")?;
-    match read_script(alloc, script.as_str().as_bytes()) {
-        Ok(mut inputs) => Ok(inputs.pop().ok_or("no input")?),
-        Err(_) => Err("a bad line".into()),
+    let mut script = script_with(alloc, line)?;
+    Ok(script.inputs.pop().ok_or("no input")?)
+}
+
+/// Which line of this text is the first bad one, if there is one.
+fn bad_line(alloc: Global, text: &str) -> Result<Option<u64>, Fail> {
+    match read_script(alloc, text.as_bytes()) {
+        Ok(_) => Ok(None),
+        Err(ScriptError::BadLine(line)) => Ok(Some(line)),
+        Err(ScriptError::OutOfMemory) => Err("no memory".into()),
     }
 }
 
 /// Whether this line is bad behind the first.
 fn is_bad(alloc: Global, line: &str) -> Result<bool, Fail> {
     let script = format!(in alloc; "set side client\n{line}\n")?;
-    match read_script(alloc, script.as_str().as_bytes()) {
-        Ok(_) => Ok(false),
-        Err(why) => Ok(why == ScriptError::BadLine(2)),
-    }
+    Ok(bad_line(alloc, script.as_str())? == Some(2))
 }
 
 #[test]
@@ -163,25 +176,116 @@ fn other_lines_are_bad(rt: HostRuntime) -> Result<(), Fail> {
     Ok(())
 }
 
+/// For which values there is a set line, in the order of the lines.
+fn are_set(settings: &Settings) -> [bool; 7] {
+    [
+        settings.time.is_some(),
+        settings.local.is_some(),
+        settings.remote.is_some(),
+        settings.first.is_some(),
+        settings.addr.is_some(),
+        settings.secret.is_some(),
+        settings.idle.is_some(),
+    ]
+}
+
+#[test]
+fn each_set_line_stands_alone(rt: HostRuntime) -> Result<(), Fail> {
+    let lines = [
+        "set time 0",
+        "set local -",
+        "set remote 01",
+        "set first 02",
+        "set addr c0000201/1",
+        "set secret 0102030405",
+        "set idle 0",
+    ];
+    for (place, line) in lines.iter().enumerate() {
+        let script = script_with(rt.alloc(), line)?;
+        for (other, is_set) in are_set(&script.settings).iter().enumerate() {
+            assert_eq!(rt; *is_set, other == place, "{line:?}");
+        }
+        assert!(rt; script.inputs.is_empty(), "{line:?}");
+    }
+    Ok(())
+}
+
+#[test]
+fn a_server_has_every_set_line(rt: HostRuntime) -> Result<(), Fail> {
+    let text =
+        "set side server\nset time 5\nset local 0a0b\nset remote -\nset first 0102030405060708\nset addr c0000201/443\nset secret 00ff010203\nset idle 30000\nping 6\n";
+    let script = match read_script(rt.alloc(), text.as_bytes()) {
+        Ok(script) => script,
+        Err(_) => return Err("a bad line".into()),
+    };
+    let settings = &script.settings;
+    assert_eq!(rt; settings.side, Side::Server);
+    assert_eq!(rt; settings.time, Some(Instant::from_nanos(5)));
+    assert_eq!(rt; settings.local, Some(ConnectionId::new(&[10, 11])));
+    assert_eq!(rt; settings.remote, Some(ConnectionId::new(&[])));
+    let first = ConnectionId::new(&[1, 2, 3, 4, 5, 6, 7, 8]);
+    assert_eq!(rt; settings.first, Some(first));
+    let address = SocketAddr::new(IpAddr::V4(Ipv4Addr::new(192, 0, 2, 1)), 443);
+    assert!(rt; settings.addr == Some(address));
+    assert_eq!(rt; settings.secret, Some([0, 255, 1, 2, 3]));
+    assert_eq!(rt; settings.idle, Some(VarInt::from_u32(30_000)));
+    assert_eq!(rt; script.inputs.len(), 1);
+    Ok(())
+}
+
+// Each line is the second of a client's script. The first of a pair is the last that is taken.
+#[test]
+fn set_lines_have_bounds(rt: HostRuntime) -> Result<(), Fail> {
+    let cases = [
+        ("set time 18446744073709551615", false),
+        ("set time 18446744073709551616", true),
+        ("set local 0102030405060708090a0b0c0d0e0f1011121314", false),
+        ("set local 0102030405060708090a0b0c0d0e0f101112131415", true),
+        ("set remote 0102030405060708", false),
+        ("set remote 01020304050607", true),
+        ("set first 0102030405060708", true),
+        ("set addr c0000201/65536", true),
+        ("set secret 01020304", true),
+        ("set secret 0102030405", false),
+        ("set secret 010203040506", true),
+        ("set idle 4611686018427387903", false),
+        ("set idle 4611686018427387904", true),
+        ("set local 0A", true),
+        ("set other 1", true),
+    ];
+    for (line, bad) in cases {
+        assert_eq!(rt; is_bad(rt.alloc(), line)?, bad, "{line:?}");
+    }
+    Ok(())
+}
+
 // Lines are counted from 1, the first one among them.
 #[test]
 fn the_first_bad_line_is_named(rt: HostRuntime) -> Result<(), Fail> {
-    let cases: [(&str, u64); 6] = [
-        ("", 1),
-        ("set side client", 1),
-        ("set side server\n", 1),
-        ("set side client\nping 0\nping 0", 3),
+    let cases: [(&str, Option<u64>); 14] = [
+        ("", Some(1)),
+        ("set side client", Some(1)),
+        ("set side other\n", Some(1)),
+        ("set time 5\n", Some(1)),
+        ("set side server\n", None),
+        ("set side client\nset side client\n", Some(2)),
+        ("set side client\nset time 5", Some(2)),
+        ("set side client\nset time 5\nset time 5\n", Some(3)),
+        ("set side server\nset local 01\nset time 5\n", Some(3)),
+        (
+            "set side client\nset time 5\nset idle 0\nset secret 0102030405\n",
+            Some(4),
+        ),
+        ("set side client\nset time 5\nset local 01\nping 5\n", None),
+        ("set side client\nping 0\nset time 5\n", Some(3)),
+        ("set side client\nping 0\nping 0", Some(3)),
         (
             "set side client\nping 0\ndatagram 0 7f000001/1 5 -\nping\n",
-            3,
+            Some(3),
         ),
-        ("set side client\nset side client\n", 2),
     ];
-    for (script, line) in cases {
-        match read_script(rt.alloc(), script.as_bytes()) {
-            Ok(_) => return Err("read".into()),
-            Err(why) => assert_eq!(rt; why, ScriptError::BadLine(line), "{script:?}"),
-        }
+    for (text, line) in cases {
+        assert_eq!(rt; bad_line(rt.alloc(), text)?, line, "{text:?}");
     }
     Ok(())
 }

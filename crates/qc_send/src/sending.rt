@@ -6,7 +6,7 @@ ghost use Rattle.qc_state.specs.Sending.{may_be_quiet, SealsOne, Transmits};
 ghost use Rattle.qc_state.specs.Types.{meaning};
 ghost use Rattle.qc_state.specs.View.{ideal, held};
 
-use qc_base::Instant;
+use qc_base::{Instant, Side};
 use qc_core::Core;
 use qc_state::{DATAGRAM_SIZE, Dids, Suite, Transmit};
 use std::alloc::{AllocError, Global};
@@ -34,7 +34,7 @@ fn seal_one<U: Suite>(
     let mut frames = core.take(alloc, now, space, room)?;
     core.seal(space, number, &header, &mut frames, buf)?;
     core.sealed(did, now, space, number, frames)?;
-    core.leave_initial(space, did);
+    core.leave_initial(Side::Client, space, did);
     Ok(())
 }
 

@@ -4,6 +4,7 @@ use Rattle.std.specs.List.{list_any}
 use Rattle.std.specs.Prelude.{is_none}
 use Rattle.std.specs.declared.net.SocketAddr.{SocketAddr}
 use Rattle.qc_base.specs.RangeSet.{Member}
+use Rattle.qc_base.specs.declared.side.Side.TheVariants.{Client}
 use Rattle.qc_base.specs.declared.side.SpaceId.{SpaceId}
 use Rattle.qc_base.specs.declared.side.SpaceId.TheVariants.{Initial, Handshake, «Data»}
 use Rattle.qc_frame.specs.Frame.{FrameValue}
@@ -12,7 +13,7 @@ use Rattle.qc_path.specs.Arrived.{Window, arrived}
 use Rattle.qc_path.specs.declared.pending_acks.Arrival.{Arrival}
 use Rattle.qc_state.specs.declared.deeds.Did.{Did}
 use Rattle.qc_state.specs.declared.deeds.Did.TheVariants as did
-use Rattle.qc_state.specs.declared.deeds.Quiet.TheVariants.{NothingOwed, Silent, Killed}
+use Rattle.qc_state.specs.declared.deeds.Quiet.TheVariants.{NothingOwed, Silent, Killed, Amplification}
 use Rattle.qc_state.specs.declared.deeds.Verdict.{Verdict}
 use Rattle.qc_state.specs.declared.input.Input.{Input}
 use Rattle.qc_state.specs.declared.input.Input.TheVariants as input
@@ -24,16 +25,17 @@ use Rattle.qc_state.specs.declared.waiting.SpaceWaiting.{SpaceWaiting}
 use Rattle.qc_state.specs.declared.waiting.Waiting.{Waiting}
 use Rattle.qc_state.specs.Headline.{deeds_of, KnownBehind, AcksOnly, SealsKnown, AcksKnown, IsKept, EachAcksKnown}
 use Rattle.qc_state.specs.Life.{is_open, is_drained}
-use Rattle.qc_state.specs.Moves.{Move, Clock, Ask, Take, Seal, Forget, Enter, Fail, Accept, Fix, Hear, Ack, Calm, Come, Read, Write, Ready, Learn, Establish, Tell, Drain, Leave, Owe, Shut, Raise, Give, Say, ReportReady, ReportConnected, ReportLost, ReportDrained, accepts, state_move, move_to, deeds_move, waiting_move, numbers_move, life_move, MayMove, IsTold, calmed, told}
+use Rattle.qc_state.specs.Moves.{Move, Clock, Ask, Take, Seal, Forget, Enter, Expect, Fail, Accept, Fix, Validate, Hear, Ack, Calm, Come, Read, Write, Ready, Learn, Confirm, Establish, Tell, Drain, Leave, Owe, Shut, Raise, Give, Say, ReportReady, ReportConnected, ReportLost, ReportDrained, accepts, state_move, move_to, deeds_move, waiting_move, numbers_move, life_move, MayMove, IsTold, calmed, told}
 use Rattle.qc_state.specs.Numbers.{next_number}
 use Rattle.qc_state.specs.Numbers as numbers
 use Rattle.qc_state.specs.Run.{time_of, packets_of, began, close_after, input_after, called, reported, step_after, IsAllowed, IsStep, Run, Ran}
-use Rattle.qc_state.specs.Sending.{is_silent, owes, sending_space, internal_error, given_after, killed_after, quiet_after, drops_initial, initial_left, sealed_in, packet_after, transmit_after, MaySeal, MayTransmit}
+use Rattle.qc_state.specs.Paths.{is_blocked}
+use Rattle.qc_state.specs.Sending.{is_silent, owes, sending_space, internal_error, given_after, killed_after, quiet_after, drops_initial, initial_left, sealed_in, packet_after, transmit_after, MaySeal, MayTransmit, owed_quiet_after}
 use Rattle.qc_state.specs.Spaces.{space_of, with_space, is_space}
 use Rattle.qc_state.specs.Receiving.{datagram_after}
 use Rattle.qc_state.specs.Types.{Types, Meaning}
 use Rattle.qc_state.specs.View.{View, At}
-use Rattle.qc_state.specs.Waiting.{ping_asked, waiting_without, close_begun, packet_told, untold, flown_in, packet_flown, settled_in, packets_settled, came_in, packet_came, crypto_written, nothing_left, space_left}
+use Rattle.qc_state.specs.Waiting.{done_asked, ping_asked, waiting_without, close_begun, packet_told, untold, flown_in, packet_flown, settled_in, packets_settled, came_in, packet_came, crypto_written, nothing_left, space_left}
 use Rattle.qc_state.proofs.AcksKnown.{received_has, KnownSince, known_more, since_more, known_append, since_append, only_more, without_all_keeps, carries_known}
 use Rattle.qc_state.proofs.Receives.{IsReceived, holds_datagram}
 use Rattle.qc_state.proofs.Telling.{is_none_none, low_rank, open_rank}
@@ -160,7 +162,7 @@ module _ {t : Types} where
 
   -- over each move
   pub knows_move : (id : SpaceId) (x : Move t) (a : At t) → MayMove x a.state → IsKnowing x a.state → Knows id a (move_to x a)
-  unfolding MayMove deeds_move waiting_move ping_asked waiting_without packets_settled settled_in crypto_written space_left nothing_left close_begun
+  unfolding MayMove deeds_move waiting_move ping_asked waiting_without packets_settled settled_in crypto_written done_asked space_left nothing_left close_begun
   knows_move id (Clock time) a h k = absurd h
   knows_move id (Ask space) a h k = silent_knows id (Ask space) a refl (same_kept id space a.state.waiting _ a.state.waiting.close_owed refl)
   knows_move id (Take space fs) a h k = silent_knows id (Take space fs) a refl (same_kept id space a.state.waiting _ a.state.waiting.close_owed (without_all_keeps (space_of a.state.waiting.spaces space) fs))
@@ -169,11 +171,13 @@ module _ {t : Types} where
       (sealed_kept id space a.state.waiting (is_space space a.state.keys.highest) n (list_any elicits fs))
   knows_move id (Forget space) a h k = silent_knows id (Forget space) a refl (same_kept id space a.state.waiting _ a.state.waiting.close_owed refl)
   knows_move id (Enter space n v) a h k = deed_knows id (Enter space n v) _ a refl tt (λ n m. inr m)
+  knows_move id (Expect token) a h k = silent_knows id (Expect token) a refl (λ n m. m)
   knows_move id Fail a h k = silent_knows id Fail a refl (λ n m. m)
   knows_move id (Accept time space n e v) a h k =
       deed_knows id (Accept time space n e v) (did.Piece (Some space) (Some n) v) a refl tt
       (came_kept id space a.state.waiting (arrived n (numbers.came_in a.state.numbers space)) (record { number = n; at = time; ack_eliciting = e; ce = false }) v k)
   knows_move id (Fix cid) a h k = silent_knows id (Fix cid) a refl (λ n m. m)
+  knows_move id Validate a h k = silent_knows id Validate a refl (λ n m. m)
   knows_move id (Hear bytes) a h k = silent_knows id (Hear bytes) a refl (λ n m. m)
   knows_move id (Ack space n rs) a h k = silent_knows id (Ack space n rs) a refl (same_kept id space a.state.waiting _ a.state.waiting.close_owed refl)
   knows_move id Calm a h k = silent_knows id Calm a refl (λ n m. m)
@@ -182,6 +186,7 @@ module _ {t : Types} where
   knows_move id (Write bytes keys session) a h k = silent_knows id (Write bytes keys session) a refl (same_kept id a.state.keys.highest a.state.waiting _ a.state.waiting.close_owed refl)
   knows_move id Ready a h k = silent_knows id Ready a refl (λ n m. m)
   knows_move id (Learn parameters) a h k = silent_knows id (Learn parameters) a refl (λ n m. m)
+  knows_move id Confirm a h k = silent_knows id Confirm a refl (same_kept id «Data» a.state.waiting _ a.state.waiting.close_owed refl)
   knows_move id Establish a h k = deed_knows id Establish _ a refl tt (λ n m. m)
   knows_move id (Tell d) a h k = tell_knows id d a h
   knows_move id Drain a h k = deed_knows id Drain _ a refl tt (λ n m. m)
@@ -210,11 +215,12 @@ module _ {t : Types} where
   knows_killed id why a h = knows_next id a (move_to (Raise state.Drained) a) _ (knows_move id (Raise state.Drained) a (low_rank a.state.life.state h) tt) (given_by id why (move_to (Raise state.Drained) a) _ refl)
 
   -- nothing is sealed
-  quiet_by : (id : SpaceId) (a : At t) (x y : Bool) → is_silent a.state ≡ x → Knows id a (if x then move_to (Say Silent) a else if y then move_to (Say Killed) (killed_after internal_error a) else move_to (Say NothingOwed) a)
+  quiet_by : (id : SpaceId) (a : At t) (x y z : Bool) → is_silent a.state ≡ x → Knows id a (if x then move_to (Say Silent) a else if y then (if z then move_to (Say Amplification) a else move_to (Say Killed) (killed_after internal_error a)) else move_to (Say NothingOwed) a)
   unfolding MayMove is_silent
-  quiet_by id a true y h = knows_move id (Say Silent) a tt tt
-  quiet_by id a false true h = knows_next id a (killed_after internal_error a) _ (knows_killed id internal_error a (loud_alive a.state.life.state a.state.waiting.close_owed h)) (knows_move id (Say Killed) (killed_after internal_error a) tt tt)
-  quiet_by id a false false h = knows_move id (Say NothingOwed) a tt tt
+  quiet_by id a true y z h = knows_move id (Say Silent) a tt tt
+  quiet_by id a false true true h = knows_move id (Say Amplification) a tt tt
+  quiet_by id a false true false h = knows_next id a (killed_after internal_error a) _ (knows_killed id internal_error a (loud_alive a.state.life.state a.state.waiting.close_owed h)) (knows_move id (Say Killed) (killed_after internal_error a) tt tt)
+  quiet_by id a false false z h = knows_move id (Say NothingOwed) a tt tt
 
   -- nothing more may be in flight
   calm_by : (id : SpaceId) (a : At t) (b : Bool) → Knows id a (if b then move_to Calm a else a)
@@ -239,12 +245,12 @@ module _ {t : Types} where
       let said : AcksOnly (IsKept space (waiting_without a.state.waiting space fs)) fs =
       only_more (IsKept space a.state.waiting) (IsKept space (waiting_without a.state.waiting space fs)) (taken_kept space a.state.waiting fs) fs (carries_known time a.state space fs may.carries) in
       knows_next id a b _ (knows_move id (Take space fs) a tt tt)
-      (knows_next id b c _ (knows_move id (Seal time space n 1200 fs) b (refl, closes_only time a.state fs may) said) (left_by id c (drops_initial c.state space)))
+      (knows_next id b c _ (knows_move id (Seal time space n 1200 fs) b (refl, closes_only time a.state fs may) said) (left_by id c (drops_initial Client c.state space)))
 
   -- a transmit seals a packet or none
   knows_transmit : (id : SpaceId) (time : ℕ) (ps : List (List FrameValue)) (a : At t) → MayTransmit time a.state ps → Knows id a (transmit_after time ps a)
-  unfolding MayTransmit transmit_after quiet_after
-  knows_transmit id time [] a may = quiet_by id a (is_silent a.state) (owes a.state) refl
+  unfolding MayTransmit transmit_after quiet_after owed_quiet_after
+  knows_transmit id time [] a may = quiet_by id a (is_silent a.state) (owes a.state) (is_blocked a.state.paths) refl
   knows_transmit id time (fs ∷ []) a may = knows_packet id time fs a may
   knows_transmit id time (fs ∷ gs ∷ rest) a may = absurd may
 
@@ -258,9 +264,11 @@ module _ {t : Types} where
   received_knows : (x : Move t) (s : View t) → IsReceived x → IsKnowing x s
   received_knows (Forget id) s r = tt
   received_knows (Enter id n v) s r = tt
+  received_knows (Expect token) s r = tt
   received_knows Fail s r = tt
   received_knows (Accept time id n e v) s r = r
   received_knows (Fix cid) s r = tt
+  received_knows Validate s r = tt
   received_knows (Hear bytes) s r = tt
   received_knows (Ack id n rs) s r = tt
   received_knows Calm s r = tt
@@ -269,6 +277,7 @@ module _ {t : Types} where
   received_knows (Write bytes keys session) s r = tt
   received_knows Ready s r = tt
   received_knows (Learn parameters) s r = tt
+  received_knows Confirm s r = tt
   received_knows Establish s r = tt
   received_knows (Tell d) s r = tt
   received_knows Drain s r = tt

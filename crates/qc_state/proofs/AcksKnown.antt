@@ -182,6 +182,7 @@ wait_known : (time : ℕ) (w : SpaceWaiting) (fs : List FrameValue) → WaitAll 
 unfolding WaitAll Waits without
 wait_known time w [] h = tt
 wait_known time w (frames.Padding ∷ fs) h = wait_known time w fs h.1
+wait_known time w (frames.HandshakeDone ∷ fs) h = wait_known time (record w { done = false }) fs h.1
 wait_known time w (frames.Ping ∷ fs) h = wait_known time (record w { ping = false }) fs h.1
 wait_known time w (frames.Ack ack ∷ fs) h = (says_known time w.acks ack h.0.1, wait_known time (record w { acks = ack_sent w.acks }) fs h.1)
 wait_known time w (frames.Crypto offset body ∷ fs) h = wait_known time (record w { crypto = unsent_after w.crypto (length body) }) fs h.1

@@ -4,6 +4,8 @@ use Rattle.std.specs.Prelude.{zero, suc, is_none, not, ◌&&◌, Result, Ok, Err
 use Rattle.std.specs.List.{list_any}
 use Rattle.std.specs.declared.net.SocketAddr.{SocketAddr}
 use Rattle.qc_base.specs.declared.transport_error.TransportError.{TransportError}
+use Rattle.qc_base.specs.declared.side.Side.{Side}
+use Rattle.qc_base.specs.declared.side.Side.TheVariants.{Client, Server}
 use Rattle.qc_base.specs.declared.side.SpaceId.{SpaceId}
 use Rattle.qc_base.specs.declared.side.SpaceId.TheVariants.{Initial, Handshake, «Data»}
 use Rattle.qc_frame.specs.Frame.{FrameValue, TypedValue}
@@ -27,12 +29,12 @@ use Rattle.qc_state.specs.declared.opening.Opening.{Opening}
 use Rattle.qc_state.specs.declared.opening.Opening.TheVariants.{Unreadable, Unopened, Reserved, Opened}
 use Rattle.qc_state.specs.Life.{rank_of, is_open, is_closed, is_handshake}
 use Rattle.qc_state.specs.Lower.{ready_bytes, stream_of}
-use Rattle.qc_state.specs.Moves.{Move, Give, Forget, Enter, Fail, Accept, Fix, Hear, Ack, Calm, Come, Read, Write, Ready, Learn, Establish, Tell, Drain, Leave, Owe, Shut, move_to, state_move, life_move, MayMove, accepts, enters, calmed}
+use Rattle.qc_state.specs.Moves.{Move, Give, Forget, Enter, Expect, Fail, Accept, Fix, Validate, Hear, Ack, Calm, Come, Read, Write, Ready, Learn, Confirm, Establish, Tell, Drain, Leave, Owe, Shut, move_to, state_move, life_move, MayMove, accepts, enters, calmed}
 use Rattle.qc_state.specs.Numbers.{is_new_in}
 use Rattle.qc_state.specs.Opening.{opening_of}
-use Rattle.qc_state.specs.Progress.{is_written, write_after, writes_after, written_after, ids_fit, parameters_and, is_end, ended_after, progress_after}
-use Rattle.qc_state.specs.Receiving.{reason_of, is_close_item, is_eliciting_item, left_after, acked_after, confirmed_after, applied_after, close_given, closed_in_data, close_and, end_after, crypto_stop, answered_and, given_and, kept_and, crypto_and, taken_and, frame_and, read_and, items_after, payload_after, fixes_peer, fixed_after, piece_told, read_for_close, admitted_after, verdict_after, received_after, opening_after, piece_after, pieces_after, cut_of, datagram_after}
-use Rattle.qc_state.specs.Sending.{given_after}
+use Rattle.qc_state.specs.Progress.{is_written, write_after, writes_after, written_after, ids_fit, parameters_and, is_end, ended_after, progress_after, learned_after, over_after}
+use Rattle.qc_state.specs.Receiving.{reason_of, is_close_item, is_eliciting_item, left_after, acked_after, confirmed_after, applied_after, close_given, closed_in_data, close_and, end_after, crypto_stop, answered_and, given_and, kept_and, crypto_and, taken_and, frame_and, read_and, items_after, payload_after, fixes_peer, fixed_after, piece_told, read_for_close, admitted_after, verdict_after, received_after, opening_after, piece_after, pieces_after, cut_of, datagram_after, accepted_after, validated_after, heard_after, first_token, first_after}
+use Rattle.qc_state.specs.Sending.{given_after, initial_left, drops_initial}
 use Rattle.qc_state.specs.Stopping.{missing_parameters, parameter_error, violation_at, stopped_after}
 use Rattle.qc_state.specs.Types.{Types, Meaning}
 use Rattle.qc_state.specs.Verdicts.{first_row, verdict_of}
@@ -83,9 +85,11 @@ first_holds false b h = cc
 abbrev pub IsReceived : {t : Types} → Move t → Type 0
 IsReceived (Forget id) = Unit {0}
 IsReceived (Enter id n v) = Unit {0}
+IsReceived (Expect token) = Unit {0}
 IsReceived Fail = Unit {0}
 IsReceived (Accept time id n e v) = accepts v ≡ true
 IsReceived (Fix cid) = Unit {0}
+IsReceived Validate = Unit {0}
 IsReceived (Hear bytes) = Unit {0}
 IsReceived (Ack id n rs) = Unit {0}
 IsReceived Calm = Unit {0}
@@ -94,6 +98,7 @@ IsReceived (Read id count session) = Unit {0}
 IsReceived (Write bytes keys session) = Unit {0}
 IsReceived Ready = Unit {0}
 IsReceived (Learn parameters) = Unit {0}
+IsReceived Confirm = Unit {0}
 IsReceived Establish = Unit {0}
 IsReceived (Tell d) = Unit {0}
 IsReceived Drain = Unit {0}
@@ -201,31 +206,53 @@ module _ {t : Types} (R : At t → At t → Type 0) (here : (a : At t) → R a a
   unfolding written_after
   holds_written m a = holds_writes (m.left a.state.lower.session) m a
 
-  -- parameters whose ids fit establish the connection, and others stop it
-  fit_by : (time : ℕ) (p : TransportParameters) (a : At t) (b : Bool) → rank_of a.state.life.state < 1 → R a (if b then move_to Establish (move_to (Learn p) a) else stopped_after time parameter_error a)
-  unfolding MayMove move_to state_move life_move
-  fit_by time p a true low =
-      let b : At t = move_to (Learn p) a in
-      next a b _ (move (Learn p) tt a tt) (move Establish tt b low)
-  fit_by time p a false low = holds_stopped time parameter_error a
+  -- parameters whose ids fit are known, and others stop the packet
+  fit_by : (time : ℕ) (p : TransportParameters) (others : At t → At t) (a : At t) (b : Bool) → R (move_to (Learn p) a) (others (move_to (Learn p) a)) →
+      R a (if b then others (move_to (Learn p) a) else stopped_after time parameter_error a)
+  unfolding MayMove
+  fit_by time p others a true h = next a (move_to (Learn p) a) _ (move (Learn p) tt a tt) h
+  fit_by time p others a false h = holds_stopped time parameter_error a
 
-  -- the peer's parameters, while the handshake goes on
-  holds_parameters : (time : ℕ) (r : Result (Option TransportParameters) TransportError) (a : At t) → rank_of a.state.life.state < 1 → R a (parameters_and time r a)
-  holds_parameters time (Err error) a low = holds_stopped time error a
-  holds_parameters time (Ok None) a low = holds_stopped time missing_parameters a
-  holds_parameters time (Ok (Some p)) a low = fit_by time p a (ids_fit a.state p) low
+  -- the peer's parameters
+  holds_parameters : (time : ℕ) (r : Result (Option TransportParameters) TransportError) (others : At t → At t) (a : At t) → ((p : TransportParameters) → R (move_to (Learn p) a) (others (move_to (Learn p) a))) → R a (parameters_and time r others a)
+  holds_parameters time (Err error) others a h = holds_stopped time error a
+  holds_parameters time (Ok None) others a h = holds_stopped time missing_parameters a
+  holds_parameters time (Ok (Some p)) others a h = fit_by time p others a (ids_fit a.state p) (h p)
+
+  -- a server reads the client's, or not
+  learned_by : (m : Meaning t) (time : ℕ) (a : At t) (b : Bool) → R a (if b then parameters_and time (m.parameters a.state.lower.session) (λ c. c) a else a)
+  learned_by m time a true = holds_parameters time (m.parameters a.state.lower.session) (λ c. c) a (λ p. here (move_to (Learn p) a))
+  learned_by m time a false = here a
+
+  holds_learned : (m : Meaning t) (time : ℕ) (before : SpaceId) (a : At t) → R a (learned_after m time before a)
+  unfolding learned_after
+  holds_learned m time before a = learned_by m time a _
+
+  -- the handshake is over, which went on before
+  holds_over : (m : Meaning t) (time : ℕ) (side : Side) (a : At t) → rank_of a.state.life.state < 1 → R a (over_after m time side a)
+  unfolding MayMove calmed move_to state_move life_move
+  holds_over m time Client a low = holds_parameters time (m.parameters a.state.lower.session) (move_to Establish) a (λ p. move Establish tt (move_to (Learn p) a) low)
+  holds_over m time Server a low =
+      let b : At t = move_to Confirm a in
+      let c : At t = move_to (Forget Handshake) b in
+      next a b _ (move Confirm tt a tt) (next b c _ (move (Forget Handshake) tt b tt) (confirmed_by c (is_calm c.state.waiting) low))
+    where
+      confirmed_by : (c : At t) (b : Bool) → rank_of c.state.life.state < 1 → R c (move_to Establish (if b then move_to Calm c else c))
+      confirmed_by c true below = let d : At t = move_to Calm c in next c d _ (move Calm tt c tt) (move Establish tt d below)
+      confirmed_by c false below = move Establish tt c below
 
   -- the handshake has ended, or goes on
-  ended_by : (time : ℕ) (r : Result (Option TransportParameters) TransportError) (a : At t) (over b : Bool) → (is_handshake a.state.life.state && over) ≡ b → R a (if b then parameters_and time r a else a)
-  ended_by time r a over true h = holds_parameters time r a (handshake_rank a.state.life.state (first_holds (is_handshake a.state.life.state) over h))
-  ended_by time r a over false h = here a
+  ended_by : (m : Meaning t) (time : ℕ) (side : Side) (a : At t) (over b : Bool) → (is_handshake a.state.life.state && over) ≡ b → R a (if b then over_after m time side a else a)
+  ended_by m time side a over true h = holds_over m time side a (handshake_rank a.state.life.state (first_holds (is_handshake a.state.life.state) over h))
+  ended_by m time side a over false h = here a
 
   -- the handshake goes on behind the frames of a packet
   holds_progress : (m : Meaning t) (time : ℕ) (space : SpaceId) (a : At t) → R a (progress_after m time space a)
   unfolding progress_after ended_after
   holds_progress m time space a =
       let b : At t = written_after m a in
-      next a b _ (holds_written m a) (ended_by time (m.parameters b.state.lower.session) b (is_end space (m.handshaking b.state.lower.session)) _ refl)
+      let c : At t = learned_after m time a.state.keys.highest b in
+      next a b _ (holds_written m a) (next b c _ (holds_learned m time a.state.keys.highest b) (ended_by m time c.state.setup.fixed.side c (is_end space (m.handshaking c.state.lower.session)) _ refl))
 
   -- the session answered a read
   holds_answered : (time : ℕ) (r : Result Bool TransportError) (others : At t → At t) (a : At t) → ((b : At t) → R b (others b)) → R a (answered_and time r others a)
@@ -309,13 +336,37 @@ module _ {t : Types} (R : At t → At t → Type 0) (here : (a : At t) → R a a
       let b : At t = move_to (Enter space number verdict.ReadForClose) a in
       next a b _ (move (Enter space number verdict.ReadForClose) tt a (new, refl)) (closing_by b (list_any is_close_item (items_of payload)) (closed_rank a.state.life.state closed))
 
+  -- the Initial keys are dropped, or not
+  initial_by : (a : At t) (b : Bool) → R a (if b then calmed (move_to (Forget Initial) a) else a)
+  unfolding calmed MayMove
+  initial_by a true = let b : At t = move_to (Forget Initial) a in next a b _ (move (Forget Initial) tt a tt) (calmed_by b (is_calm b.state.waiting))
+  initial_by a false = here a
+
+  holds_initial : (side : Side) (space : SpaceId) (a : At t) → R a (initial_left side space a)
+  unfolding initial_left
+  holds_initial side space a = initial_by a (drops_initial side a.state space)
+
+  -- a packet is accepted
+  holds_accepted : (time : ℕ) (space : SpaceId) (number : ℕ) (e : Bool) (v : Verdict) (a : At t) → is_new_in a.state.numbers space number ≡ true → enters v ≡ true → accepts v ≡ true → R a (accepted_after time space number e v a)
+  unfolding accepted_after MayMove
+  holds_accepted time space number e v a new enters_v accepts_v =
+      let b : At t = move_to (Accept time space number e v) a in
+      next a b _ (move (Accept time space number e v) accepts_v a (new, enters_v)) (holds_initial Server space b)
+
+  holds_validated : (space : SpaceId) (a : At t) → R a (validated_after space a)
+  unfolding MayMove
+  holds_validated Initial a = here a
+  holds_validated Handshake a = move Validate tt a tt
+  holds_validated Data a = here a
+
   holds_admitted : (m : Meaning t) (time : ℕ) (space : SpaceId) (source : List ℕ) (number : ℕ) (payload : List ℕ) (a : At t) → is_new_in a.state.numbers space number ≡ true → R a (admitted_after m time space source number payload a)
-  unfolding admitted_after MayMove
+  unfolding admitted_after
   holds_admitted m time space source number payload a new =
       let e : Bool = list_any is_eliciting_item (items_of payload) in
-      let b : At t = move_to (Accept time space number e verdict.Admitted) a in
-      let c : At t = fixed_after space source b in
-      next a b _ (move (Accept time space number e verdict.Admitted) refl a (new, refl)) (next b c _ (holds_fixed space source b) (holds_payload m time space payload c))
+      let b : At t = accepted_after time space number e verdict.Admitted a in
+      let c : At t = validated_after space b in
+      let d : At t = fixed_after space source c in
+      next a b _ (holds_accepted time space number e verdict.Admitted a new refl refl) (next b c _ (holds_validated space b) (next c d _ (holds_fixed space source c) (holds_payload m time space payload d)))
 
   verdict_by : (m : Meaning t) (time : ℕ) (space : SpaceId) (source : List ℕ) (number : ℕ) (payload : List ℕ) (v : Verdict) (a : At t) →
       (enters v ≡ true → is_new_in a.state.numbers space number ≡ true) → (v ≡ verdict.ReadForClose → is_closed a.state.life.state ≡ true) →
@@ -327,14 +378,14 @@ module _ {t : Types} (R : At t → At t → Type 0) (here : (a : At t) → R a a
   verdict_by m time space source number payload verdict.Seen a new closed = move (Tell (did.Piece (Some space) (Some number) verdict.Seen)) tt a refl
   verdict_by m time space source number payload verdict.ReadForClose a new closed = holds_closing space number payload a (new refl) (closed refl)
   verdict_by m time space source number payload verdict.NumberOnly a new closed = move (Enter space number verdict.NumberOnly) tt a (new refl, refl)
-  verdict_by m time space source number payload verdict.AckOnly a new closed = move (Accept time space number false verdict.AckOnly) refl a (new refl, refl)
+  verdict_by m time space source number payload verdict.AckOnly a new closed = holds_accepted time space number false verdict.AckOnly a (new refl) refl refl
   verdict_by m time space source number payload verdict.Admitted a new closed = holds_admitted m time space source number payload a (new refl)
 
-  holds_received : (m : Meaning t) (time : ℕ) (space : SpaceId) (source : List ℕ) (number : ℕ) (payload : List ℕ) (a : At t) → R a (received_after m time space source number payload a)
+  holds_received : (m : Meaning t) (time : ℕ) (space : SpaceId) (source token : List ℕ) (number : ℕ) (payload : List ℕ) (a : At t) → R a (received_after m time space source token number payload a)
   unfolding received_after verdict_of
-  holds_received m time space source number payload a =
-      verdict_by m time space source number payload (verdict_of a.state space source number) a
-      (λ h. new_by (is_new_in a.state.numbers space number) (is_closed a.state.life.state) _ _ (verdict_of a.state space source number) refl h)
+  holds_received m time space source token number payload a =
+      verdict_by m time space source number payload (verdict_of a.state space source token number) a
+      (λ h. new_by (is_new_in a.state.numbers space number) (is_closed a.state.life.state) _ _ (verdict_of a.state space source token number) refl h)
       (λ e. closed_by_row (is_new_in a.state.numbers space number) (is_closed a.state.life.state) _ _ e)
 
   holds_opening : (m : Meaning t) (time : ℕ) (space : Option SpaceId) (o : Opening) (a : At t) → R a (opening_after m time space o a)
@@ -346,8 +397,8 @@ module _ {t : Types} (R : At t → At t → Type 0) (here : (a : At t) → R a a
   holds_opening m time space (Reserved number) a =
       let b : At t = move_to (Tell (did.Piece space (Some number) verdict.BadBits)) a in
       next a b _ (move (Tell (did.Piece space (Some number) verdict.BadBits)) tt a refl) (holds_stopped time (violation_at None) b)
-  holds_opening m time (Some space) (Opened source number payload) a = holds_received m time space source number payload a
-  holds_opening m time None (Opened source number payload) a = move (Tell (did.Piece None None verdict.Ignored)) tt a refl
+  holds_opening m time (Some space) (Opened source token number payload) a = holds_received m time space source token number payload a
+  holds_opening m time None (Opened source token number payload) a = move (Tell (did.Piece None None verdict.Ignored)) tt a refl
 
   piece_by : (m : Meaning t) (time : ℕ) (p : Piece) (a : At t) (b : Bool) → R a (if b then piece_told (space_of p.header) None verdict.Ignored a else opening_after m time (space_of p.header) (opening_of m a.state p) a)
   unfolding MayMove
@@ -367,6 +418,20 @@ module _ {t : Types} (R : At t → At t → Type 0) (here : (a : At t) → R a a
       next a b _ (holds_pieces m time items a) (move (Hear n) tt b tt)
   datagram_by m time bytes items a false n = here a
 
+  holds_heard : (m : Meaning t) (time : ℕ) (remote : SocketAddr) (bytes : List ℕ) (a : At t) → R a (heard_after m time remote bytes a)
+  unfolding heard_after
+  holds_heard m time remote bytes a = datagram_by m time bytes (cut_of a.state bytes) a _ _
+
+  -- a datagram that may be a server's first one, or not
+  holds_first : (m : Meaning t) (time : ℕ) (remote : SocketAddr) (bytes : List ℕ) (token : Option (List ℕ)) (a : At t) → R a (first_after m time remote bytes token a)
+  unfolding MayMove
+  holds_first m time remote bytes None a = here a
+  holds_first m time remote bytes (Some token) a = let b : At t = move_to (Expect token) a in next a b _ (move (Expect token) tt a tt) (holds_heard m time remote bytes b)
+
+  first_by : (m : Meaning t) (time : ℕ) (remote : SocketAddr) (bytes : List ℕ) (token : Option (List ℕ)) (a : At t) (b : Bool) → R a (if b then first_after m time remote bytes token a else heard_after m time remote bytes a)
+  first_by m time remote bytes token a true = holds_first m time remote bytes token a
+  first_by m time remote bytes token a false = holds_heard m time remote bytes a
+
   pub holds_datagram : (m : Meaning t) (time : ℕ) (remote : SocketAddr) (bytes : List ℕ) (a : At t) → R a (datagram_after m time remote bytes a)
   unfolding datagram_after
-  holds_datagram m time remote bytes a = datagram_by m time bytes (cut_of a.state bytes) a _ _
+  holds_datagram m time remote bytes a = first_by m time remote bytes (first_token m a.state remote bytes) a _

@@ -3,6 +3,7 @@ use Rattle.std.proofs.Common.{◌≡◌, ℕ, ◌+◌, ◌-◌, ◌≤◌, List,
 use Rattle.std.specs.Prelude.{unwrap_or}
 use Rattle.std.proofs.lemmas.Bool.Decides.{nat_tests}
 use Rattle.std.specs.List.{list_any}
+use Rattle.qc_base.specs.declared.side.Side.TheVariants.{Client}
 use Rattle.qc_base.specs.declared.side.SpaceId.{SpaceId}
 use Rattle.qc_base.specs.declared.side.SpaceId.TheVariants.{Initial, Handshake, «Data»}
 use Rattle.qc_frame.specs.Frame.{FrameValue}
@@ -23,7 +24,8 @@ use Rattle.qc_state.specs.declared.waiting.SpaceWaiting.{SpaceWaiting}
 use Rattle.qc_state.specs.Keys.{keys_of}
 use Rattle.qc_state.specs.Moves.{Take, Seal, state_move, move_to, numbers_move, keys_move, life_move, paths_move, timers_move, waiting_move, setup_move, lower_move, deeds_move}
 use Rattle.qc_state.specs.Numbers.{next_number, acked_number}
-use Rattle.qc_state.specs.Sending.{close_frame, told_code, told_type, told_application_code, application_close, told_close, closing_frame, IsKeptReason, close_room, Closes, Carries, TakenNow, owes_in, sending_space, owes, is_past_limit, is_used_up, may_be_quiet, header_in, header_of, sealed_with, packet_bytes, initial_left, sealed_in, packet_after, quiet_after, transmit_after, MayTransmit, transmit_bytes, transmit_of, SealsOne, Transmits}
+use Rattle.qc_state.specs.Paths.{is_blocked}
+use Rattle.qc_state.specs.Sending.{close_frame, told_code, told_type, told_application_code, application_close, told_close, closing_frame, IsKeptReason, close_room, Closes, Carries, TakenNow, owes_in, sending_space, owes, is_past_limit, is_used_up, may_be_quiet, header_in, header_of, sealed_with, packet_bytes, initial_left, sealed_in, packet_after, quiet_after, transmit_after, MayTransmit, transmit_bytes, transmit_of, SealsOne, Transmits, is_silent}
 use Rattle.qc_state.specs.Spaces.{space_of, with_space}
 use Rattle.qc_state.specs.Types.{Types, Meaning}
 use Rattle.qc_state.specs.View.{View, At, at}
@@ -36,19 +38,26 @@ and_right true b h = h
 and_right false b h = cc
 
 -- none of three tests holds
-not_quiet_1 : (a b c : Bool) → (a || not b || c) ≡ false → a ≡ false
-not_quiet_1 true b c h = cc
-not_quiet_1 false b c h = refl
+not_quiet_1 : (a b c d : Bool) → (a || not b || c || d) ≡ false → a ≡ false
+not_quiet_1 true b c d h = cc
+not_quiet_1 false b c d h = refl
 
-not_quiet_2 : (a b c : Bool) → (a || not b || c) ≡ false → b ≡ true
-not_quiet_2 true b c h = cc
-not_quiet_2 false true c h = refl
-not_quiet_2 false false c h = cc
+not_quiet_2 : (a b c d : Bool) → (a || not b || c || d) ≡ false → b ≡ true
+not_quiet_2 true b c d h = cc
+not_quiet_2 false true c d h = refl
+not_quiet_2 false false c d h = cc
 
-not_quiet_3 : (a b c : Bool) → (a || not b || c) ≡ false → c ≡ false
-not_quiet_3 true b c h = cc
-not_quiet_3 false true c h = h
-not_quiet_3 false false c h = cc
+not_quiet_3 : (a b c d : Bool) → (a || not b || c || d) ≡ false → d ≡ false
+not_quiet_3 true b c d h = cc
+not_quiet_3 false true true d h = cc
+not_quiet_3 false true false d h = h
+not_quiet_3 false false c d h = cc
+
+not_quiet_4 : (a b c d : Bool) → (a || not b || c || d) ≡ false → c ≡ false
+not_quiet_4 true b c d h = cc
+not_quiet_4 false true true d h = cc
+not_quiet_4 false true false d h = refl
+not_quiet_4 false false c d h = cc
 
 -- of two tests of which none holds the first doesn't hold
 neither_left : (a b : Bool) → (a || b) ≡ false → a ≡ false
@@ -139,7 +148,7 @@ module _ {t : Types} where
   owed_waits s e h = owed_by (space_of s.waiting.spaces (sending_space s)) s.waiting.close_owed _ e (and_right _ _ h)
 
   -- the frames that are taken, with PADDING behind them, are what a packet may carry
-  carries : (time : ℕ) (s : View t) (room n : ℕ) (fs gs : List FrameValue) → owes s ≡ true → 19 ≤ room → TakenNow time s (sending_space s) room fs → gs ≡ fs ++ replicate n Padding → Carries time s (sending_space s) gs
+  carries : (time : ℕ) (s : View t) (room n : ℕ) (fs gs : List FrameValue) → owes s ≡ true → 20 ≤ room → TakenNow time s (sending_space s) room fs → gs ≡ fs ++ replicate n Padding → Carries time s (sending_space s) gs
   carries time s room n fs gs owed wide (TakenNow.a_close e closes) is_gs = Carries.a_close e fs closes n is_gs
   carries time s room n fs gs owed wide (TakenNow.what_waits e taken) is_gs =
       let w : SpaceWaiting = space_of s.waiting.spaces (sending_space s) in
@@ -149,23 +158,23 @@ module _ {t : Types} where
 
   -- frames are taken, filled up with PADDING, sealed, and counted, and the Initial space is left where this says so
   pub seals_one : (m : Meaning t) (time room number n : ℕ) (space : SpaceId) (a : At t) (mid : View t) (b c : At t) (buffer : List ℕ) (fs gs : List FrameValue) (h : Header) →
-      may_be_quiet a.state ≡ false → space ≡ sending_space a.state → 19 ≤ room →
+      may_be_quiet a.state ≡ false → space ≡ sending_space a.state → 20 ≤ room →
       TakenNow time a.state space room fs → gs ≡ fs ++ replicate n Padding →
       mid ≡ state_move (Take space fs) a.state → number ≡ next_number a.state.numbers space →
-      b ≡ move_to (Seal time space number DATAGRAM_SIZE gs) (at mid a.did) → c ≡ initial_left space b →
+      b ≡ move_to (Seal time space number DATAGRAM_SIZE gs) (at mid a.did) → c ≡ initial_left Client space b →
       h ≡ header_in a.state space → buffer ≡ sealed_with m (keys_of mid.keys space) h number (frames_spelling gs) →
       length buffer ≡ DATAGRAM_SIZE → SealsOne m time a c buffer
   unfolding may_be_quiet packet_after sealed_in packet_bytes header_of move_to deeds_move state_move keys_of keys_move
   seals_one m time room number n space a mid b c buffer fs gs h loud is_space wide taken is_gs is_mid is_number is_b is_c is_h is_buffer full =
-      let owed : owes a.state ≡ true = not_quiet_2 _ _ _ loud in
+      let owed : owes a.state ≡ true = not_quiet_2 (is_silent a.state) (owes a.state) (is_blocked a.state.paths) (is_used_up a.state) loud in
       let same : mid ≡ state_move (Take space gs) a.state = is_mid ∙ sym (ap (λ (x : List FrameValue). state_move (Take space x) a.state) is_gs ∙ take_padded space fs n a.state) in
       let now : TakenNow time a.state (sending_space a.state) room fs = subst (λ (id : SpaceId). TakenNow time a.state id room fs) is_space taken in
       record {
         frames = gs;
-        may = record { alive = not_quiet_1 _ _ _ loud; owed = owed; spelled = not_quiet_3 _ _ _ loud; carries = carries time a.state room n fs gs owed wide now is_gs };
-        leads = is_c ∙ ap (λ (x : At t). initial_left space x) is_b
-            ∙ ap (λ (x : View t). initial_left space (move_to (Seal time space number DATAGRAM_SIZE gs) (at x a.did))) same
-            ∙ ap (λ (x : ℕ). initial_left space (move_to (Seal time space x DATAGRAM_SIZE gs) (move_to (Take space gs) a))) is_number
+        may = record { alive = not_quiet_1 (is_silent a.state) (owes a.state) (is_blocked a.state.paths) (is_used_up a.state) loud; owed = owed; free = not_quiet_4 (is_silent a.state) (owes a.state) (is_blocked a.state.paths) (is_used_up a.state) loud; spelled = not_quiet_3 (is_silent a.state) (owes a.state) (is_blocked a.state.paths) (is_used_up a.state) loud; carries = carries time a.state room n fs gs owed wide now is_gs };
+        leads = is_c ∙ ap (λ (x : At t). initial_left Client space x) is_b
+            ∙ ap (λ (x : View t). initial_left Client space (move_to (Seal time space number DATAGRAM_SIZE gs) (at x a.did))) same
+            ∙ ap (λ (x : ℕ). initial_left Client space (move_to (Seal time space x DATAGRAM_SIZE gs) (move_to (Take space gs) a))) is_number
             ∙ ap (λ (id : SpaceId). sealed_in time id gs a) is_space;
         bytes = is_buffer ∙ ap (λ (x : Header). sealed_with m (keys_of mid.keys space) x number (frames_spelling gs)) is_h
             ∙ ap (λ (x : View t). sealed_with m (keys_of x.keys space) (header_in a.state space) number (frames_spelling gs)) same
@@ -189,20 +198,20 @@ module _ {t : Types} where
   unfolding may_be_quiet is_used_up
   loud_low s space is_space h =
       subst (λ (id : SpaceId). next_number s.numbers id < 2 ^ 62 - 1) (sym is_space)
-      (number_low (next_number s.numbers (sending_space s)) (acked_number s.numbers (sending_space s)) (not_quiet_3 _ _ _ h))
+      (number_low (next_number s.numbers (sending_space s)) (acked_number s.numbers (sending_space s)) (not_quiet_3 (is_silent s) (owes s) (is_blocked s.paths) (is_used_up s) h))
 
   -- and it is near the greatest acknowledged one
   pub loud_near : (s : View t) (space : SpaceId) → space ≡ sending_space s → may_be_quiet s ≡ false → next_number s.numbers space - acked_number s.numbers space < 2 ^ 31
   unfolding may_be_quiet is_used_up
   loud_near s space is_space h =
       subst (λ (id : SpaceId). next_number s.numbers id - acked_number s.numbers id < 2 ^ 31) (sym is_space)
-      (number_near (next_number s.numbers (sending_space s)) (acked_number s.numbers (sending_space s)) (not_quiet_3 _ _ _ h))
+      (number_near (next_number s.numbers (sending_space s)) (acked_number s.numbers (sending_space s)) (not_quiet_3 (is_silent s) (owes s) (is_blocked s.paths) (is_used_up s) h))
 
   -- and its space has keys, once frames were taken too
   pub loud_keyed : (s mid : View t) (space : SpaceId) (fs : List FrameValue) → space ≡ sending_space s → may_be_quiet s ≡ false → mid ≡ state_move (Take space fs) s → IsSome (keys_of mid.keys space)
   unfolding may_be_quiet owes owes_in state_move keys_move
   loud_keyed s mid space fs is_space h e =
-      ap (λ (x : View t). is_some (keys_of x.keys space)) e ∙ ap (λ (id : SpaceId). is_some (keys_of s.keys id)) is_space ∙ and_left _ _ (not_quiet_2 _ _ _ h)
+      ap (λ (x : View t). is_some (keys_of x.keys space)) e ∙ ap (λ (id : SpaceId). is_some (keys_of s.keys id)) is_space ∙ and_left _ _ (not_quiet_2 (is_silent s) (owes s) (is_blocked s.paths) (is_used_up s) h)
 
   -- the header of the next packet is that of its space
   pub header_now : (s : View t) (space : SpaceId) (h : Header) → space ≡ sending_space s → h ≡ header_of s → h ≡ header_in s space

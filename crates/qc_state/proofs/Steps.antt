@@ -1,4 +1,5 @@
 -- From a call and the reports after it to a step.
+use Rattle.std.specs.Prelude.{is_none}
 use Rattle.std.proofs.Common.{◌≡◌, ℕ, ◌+◌, ◌≤◌, List, [], ◌∷◌, ◌++◌, length, take, get_or, ◌<◌, refl, ap, sym, ◌∙◌, subst, Bool, true, false, Option, if◌then◌else◌, arith, length-append}
 use Rattle.std.proofs.lemmas.List.{take_more}
 use Rattle.std.specs.Prelude.{option_to_list}
@@ -6,8 +7,9 @@ use Rattle.std.specs.declared.net.SocketAddr.{SocketAddr}
 use Rattle.qc_base.specs.declared.ecn.EcnCodepoint.{EcnCodepoint}
 use Rattle.qc_frame.specs.Frame.{FrameValue}
 use Rattle.qc_state.specs.declared.deeds.Did.{Did}
-use Rattle.qc_state.specs.declared.deeds.Quiet.TheVariants.{NothingOwed, Silent, Killed}
+use Rattle.qc_state.specs.declared.deeds.Quiet.TheVariants.{NothingOwed, Silent, Killed, Amplification}
 use Rattle.qc_state.specs.declared.life.State.TheVariants.{Drained}
+use Rattle.qc_base.specs.declared.side.Side.TheVariants.{Client}
 use Rattle.qc_base.specs.declared.side.SpaceId.{SpaceId}
 use Rattle.qc_base.specs.declared.side.SpaceId.TheVariants.{Initial}
 use Rattle.qc_state.specs.declared.events.Event.{Event}
@@ -22,8 +24,9 @@ use Rattle.qc_state.specs.Life.{ready_event, connected_event, lost_event, waitin
 use Rattle.qc_state.specs.Moves.{Ask, Clock, Take, Seal, Forget, Calm, Raise, Give, Say, ReportReady, ReportConnected, ReportLost, ReportDrained, state_move, move_to, deeds_move, life_move, calmed}
 use Rattle.qc_state.specs.Run.{time_of, word_of, packets_of, began, close_after, input_after, called, reported, step_after, IsAllowed, out_of, answer_of, IsStep, Run, Calls, Ran, Adds}
 use Rattle.qc_state.specs.Numbers.{next_number}
-use Rattle.qc_state.specs.Receiving.{is_readable, datagram_after}
-use Rattle.qc_state.specs.Sending.{internal_error, given_after, killed_after, quiet_after, sending_space, drops_initial, initial_left, sealed_in, packet_after, transmit_after, MayTransmit, transmit_bytes, transmit_of, Transmits}
+use Rattle.qc_state.specs.Receiving.{is_taken, datagram_after}
+use Rattle.qc_state.specs.Paths.{is_blocked}
+use Rattle.qc_state.specs.Sending.{internal_error, given_after, killed_after, quiet_after, sending_space, drops_initial, initial_left, sealed_in, packet_after, transmit_after, MayTransmit, transmit_bytes, transmit_of, Transmits, owed_quiet_after, is_silent, owes}
 use Rattle.qc_state.specs.Timers.{next_timeout}
 use Rattle.qc_state.specs.Types.{Types, Meaning}
 use Rattle.qc_state.specs.View.{View, At, at}
@@ -31,14 +34,15 @@ use Rattle.qc_state.specs.Waiting.{is_calm}
 
 module _ {t : Types} where
   -- deeds that seal nothing name no packets, whichever they are
-  quiet_told : (s : View t) (why : ConnectionError) (x y z : Bool) →
+  quiet_told : (s : View t) (why : ConnectionError) (x y u z : Bool) →
       let b : At t = move_to (Raise Drained) (at s []) in
-      packets_of (if x then move_to (Say Silent) (at s []) else if y then move_to (Say Killed) (if z then move_to (Give why) b else b) else move_to (Say NothingOwed) (at s [])).did ≡ []
+      packets_of (if x then move_to (Say Silent) (at s []) else if y then (if u then move_to (Say Amplification) (at s []) else move_to (Say Killed) (if z then move_to (Give why) b else b)) else move_to (Say NothingOwed) (at s [])).did ≡ []
   unfolding move_to deeds_move
-  quiet_told s why true y z = refl
-  quiet_told s why false true true = refl
-  quiet_told s why false true false = refl
-  quiet_told s why false false z = refl
+  quiet_told s why true y u z = refl
+  quiet_told s why false true true z = refl
+  quiet_told s why false true false true = refl
+  quiet_told s why false true false false = refl
+  quiet_told s why false false u z = refl
 
   -- dropping keys tells nothing
   calm_did : (a : At t) (b : Bool) → (if b then move_to Calm a else a).did ≡ a.did
@@ -57,12 +61,12 @@ module _ {t : Types} where
   unfolding sealed_in initial_left move_to deeds_move
   packet_told time s id fs =
       let b : At t = move_to (Seal time id (next_number s.numbers id) 1200 fs) (move_to (Take id fs) (at s [])) in
-      ap packets_of (left_did b (drops_initial b.state id))
+      ap packets_of (left_did b (drops_initial Client b.state id))
 
   -- a transmit's deeds name the packets that it sealed
   packets_told : (time : ℕ) (s : View t) (packets : List (List FrameValue)) → MayTransmit time s packets → packets_of (transmit_after time packets (at s [])).did ≡ packets
-  unfolding MayTransmit transmit_after quiet_after killed_after given_after packet_after
-  packets_told time s [] may = quiet_told s internal_error _ _ _
+  unfolding MayTransmit transmit_after quiet_after owed_quiet_after killed_after given_after packet_after move_to state_move
+  packets_told time s [] may = quiet_told s internal_error (is_silent s) (owes s) (is_blocked s.paths) (is_none (state_move (Raise Drained) s).life.reason)
   packets_told time s (fs ∷ []) may = packet_told time s (sending_space s) fs
   packets_told time s (fs ∷ gs ∷ rest) may = absurd may
 
@@ -97,12 +101,12 @@ module _ {t : Types} where
   }
 
   pub calls_datagram : (m : Meaning t) (s mid : View t) (time : ℕ) (remote : SocketAddr) (ecn : Option EcnCodepoint) (bytes copy : List ℕ) (ds : List Did) (b : At t) (begins : Bool) (answer : Answer) →
-      mid ≡ state_move (Clock time) s → ds ≡ [] → copy ≡ bytes → b ≡ datagram_after m time remote copy (at mid ds) → begins ≡ is_readable mid copy → answer ≡ (if begins then Done else Dropped) → Calls m s (input.Datagram time remote ecn bytes) b answer
+      mid ≡ state_move (Clock time) s → ds ≡ [] → copy ≡ bytes → b ≡ datagram_after m time remote copy (at mid ds) → begins ≡ is_taken m mid remote copy → answer ≡ (if begins then Done else Dropped) → Calls m s (input.Datagram time remote ecn bytes) b answer
   unfolding began input_after called IsAllowed answer_of
   calls_datagram m s mid time remote ecn bytes copy ds b begins answer is_mid is_ds is_copy is_b is_begins e = record {
     leads = is_b ∙ ap (λ (x : List ℕ). datagram_after m time remote x (at mid ds)) is_copy ∙ ap (λ (x : List Did). datagram_after m time remote bytes (at mid x)) is_ds ∙ ap (λ (x : View t). datagram_after m time remote bytes (at x [])) is_mid;
     allowed = tt;
-    answers = e ∙ ap (λ (x : Bool). if x then Done else Dropped) (is_begins ∙ ap (is_readable mid) is_copy ∙ ap (λ (x : View t). is_readable x bytes) is_mid);
+    answers = e ∙ ap (λ (x : Bool). if x then Done else Dropped) (is_begins ∙ ap (is_taken m mid remote) is_copy ∙ ap (λ (x : View t). is_taken m x remote bytes) is_mid);
   }
 
   -- reporting one thing leaves the reports of the others as they were

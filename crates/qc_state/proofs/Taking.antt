@@ -5,10 +5,10 @@ use Rattle.qc_frame.specs.AckRanges.{ArePackets}
 use Rattle.qc_frame.specs.Frame.{AckValue, FrameValue}
 use Rattle.qc_frame.specs.declared.frames.FrameOf.TheVariants as frames
 use Rattle.qc_frame.specs.FrameSpelling.{frames_spelling}
-use Rattle.qc_frame.specs.declared.frames.FrameOf.TheVariants.{Ping, Crypto}
+use Rattle.qc_frame.specs.declared.frames.FrameOf.TheVariants.{HandshakeDone, Ping}
 use Rattle.qc_path.specs.Acks.{PendingValues}
 use Rattle.qc_state.specs.Acks.{AckPart, SaysAck, ack_sent, is_ack_owed}
-use Rattle.qc_state.specs.Waiting.{TakenPart, TakesAck, ping_part, crypto_part, without, without_all}
+use Rattle.qc_state.specs.Waiting.{TakenPart, TakesAck, marks_part, done_part, ping_part, crypto_part, without, without_all}
 use Rattle.qc_state.specs.declared.waiting.SpaceWaiting.{SpaceWaiting}
 
 -- what waits once joined lists are sealed
@@ -17,28 +17,32 @@ unfolding without_all
 append_left w [] gs = refl
 append_left w (f ∷ fs) gs = append_left (without w f) fs gs
 
--- a PING leaves the numbers to acknowledge and the CRYPTO bytes
-ping_acks_by : (w : SpaceWaiting) (b : Bool) → (without_all w (if b then Ping ∷ [] else [])).acks ≡ w.acks
+-- a HANDSHAKE_DONE and a PING leave the numbers to acknowledge and the CRYPTO bytes
+marks_acks_by : (w : SpaceWaiting) (a b : Bool) → (without_all w ((if a then HandshakeDone ∷ [] else []) ++ (if b then Ping ∷ [] else []))).acks ≡ w.acks
 unfolding without_all without
-ping_acks_by w true = refl
-ping_acks_by w false = refl
+marks_acks_by w true true = refl
+marks_acks_by w true false = refl
+marks_acks_by w false true = refl
+marks_acks_by w false false = refl
 
-ping_crypto_by : (w : SpaceWaiting) (b : Bool) → (without_all w (if b then Ping ∷ [] else [])).crypto ≡ w.crypto
+marks_crypto_by : (w : SpaceWaiting) (a b : Bool) → (without_all w ((if a then HandshakeDone ∷ [] else []) ++ (if b then Ping ∷ [] else []))).crypto ≡ w.crypto
 unfolding without_all without
-ping_crypto_by w true = refl
-ping_crypto_by w false = refl
+marks_crypto_by w true true = refl
+marks_crypto_by w true false = refl
+marks_crypto_by w false true = refl
+marks_crypto_by w false false = refl
 
-ping_crypto : (w : SpaceWaiting) → (without_all w (ping_part w)).crypto ≡ w.crypto
-unfolding ping_part
-ping_crypto w = ping_crypto_by w w.ping
+marks_crypto : (w : SpaceWaiting) → (without_all w (marks_part w)).crypto ≡ w.crypto
+unfolding marks_part done_part ping_part
+marks_crypto w = marks_crypto_by w w.done w.ping
 
-ping_acks : (w : SpaceWaiting) → (without_all w (ping_part w)).acks ≡ w.acks
-unfolding ping_part
-ping_acks w = ping_acks_by w w.ping
+marks_acks : (w : SpaceWaiting) → (without_all w (marks_part w)).acks ≡ w.acks
+unfolding marks_part done_part ping_part
+marks_acks w = marks_acks_by w w.done w.ping
 
--- the numbers are those of packets once the PING was taken, too
-pub same_acks : (w w1 : SpaceWaiting) (due : Bool) → w1 ≡ without_all w (ping_part w) → (due ≡ true → ArePackets w.acks.ranges) → due ≡ true → ArePackets w1.acks.ranges
-same_acks w w1 due is packets h = subst (λ (p : PendingValues). ArePackets p.ranges) (sym (ap (λ (x : SpaceWaiting). x.acks) is ∙ ping_acks w)) (packets h)
+-- the numbers are those of packets once the marks were taken, too
+pub same_acks : (w w1 : SpaceWaiting) (due : Bool) → w1 ≡ without_all w (marks_part w) → (due ≡ true → ArePackets w.acks.ranges) → due ≡ true → ArePackets w1.acks.ranges
+same_acks w w1 due is packets h = subst (λ (p : PendingValues). ArePackets p.ranges) (sym (ap (λ (x : SpaceWaiting). x.acks) is ∙ marks_acks w)) (packets h)
 
 -- an ACK leaves the CRYPTO bytes
 ack_crypto : (time : ℕ) (p : PendingValues) (acks : List FrameValue) (due : Bool) (w : SpaceWaiting) → AckPart time p acks due → (without_all w acks).crypto ≡ w.crypto
@@ -53,30 +57,30 @@ crypto_by w v room same = rw same refl
 
 -- what is left once all parts were taken
 pub without_parts : (time : ℕ) (w w1 w2 w3 : SpaceWaiting) (fs0 fs1 fs2 fs3 : List FrameValue) (room len : ℕ) (due : Bool) →
-    fs0 ≡ [] → fs1 ≡ fs0 ++ ping_part w → w1 ≡ without_all w (ping_part w) → TakesAck time due w1 w2 fs1 fs2 len →
+    fs0 ≡ [] → fs1 ≡ fs0 ++ marks_part w → w1 ≡ without_all w (marks_part w) → TakesAck time due w1 w2 fs1 fs2 len →
     fs3 ≡ fs2 ++ crypto_part w2 room → w3 ≡ without_all w2 (crypto_part w2 room) → w3 ≡ without_all w fs3
 without_parts time w w1 w2 w3 fs0 fs1 fs2 fs3 room len due is_fs0 is_fs1 is_w1 takes is_fs3 is_w3 =
-    let e1 : fs1 ≡ ping_part w = is_fs1 ∙ ap (λ (fs : List FrameValue). fs ++ ping_part w) is_fs0 in
-    let e2 : fs2 ≡ ping_part w ++ takes.acks = takes.list ∙ ap (λ (fs : List FrameValue). fs ++ takes.acks) e1 in
-    let l2 : w2 ≡ without_all w (ping_part w ++ takes.acks) = takes.rest ∙ ap (λ (x : SpaceWaiting). without_all x takes.acks) is_w1 ∙ sym (append_left w (ping_part w) takes.acks) in
-    is_w3 ∙ ap (λ (x : SpaceWaiting). without_all x (crypto_part w2 room)) l2 ∙ sym (append_left w (ping_part w ++ takes.acks) (crypto_part w2 room))
+    let e1 : fs1 ≡ marks_part w = is_fs1 ∙ ap (λ (fs : List FrameValue). fs ++ marks_part w) is_fs0 in
+    let e2 : fs2 ≡ marks_part w ++ takes.acks = takes.list ∙ ap (λ (fs : List FrameValue). fs ++ takes.acks) e1 in
+    let l2 : w2 ≡ without_all w (marks_part w ++ takes.acks) = takes.rest ∙ ap (λ (x : SpaceWaiting). without_all x takes.acks) is_w1 ∙ sym (append_left w (marks_part w) takes.acks) in
+    is_w3 ∙ ap (λ (x : SpaceWaiting). without_all x (crypto_part w2 room)) l2 ∙ sym (append_left w (marks_part w ++ takes.acks) (crypto_part w2 room))
     ∙ ap (λ (fs : List FrameValue). without_all w fs) (sym (is_fs3 ∙ ap (λ (fs : List FrameValue). fs ++ crypto_part w2 room) e2))
 
 -- the parts are the frames that may be taken
 pub taken_part : (time : ℕ) (w w1 w2 : SpaceWaiting) (fs0 fs1 fs2 fs3 : List FrameValue) (room less len : ℕ) (due : Bool) →
-    due ≡ is_ack_owed w.acks → fs0 ≡ [] → fs1 ≡ fs0 ++ ping_part w → w1 ≡ without_all w (ping_part w) → TakesAck time due w1 w2 fs1 fs2 len → less ≡ room - 1 →
+    due ≡ is_ack_owed w.acks → fs0 ≡ [] → fs1 ≡ fs0 ++ marks_part w → w1 ≡ without_all w (marks_part w) → TakesAck time due w1 w2 fs1 fs2 len → less ≡ room - 2 →
     fs3 ≡ fs2 ++ crypto_part w2 (less - len) → TakenPart time w room fs3
 taken_part time w w1 w2 fs0 fs1 fs2 fs3 room less len due is_due is_fs0 is_fs1 is_w1 takes is_less is_fs3 =
-    let e1 : fs1 ≡ ping_part w = is_fs1 ∙ ap (λ (fs : List FrameValue). fs ++ ping_part w) is_fs0 in
-    let e2 : fs2 ≡ ping_part w ++ takes.acks = takes.list ∙ ap (λ (fs : List FrameValue). fs ++ takes.acks) e1 in
-    let same : w1.acks ≡ w.acks = ap (λ (x : SpaceWaiting). x.acks) is_w1 ∙ ping_acks w in
-    let bytes : w2.crypto ≡ w.crypto = ap (λ (x : SpaceWaiting). x.crypto) takes.rest ∙ ack_crypto time w1.acks takes.acks due w1 takes.part ∙ ap (λ (x : SpaceWaiting). x.crypto) is_w1 ∙ ping_crypto w in
-    let size : less - len ≡ room - 1 - length (frames_spelling takes.acks) = ap (λ (n : ℕ). n - len) is_less ∙ ap (λ (n : ℕ). room - 1 - n) takes.size in
+    let e1 : fs1 ≡ marks_part w = is_fs1 ∙ ap (λ (fs : List FrameValue). fs ++ marks_part w) is_fs0 in
+    let e2 : fs2 ≡ marks_part w ++ takes.acks = takes.list ∙ ap (λ (fs : List FrameValue). fs ++ takes.acks) e1 in
+    let same : w1.acks ≡ w.acks = ap (λ (x : SpaceWaiting). x.acks) is_w1 ∙ marks_acks w in
+    let bytes : w2.crypto ≡ w.crypto = ap (λ (x : SpaceWaiting). x.crypto) takes.rest ∙ ack_crypto time w1.acks takes.acks due w1 takes.part ∙ ap (λ (x : SpaceWaiting). x.crypto) is_w1 ∙ marks_crypto w in
+    let size : less - len ≡ room - 2 - length (frames_spelling takes.acks) = ap (λ (n : ℕ). n - len) is_less ∙ ap (λ (n : ℕ). room - 2 - n) takes.size in
     record {
       acks = takes.acks;
       ack = subst (λ (b : Bool). AckPart time w.acks takes.acks b) is_due (subst (λ (p : PendingValues). AckPart time p takes.acks due) same takes.part);
-      all = is_fs3 ∙ ap (λ (fs : List FrameValue). fs ++ crypto_part w2 (less - len)) e2 ∙ append_assoc (ping_part w) takes.acks (crypto_part w2 (less - len))
-          ∙ ap (λ (fs : List FrameValue). ping_part w ++ (takes.acks ++ fs)) (crypto_by w2 w (less - len) bytes ∙ ap (λ (n : ℕ). crypto_part w n) size);
+      all = is_fs3 ∙ ap (λ (fs : List FrameValue). fs ++ crypto_part w2 (less - len)) e2 ∙ append_assoc (marks_part w) takes.acks (crypto_part w2 (less - len))
+          ∙ ap (λ (fs : List FrameValue). marks_part w ++ (takes.acks ++ fs)) (crypto_by w2 w (less - len) bytes ∙ ap (λ (n : ℕ). crypto_part w n) size);
     }
 
 -- no ACK is due, and none is taken

@@ -3,12 +3,13 @@ use Rattle.std.proofs.Common.{◌≡◌, ℕ, ◌+◌, ◌≤◌, List, [], ◌�
 use Rattle.std.specs.Prelude.{option_to_list, ◌||◌, ◌&&◌, not}
 use Rattle.std.specs.List.{list_any}
 use Rattle.std.proofs.lemmas.List.Folds.{list_any-append}
+use Rattle.qc_base.specs.declared.side.Side.TheVariants.{Client}
 use Rattle.qc_base.specs.declared.side.SpaceId.{SpaceId}
 use Rattle.qc_base.specs.declared.side.SpaceId.TheVariants.{Initial, Handshake, «Data»}
 use Rattle.qc_frame.specs.Frame.{FrameValue}
 use Rattle.qc_frame.specs.declared.frames.FrameOf.TheVariants.{Padding}
 use Rattle.qc_state.specs.declared.deeds.Did.{Did}
-use Rattle.qc_state.specs.declared.deeds.Quiet.TheVariants.{NothingOwed, Silent, Killed}
+use Rattle.qc_state.specs.declared.deeds.Quiet.TheVariants.{NothingOwed, Silent, Killed, Amplification}
 use Rattle.qc_state.specs.declared.input.Input.{Input}
 use Rattle.qc_state.specs.declared.input.Input.TheVariants as input
 use Rattle.qc_state.specs.declared.life.Close.{Close}
@@ -23,7 +24,8 @@ use Rattle.qc_state.specs.Life.{rank_of, is_open, is_closed, is_drained, ready_r
 use Rattle.qc_state.specs.Moves.{ClosesOnly, is_close, Ask, Take, Seal, Forget, Calm, Shut, Raise, Say, state_move, move_to, MayMove, numbers_move, life_move, timers_move, calmed}
 use Rattle.qc_state.specs.Numbers.{next_number, came_in}
 use Rattle.qc_state.specs.Run.{time_of, packets_of, began, close_after, input_after, called, reported, step_after, IsAllowed, IsStep, Run, Ran}
-use Rattle.qc_state.specs.Sending.{close_frame, application_close, told_close, closing_frame, Closes, is_silent, owes, sending_space, internal_error, given_after, killed_after, quiet_after, drops_initial, initial_left, sealed_in, packet_after, transmit_after, Carries, MaySeal, MayTransmit}
+use Rattle.qc_state.specs.Paths.{is_blocked}
+use Rattle.qc_state.specs.Sending.{close_frame, application_close, told_close, closing_frame, Closes, is_silent, owes, sending_space, internal_error, given_after, killed_after, quiet_after, drops_initial, initial_left, sealed_in, packet_after, transmit_after, Carries, MaySeal, MayTransmit, owed_quiet_after}
 use Rattle.qc_state.specs.Timers.{clock_set}
 use Rattle.qc_state.specs.Types.{Types, Meaning}
 use Rattle.qc_state.specs.View.{View, At}
@@ -77,11 +79,12 @@ module _ {t : Types} where
   unfolding killed_after given_after MayMove
   told_killed id why a h = told_next id a (move_to (Raise state.Drained) a) _ (told_move id (Raise state.Drained) a (low_rank a.state.life.state h)) (given_by id why (move_to (Raise state.Drained) a) _ refl)
 
-  quiet_by : (id : SpaceId) (a : At t) (x y : Bool) → is_silent a.state ≡ x → Told id a (if x then move_to (Say Silent) a else if y then move_to (Say Killed) (killed_after internal_error a) else move_to (Say NothingOwed) a)
+  quiet_by : (id : SpaceId) (a : At t) (x y z : Bool) → is_silent a.state ≡ x → Told id a (if x then move_to (Say Silent) a else if y then (if z then move_to (Say Amplification) a else move_to (Say Killed) (killed_after internal_error a)) else move_to (Say NothingOwed) a)
   unfolding MayMove is_silent
-  quiet_by id a true y h = told_move id (Say Silent) a tt
-  quiet_by id a false true h = told_next id a (killed_after internal_error a) _ (told_killed id internal_error a (loud_alive a.state.life.state a.state.waiting.close_owed h)) (told_move id (Say Killed) (killed_after internal_error a) tt)
-  quiet_by id a false false h = told_move id (Say NothingOwed) a tt
+  quiet_by id a true y z h = told_move id (Say Silent) a tt
+  quiet_by id a false true true h = told_move id (Say Amplification) a tt
+  quiet_by id a false true false h = told_next id a (killed_after internal_error a) _ (told_killed id internal_error a (loud_alive a.state.life.state a.state.waiting.close_owed h)) (told_move id (Say Killed) (killed_after internal_error a) tt)
+  quiet_by id a false false z h = told_move id (Say NothingOwed) a tt
 
   -- an ACK and a close hold a close
   closes_close : (time : ℕ) (s : View t) (id : SpaceId) (gs : List FrameValue) → Closes time s id gs → list_any is_close gs ≡ true
@@ -118,11 +121,11 @@ module _ {t : Types} where
       let b : At t = move_to (Take space fs) a in
       let c : At t = move_to (Seal time space (next_number a.state.numbers space) 1200 fs) b in
       told_next id a b _ (told_move id (Take space fs) a tt)
-      (told_next id b c _ (told_move id (Seal time space (next_number a.state.numbers space) 1200 fs) b (refl, closes_only time a.state fs may)) (told_left_by id c (drops_initial c.state space)))
+      (told_next id b c _ (told_move id (Seal time space (next_number a.state.numbers space) 1200 fs) b (refl, closes_only time a.state fs may)) (told_left_by id c (drops_initial Client c.state space)))
 
   told_transmit : (id : SpaceId) (time : ℕ) (ps : List (List FrameValue)) (a : At t) → MayTransmit time a.state ps → Told id a (transmit_after time ps a)
-  unfolding MayTransmit transmit_after quiet_after
-  told_transmit id time [] a may = quiet_by id a (is_silent a.state) (owes a.state) refl
+  unfolding MayTransmit transmit_after quiet_after owed_quiet_after
+  told_transmit id time [] a may = quiet_by id a (is_silent a.state) (owes a.state) (is_blocked a.state.paths) refl
   told_transmit id time (fs ∷ []) a may = told_packet id time fs a may
   told_transmit id time (fs ∷ gs ∷ rest) a may = absurd may
 

@@ -11,12 +11,12 @@ use Rattle.qc_frame.specs.AckRanges.{ranges_of}
 use Rattle.qc_frame.specs.FrameFits.{Fits}
 use Rattle.qc_frame.specs.FrameSpelling.{spelling, ecn_spelling, frames_spelling}
 use Rattle.qc_frame.specs.declared.frames.EcnCounts.{EcnCounts}
-use Rattle.qc_frame.specs.declared.frames.FrameOf.TheVariants.{Padding, Ping, Ack, Crypto}
+use Rattle.qc_frame.specs.declared.frames.FrameOf.TheVariants.{Padding, HandshakeDone, Ping, Ack, Crypto}
 use Rattle.qc_frame.proofs.Lengths.{ack_size_max}
 use Rattle.qc_path.specs.Acks.{PendingValues}
 use Rattle.qc_state.specs.Acks.{AckPart, SaysAck, ack_sent, is_ack_owed}
 use Rattle.qc_state.specs.declared.waiting.SpaceWaiting.{SpaceWaiting}
-use Rattle.qc_state.specs.Waiting.{Waits, WaitAll, without, without_all, waits_here, is_told, ping_part, crypto_part, TakenPart}
+use Rattle.qc_state.specs.Waiting.{Waits, WaitAll, without, without_all, waits_here, is_told, marks_part, done_part, ping_part, crypto_part, TakenPart}
 
 -- what waits once joined lists are sealed
 pub without_all_append : (w : SpaceWaiting) (fs gs : List FrameValue) → without_all w (fs ++ gs) ≡ without_all (without_all w fs) gs
@@ -70,17 +70,20 @@ behind_waits time w room acks true (AckPart.one ack says is) h =
     subst (λ (x : List FrameValue). WaitAll time w (x ++ crypto_part w room)) (sym is) ((h, says), crypto_waits time (record w { acks = ack_sent w.acks }) room)
 behind_waits time w room acks false (AckPart.none is) h = subst (λ (x : List FrameValue). WaitAll time w (x ++ crypto_part w room)) (sym is) (crypto_waits time w room)
 
--- the PING waits where it was asked for, and the others behind it
-front_waits : (time : ℕ) (w : SpaceWaiting) (room : ℕ) (acks : List FrameValue) (b : Bool) → w.ping ≡ b → AckPart time w.acks acks (is_ack_owed w.acks) → WaitAll time w ((if b then Ping ∷ [] else []) ++ (acks ++ crypto_part w room))
+-- the HANDSHAKE_DONE and the PING wait where they were asked for, and the others behind them
+front_waits : (time : ℕ) (w : SpaceWaiting) (room : ℕ) (acks : List FrameValue) (a b : Bool) → w.done ≡ a → w.ping ≡ b → AckPart time w.acks acks (is_ack_owed w.acks) →
+    WaitAll time w (((if a then HandshakeDone ∷ [] else []) ++ (if b then Ping ∷ [] else [])) ++ (acks ++ crypto_part w room))
 unfolding WaitAll Waits without crypto_part
-front_waits time w room acks true h part = (h, behind_waits time (record w { ping = false }) room acks (is_ack_owed w.acks) part refl)
-front_waits time w room acks false h part = behind_waits time w room acks (is_ack_owed w.acks) part refl
+front_waits time w room acks true true g h part = (g, (h, behind_waits time (record w { done = false; ping = false }) room acks (is_ack_owed w.acks) part refl))
+front_waits time w room acks true false g h part = (g, behind_waits time (record w { done = false }) room acks (is_ack_owed w.acks) part refl)
+front_waits time w room acks false true g h part = (h, behind_waits time (record w { ping = false }) room acks (is_ack_owed w.acks) part refl)
+front_waits time w room acks false false g h part = behind_waits time w room acks (is_ack_owed w.acks) part refl
 
 -- the frames that this end takes wait
 pub taken_waits : (time : ℕ) (w : SpaceWaiting) (room : ℕ) (fs : List FrameValue) → TakenPart time w room fs → WaitAll time w fs
-unfolding ping_part
+unfolding marks_part done_part ping_part
 taken_waits time w room fs taken =
-    subst (λ (x : List FrameValue). WaitAll time w x) (sym taken.all) (front_waits time w (room - 1 - length (frames_spelling taken.acks)) taken.acks w.ping refl taken.ack)
+    subst (λ (x : List FrameValue). WaitAll time w x) (sym taken.all) (front_waits time w (room - 2 - length (frames_spelling taken.acks)) taken.acks w.done w.ping refl refl taken.ack)
 
 -- some of them is no PADDING, where something waits and there is room for more than the head of a CRYPTO frame
 crypto_told : (w : SpaceWaiting) (room : ℕ) (e l : Bool) → (length w.crypto.bytes == 0) ≡ e → nat_le room 17 ≡ l → not e ≡ true → l ≡ false → list_any is_told (crypto_part w room) ≡ true
@@ -89,25 +92,26 @@ crypto_told w room true l is_e is_l h k = cc
 crypto_told w room false true is_e is_l h k = cc
 crypto_told w room false false is_e is_l h k = rw (is_e, is_l) refl
 
--- without a PING
-behind_told : (time : ℕ) (w : SpaceWaiting) (room : ℕ) (acks : List FrameValue) (b : Bool) → AckPart time w.acks acks b → is_ack_owed w.acks ≡ b → (b || not (length w.crypto.bytes == 0)) ≡ true → 19 ≤ room →
-    list_any is_told (acks ++ crypto_part w (room - 1 - length (frames_spelling acks))) ≡ true
-behind_told time w room acks true (AckPart.one ack says is) owed h r = ap (λ (x : List FrameValue). list_any is_told (x ++ crypto_part w (room - 1 - length (frames_spelling acks)))) is
+-- without marks
+behind_told : (time : ℕ) (w : SpaceWaiting) (room : ℕ) (acks : List FrameValue) (b : Bool) → AckPart time w.acks acks b → is_ack_owed w.acks ≡ b → (b || not (length w.crypto.bytes == 0)) ≡ true → 20 ≤ room →
+    list_any is_told (acks ++ crypto_part w (room - 2 - length (frames_spelling acks))) ≡ true
+behind_told time w room acks true (AckPart.one ack says is) owed h r = ap (λ (x : List FrameValue). list_any is_told (x ++ crypto_part w (room - 2 - length (frames_spelling acks)))) is
 behind_told time w room acks false (AckPart.none is) owed h r =
-    ap (λ (x : List FrameValue). list_any is_told (x ++ crypto_part w (room - 1 - length (frames_spelling x)))) is
-    ∙ crypto_told w (room - 1 - 0) (length w.crypto.bytes == 0) (nat_le (room - 1 - 0) 17) refl refl h (grind (arith, nat_tests))
+    ap (λ (x : List FrameValue). list_any is_told (x ++ crypto_part w (room - 2 - length (frames_spelling x)))) is
+    ∙ crypto_told w (room - 2 - 0) (length w.crypto.bytes == 0) (nat_le (room - 2 - 0) 17) refl refl h (grind (arith, nat_tests))
 
--- with a PING or without
-front_told : (time : ℕ) (w : SpaceWaiting) (room : ℕ) (acks : List FrameValue) (b : Bool) → AckPart time w.acks acks (is_ack_owed w.acks) → (b || is_ack_owed w.acks || not (length w.crypto.bytes == 0)) ≡ true → 19 ≤ room →
-    list_any is_told ((if b then Ping ∷ [] else []) ++ (acks ++ crypto_part w (room - 1 - length (frames_spelling acks)))) ≡ true
-front_told time w room acks true part h r = refl
-front_told time w room acks false part h r = behind_told time w room acks (is_ack_owed w.acks) part refl h r
+-- with marks or without
+front_told : (time : ℕ) (w : SpaceWaiting) (room : ℕ) (acks : List FrameValue) (a b : Bool) → AckPart time w.acks acks (is_ack_owed w.acks) → (a || b || is_ack_owed w.acks || not (length w.crypto.bytes == 0)) ≡ true → 20 ≤ room →
+    list_any is_told (((if a then HandshakeDone ∷ [] else []) ++ (if b then Ping ∷ [] else [])) ++ (acks ++ crypto_part w (room - 2 - length (frames_spelling acks)))) ≡ true
+front_told time w room acks true b part h r = refl
+front_told time w room acks false true part h r = refl
+front_told time w room acks false false part h r = behind_told time w room acks (is_ack_owed w.acks) part refl h r
 
 -- not all of the frames that this end takes are PADDING, where something waits and there is room for more than the head of a
 -- CRYPTO frame
-pub taken_told : (time : ℕ) (w : SpaceWaiting) (room : ℕ) (fs : List FrameValue) → TakenPart time w room fs → waits_here w ≡ true → 19 ≤ room → list_any is_told fs ≡ true
-unfolding ping_part
-taken_told time w room fs taken h r = ap (list_any is_told) taken.all ∙ front_told time w room taken.acks w.ping taken.ack h r
+pub taken_told : (time : ℕ) (w : SpaceWaiting) (room : ℕ) (fs : List FrameValue) → TakenPart time w room fs → waits_here w ≡ true → 20 ≤ room → list_any is_told fs ≡ true
+unfolding marks_part done_part ping_part
+taken_told time w room fs taken h r = ap (list_any is_told) taken.all ∙ front_told time w room taken.acks w.done w.ping taken.ack h r
 
 -- PADDING behind frames takes none of them away
 pub told_padded : (fs : List FrameValue) (n : ℕ) → list_any is_told fs ≡ true → list_any is_told (fs ++ replicate n Padding) ≡ true
@@ -157,30 +161,32 @@ crypto_fits : (w : SpaceWaiting) (room : ℕ) → length (frames_spelling (crypt
 unfolding crypto_part
 crypto_fits w room = crypto_fits_by w room _ _ refl
 
-ping_fits_by : (b : Bool) → length (frames_spelling (if b then Ping ∷ [] else [])) ≤ 1
+marks_fit_by : (a b : Bool) → length (frames_spelling ((if a then HandshakeDone ∷ [] else []) ++ (if b then Ping ∷ [] else []))) ≤ 2
 unfolding spelling varint
-ping_fits_by true = omega arith
-ping_fits_by false = omega arith
+marks_fit_by true true = omega arith
+marks_fit_by true false = omega arith
+marks_fit_by false true = omega arith
+marks_fit_by false false = omega arith
 
-ping_fits : (w : SpaceWaiting) → length (frames_spelling (ping_part w)) ≤ 1
-unfolding ping_part
-ping_fits w = ping_fits_by w.ping
+marks_fit : (w : SpaceWaiting) → length (frames_spelling (marks_part w)) ≤ 2
+unfolding marks_part done_part ping_part
+marks_fit w = marks_fit_by w.done w.ping
 
 -- the bytes of joined frames are those of both
 pub bytes_append : (fs gs : List FrameValue) → length (frames_spelling (fs ++ gs)) ≡ length (frames_spelling fs) + length (frames_spelling gs)
 bytes_append fs gs = ap length (flat_map-append spelling fs gs) ∙ length-append (frames_spelling fs) (frames_spelling gs)
 
 -- the frames that this end takes fit into the room
-pub taken_fits : (time : ℕ) (w : SpaceWaiting) (room : ℕ) (fs : List FrameValue) → TakenPart time w room fs → length w.acks.ranges ≤ 64 → 1042 ≤ room → length (frames_spelling fs) ≤ room
+pub taken_fits : (time : ℕ) (w : SpaceWaiting) (room : ℕ) (fs : List FrameValue) → TakenPart time w room fs → length w.acks.ranges ≤ 64 → 1043 ≤ room → length (frames_spelling fs) ≤ room
 taken_fits time w room fs taken few r =
-    let rest : List FrameValue = crypto_part w (room - 1 - length (frames_spelling taken.acks)) in
-    let same : length (frames_spelling fs) ≡ length (frames_spelling (ping_part w ++ (taken.acks ++ rest))) = ap (λ (x : List FrameValue). length (frames_spelling x)) taken.all in
+    let rest : List FrameValue = crypto_part w (room - 2 - length (frames_spelling taken.acks)) in
+    let same : length (frames_spelling fs) ≡ length (frames_spelling (marks_part w ++ (taken.acks ++ rest))) = ap (λ (x : List FrameValue). length (frames_spelling x)) taken.all in
     omega (
       arith,
       same,
-      bytes_append (ping_part w) (taken.acks ++ rest),
+      bytes_append (marks_part w) (taken.acks ++ rest),
       bytes_append taken.acks rest,
-      ping_fits w,
+      marks_fit w,
       acks_fit time w.acks taken.acks (is_ack_owed w.acks) taken.ack few,
-      crypto_fits w (room - 1 - length (frames_spelling taken.acks)),
+      crypto_fits w (room - 2 - length (frames_spelling taken.acks)),
     )

@@ -1,11 +1,14 @@
--- The first view of a connection.
+-- The first view of a connection: of a client, and of a server.
 use Rattle.std.specs.Prelude.{ℕ, Bool, true, false, List, [], Option, Some, None}
 use Rattle.std.specs.declared.net.IpAddr.{IpAddr}
 use Rattle.qc_assembler.specs.Assembly.{nothing}
-use Rattle.qc_base.specs.declared.side.Side.TheVariants.{Client}
+use Rattle.qc_base.specs.declared.side.Side.{Side}
+use Rattle.qc_base.specs.declared.side.Side.TheVariants.{Client, Server}
+use Rattle.qc_crypto.specs.declared.keys.Keys.{Keys}
 use Rattle.qc_base.specs.declared.side.SpaceId.TheVariants as space
 use Rattle.qc_path.specs.Acks.{no_marks}
 use Rattle.qc_state.specs.declared.life.State.TheVariants.{Handshake}
+use Rattle.qc_state.specs.declared.paths.Paths.{Paths}
 use Rattle.qc_state.specs.declared.setup.Fixed.{Fixed}
 use Rattle.qc_state.specs.declared.waiting.SpaceWaiting.{SpaceWaiting}
 use Rattle.qc_state.specs.Numbers.{no_numbers}
@@ -15,10 +18,10 @@ use Rattle.qc_state.specs.Unsent.{from_start}
 use Rattle.qc_state.specs.View.{Held}
 use Rattle.std.specs.declared.net.SocketAddr.{SocketAddr}
 
--- what doesn't change of a client's connection
-abbrev pub client_fixed : (version : ℕ) → (local_cid first_cid : List ℕ) → Option IpAddr → (max_idle_timeout : Option ℕ) → (crypto_buffer_size : ℕ) → (grease_quic_bit : Bool) → Fixed
-client_fixed version local_cid first_cid local_ip max_idle_timeout crypto_buffer_size grease_quic_bit = record {
-  side = Client;
+-- what doesn't change of a connection
+abbrev pub fixed_of : Side → (version : ℕ) → (local_cid first_cid : List ℕ) → Option IpAddr → (max_idle_timeout : Option ℕ) → (crypto_buffer_size : ℕ) → (grease_quic_bit : Bool) → Fixed
+fixed_of side version local_cid first_cid local_ip max_idle_timeout crypto_buffer_size grease_quic_bit = record {
+  side = side;
   version = version;
   local_cid = local_cid;
   first_cid = first_cid;
@@ -30,26 +33,40 @@ client_fixed version local_cid first_cid local_ip max_idle_timeout crypto_buffer
 
 -- a space in which nothing waits but these CRYPTO bytes
 abbrev pub nothing_waits : List ℕ → SpaceWaiting
-nothing_waits crypto = record { ping = false; crypto = from_start crypto; acks = record { ranges = []; marks = no_marks }; flight = []; told = false }
+nothing_waits crypto = record { done = false; ping = false; crypto = from_start crypto; acks = record { ranges = []; marks = no_marks }; flight = []; told = false }
 
 module _ {t : Types} {R : Type 0} where
-  -- a client that was just made, at this time, of what it was set up with: its keys are those of the destination id of
-  -- its first packets, and its hello waits from the start of the Initial space's CRYPTO stream
-  unfoldable pub first_view : Meaning t → t.S → R → Fixed → SocketAddr → List ℕ → ℕ → Held t R
-  first_view m session random fixed remote first_cid time = record {
+  -- a connection that was just made at this time: it has the keys of the Initial space, and nothing waits but what its session
+  -- wrote, from the start of that space's CRYPTO stream
+  abbrev pub just_made : Keys t.H t.P → t.S → (hello : List ℕ) → R → Fixed → Paths → ℕ → Held t R
+  just_made keys session hello random fixed paths time = record {
     numbers = record { spaces = record { initial = no_numbers; handshake = no_numbers; application = no_numbers } };
-    keys = record { spaces = record { initial = Some (record { keys = m.initial session first_cid Client; sealed = 0 }); handshake = None; application = None }; highest = space.Initial; failures = 0 };
+    keys = record { spaces = record { initial = Some (record { keys = keys; sealed = 0 }); handshake = None; application = None }; highest = space.Initial; failures = 0 };
     life = record { state = Handshake; reason = None; ready = false; connected = false; lost = None; drained = false; close = None };
-    paths = record { remote = remote; remote_cid = first_cid; peer_fixed = false; sent = 0; received = 0 };
+    paths = paths;
     timers = record { loss_detection = None; idle = None; close = None; sets_idle = true; greatest = time };
     waiting = record {
       spaces = record {
-        initial = nothing_waits (m.writes session);
+        initial = nothing_waits hello;
         handshake = nothing_waits [];
         application = nothing_waits [];
       };
       close_owed = false;
     };
-    setup = record { fixed = fixed; peer = None; random = random };
-    lower = record { session = m.after_write session; streams = record { initial = nothing; handshake = nothing; application = nothing } };
+    setup = record { fixed = fixed; peer = None; token = None; random = random };
+    lower = record { session = session; streams = record { initial = nothing; handshake = nothing; application = nothing } };
   }
+
+  -- a client that was just made: its keys are those of the destination id of its first packets, which packets to the server carry
+  -- until the server chooses one, and its hello waits
+  unfoldable pub first_view : Meaning t → t.S → R → Fixed → SocketAddr → List ℕ → ℕ → Held t R
+  first_view m session random fixed remote first_cid time =
+      just_made (m.initial session first_cid Client) (m.after_write session) (m.writes session) random fixed
+      (record { remote = remote; remote_cid = first_cid; peer_fixed = false; validated = true; sent = 0; received = 0 }) time
+
+  -- a server that was just made: its keys are those of the destination id of the client's first packets, it knows the client's
+  -- id, and it waits for the first packet
+  unfoldable pub server_view : Meaning t → t.S → R → Fixed → SocketAddr → (remote_cid : List ℕ) → (validated : Bool) → ℕ → Held t R
+  server_view m session random fixed remote remote_cid validated time =
+      just_made (m.initial session fixed.first_cid Server) session [] random fixed
+      (record { remote = remote; remote_cid = remote_cid; peer_fixed = true; validated = validated; sent = 0; received = 0 }) time

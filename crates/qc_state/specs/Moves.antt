@@ -31,13 +31,13 @@ use Rattle.qc_state.specs.Life.{rank_of, reason_given, life_raised, life_closed,
 use Rattle.qc_state.specs.Numbers.{next_number, number_used, is_new_in, came_in, number_entered, number_accepted, number_acked}
 use Rattle.qc_state.specs.Keys.{key_used, failure_counted, keys_given, keys_dropped}
 use Rattle.qc_state.specs.Lower.{bytes_came, session_read, session_wrote}
-use Rattle.qc_state.specs.Paths.{path_sent, path_received, peer_fixed}
-use Rattle.qc_state.specs.Setup.{idle_limit_now, parameters_known}
+use Rattle.qc_state.specs.Paths.{path_sent, path_received, path_validated, peer_fixed}
+use Rattle.qc_state.specs.Setup.{idle_limit_now, parameters_known, token_expected}
 use Rattle.qc_state.specs.Spaces.{is_space}
 use Rattle.qc_state.specs.Timers.{timers_sealed, timers_stopped, timers_closing, timers_accepted, timers_settled, clock_set}
 use Rattle.qc_state.specs.Types.{Types}
 use Rattle.qc_state.specs.View.{View, At, at}
-use Rattle.qc_state.specs.Waiting.{ping_asked, waiting_without, close_begun, packet_told, packet_came, packet_flown, packets_settled, crypto_written, space_left, is_calm}
+use Rattle.qc_state.specs.Waiting.{ping_asked, done_asked, waiting_without, close_begun, packet_told, packet_came, packet_flown, packets_settled, crypto_written, space_left, is_calm}
 
 -- whether a frame closes the connection (RFC 9000, section 19.19)
 abbrev pub is_close : FrameValue → Bool
@@ -84,10 +84,12 @@ pub data Move (t : Types) : Type 0 where
   Take : (id : SpaceId) → (frames : List FrameValue) → Move t  -- frames leave what waits, to be sealed
   Seal : (time : ℕ) → (id : SpaceId) → (number size : ℕ) → (frames : List FrameValue) → Move t  -- a packet is sealed
   Forget : (id : SpaceId) → Move t  -- the keys of a space are dropped
+  Expect : (token : List ℕ) → Move t  -- a server's first packet came
   Enter : (id : SpaceId) → (number : ℕ) → (verdict : Verdict) → Move t  -- a packet came whose number counts, and whose frames don't
   Fail : Move t  -- a packet didn't open
   Accept : (time : ℕ) → (id : SpaceId) → (number : ℕ) → (eliciting : Bool) → (verdict : Verdict) → Move t  -- a packet was accepted
   Fix : (cid : List ℕ) → Move t  -- the peer has chosen its id
+  Validate : Move t  -- the peer has shown that it gets what is sent to its address
   Hear : (bytes : ℕ) → Move t  -- so many bytes came from the path's address
   Ack : (id : SpaceId) → (largest : ℕ) → (ranges : List NumberRange) → Move t  -- the peer acknowledged packets
   Calm : Move t  -- nothing in flight elicits an acknowledgement any more
@@ -96,6 +98,7 @@ pub data Move (t : Types) : Type 0 where
   Write : (bytes : List ℕ) → (keys : Option (Keys t.H t.P)) → (session : t.S) → Move t  -- the session wrote bytes, and gave keys
   Ready : Move t  -- what the handshake settles is ready
   Learn : (parameters : TransportParameters) → Move t  -- the peer's parameters were read
+  Confirm : Move t  -- a server has confirmed the handshake
   Establish : Move t  -- the handshake is over
   Tell : (did : Did) → Move t  -- a packet that enters no number is told of, or a frame is given to a layer
   Drain : Move t  -- the peer closed as well
@@ -142,6 +145,7 @@ module _ {t : Types} where
   unfoldable pub paths_move : Move t → View t → Paths
   paths_move (Seal time id n size fs) s = path_sent s.paths size
   paths_move (Fix cid) s = peer_fixed s.paths cid
+  paths_move Validate s = path_validated s.paths
   paths_move (Hear bytes) s = path_received s.paths bytes
   paths_move _ s = s.paths
 
@@ -164,12 +168,14 @@ module _ {t : Types} where
   waiting_move (Forget id) s = space_left s.waiting id
   waiting_move (Accept time id n e v) s = packet_came s.waiting id (arrived n (came_in s.numbers id)) (record { number = n; at = time; ack_eliciting = e; ce = false })
   waiting_move (Write bytes keys session) s = crypto_written s.waiting s.keys.highest bytes
+  waiting_move Confirm s = done_asked s.waiting
   waiting_move (Ack id n rs) s = packets_settled s.waiting id rs
   waiting_move Owe s = close_begun s.waiting
   waiting_move (Shut time close) s = close_begun s.waiting
   waiting_move _ s = s.waiting
 
   unfoldable pub setup_move : Move t → View t → Setup Stream
+  setup_move (Expect token) s = token_expected s.setup token
   setup_move (Learn parameters) s = parameters_known s.setup parameters
   setup_move _ s = s.setup
 

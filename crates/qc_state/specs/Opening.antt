@@ -43,6 +43,14 @@ source_of (header.Retry dst_cid src_cid version) = src_cid
 source_of (header.Short spin key_phase dst_cid number) = []
 source_of (header.VersionNegotiate random src_cid dst_cid) = src_cid
 
+-- the token of a header; only Initial headers have one
+abbrev pub token_of : Header → List ℕ
+token_of (header.Initial h) = h.token
+token_of (header.Long ty dst_cid src_cid number version) = []
+token_of (header.Retry dst_cid src_cid version) = []
+token_of (header.Short spin key_phase dst_cid number) = []
+token_of (header.VersionNegotiate random src_cid dst_cid) = []
+
 -- the whole number of a packet whose header has a number: the one that is nearest to the number behind the greatest one
 -- that was accepted
 abbrev pub whole_number : Option PacketNumber → ℕ → ℕ
@@ -58,7 +66,7 @@ is_other_phase _ = false
 abbrev pub judged : Header → ℕ → List ℕ → Option (List ℕ) → Opening
 judged header number header_data None = Unopened
 judged header number header_data (Some payload) =
-    if reserved_bits header (first_byte header_data) == 0 then Opened (source_of header) number payload else Reserved number
+    if reserved_bits header (first_byte header_data) == 0 then Opened (source_of header) (token_of header) number payload else Reserved number
 
 module _ {P : Type 0} where
   -- an unmasked packet under the peer's packet key: its header, the header's bytes, and the bytes behind it

@@ -1,5 +1,5 @@
 -- The path to the peer (RFC 9000, section 9).
-use Rattle.std.specs.Prelude.{ℕ, List, Bool, true, false, ◌&&◌, ◌==◌, nat_eq}
+use Rattle.std.specs.Prelude.{ℕ, ◌*◌, List, Bool, true, false, ◌&&◌, ◌==◌, not, nat_eq, nat_le}
 use Rattle.std.specs.Cmp.Lexicographic.{pointwise}
 use Rattle.std.specs.Net.Addr.{ipv4_octets, ipv6_segments}
 use Rattle.std.specs.Net.Socket.{v4_ip, v4_port, v6_ip, v6_port, v6_flowinfo, v6_scope_id}
@@ -19,6 +19,15 @@ path_received v bytes = record v { received = plus v.received bytes }
 -- the peer has chosen the id that packets to it carry (RFC 9000, section 7.2)
 unfoldable pub peer_fixed : Paths → List ℕ → Paths
 peer_fixed v cid = record v { remote_cid = cid; peer_fixed = true }
+
+-- the peer has shown that it gets what is sent to its address
+unfoldable pub path_validated : Paths → Paths
+path_validated v = record v { validated = true }
+
+-- no datagram may be begun: the peer's address isn't validated, and three times the bytes that came from it were sent (RFC
+-- 9000, section 8.1); the last datagram may go past that
+unfoldable pub is_blocked : Paths → Bool
+is_blocked v = not v.validated && nat_le (3 * v.received) v.sent
 
 -- whether two addresses are one, flow label and scope included
 unfoldable pub same_address : SocketAddr → SocketAddr → Bool

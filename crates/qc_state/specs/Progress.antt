@@ -1,12 +1,14 @@
 -- How the handshake goes on behind the frames of a packet (RFC 9001, sections 4.1 and 8.2; RFC 9000, section 7.3).
-use Rattle.std.specs.Prelude.{ℕ, zero, suc, ◌==◌, ◌&&◌, not, nat_eq, Bool, false, if◌then◌else◌, List, length, Option, None, Some, Result, Ok, Err, is_none}
+use Rattle.std.specs.Prelude.{ℕ, zero, suc, ◌==◌, ◌&&◌, not, nat_eq, Bool, true, false, if◌then◌else◌, List, length, Option, None, Some, Result, Ok, Err, is_none}
 use Rattle.std.specs.Cmp.Lexicographic.{pointwise}
+use Rattle.qc_base.specs.declared.side.Side.{Side}
+use Rattle.qc_base.specs.declared.side.Side.TheVariants.{Client, Server}
 use Rattle.qc_base.specs.declared.side.SpaceId.{SpaceId}
 use Rattle.qc_base.specs.declared.side.SpaceId.TheVariants.{Initial, Handshake, «Data»}
 use Rattle.qc_base.specs.declared.transport_error.TransportError.{TransportError}
 use Rattle.qc_params.specs.declared.params.TransportParameters.{TransportParameters}
 use Rattle.qc_state.specs.Life.{is_handshake}
-use Rattle.qc_state.specs.Moves.{Write, Learn, Establish, move_to}
+use Rattle.qc_state.specs.Moves.{Write, Learn, Confirm, Forget, Establish, calmed, move_to}
 use Rattle.qc_state.specs.Stopping.{missing_parameters, parameter_error, stopped_after}
 use Rattle.qc_state.specs.Types.{Types, Meaning}
 use Rattle.qc_state.specs.View.{View, At}
@@ -21,6 +23,13 @@ abbrev pub is_end : SpaceId → Bool → Bool
 is_end Initial handshaking = false
 is_end Handshake handshaking = not handshaking
 is_end Data handshaking = false
+
+-- an end of this side leaves the Initial space as its peer's first bytes are read: a server, whose highest space was Initial before
+-- its session wrote, and isn't any more
+abbrev pub is_server_start : Side → (before after : SpaceId) → Bool
+is_server_start Server Initial Handshake = true
+is_server_start Server Initial Data = true
+is_server_start _ _ _ = false
 
 module _ {t : Types} where
   -- the session writes nothing now, and gives no keys
@@ -40,23 +49,39 @@ module _ {t : Types} where
   unfoldable pub written_after : Meaning t → At t → At t
   written_after m a = writes_after (m.left a.state.lower.session) m a
 
-  -- the ids that a server's parameters name are those of this connection: the source id of its first packet, the destination
-  -- id of this end's first one, and none of a Retry (RFC 9000, section 7.3)
-  unfoldable pub ids_fit : View t → TransportParameters → Bool
-  ids_fit s p = names_id p.initial_src_cid s.paths.remote_cid && (names_id p.original_dst_cid s.setup.fixed.first_cid && is_none p.retry_src_cid)
+  -- the ids that the peer's parameters name are those of this connection: the source id of its first packet; and those of a
+  -- server name the destination id of this end's first packet, and none of a Retry (RFC 9000, section 7.3)
+  abbrev pub ids_fit_for : Side → View t → TransportParameters → Bool
+  ids_fit_for Client s p = names_id p.initial_src_cid s.paths.remote_cid && (names_id p.original_dst_cid s.setup.fixed.first_cid && is_none p.retry_src_cid)
+  ids_fit_for Server s p = names_id p.initial_src_cid s.paths.remote_cid
 
-  -- the peer's parameters, as the session gives them once its handshake is over: with them the connection is established
-  abbrev pub parameters_and : (time : ℕ) → Result (Option TransportParameters) TransportError → At t → At t
-  parameters_and time (Err error) a = stopped_after time error a
-  parameters_and time (Ok None) a = stopped_after time missing_parameters a
-  parameters_and time (Ok (Some p)) a = if ids_fit a.state p then move_to Establish (move_to (Learn p) a) else stopped_after time parameter_error a
+  -- so for this end
+  unfoldable pub ids_fit : View t → TransportParameters → Bool
+  ids_fit s p = ids_fit_for s.setup.fixed.side s p
+
+  -- the peer's parameters, as the session gives them; `others` comes behind where they can be read and their ids fit
+  abbrev pub parameters_and : (time : ℕ) → Result (Option TransportParameters) TransportError → (At t → At t) → At t → At t
+  parameters_and time (Err error) others a = stopped_after time error a
+  parameters_and time (Ok None) others a = stopped_after time missing_parameters a
+  parameters_and time (Ok (Some p)) others a = if ids_fit a.state p then others (move_to (Learn p) a) else stopped_after time parameter_error a
+
+  -- a server reads the client's parameters as it leaves the Initial space; its highest space was this one before the session wrote
+  unfoldable pub learned_after : Meaning t → (time : ℕ) → (before : SpaceId) → At t → At t
+  learned_after m time before a =
+      if is_server_start a.state.setup.fixed.side before a.state.keys.highest then parameters_and time (m.parameters a.state.lower.session) (λ b. b) a else a
+
+  -- the handshake is over at an end of this side: a client reads the server's parameters then; a server owes a HANDSHAKE_DONE, and
+  -- drops the Handshake keys (RFC 9001, sections 4.1.2 and 4.9.2)
+  abbrev pub over_after : Meaning t → (time : ℕ) → Side → At t → At t
+  over_after m time Client a = parameters_and time (m.parameters a.state.lower.session) (move_to Establish) a
+  over_after m time Server a = move_to Establish (calmed (move_to (Forget Handshake) (move_to Confirm a)))
 
   -- behind a Handshake packet, where the handshake goes on no longer, the connection is established
   unfoldable pub ended_after : Meaning t → (time : ℕ) → SpaceId → At t → At t
   ended_after m time id a =
-      if is_handshake a.state.life.state && is_end id (m.handshaking a.state.lower.session) then parameters_and time (m.parameters a.state.lower.session) a else a
+      if is_handshake a.state.life.state && is_end id (m.handshaking a.state.lower.session) then over_after m time a.state.setup.fixed.side a else a
 
-  -- behind the frames of a packet of this space, where none stopped it and none was a close: the session writes, and where its
-  -- handshake has ended, the connection is established
+  -- behind the frames of a packet of this space, where none stopped it and none was a close: the session writes, a server that
+  -- leaves the Initial space so reads the client's parameters, and where the handshake has ended, the connection is established
   unfoldable pub progress_after : Meaning t → (time : ℕ) → SpaceId → At t → At t
-  progress_after m time id a = ended_after m time id (written_after m a)
+  progress_after m time id a = ended_after m time id (learned_after m time a.state.keys.highest (written_after m a))

@@ -1,10 +1,13 @@
 -- What a datagram does: its packets one after the other, each by its verdict (RFC 9000, sections 5.2, 7.2, 10.2, 12.2 to
 -- 12.4 and 13.1).
-use Rattle.std.specs.Prelude.{ℕ, ◌+◌, ◌-◌, ◌^◌, Bool, true, false, ◌&&◌, ◌||◌, not, nat_lt, nat_le, is_ok, if◌then◌else◌, List, [], ◌∷◌, length, Option, Some, None, Result, Ok, Err}
+use Rattle.std.specs.Prelude.{ℕ, ◌+◌, ◌-◌, ◌^◌, Bool, true, false, ◌&&◌, ◌||◌, not, nat_eq, nat_lt, nat_le, is_ok, is_some, if◌then◌else◌, List, [], ◌∷◌, length, Option, Some, None, Result, Ok, Err}
 use Rattle.std.specs.List.{list_any}
+use Rattle.std.specs.Cmp.Lexicographic.{pointwise}
 use Rattle.std.specs.declared.net.SocketAddr.{SocketAddr}
 use Rattle.qc_assembler.specs.Assembly.{Assembly, inserted, part_count}
 use Rattle.qc_base.specs.declared.transport_error.TransportError.{TransportError}
+use Rattle.qc_base.specs.declared.side.Side.{Side}
+use Rattle.qc_base.specs.declared.side.Side.TheVariants.{Client, Server}
 use Rattle.qc_base.specs.declared.side.SpaceId.{SpaceId}
 use Rattle.qc_base.specs.declared.side.SpaceId.TheVariants.{Initial, Handshake, «Data»}
 use Rattle.qc_frame.specs.AckRanges.{ranges_of}
@@ -14,6 +17,8 @@ use Rattle.qc_frame.specs.Payload.{Item, items_of}
 use Rattle.qc_frame.specs.declared.frames.FrameOf.TheVariants as frames
 use Rattle.qc_header.specs.HeaderGrammar.{DatagramItem}
 use Rattle.qc_header.specs.HeaderReading.{piece_at}
+use Rattle.qc_header.specs.declared.protected.ProtectedHeader.{ProtectedHeader}
+use Rattle.qc_header.specs.declared.protected.ProtectedHeader.TheVariants as protected
 use Rattle.qc_header.specs.Piece.{Piece, space_of}
 use Rattle.qc_header.specs.Pieces.{pieces_of}
 use Rattle.qc_state.specs.declared.deeds.Did.TheVariants as did
@@ -23,15 +28,17 @@ use Rattle.qc_state.specs.declared.deeds.Verdict.TheVariants as verdict
 use Rattle.qc_state.specs.declared.life.ConnectionError.{ConnectionError}
 use Rattle.qc_state.specs.declared.life.ConnectionError.TheVariants as lost
 use Rattle.qc_state.specs.declared.opening.Opening.{Opening}
+use Rattle.qc_state.specs.declared.transmit.TheConstants.{DATAGRAM_SIZE}
 use Rattle.qc_state.specs.declared.opening.Opening.TheVariants.{Unreadable, Unopened, Reserved, Opened}
-use Rattle.qc_state.specs.Life.{is_open, is_over, is_established}
+use Rattle.qc_state.specs.Life.{is_open, is_over, is_handshake, is_established}
 use Rattle.qc_state.specs.Lower.{ready_bytes, stream_of}
-use Rattle.qc_state.specs.Moves.{is_close, Forget, Enter, Fail, Accept, Fix, Hear, Ack, Come, Read, Ready, Tell, Drain, Leave, Owe, move_to, calmed}
+use Rattle.qc_state.specs.Moves.{is_close, Forget, Expect, Enter, Fail, Accept, Fix, Validate, Hear, Ack, Come, Read, Ready, Tell, Drain, Leave, Owe, move_to, calmed}
 use Rattle.qc_state.specs.Numbers.{next_number}
 use Rattle.qc_state.specs.Opening.{opening_of}
 use Rattle.qc_state.specs.Paths.{same_address}
 use Rattle.qc_state.specs.Progress.{progress_after}
-use Rattle.qc_state.specs.Sending.{given_after}
+use Rattle.qc_state.specs.Sending.{given_after, initial_left}
+use Rattle.qc_state.specs.Setup.{is_first_awaited}
 use Rattle.qc_state.specs.Stopping.{internal_error_at, encoding_error_at, violation_at, buffer_error_at, stopped_after}
 use Rattle.qc_state.specs.Types.{Types, Meaning}
 use Rattle.qc_state.specs.Verdicts.{verdict_of}
@@ -49,23 +56,28 @@ frame_stop next type (frames.ConnectionClose code frame_type reason) = None
 frame_stop next type (frames.ApplicationClose code reason) = None
 frame_stop next type _ = Some (violation_at (Some type))
 
--- the same in a 1-RTT packet that a client receives: HANDSHAKE_DONE stops nothing (RFC 9000, section 19.20), and frames of
--- kinds that aren't taken so far stop it with INTERNAL_ERROR
-abbrev pub data_stop : (next type : ℕ) → FrameValue → Option TransportError
-data_stop next type frames.Padding = None
-data_stop next type frames.Ping = None
-data_stop next type (frames.Ack ack) = if nat_le next ack.largest then Some (violation_at None) else None
-data_stop next type (frames.Crypto offset body) = None
-data_stop next type (frames.ConnectionClose code frame_type reason) = None
-data_stop next type (frames.ApplicationClose code reason) = None
-data_stop next type frames.HandshakeDone = None
-data_stop next type _ = Some (internal_error_at (Some type))
+-- a HANDSHAKE_DONE stops nothing at a client, and its packet at a server, which doesn't expect one (RFC 9000, section 19.20)
+abbrev pub done_stop : Side → (type : ℕ) → Option TransportError
+done_stop Client type = None
+done_stop Server type = Some (violation_at (Some type))
+
+-- the same in a 1-RTT packet that an end of this side receives, where frames of kinds that aren't taken so far stop it with
+-- INTERNAL_ERROR
+abbrev pub data_stop : Side → (next type : ℕ) → FrameValue → Option TransportError
+data_stop side next type frames.Padding = None
+data_stop side next type frames.Ping = None
+data_stop side next type (frames.Ack ack) = if nat_le next ack.largest then Some (violation_at None) else None
+data_stop side next type (frames.Crypto offset body) = None
+data_stop side next type (frames.ConnectionClose code frame_type reason) = None
+data_stop side next type (frames.ApplicationClose code reason) = None
+data_stop side next type frames.HandshakeDone = done_stop side type
+data_stop side next type _ = Some (internal_error_at (Some type))
 
 -- by the space of the packet
-abbrev pub stop_in : SpaceId → (next type : ℕ) → FrameValue → Option TransportError
-stop_in Initial next type frame = frame_stop next type frame
-stop_in Handshake next type frame = frame_stop next type frame
-stop_in Data next type frame = data_stop next type frame
+abbrev pub stop_in : Side → SpaceId → (next type : ℕ) → FrameValue → Option TransportError
+stop_in side Initial next type frame = frame_stop next type frame
+stop_in side Handshake next type frame = frame_stop next type frame
+stop_in side Data next type frame = data_stop side next type frame
 
 -- the reason that a close of the peer's gives for the end
 abbrev pub reason_of : FrameValue → Option ConnectionError
@@ -101,6 +113,18 @@ abbrev pub expected_below : SpaceId → SpaceId
 expected_below Initial = Initial
 expected_below Handshake = Handshake
 expected_below Data = Handshake
+
+-- an Initial packet with these ids
+abbrev pub is_initial_with : (dst_cid src_cid : List ℕ) → ProtectedHeader → Bool
+is_initial_with dst_cid src_cid (protected.Initial dst src token_start token_len version) = pointwise nat_eq dst dst_cid && pointwise nat_eq src src_cid
+is_initial_with dst_cid src_cid _ = false
+
+-- the token of a packet that opened
+abbrev pub opened_token : Opening → Option (List ℕ)
+opened_token Unreadable = None
+opened_token Unopened = None
+opened_token (Reserved number) = None
+opened_token (Opened source token number payload) = Some token
 
 module _ {t : Types} where
   -- the peer closed, for this reason: the connection drains, if it was open
@@ -197,7 +221,7 @@ module _ {t : Types} where
   -- a close, or another frame, which stops its packet or is taken; `close` is the last close so far
   abbrev pub read_and : Meaning t → (time : ℕ) → SpaceId → TypedValue → Option ConnectionError → (close : Option ConnectionError) → (Option ConnectionError → At t → At t) → At t → At t
   read_and m time id read (Some why) close others a = close_and time id read.frame why others a
-  read_and m time id read None close others a = frame_and m time id read (stop_in id (next_number a.state.numbers id) read.ty read.frame) (others close) a
+  read_and m time id read None close others a = frame_and m time id read (stop_in a.state.setup.fixed.side id (next_number a.state.numbers id) read.ty read.frame) (others close) a
 
   -- the frames of a packet, in order, up to the first stop, or the first close of an Initial or Handshake packet
   abbrev pub items_after : Meaning t → (time : ℕ) → SpaceId → List Item → (close : Option ConnectionError) → At t → At t
@@ -230,31 +254,42 @@ module _ {t : Types} where
       let b = move_to (Enter id number verdict.ReadForClose) a in
       if list_any is_close_item (items_of payload) then move_to Drain b else move_to Owe b
 
+  -- a packet is accepted: its number counts, it is to be acknowledged, and with a Handshake packet a server leaves the Initial space
+  unfoldable pub accepted_after : (time : ℕ) → SpaceId → (number : ℕ) → (eliciting : Bool) → Verdict → At t → At t
+  accepted_after time id number eliciting v a = initial_left Server id (move_to (Accept time id number eliciting v) a)
+
+  -- a Handshake packet that is admitted shows that the peer gets what is sent to its address (RFC 9000, section 8.1)
+  abbrev pub validated_after : SpaceId → At t → At t
+  validated_after Initial a = a
+  validated_after Handshake a = move_to Validate a
+  validated_after Data a = a
+
   -- a packet that is admitted
   unfoldable pub admitted_after : Meaning t → (time : ℕ) → SpaceId → (source : List ℕ) → (number : ℕ) → (payload : List ℕ) → At t → At t
   admitted_after m time id source number payload a =
-      payload_after m time id payload (fixed_after id source (move_to (Accept time id number (list_any is_eliciting_item (items_of payload)) verdict.Admitted) a))
+      payload_after m time id payload
+      (fixed_after id source (validated_after id (accepted_after time id number (list_any is_eliciting_item (items_of payload)) verdict.Admitted a)))
 
   -- what a packet does that opened, by its verdict; it has no other one
   abbrev pub verdict_after : Meaning t → (time : ℕ) → SpaceId → (source : List ℕ) → (number : ℕ) → (payload : List ℕ) → Verdict → At t → At t
   verdict_after m time id source number payload verdict.Seen a = piece_told (Some id) (Some number) verdict.Seen a
   verdict_after m time id source number payload verdict.ReadForClose a = read_for_close id number payload a
   verdict_after m time id source number payload verdict.NumberOnly a = move_to (Enter id number verdict.NumberOnly) a
-  verdict_after m time id source number payload verdict.AckOnly a = move_to (Accept time id number false verdict.AckOnly) a
+  verdict_after m time id source number payload verdict.AckOnly a = accepted_after time id number false verdict.AckOnly a
   verdict_after m time id source number payload verdict.Admitted a = admitted_after m time id source number payload a
   verdict_after m time id source number payload _ a = a
 
   -- a packet that opened in this space
-  unfoldable pub received_after : Meaning t → (time : ℕ) → SpaceId → (source : List ℕ) → (number : ℕ) → (payload : List ℕ) → At t → At t
-  received_after m time id source number payload a = verdict_after m time id source number payload (verdict_of a.state id source number) a
+  unfoldable pub received_after : Meaning t → (time : ℕ) → SpaceId → (source token : List ℕ) → (number : ℕ) → (payload : List ℕ) → At t → At t
+  received_after m time id source token number payload a = verdict_after m time id source number payload (verdict_of a.state id source token number) a
 
   -- a packet of a form with this space, by what came of taking its protection off
   abbrev pub opening_after : Meaning t → (time : ℕ) → Option SpaceId → Opening → At t → At t
   opening_after m time space Unreadable a = piece_told space None verdict.Ignored a
   opening_after m time space Unopened a = piece_told space None verdict.Failure (move_to Fail a)
   opening_after m time space (Reserved number) a = stopped_after time (violation_at None) (piece_told space (Some number) verdict.BadBits a)
-  opening_after m time (Some id) (Opened source number payload) a = received_after m time id source number payload a
-  opening_after m time None (Opened source number payload) a = piece_told None None verdict.Ignored a
+  opening_after m time (Some id) (Opened source token number payload) a = received_after m time id source token number payload a
+  opening_after m time None (Opened source token number payload) a = piece_told None None verdict.Ignored a
 
   -- one packet; behind one that ended the connection, or made it drain, it is ignored
   unfoldable pub piece_after : Meaning t → (time : ℕ) → Piece → At t → At t
@@ -282,8 +317,46 @@ module _ {t : Types} where
 
   -- a datagram comes from this address: its packets count, and its whole length counts as received on the path
   -- (RFC 9000, section 8.1); one that begins with no packet is dropped, and changes nothing
-  unfoldable pub datagram_after : Meaning t → (time : ℕ) → SocketAddr → List ℕ → At t → At t
-  datagram_after m time remote bytes a =
+  unfoldable pub heard_after : Meaning t → (time : ℕ) → SocketAddr → List ℕ → At t → At t
+  heard_after m time remote bytes a =
       if is_readable a.state bytes && lets_in a.state remote
       then move_to (Hear (length bytes)) (pieces_after m time (cut_of a.state bytes) a)
       else a
+
+  -- a packet has the form and the ids of a server's first one: an Initial packet with the destination id that the server was made
+  -- with, and the client's source id
+  unfoldable pub has_first_ids : View t → ProtectedHeader → Bool
+  has_first_ids s header = is_initial_with s.setup.fixed.first_cid s.paths.remote_cid header
+
+  -- the token of a packet that may be a server's first one: it has the form and the ids of one, it opened, and its reserved bits
+  -- are 0
+  unfoldable pub token_in_first : Meaning t → View t → Piece → Option (List ℕ)
+  token_in_first m s p = if has_first_ids s p.header then opened_token (opening_of m s p) else None
+
+  -- so of a datagram's first packet, if it begins with one
+  abbrev pub token_in_items : Meaning t → View t → List DatagramItem → Option (List ℕ)
+  token_in_items m s [] = None
+  token_in_items m s (Err fault ∷ items) = None
+  token_in_items m s (Ok p ∷ items) = token_in_first m s p
+
+  -- the token of the first packet of a datagram that may be a server's first one, while the handshake goes on: it has at least 1200
+  -- bytes (RFC 9000, section 14.1), and comes from the path's address
+  unfoldable pub first_token : Meaning t → View t → SocketAddr → List ℕ → Option (List ℕ)
+  first_token m s remote bytes =
+      if is_handshake s.life.state && (nat_le DATAGRAM_SIZE (length bytes) && same_address s.paths.remote remote)
+      then token_in_items m s (cut_of s bytes)
+      else None
+
+  -- a datagram that may be a server's first one is heard as any other from then on; all others are dropped
+  abbrev pub first_after : Meaning t → (time : ℕ) → SocketAddr → List ℕ → Option (List ℕ) → At t → At t
+  first_after m time remote bytes None a = a
+  first_after m time remote bytes (Some token) a = heard_after m time remote bytes (move_to (Expect token) a)
+
+  -- a datagram comes from this address
+  unfoldable pub datagram_after : Meaning t → (time : ℕ) → SocketAddr → List ℕ → At t → At t
+  datagram_after m time remote bytes a =
+      if is_first_awaited a.state.setup then first_after m time remote bytes (first_token m a.state remote bytes) a else heard_after m time remote bytes a
+
+  -- a datagram is taken: it begins with a packet, and where a server waits for its first one, it may be that
+  unfoldable pub is_taken : Meaning t → View t → SocketAddr → List ℕ → Bool
+  is_taken m s remote bytes = if is_first_awaited s.setup then is_some (first_token m s remote bytes) else is_readable s bytes

@@ -14,7 +14,7 @@ use Rattle.qc_state.specs.declared.trace.Step.{Step}
 use Rattle.qc_state.specs.declared.transmit.Transmit as transmit
 use Rattle.qc_state.specs.Life.{is_open, waiting_events, drained_event}
 use Rattle.qc_state.specs.Moves.{Clock, Ask, Shut, ReportReady, ReportConnected, ReportLost, ReportDrained, move_to, state_move}
-use Rattle.qc_state.specs.Receiving.{is_readable, datagram_after}
+use Rattle.qc_state.specs.Receiving.{is_taken, datagram_after}
 use Rattle.qc_state.specs.Sending.{MayTransmit, transmit_after, transmit_bytes, transmit_of}
 use Rattle.qc_state.specs.Timers.{next_timeout}
 use Rattle.qc_state.specs.Types.{Types, Meaning}
@@ -82,7 +82,7 @@ module _ {t : Types} where
 
   -- what an input answers
   unfoldable pub answer_of : Meaning t → Input → List Did → View t → Answer
-  answer_of m (Datagram time remote ecn bytes) ds s = if is_readable s bytes then Done else Dropped
+  answer_of m (Datagram time remote ecn bytes) ds s = if is_taken m s remote bytes then Done else Dropped
   answer_of m (Transmit time max) ds s = out_of (transmit_of (packets_of ds) s) (transmit_bytes m (packets_of ds) s)
   answer_of m (Close time code reason) ds s = Done
   answer_of m (Ping time) ds s = Done

@@ -4,7 +4,7 @@ use Rattle.std.specs.Prelude.{◌≡◌, ℕ, ◌-◌, ◌^◌, ◌==◌, Bool, 
 use Rattle.std.specs.List.{list_any}
 use Rattle.qc_base.specs.declared.ecn.EcnCodepoint.TheVariants.{Ect0}
 use Rattle.qc_base.specs.declared.side.LongType.TheVariants as long
-use Rattle.qc_base.specs.declared.side.Side.TheVariants.{Client}
+use Rattle.qc_base.specs.declared.side.Side.TheVariants.{Client, Server}
 use Rattle.qc_base.specs.declared.side.SpaceId.{SpaceId}
 use Rattle.qc_base.specs.declared.side.SpaceId.TheVariants.{Initial, Handshake, «Data»}
 use Rattle.qc_base.specs.declared.side.Side.{Side}
@@ -17,7 +17,7 @@ use Rattle.qc_header.specs.HeaderSpelling.{header_spelling}
 use Rattle.qc_header.specs.declared.header.Header.{Header}
 use Rattle.qc_header.specs.declared.header.Header.TheVariants as header
 use Rattle.qc_packet.specs.PacketSpelling.{packet_spelling}
-use Rattle.qc_state.specs.declared.deeds.Quiet.TheVariants.{NothingOwed, Silent, Killed}
+use Rattle.qc_state.specs.declared.deeds.Quiet.TheVariants.{NothingOwed, Silent, Amplification, Killed}
 use Rattle.qc_state.specs.declared.life.Close.{Close}
 use Rattle.qc_state.specs.declared.life.Close.TheVariants.{Connection, Application}
 use Rattle.qc_state.specs.declared.life.ConnectionError.{ConnectionError}
@@ -32,6 +32,7 @@ use Rattle.qc_state.specs.Life.{is_open, is_closed, is_drained}
 use Rattle.qc_state.specs.Acks.{AckPart, may_acknowledge}
 use Rattle.qc_state.specs.Moves.{Seal, Take, Forget, Raise, Give, Say, move_to, calmed}
 use Rattle.qc_state.specs.Numbers.{next_number, acked_number}
+use Rattle.qc_state.specs.Paths.{is_blocked}
 use Rattle.qc_state.specs.Spaces.{space_of}
 use Rattle.qc_state.specs.Types.{Types, Meaning}
 use Rattle.qc_state.specs.View.{View, At}
@@ -85,10 +86,12 @@ IsKeptReason room kept _ = kept ≡ []
 abbrev pub is_past_limit : (number acked : ℕ) → Bool
 is_past_limit number acked = nat_le (2 ^ 62 - 1) number || nat_le (2 ^ 31) (number - acked)
 
--- a Handshake packet of a client
-abbrev pub is_handshake_of_client : Side → SpaceId → Bool
-is_handshake_of_client Client Handshake = true
-is_handshake_of_client _ _ = false
+-- with a Handshake packet that an end of this side seals, or accepts, it leaves the Initial space: a client as it seals one, and a
+-- server as it accepts one (RFC 9001, section 4.9.1)
+abbrev pub leaves_initial : (side : Side) → (end : Side) → SpaceId → Bool
+leaves_initial Client Client Handshake = true
+leaves_initial Server Server Handshake = true
+leaves_initial _ _ _ = false
 
 module _ {t : Types} where
   -- nothing is sent: the connection has ended, or has closed and owes no close
@@ -112,9 +115,9 @@ module _ {t : Types} where
   unfoldable pub is_used_up : View t → Bool
   is_used_up s = is_past_limit (next_number s.numbers (sending_space s)) (acked_number s.numbers (sending_space s))
 
-  -- nothing may be sealed: the end came before, nothing is owed, or the limit stands
+  -- nothing may be sealed: the end came before, nothing is owed, the path is blocked, or the limit stands
   unfoldable pub may_be_quiet : View t → Bool
-  may_be_quiet s = is_silent s || not (owes s) || is_used_up s
+  may_be_quiet s = is_silent s || not (owes s) || is_blocked s.paths || is_used_up s
 
   -- the header of the next packet in a space (RFC 9000, sections 17.2.2, 17.2.4 and 17.3.1); a 1-RTT packet has the first key
   -- phase, and no spin, so far
@@ -164,25 +167,25 @@ module _ {t : Types} where
     a_close : s.waiting.close_owed ≡ true → (gs : List FrameValue) → Closes time s id gs → (padding : ℕ) → fs ≡ gs ++ replicate padding frames.Padding → Carries time s id fs
     what_waits : s.waiting.close_owed ≡ false → WaitAll time (space_of s.waiting.spaces id) fs → list_any is_told fs ≡ true → Carries time s id fs
 
-  -- a packet with these frames may be sealed at a time: something is owed, and it carries what it may
+  -- a packet with these frames may be sealed at a time: something is owed, the path isn't blocked, and it carries what it may
   pub record MaySeal (time : ℕ) (s : View t) (fs : List FrameValue) : Type 0 where
     pub alive : is_silent s ≡ false
     pub owed : owes s ≡ true
+    pub free : is_blocked s.paths ≡ false
     pub spelled : is_used_up s ≡ false
     pub carries : Carries time s (sending_space s) fs
 
-  -- a client that seals a Handshake packet drops the keys of its Initial space, if it has them still (RFC 9001, section
-  -- 4.9.1)
-  unfoldable pub drops_initial : View t → SpaceId → Bool
-  drops_initial s id = is_handshake_of_client s.setup.fixed.side id && is_some (keys_of s.keys Initial)
+  -- such an end drops the keys of its Initial space, if it has them still
+  unfoldable pub drops_initial : Side → View t → SpaceId → Bool
+  drops_initial side s id = leaves_initial side s.setup.fixed.side id && is_some (keys_of s.keys Initial)
 
-  -- the Initial space is left, where the sealing of a packet in this space says so
-  unfoldable pub initial_left : SpaceId → At t → At t
-  initial_left id a = if drops_initial a.state id then calmed (move_to (Forget Initial) a) else a
+  -- the Initial space is left with a packet of this space, where this end is of the side that leaves it so
+  unfoldable pub initial_left : Side → SpaceId → At t → At t
+  initial_left side id a = if drops_initial side a.state id then calmed (move_to (Forget Initial) a) else a
 
   -- a packet of this space is sealed: its frames wait no longer, and its number is used
   unfoldable pub sealed_in : ℕ → SpaceId → List FrameValue → At t → At t
-  sealed_in time id fs a = initial_left id (move_to (Seal time id (next_number a.state.numbers id) DATAGRAM_SIZE fs) (move_to (Take id fs) a))
+  sealed_in time id fs a = initial_left Client id (move_to (Seal time id (next_number a.state.numbers id) DATAGRAM_SIZE fs) (move_to (Take id fs) a))
 
   -- the next packet is sealed
   unfoldable pub packet_after : ℕ → List FrameValue → At t → At t
@@ -196,12 +199,16 @@ module _ {t : Types} where
   unfoldable pub killed_after : ConnectionError → At t → At t
   killed_after why a = given_after why (move_to (Raise Drained) a)
 
-  -- nothing is sealed: because the end came before, or because of the limit, which is now the end, or because nothing
-  -- was owed
+  -- nothing is sealed of what is owed: because the path is blocked, or because of the limit, which is now the end
+  unfoldable pub owed_quiet_after : At t → At t
+  owed_quiet_after a = if is_blocked a.state.paths then move_to (Say Amplification) a else move_to (Say Killed) (killed_after internal_error a)
+
+  -- nothing is sealed: because the end came before, or the path is blocked, or because of the limit, which is now the end, or
+  -- because nothing was owed
   unfoldable pub quiet_after : At t → At t
   quiet_after a =
       if is_silent a.state then move_to (Say Silent) a
-      else if owes a.state then move_to (Say Killed) (killed_after internal_error a)
+      else if owes a.state then owed_quiet_after a
       else move_to (Say NothingOwed) a
 
   -- what a transmit leaves that seals these packets
@@ -209,8 +216,8 @@ module _ {t : Types} where
   transmit_after time [] a = quiet_after a
   transmit_after time (fs ∷ _) a = packet_after time fs a
 
-  -- which packets a transmit may seal: one with something owed, and none only where the end came before, nothing is
-  -- owed, or the limit stands
+  -- which packets a transmit may seal: one with something owed, and none only where the end came before, nothing is owed, the path
+  -- is blocked, or the limit stands
   unfoldable pub MayTransmit : ℕ → View t → List (List FrameValue) → Type 0
   MayTransmit time s [] = may_be_quiet s ≡ true
   MayTransmit time s (fs ∷ []) = MaySeal time s fs

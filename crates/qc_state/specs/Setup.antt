@@ -1,7 +1,9 @@
 -- What a connection was made with, what it knows of the peer's parameters, and the limit on idle time that comes of both.
-use Rattle.std.specs.Prelude.{ℕ, ◌==◌, if◌then◌else◌, Option, Some, None}
+use Rattle.std.specs.Prelude.{ℕ, ◌==◌, Bool, false, if◌then◌else◌, List, Option, Some, None, is_none}
 use Rattle.rand_core.specs.Stream.{Stream}
 use Rattle.qc_base.specs.Time.{times}
+use Rattle.qc_base.specs.declared.side.Side.{Side}
+use Rattle.qc_base.specs.declared.side.Side.TheVariants.{Client, Server}
 use Rattle.qc_params.specs.declared.params.TransportParameters.{TransportParameters}
 use Rattle.qc_state.specs.declared.setup.Fixed.{Fixed}
 use Rattle.qc_state.specs.declared.setup.Setup.{Setup}
@@ -9,7 +11,7 @@ use Rattle.qc_state.specs.Timers.{least}
 
 -- the same with the source of random words as its stream
 unfoldable pub ideal_setup : {R : Type 0} → (R → Stream) → Setup R → Setup Stream
-ideal_setup stream s = record { fixed = s.fixed; peer = s.peer; random = stream s.random }
+ideal_setup stream s = record { fixed = s.fixed; peer = s.peer; token = s.token; random = stream s.random }
 
 -- a limit on idle time in nanoseconds, of one in milliseconds: none, and 0, are no limit (RFC 9000, section 10.1)
 abbrev pub idle_limit_of : Option ℕ → Option ℕ
@@ -22,6 +24,11 @@ abbrev pub idle_limit_with : Fixed → Option TransportParameters → Option ℕ
 idle_limit_with fixed None = fixed.idle_limit
 idle_limit_with fixed (Some peer) = least fixed.idle_limit (idle_limit_of (Some peer.max_idle_timeout))
 
+-- an end of this side, with this token of a first packet, waits for its first packet: a server does
+abbrev pub awaits_first : Side → Option (List ℕ) → Bool
+awaits_first Client token = false
+awaits_first Server token = is_none token
+
 module _ {R : Type 0} where
   -- the limit of a connection
   unfoldable pub idle_limit_now : Setup R → Option ℕ
@@ -30,3 +37,11 @@ module _ {R : Type 0} where
   -- the peer's parameters were read
   unfoldable pub parameters_known : Setup R → TransportParameters → Setup R
   parameters_known s parameters = record s { peer = Some parameters }
+
+  -- a server's first packet came, with this token
+  unfoldable pub token_expected : Setup R → List ℕ → Setup R
+  token_expected s token = record s { token = Some token }
+
+  -- this end is a server whose first packet didn't come yet
+  unfoldable pub is_first_awaited : Setup R → Bool
+  is_first_awaited s = awaits_first s.fixed.side s.token

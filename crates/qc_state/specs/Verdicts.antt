@@ -1,6 +1,6 @@
 -- What becomes of a packet that opened (RFC 9000, sections 7.2, 10.2 and 12.3): one row a verdict, and the first row that
 -- holds decides.
-use Rattle.std.specs.Prelude.{ℕ, ◌&&◌, not, nat_eq, Bool, if◌then◌else◌, List, [], ◌∷◌}
+use Rattle.std.specs.Prelude.{ℕ, ◌&&◌, ◌||◌, not, nat_eq, Bool, false, if◌then◌else◌, List, [], ◌∷◌, Option, Some}
 use Rattle.std.specs.Cmp.Lexicographic.{pointwise}
 use Rattle.qc_base.specs.declared.side.SpaceId.{SpaceId}
 use Rattle.qc_base.specs.declared.side.SpaceId.TheVariants as space
@@ -17,19 +17,23 @@ abbrev pub first_row : List (Bool × Verdict) → Verdict → Verdict
 first_row [] other = other
 first_row (row ∷ rows) other = if row.0 then row.1 else first_row rows other
 
+-- an Initial packet with another token than the one that is expected, if one is
+abbrev pub is_other_token : SpaceId → Option (List ℕ) → List ℕ → Bool
+is_other_token space.Initial (Some expected) token = not (pointwise nat_eq token expected)
+is_other_token _ _ token = false
+
 module _ {t : Types} where
-  -- The rows for a packet of this space with this source id and number that opened and whose reserved bits are 0. Those
+  -- The rows for a packet of this space with this source id, token and number that opened and whose reserved bits are 0. Those
   -- before stand in the opening: Ignored without a key or a sample, Failure where its key doesn't open it, BadBits. Not
-  -- there so far: a stateless reset (behind Ignored), a bad key update (behind BadBits), and NumberOnly for a server's Initial
-  -- packets with another token.
-  abbrev pub rows : View t → SpaceId → List ℕ → ℕ → List (Bool × Verdict)
-  rows s id source number =
+  -- there so far: a stateless reset (behind Ignored) and a bad key update (behind BadBits).
+  abbrev pub rows : View t → SpaceId → (source token : List ℕ) → ℕ → List (Bool × Verdict)
+  rows s id source token number =
       (not (is_new_in s.numbers id number), Seen)
       ∷ (is_closed s.life.state, ReadForClose)
-      ∷ (is_handshake s.life.state && is_space id space.Data, NumberOnly)
+      ∷ (is_handshake s.life.state && (is_space id space.Data || is_other_token id s.setup.token token), NumberOnly)
       ∷ (is_handshake s.life.state && (s.paths.peer_fixed && not (pointwise nat_eq source s.paths.remote_cid)), AckOnly)
       ∷ []
 
   -- the verdict on the packet
-  unfoldable pub verdict_of : View t → SpaceId → List ℕ → ℕ → Verdict
-  verdict_of s id source number = first_row (rows s id source number) Admitted
+  unfoldable pub verdict_of : View t → SpaceId → (source token : List ℕ) → ℕ → Verdict
+  verdict_of s id source token number = first_row (rows s id source token number) Admitted

@@ -1,6 +1,7 @@
 -- The frames that wait to be sealed, and what becomes of them.
 use Rattle.std.specs.Prelude.{◌≡◌, ℕ, ◌-◌, ◌≤◌, nat_le, min, Bool, true, false, ◌||◌, ◌&&◌, not, ◌==◌, if◌then◌else◌, List, [], ◌∷◌, ◌++◌, length, take}
 use Rattle.qc_base.specs.declared.side.SpaceId.{SpaceId}
+use Rattle.qc_base.specs.declared.side.SpaceId.TheVariants.{«Data»}
 use Rattle.qc_frame.specs.Frame.{FrameValue}
 use Rattle.qc_frame.specs.FrameSpelling.{frames_spelling}
 use Rattle.qc_frame.specs.declared.frames.FrameOf.TheVariants as frames
@@ -18,7 +19,7 @@ use Rattle.qc_state.specs.Unsent.{unsent_after, unsent_with}
 
 -- something waits
 abbrev pub waits_here : SpaceWaiting → Bool
-waits_here w = w.ping || is_ack_owed w.acks || not (length w.crypto.bytes == 0)
+waits_here w = w.done || w.ping || is_ack_owed w.acks || not (length w.crypto.bytes == 0)
 
 -- something waits in the space
 unfoldable pub waits_in : Waiting → SpaceId → Bool
@@ -27,6 +28,10 @@ waits_in v id = waits_here (space_of v.spaces id)
 -- a PING waits from now on
 unfoldable pub ping_asked : Waiting → SpaceId → Waiting
 ping_asked v id = record v { spaces = with_space v.spaces id (record (space_of v.spaces id) { ping = true }) }
+
+-- a HANDSHAKE_DONE waits from now on; it is a frame of 1-RTT packets (RFC 9000, section 19.20)
+unfoldable pub done_asked : Waiting → Waiting
+done_asked v = record v { spaces = with_space v.spaces «Data» (record (space_of v.spaces «Data») { done = true }) }
 
 -- a packet with this number, which elicits an acknowledgement, was sealed
 unfoldable pub flown_in : ℕ → SpaceWaiting → SpaceWaiting
@@ -76,7 +81,7 @@ crypto_written v id bytes = record v { spaces = with_space v.spaces id (record (
 
 -- nothing waits in a space whose keys were dropped, and none of its packets is in flight (RFC 9002, section 6.4)
 unfoldable pub nothing_left : SpaceWaiting → SpaceWaiting
-nothing_left w = record w { ping = false; crypto = unsent_after w.crypto (length w.crypto.bytes); flight = [] }
+nothing_left w = record w { done = false; ping = false; crypto = unsent_after w.crypto (length w.crypto.bytes); flight = [] }
 
 -- the keys of the space were dropped
 unfoldable pub space_left : Waiting → SpaceId → Waiting
@@ -84,15 +89,17 @@ space_left v id = record v { spaces = with_space v.spaces id (nothing_left (spac
 
 -- a frame that is sealed waits no longer
 unfoldable pub without : SpaceWaiting → FrameValue → SpaceWaiting
+without w frames.HandshakeDone = record w { done = false }
 without w frames.Ping = record w { ping = false }
 without w (frames.Ack ack) = record w { acks = ack_sent w.acks }
 without w (frames.Crypto offset body) = record w { crypto = unsent_after w.crypto (length body) }
 without w _ = w
 
--- a frame waits at a time: the PING that was asked for, the ACK that is owed, or the first CRYPTO bytes; PADDING may always
--- stand
+-- a frame waits at a time: the HANDSHAKE_DONE or the PING that was asked for, the ACK that is owed, or the first CRYPTO bytes;
+-- PADDING may always stand
 unfoldable pub Waits : ℕ → SpaceWaiting → FrameValue → Type 0
 Waits time w frames.Padding = Unit {0}
+Waits time w frames.HandshakeDone = w.done ≡ true
 Waits time w frames.Ping = w.ping ≡ true
 Waits time w (frames.Ack ack) = (is_ack_owed w.acks ≡ true) × SaysAck time w.acks ack
 Waits time w (frames.Crypto offset body) = (offset ≡ w.crypto.offset) × (length body ≤ length w.crypto.bytes) × (body ≡ take (length body) w.crypto.bytes)
@@ -113,9 +120,17 @@ abbrev pub is_told : FrameValue → Bool
 is_told frames.Padding = false
 is_told _ = true
 
+-- the HANDSHAKE_DONE that waits
+unfoldable pub done_part : SpaceWaiting → List FrameValue
+done_part w = if w.done then frames.HandshakeDone ∷ [] else []
+
 -- the PING that waits
 unfoldable pub ping_part : SpaceWaiting → List FrameValue
 ping_part w = if w.ping then frames.Ping ∷ [] else []
+
+-- the HANDSHAKE_DONE and the PING that wait
+unfoldable pub marks_part : SpaceWaiting → List FrameValue
+marks_part w = done_part w ++ ping_part w
 
 -- as many of the CRYPTO bytes that wait as fit into the room behind the greatest head of a CRYPTO frame
 unfoldable pub crypto_part : SpaceWaiting → ℕ → List FrameValue
@@ -123,12 +138,12 @@ crypto_part w room =
     if (length w.crypto.bytes == 0) || nat_le room CRYPTO_HEAD then []
     else frames.Crypto w.crypto.offset (take (min (length w.crypto.bytes) (room - CRYPTO_HEAD)) w.crypto.bytes) ∷ []
 
--- the frames that this end takes at a time for a packet with so much room: the PING, the ACK, and the CRYPTO bytes that
--- fit behind them
+-- the frames that this end takes at a time for a packet with so much room: the HANDSHAKE_DONE, the PING, the ACK, and the CRYPTO
+-- bytes that fit behind them
 pub record TakenPart (time : ℕ) (w : SpaceWaiting) (room : ℕ) (fs : List FrameValue) : Type 0 where
   pub acks : List FrameValue
   pub ack : AckPart time w.acks acks (is_ack_owed w.acks)
-  pub all : fs ≡ ping_part w ++ (acks ++ crypto_part w (room - 1 - length (frames_spelling acks)))
+  pub all : fs ≡ marks_part w ++ (acks ++ crypto_part w (room - 2 - length (frames_spelling acks)))
 
 -- the ACK was taken where it was due, and put behind other frames; it has so many bytes
 pub record TakesAck (time : ℕ) (due : Bool) (w w' : SpaceWaiting) (fs gs : List FrameValue) (len : ℕ) : Type 0 where

@@ -16,12 +16,13 @@ pub enum Quiet {
     NothingOwed,
     /// The connection had ended before the call.
     Silent,
+    /// The peer's address isn't validated, and three times the bytes that came from it were sent (RFC 9000, 8.1).
+    Amplification,
     /// The call ended the connection.
     Killed,
 }
 
-/// What became of a packet that came. Verdicts on packets with another token, on stateless resets, on Retry and on Version
-/// Negotiation aren't given yet.
+/// What became of a packet that came. Verdicts on stateless resets, on Retry and on Version Negotiation aren't given yet.
 #[derive(Clone, Copy)]
 pub enum Verdict {
     /// It changed nothing: a key that its form needs is missing, or it is too short to be unmasked.
@@ -34,7 +35,8 @@ pub enum Verdict {
     Seen,
     /// This end had closed: only a close in it counts.
     ReadForClose,
-    /// It is a 1-RTT packet that came before the handshake was over (RFC 9001, 5.7): only its number counts.
+    /// Before the handshake was over, it is a 1-RTT packet (RFC 9001, 5.7), or an Initial packet that came to a server with
+    /// another token than the first one had: only its number counts.
     NumberOnly,
     /// Its source id isn't the peer's (RFC 9000, 7.2): it is acknowledged, and its frames don't count.
     AckOnly,

@@ -19,6 +19,8 @@ pub enum Opening {
     Opened {
         /// The source id of its header.
         source: ConnectionId,
+        /// The token of its header; empty where its form has none.
+        token: Bytes,
         /// Its whole number.
         number: u64,
         /// Its payload.

@@ -1,7 +1,7 @@
 //! The path to the peer.
 
 ghost use Rattle.std.specs.Prelude.{◌≡◌};
-ghost use Rattle.qc_state.specs.Paths.{path_sent, path_received, peer_fixed, same_address};
+ghost use Rattle.qc_state.specs.Paths.{path_sent, path_received, path_validated, peer_fixed, is_blocked, same_address};
 ghost use Rattle.std.specs.Net.Addr.{ipv4_octets, ipv6_segments};
 
 use qc_base::ConnectionId;
@@ -16,19 +16,36 @@ pub struct Paths {
     pub remote_cid: ConnectionId,
     /// Whether that id is the one that the peer chose.
     pub peer_fixed: bool,
+    /// Whether it is known that the peer gets what is sent to its address (RFC 9000, 8.1). A client takes it for known.
+    pub validated: bool,
     /// Bytes sent to the peer's address. They stand still at 2^64 - 1.
     pub sent: u64,
     /// Bytes received from the peer's address, as far as they count (RFC 9000, 8.1). They stand still at 2^64 - 1.
     pub received: u64,
 }
 
-#[tactic(auto, unfolding(crate::specs::Paths::path_sent, crate::specs::Paths::path_received, crate::specs::Paths::peer_fixed))]
+#[tactic(auto, unfolding(crate::specs::Paths::path_sent, crate::specs::Paths::path_received, crate::specs::Paths::peer_fixed, crate::specs::Paths::path_validated, crate::specs::Paths::is_blocked))]
 impl Paths {
     /// So many bytes came from the path's address.
     pub fn received(&mut self, bytes: u64)
         ensures { self.new ≡ path_received self.old bytes }
     {
         self.received = self.received.saturating_add(bytes);
+    }
+
+    /// The peer has shown that it gets what is sent to its address.
+    pub fn validate(&mut self)
+        ensures { self.new ≡ path_validated self.old }
+    {
+        self.validated = true;
+    }
+
+    /// Whether no datagram may be begun: the address isn't validated, and three times the bytes that came from it were sent
+    /// (RFC 9000, 8.1).
+    pub fn is_blocked(&self) -> bool
+        ensures { result ≡ is_blocked self.now }
+    {
+        !self.validated && 3 * u128::from(self.received) <= u128::from(self.sent)
     }
 
     /// The peer has chosen the id that packets to it carry.

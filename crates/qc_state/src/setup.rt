@@ -2,9 +2,10 @@
 
 ghost use Rattle.std.specs.Prelude.{◌≡◌, ℕ, Option, None, Some};
 ghost use Rattle.std.specs.Option.{option_map};
-ghost use Rattle.qc_state.specs.Setup.{idle_limit_of, idle_limit_with, idle_limit_now, parameters_known};
+ghost use Rattle.qc_state.specs.Setup.{idle_limit_of, idle_limit_with, idle_limit_now, parameters_known, token_expected, is_first_awaited, awaits_first};
 ghost use Rattle.qc_state.specs.Timers.{least};
 
+use bytes::Bytes;
 use qc_base::{ConnectionId, Duration, Side, VarInt};
 use qc_params::TransportParameters;
 use std::net::IpAddr;
@@ -37,6 +38,9 @@ pub struct Setup<R> {
     pub fixed: Fixed,
     /// The peer's transport parameters, once this end has read them (RFC 9000, 7.4).
     pub peer: Option<TransportParameters>,
+    /// On a server, once its first packet came, that packet's token, which its other Initial packets repeat (RFC 9000,
+    /// 17.2.2).
+    pub token: Option<Bytes>,
     /// The source of random words. Contracts know it by its stream alone.
     pub random: R,
 }
@@ -86,7 +90,17 @@ fn lesser(a: Option<Duration>, b: Option<Duration>) -> Option<Duration>
     }
 }
 
-#[tactic(auto, unfolding(crate::specs::Setup::idle_limit_now, crate::specs::Setup::parameters_known))]
+/// Whether an end of this side, with this token of a first packet, waits for its first packet: a server does.
+fn awaits_first(side: Side, token: &Option<Bytes>) -> bool
+    ensures { result ≡ awaits_first side token.now }
+{
+    match side {
+        Side::Client => false,
+        Side::Server => token.is_none(),
+    }
+}
+
+#[tactic(auto, unfolding(crate::specs::Setup::idle_limit_now, crate::specs::Setup::parameters_known, crate::specs::Setup::token_expected, crate::specs::Setup::is_first_awaited))]
 impl<R> Setup<R> {
     /// The limit on idle time: this end's own one, and once the peer's parameters were read the lesser of the two ends'.
     pub fn idle_limit(&self) -> Option<Duration>
@@ -106,5 +120,19 @@ impl<R> Setup<R> {
         ensures { self.new ≡ parameters_known self.old parameters }
     {
         self.peer = Some(parameters);
+    }
+
+    /// A server's first packet came, with this token.
+    pub fn expect(&mut self, token: Bytes)
+        ensures { self.new ≡ token_expected self.old token }
+    {
+        self.token = Some(token);
+    }
+
+    /// Whether this end is a server whose first packet didn't come yet.
+    pub fn is_first_awaited(&self) -> bool
+        ensures { result ≡ is_first_awaited self.now }
+    {
+        awaits_first(self.fixed.side, &self.token)
     }
 }

@@ -6,7 +6,7 @@ ghost use Rattle.qc_frame.specs.Frame.{FrameValue};
 ghost use Rattle.qc_frame.specs.FrameSpelling.{frames_spelling};
 ghost use Rattle.qc_state.specs.Acks.{AckPart, SaysAck, ack_sent, is_ack_owed, may_acknowledge};
 ghost use Rattle.qc_frame.specs.declared.frames.FrameOf.TheVariants as frames;
-ghost use Rattle.qc_state.specs.Waiting.{TakenPart, TakesAck, waits_in, ping_asked, came_in, packet_came, close_begun, packet_told, crypto_written, nothing_left, space_left, untold, flown_in, settled_in, packet_flown, packets_settled, is_calm};
+ghost use Rattle.qc_state.specs.Waiting.{TakenPart, TakesAck, waits_in, ping_asked, done_asked, came_in, packet_came, close_begun, packet_told, crypto_written, nothing_left, space_left, untold, flown_in, settled_in, packet_flown, packets_settled, is_calm};
 ghost use Rattle.qc_frame.specs.AckRanges.{ranges_of};
 ghost use Rattle.qc_frame.specs.Frame.{ack_map};
 
@@ -24,6 +24,8 @@ pub const CRYPTO_HEAD: usize = 17;
 /// What waits to be sealed in one space.
 #[derive(Drop)]
 pub struct SpaceWaiting {
+    /// Whether a HANDSHAKE_DONE waits (RFC 9000, 19.20).
+    pub done: bool,
     /// Whether a PING waits (RFC 9000, 19.2).
     pub ping: bool,
     /// The bytes of CRYPTO frames that wait (RFC 9000, 19.6).
@@ -65,7 +67,7 @@ fn settle(space: &mut SpaceWaiting, alloc: Global, ack: &Ack<'_>) -> Result<(), 
 fn waits(space: &SpaceWaiting) -> bool
     ensures { result ≡ waits_here space.now }
 {
-    space.ping || (is_ack_owed(&space.acks) || !space.crypto.is_empty())
+    space.done || (space.ping || (is_ack_owed(&space.acks) || !space.crypto.is_empty()))
 }
 
 /// Whether there is something to acknowledge, and each number is one of a packet.
@@ -143,17 +145,20 @@ fn take_ack(
     Ok(len)
 }
 
-/// Takes the PING that waits. After want of memory it waits as before.
-#[tactic(auto, unfolding(crate::specs::Waiting::ping_part, crate::specs::Waiting::without_all, crate::specs::Waiting::without))]
-fn take_ping(space: &mut SpaceWaiting, frames: &mut FrameList) -> Result<(), AllocError>
-    ensures frames { OnOk result (frames.new ≡ frames.old ++ ping_part space.old) }
-    ensures rest { OnOk result (space.new ≡ without_all space.old (ping_part space.old)) }
+/// Takes the HANDSHAKE_DONE and the PING that wait. Want of memory is the only refusal.
+#[tactic(auto, unfolding(crate::specs::Waiting::marks_part, crate::specs::Waiting::done_part, crate::specs::Waiting::ping_part, crate::specs::Waiting::without_all, crate::specs::Waiting::without))]
+fn take_marks(space: &mut SpaceWaiting, frames: &mut FrameList) -> Result<(), AllocError>
+    ensures frames { OnOk result (frames.new ≡ frames.old ++ marks_part space.old) }
+    ensures rest { OnOk result (space.new ≡ without_all space.old (marks_part space.old)) }
 {
-    if !space.ping {
-        return Ok(());
+    if space.done {
+        frames.push(FrameOf::HandshakeDone)?;
+        space.done = false;
     }
-    frames.push(FrameOf::Ping)?;
-    space.ping = false;
+    if space.ping {
+        frames.push(FrameOf::Ping)?;
+        space.ping = false;
+    }
     Ok(())
 }
 
@@ -190,12 +195,12 @@ fn take(
 {
     let mut frames = FrameList::new(alloc);
     let due = is_ack_owed(&space.acks);
-    take_ping(space, &mut frames)?;
+    take_marks(space, &mut frames)?;
     let len = take_ack(space, alloc, now, due, &mut frames)?;
     take_crypto(
         space,
         alloc,
-        room.saturating_sub(1).saturating_sub(len),
+        room.saturating_sub(2).saturating_sub(len),
         &mut frames,
     )?;
     Ok(frames)
@@ -226,15 +231,16 @@ fn came(space: &mut SpaceWaiting, seen: &Dedup, packet: &Arrival)
 fn leave(space: &mut SpaceWaiting)
     ensures { space.new ≡ nothing_left space.old }
 {
+    space.done = false;
     space.ping = false;
     space.crypto.skip();
     space.flight.clear();
 }
 
-ghost use Rattle.qc_state.specs.Waiting.{waits_here, without_all, ping_part, crypto_part, waiting_without};
+ghost use Rattle.qc_state.specs.Waiting.{waits_here, without_all, marks_part, crypto_part, waiting_without};
 ghost use Rattle.qc_state.specs.Spaces.{space_of};
 
-#[tactic(auto, unfolding(crate::specs::Waiting::packet_flown, crate::specs::Waiting::packets_settled, crate::specs::Waiting::is_calm, crate::specs::Waiting::packet_came, crate::specs::Waiting::crypto_written, crate::specs::Waiting::space_left, crate::specs::Waiting::close_begun, crate::specs::Waiting::packet_told, crate::specs::Waiting::waits_in, crate::specs::Waiting::ping_asked, crate::specs::Waiting::waiting_without))]
+#[tactic(auto, unfolding(crate::specs::Waiting::packet_flown, crate::specs::Waiting::packets_settled, crate::specs::Waiting::is_calm, crate::specs::Waiting::packet_came, crate::specs::Waiting::crypto_written, crate::specs::Waiting::space_left, crate::specs::Waiting::close_begun, crate::specs::Waiting::packet_told, crate::specs::Waiting::waits_in, crate::specs::Waiting::ping_asked, crate::specs::Waiting::done_asked, crate::specs::Waiting::waiting_without))]
 impl Waiting {
     /// Whether something waits in the space.
     pub fn waits(&self, space: SpaceId) -> bool
@@ -343,6 +349,13 @@ impl Waiting {
             SpaceId::Handshake => self.spaces.handshake.ping = true,
             SpaceId::Data => self.spaces.application.ping = true,
         }
+    }
+
+    /// A HANDSHAKE_DONE waits from now on.
+    pub fn ask_done(&mut self)
+        ensures { self.new ≡ done_asked self.old }
+    {
+        self.spaces.application.done = true;
     }
 
     /// Takes frames that wait in the space at a time, for a packet with so much room for them. Want of memory is the only

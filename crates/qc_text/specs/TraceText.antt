@@ -20,7 +20,7 @@ use Rattle.qc_state.specs.declared.deeds.Did.TheVariants as deed
 use Rattle.qc_state.specs.declared.deeds.Layer.{Layer}
 use Rattle.qc_state.specs.declared.deeds.Layer.TheVariants.{Recovery, Session, Life}
 use Rattle.qc_state.specs.declared.deeds.Quiet.{Quiet}
-use Rattle.qc_state.specs.declared.deeds.Quiet.TheVariants.{NothingOwed, Silent, Killed}
+use Rattle.qc_state.specs.declared.deeds.Quiet.TheVariants.{NothingOwed, Silent, Amplification, Killed}
 use Rattle.qc_state.specs.declared.deeds.Verdict.{Verdict}
 use Rattle.qc_state.specs.declared.deeds.Verdict.TheVariants.{Ignored, Failure, BadBits, Seen, ReadForClose, NumberOnly, AckOnly, Admitted}
 use Rattle.qc_state.specs.declared.events.EndpointEvent.{EndpointEvent}
@@ -198,6 +198,7 @@ reason_text reason = reason_name reason ++ codes " " ++ reason_values reason
 unfoldable pub quiet_name : Quiet → List ℕ
 quiet_name NothingOwed = codes "NothingOwed"
 quiet_name Silent = codes "Silent"
+quiet_name Amplification = codes "Amplification"
 quiet_name Killed = codes "Killed"
 
 -- the line of a deed: a packet that was sealed, one that came, what a layer was given, a rise in the life, a reason for

@@ -122,6 +122,7 @@ pub fn quiet_of(quiet: Quiet) -> &'static [u8]
     match quiet {
         Quiet::NothingOwed => b"NothingOwed",
         Quiet::Silent => b"Silent",
+        Quiet::Amplification => b"Amplification",
         Quiet::Killed => b"Killed",
     }
 }

@@ -7,6 +7,7 @@ use Rattle.qconn.specs.Outside.{Appends}
 use Rattle.qc_script.specs.Script.{lines_of, IsScript, IsRefusal}
 use Rattle.qconn.specs.declared.run.Status.TheVariants.{BadScript}
 use Rattle.qc_state.specs.declared.input.Input.{Input}
+use Rattle.qc_script.specs.declared.settings.Settings.{Settings}
 use Rattle.qc_script.specs.declared.script.ScriptError.{ScriptError}
 use Rattle.qc_script.specs.declared.script.ScriptError.TheVariants.{BadLine, OutOfMemory}
 
@@ -17,8 +18,8 @@ pub named_refused : (bytes : List ℕ) (why : ScriptError) (held held' : Option 
 named_refused bytes (BadLine k) held held' inside bad status h = record { line = k; bad = bad_line k inside bad; written = h }
 named_refused bytes OutOfMemory held held' inside bad status h = absurd (cc)
 
-pub performed : (IsRun : List Input → List ℕ → Type 0) (bytes : List ℕ) (inputs : List Input) (text : List ℕ) (held held' : Option (List ℕ)) → IsScript (lines_of bytes) inputs → IsRun inputs text → Appends held held' text → Performed IsRun bytes held held'
-performed IsRun bytes inputs text held held' script run h = record { inputs = inputs; text = text; script = script; run = run; written = h }
+pub performed : (IsRun : Settings → List Input → List ℕ → Type 0) (bytes : List ℕ) (settings : Settings) (inputs : List Input) (text : List ℕ) (held held' : Option (List ℕ)) → IsScript (lines_of bytes) settings inputs → IsRun settings inputs text → Appends held held' text → Performed IsRun bytes held held'
+performed IsRun bytes settings inputs text held held' script run h = record { settings = settings; inputs = inputs; text = text; script = script; run = run; written = h }
 
 pub one_word : (words : List (String Global)) (word : String Global) → 1 ≤ length words → length words < 2 → word ≡ get_or words 0 word → words ≡ word ∷ []
 one_word [] word some few is = absurd (omega arith)

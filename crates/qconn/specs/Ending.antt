@@ -7,6 +7,7 @@ use Rattle.qc_script.specs.Script.{lines_of, IsScript, IsFirstBad}
 use Rattle.qconn.specs.declared.run.Status.{Status}
 use Rattle.qconn.specs.declared.run.Status.TheVariants.{BadScript, NoMemory}
 use Rattle.qc_state.specs.declared.input.Input.{Input}
+use Rattle.qc_script.specs.declared.settings.Settings.{Settings}
 use Rattle.qc_script.specs.declared.script.ScriptError.{ScriptError}
 use Rattle.qc_script.specs.declared.script.ScriptError.TheVariants.{BadLine, OutOfMemory}
 
@@ -38,11 +39,12 @@ line_of (BadLine k) = script_line k
 line_of OutOfMemory = codes "no memory\n"
 
 -- the bytes are one script, and a text that is one of a run of its inputs was written
-pub record Performed (IsRun : List Input → List ℕ → Type 0) (bytes : List ℕ) (held held' : Option (List ℕ)) : Type 0 where
+pub record Performed (IsRun : Settings → List Input → List ℕ → Type 0) (bytes : List ℕ) (held held' : Option (List ℕ)) : Type 0 where
+  pub settings : Settings
   pub inputs : List Input
   pub text : List ℕ
-  pub script : IsScript (lines_of bytes) inputs
-  pub run : IsRun inputs text
+  pub script : IsScript (lines_of bytes) settings inputs
+  pub run : IsRun settings inputs text
   pub written : Appends held held' text
 
 -- the bytes are no script, and the line that says so was written
@@ -52,7 +54,7 @@ pub record NamedBad (bytes : List ℕ) (held held' : Option (List ℕ)) : Type 0
   pub written : Appends held held' (script_line line)
 
 -- the source was read to its end, what it gave is one script, and the text of a run of its inputs was written
-pub record Finished (IsRun : List Input → List ℕ → Type 0) (left left' held held' : Option (List ℕ)) : Type 0 where
+pub record Finished (IsRun : Settings → List Input → List ℕ → Type 0) (left left' held held' : Option (List ℕ)) : Type 0 where
   pub bytes : List ℕ
   pub read : Gives left left' bytes
   pub whole : IsAtEnd left'

@@ -1,5 +1,5 @@
--- The run of a script's inputs on the connection that a script sets up, and its text.
-use Rattle.std.specs.Prelude.{◌≡◌, ℕ, List, [], ◌∷◌, None, Some, true, false, replicate}
+-- The run of a script's inputs on the connection that its set lines make, and its text.
+use Rattle.std.specs.Prelude.{◌≡◌, ℕ, List, [], ◌∷◌, Option, None, Some, true, false, replicate, take, unwrap_or}
 use Rattle.std.specs.List.{All}
 use Rattle.std.specs.Net.Addr.{ipv6_segments}
 use Rattle.std.specs.Net.Socket.{socket_ip, IsPlainSocket}
@@ -7,7 +7,8 @@ use Rattle.std.specs.declared.net.ip_addr.IpAddr.TheVariants.{V6}
 use Rattle.std.specs.declared.net.ipv6_addr.Ipv6Addr.{Ipv6Addr}
 use Rattle.std.specs.declared.net.socket_addr.SocketAddr.{SocketAddr}
 use Rattle.qc_base.specs.declared.mask.HeaderMask.{Ghosts as HeaderMaskGhosts}
-use Rattle.qc_base.specs.declared.side.Side.TheVariants.{Client}
+use Rattle.qc_base.specs.declared.side.Side.{Side}
+use Rattle.qc_base.specs.declared.side.Side.TheVariants.{Client, Server}
 use Rattle.qc_config.specs.Announcement.{announced_parameters}
 use Rattle.qc_text.specs.OneText.{IsInRange, IsPlain}
 use Rattle.qc_conn.specs.declared.driving.DriveError.{DriveError}
@@ -21,13 +22,17 @@ use Rattle.qconn.specs.declared.perform.Told.TheVariants.{Whole, Refused}
 use Rattle.qc_crypto.specs.declared.packet_key.PacketKey.{Ghosts as PacketKeyGhosts}
 use Rattle.qc_crypto.specs.declared.session.Session.{Ghosts as SessionGhosts}
 use Rattle.qc_recovery.specs.TransportValues.{default_transport, TransportValues}
-use Rattle.qc_state.specs.First.{first_view, client_fixed}
+use Rattle.qc_state.specs.First.{first_view, server_view, fixed_of}
 use Rattle.qc_state.specs.Run.{Run}
 use Rattle.qc_state.specs.Types.{Types, Meaning, meaning}
 use Rattle.qc_state.specs.View.{View, Held, ideal}
 use Rattle.qc_state.specs.declared.input.Input.{Input}
 use Rattle.qc_state.specs.declared.trace.Step.{Step}
+use Rattle.qc_params.specs.declared.params.TransportParameters.{TransportParameters}
+use Rattle.qc_script.specs.declared.settings.Settings.{Settings}
+use Rattle.qc_toy.specs.Cipher.{toy_signature}
 use Rattle.qc_toy.specs.Settings.{default_settings}
+use Rattle.qc_toy.specs.declared.settings.ToySettings.{ToySettings}
 use Rattle.qc_toy.specs.Start.{session_of}
 use Rattle.qc_toy.specs.declared.header_key.ToyHeaderKey.{ToyHeaderKey}
 use Rattle.qc_toy.specs.declared.packet_key.ToyPacketKey.{ToyPacketKey}
@@ -35,32 +40,67 @@ use Rattle.qc_toy.specs.declared.session.ToySession.{ToySession}
 use Rattle.qc_toy.specs.declared.zero_random.ZeroRandom.{ZeroRandom}
 use Rattle.rand_core.specs.declared.Rng.{Ghosts as RngGhosts}
 
--- the address that a client's packets go to: ::1, port 4433
+-- the usual address of the path: ::1, port 4433
 pub record IsScriptAddress (address : SocketAddr) : Type 0 where
   pub ip : Ipv6Addr
   pub is : socket_ip address ≡ V6 ip
   pub segments : ipv6_segments ip ≡ 0 ∷ 0 ∷ 0 ∷ 0 ∷ 0 ∷ 0 ∷ 0 ∷ 1 ∷ []
   pub plain : IsPlainSocket address 4433
 
--- the ids: this end's, and the first destination's
-abbrev pub local_cid : List ℕ
-local_cid = replicate 8 1
-
--- the destination id of the client's first packets, of which its Initial keys are made (RFC 9001, section 5.2)
-abbrev pub first_cid : List ℕ
-first_cid = replicate 8 2
-
 -- the types of the toy's connections
 abbrev pub toy : Types
 toy = record { S = ToySession; H = ToyHeaderKey; P = ToyPacketKey; D = Unit {0}; I = Unit {0} }
 
--- a toy client's session with default settings, which announces this transport
-abbrev pub toy_client : TransportValues → List ℕ → ToySession
-toy_client transport local = session_of default_settings Client (announced_parameters transport 1472 local true)
+-- the path's address: the one that a line gives, or the usual one
+abbrev pub IsAddressOf : Option SocketAddr → SocketAddr → Type 0
+IsAddressOf None address = IsScriptAddress address
+IsAddressOf (Some given) address = address ≡ given
 
--- the session of a script's client: it announces the default transport
-abbrev pub script_session : ToySession
-script_session = toy_client default_transport local_cid
+-- this end's id
+abbrev pub local_of : Settings → List ℕ
+local_of s = unwrap_or s.local (replicate 8 1)
+
+-- on a client the destination id of its first packets, of which its Initial keys are made (RFC 9001, section 5.2); on a server the
+-- client's id
+abbrev pub remote_of : Settings → List ℕ
+remote_of s = unwrap_or s.remote (replicate 8 2)
+
+-- on a server the destination id of the client's first packets
+abbrev pub first_of : Settings → List ℕ
+first_of s = unwrap_or s.first (replicate 8 3)
+
+-- when the connection is made
+abbrev pub start_of : Settings → ℕ
+start_of s = unwrap_or s.time 0
+
+-- the usual transport, with this end's limit on idle time where a line gives one
+abbrev pub transport_of : Option ℕ → TransportValues
+transport_of None = default_transport
+transport_of (Some millis) = record default_transport { max_idle_timeout = Some millis }
+
+-- the toy's usual settings, with its secret where a line gives one
+abbrev pub settings_of : Option (List ℕ) → ToySettings
+settings_of None = default_settings
+settings_of (Some secret) = record default_settings { secret = secret }
+
+-- what an end announces of this transport
+abbrev pub parameters_of : Settings → TransportParameters
+parameters_of s = announced_parameters (transport_of s.idle) 1472 (local_of s) true
+
+-- the token that resets a server's connection: a key of zeros signs its id
+abbrev pub reset_token_of : Settings → List ℕ
+reset_token_of s = take 16 (toy_signature (replicate 16 0) (local_of s))
+
+-- what a server announces beside that: the destination id of the client's first packets, and the token that resets the connection
+abbrev pub server_parameters_of : Settings → TransportParameters
+server_parameters_of s = record (parameters_of s) { original_dst_cid = Some (first_of s); stateless_reset_token = Some (reset_token_of s) }
+
+-- the session of a script's client, and of its server
+abbrev pub client_session : Settings → ToySession
+client_session s = session_of (settings_of s.secret) Client (parameters_of s)
+
+abbrev pub server_session : Settings → ToySession
+server_session s = session_of (settings_of s.secret) Server (server_parameters_of s)
 
 -- the text is that of a trace which is a run of these inputs from the first view of this script's client, made at time 0,
 -- and of no other trace that has its values in range and leaves nothing out
@@ -72,27 +112,41 @@ pub record IsRunText {t : Types} (m : Meaning t) (first : View t) (inputs : List
   pub spelled : text ≡ trace_text steps
   pub only : (other : List Step) → All IsInRange other → All IsPlain other → text ≡ trace_text other → other ≡ steps
 
--- the first view of the client that a script sets up: a toy client made at time 0, with random words that are zeros. s, h
--- and p are what its session and its keys mean
+-- the ghosts of the toy's sessions
 abbrev pub Sessions : Type 1
 Sessions = SessionGhosts ToySession ToyHeaderKey ToyPacketKey (Unit {0}) (Unit {0})
 
--- that client as it was made at time 0: QUIC version 1, a limit on idle time of 30 seconds, room for 16384 bytes of a CRYPTO
--- stream, and no address to send from
-abbrev pub script_view : Sessions → HeaderMaskGhosts ToyHeaderKey → PacketKeyGhosts ToyPacketKey → SocketAddr → Held toy ZeroRandom
-script_view s h p remote = first_view (meaning s h p) script_session (record {}) (client_fixed 1 local_cid first_cid None (Some 30000) 16384 true) remote first_cid 0
+-- the client that a script sets up, with random words that are zeros: QUIC version 1, room for 16384 bytes of a CRYPTO stream, and
+-- no address to send from. s, h and p are what its session and its keys mean
+abbrev pub script_client : Sessions → HeaderMaskGhosts ToyHeaderKey → PacketKeyGhosts ToyPacketKey → Settings → SocketAddr → Held toy ZeroRandom
+script_client s h p set remote =
+    first_view (meaning s h p) (client_session set) (record {}) (fixed_of Client 1 (local_of set) (remote_of set) None (transport_of set.idle).max_idle_timeout (transport_of set.idle).crypto_buffer_size true) remote (remote_of set) (start_of set)
 
--- the connection is the client that a script sets up
-pub record IsScriptClient (s : Sessions) (h : HeaderMaskGhosts ToyHeaderKey) (p : PacketKeyGhosts ToyPacketKey) (client : Seen toy ZeroRandom) : Type 0 where
-  pub remote : SocketAddr
-  pub address : IsScriptAddress remote
-  pub made : client.core ≡ script_view s h p remote
+-- so the server, whose client's address isn't validated
+abbrev pub script_server : Sessions → HeaderMaskGhosts ToyHeaderKey → PacketKeyGhosts ToyPacketKey → Settings → SocketAddr → Held toy ZeroRandom
+script_server s h p set remote =
+    server_view (meaning s h p) (server_session set) (record {}) (fixed_of Server 1 (local_of set) (first_of set) None (transport_of set.idle).max_idle_timeout (transport_of set.idle).crypto_buffer_size true) remote (remote_of set) false (start_of set)
 
--- the text is that of a run of these inputs from the first view of that client; r is what its random words mean
-pub record IsToyRun (s : Sessions) (h : HeaderMaskGhosts ToyHeaderKey) (p : PacketKeyGhosts ToyPacketKey) (r : RngGhosts ZeroRandom) (inputs : List Input) (text : List ℕ) : Type 0 where
+-- the end of this side
+abbrev pub view_for : Side → Sessions → HeaderMaskGhosts ToyHeaderKey → PacketKeyGhosts ToyPacketKey → Settings → SocketAddr → Held toy ZeroRandom
+view_for Client s h p set remote = script_client s h p set remote
+view_for Server s h p set remote = script_server s h p set remote
+
+-- the connection that the set lines of a script make, by their side
+abbrev pub script_view : Sessions → HeaderMaskGhosts ToyHeaderKey → PacketKeyGhosts ToyPacketKey → Settings → SocketAddr → Held toy ZeroRandom
+script_view s h p set remote = view_for set.side s h p set remote
+
+-- the connection is the one that these set lines make
+pub record IsScriptEnd (s : Sessions) (h : HeaderMaskGhosts ToyHeaderKey) (p : PacketKeyGhosts ToyPacketKey) (set : Settings) (end : Seen toy ZeroRandom) : Type 0 where
   pub remote : SocketAddr
-  pub address : IsScriptAddress remote
-  pub run : IsRunText (meaning s h p) (ideal r.stream (script_view s h p remote)) inputs text
+  pub address : IsAddressOf set.addr remote
+  pub made : end.core ≡ script_view s h p set remote
+
+-- the text is that of a run of these inputs from the first view of that connection; r is what its random words mean
+pub record IsToyRun (s : Sessions) (h : HeaderMaskGhosts ToyHeaderKey) (p : PacketKeyGhosts ToyPacketKey) (r : RngGhosts ZeroRandom) (set : Settings) (inputs : List Input) (text : List ℕ) : Type 0 where
+  pub remote : SocketAddr
+  pub address : IsAddressOf set.addr remote
+  pub run : IsRunText (meaning s h p) (ideal r.stream (script_view s h p set remote)) inputs text
 
 -- the text is that of the steps of the inputs before the first that is refused, and of the line that names it
 pub record IsRefusalText {t : Types} (m : Meaning t) (first : View t) (inputs : List Input) (text : List ℕ) : Type 0 where
@@ -102,16 +156,16 @@ pub record IsRefusalText {t : Types} (m : Meaning t) (first : View t) (inputs : 
   pub refused : RefusedAt m first inputs kind steps last false
   pub spelled : text ≡ refused_text steps kind
 
--- so for that client
-pub record IsToyRefusal (s : Sessions) (h : HeaderMaskGhosts ToyHeaderKey) (p : PacketKeyGhosts ToyPacketKey) (r : RngGhosts ZeroRandom) (inputs : List Input) (text : List ℕ) : Type 0 where
+-- so for that connection
+pub record IsToyRefusal (s : Sessions) (h : HeaderMaskGhosts ToyHeaderKey) (p : PacketKeyGhosts ToyPacketKey) (r : RngGhosts ZeroRandom) (set : Settings) (inputs : List Input) (text : List ℕ) : Type 0 where
   pub remote : SocketAddr
-  pub address : IsScriptAddress remote
-  pub refused : IsRefusalText (meaning s h p) (ideal r.stream (script_view s h p remote)) inputs text
+  pub address : IsAddressOf set.addr remote
+  pub refused : IsRefusalText (meaning s h p) (ideal r.stream (script_view s h p set remote)) inputs text
 
 -- what is told of a run: the text of the whole, or that of a refusal
-abbrev pub IsToldRun : (IsRun IsRefusal : List Input → List ℕ → Type 0) → List Input → Told → Type 0
-IsToldRun IsRun IsRefusal inputs (Whole text) = IsRun inputs text.items
-IsToldRun IsRun IsRefusal inputs (Refused text) = IsRefusal inputs text.items
+abbrev pub IsToldRun : (IsRun IsRefusal : Settings → List Input → List ℕ → Type 0) → Settings → List Input → Told → Type 0
+IsToldRun IsRun IsRefusal set inputs (Whole text) = IsRun set inputs text.items
+IsToldRun IsRun IsRefusal set inputs (Refused text) = IsRefusal set inputs text.items
 
 -- what is told of an error: that it names an input, and the text
 abbrev pub IsRefusalTold : DriveError → Told → Type 0

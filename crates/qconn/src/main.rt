@@ -10,6 +10,8 @@ mod receiving_tests;
 #[cfg(test)]
 mod ring_tests;
 mod run;
+#[cfg(test)]
+mod server_tests;
 mod sink;
 mod source;
 mod standard;

@@ -1,24 +1,29 @@
-//! The run of a script's inputs, on the client that a script sets up.
+//! The run of a script's inputs, on the connection that its set lines make.
 
-ghost use Rattle.std.specs.Prelude.{true, ◌≡◌, None, IfOk};
+ghost use Rattle.std.specs.Prelude.{true, false, replicate, unwrap_or, ◌≡◌, None, IfOk, IfSome};
+ghost use Rattle.qc_script.specs.Fields.{IsAddress};
 ghost use Rattle.qc_text.specs.OneText.{IsPlainStart};
-ghost use Rattle.qconn.specs.RunText.{IsScriptAddress, local_cid, first_cid, script_session, toy_client, IsScriptClient, IsToyRun, IsToyRefusal, IsToldRun, IsRefusalTold};
-ghost use Rattle.qc_recovery.specs.TransportValues.{default_transport};
+ghost use Rattle.qconn.specs.RunText.{IsScriptAddress, IsAddressOf, IsScriptEnd, IsToyRun, IsToyRefusal, IsToldRun, IsRefusalTold, client_session, server_session, parameters_of, reset_token_of, server_parameters_of, settings_of, transport_of, local_of, remote_of, first_of, start_of, view_for};
 
-use qc_base::{ConnectionId, HeaderMask, Instant, Side};
-use qc_config::{NoneTokenStore, announced};
+use qc_base::{ConnectionId, HeaderMask, Instant, ResetToken, Side, VarInt};
+use qc_config::{NoneTokenStore, announced, reset_token};
 use qc_conn::text::{refused_text, trace_text};
-use qc_conn::{ClientSetup, Connection, DriveError, DriveKind, drive};
-use qc_crypto::{ClientConfig, PacketKey, Session};
-use qc_recovery::TransportConfig;
+use qc_conn::{ClientSetup, Connection, DriveError, DriveKind, ServerSetup, drive};
+use qc_crypto::{ClientConfig, PacketKey, ServerConfig, Session};
+use qc_params::TransportParameters;
+use qc_recovery::{IdleTimeout, TransportConfig};
+use qc_script::{Script, Settings};
 use qc_state::{Input, Suite};
-use qc_toy::{ToyClient, ToyHeaderKey, ToyPacketKey, ToySession, ToySettings, ZeroRandom};
+use qc_toy::{
+    ToyClient, ToyHeaderKey, ToyHmacKey, ToyPacketKey, ToyServer, ToySession, ToySettings,
+    ZeroRandom,
+};
 use rand_core::Rng;
 use std::alloc::{AllocError, Global};
 use std::default::Default;
 use std::net::{IpAddr, Ipv6Addr, SocketAddr};
 
-/// The greatest UDP payload that a client takes, in bytes.
+/// The greatest UDP payload that an end takes, in bytes.
 const MAX_UDP_PAYLOAD: u16 = 1472;
 
 /// The types of the connection that a script drives: toy sessions, and zeros for random words.
@@ -30,33 +35,155 @@ impl Suite for Toy {
     type Random = ZeroRandom;
 }
 
-/// What the client of a script is made of where no line says otherwise.
+/// The id that a line gives, or eight times this byte.
+fn id_or(given: Option<ConnectionId>, byte: u8) -> ConnectionId
+    ensures { result ≡ unwrap_or given (replicate 8 byte) }
+{
+    match given {
+        Some(id) => id,
+        None => ConnectionId::new(&[byte; 8]),
+    }
+}
+
+/// The usual transport, with this limit on idle time in milliseconds where a line gives one.
+fn transport_with(idle: Option<VarInt>) -> TransportConfig
+    ensures { result ≡ transport_of idle }
+{
+    let mut transport = TransportConfig::default();
+    if let Some(millis) = idle {
+        transport.max_idle_timeout(Some(IdleTimeout::from(millis)));
+    }
+    transport
+}
+
+/// The toy's usual settings, with this secret where a line gives one.
+fn settings_with(secret: Option<[u8; 5]>) -> ToySettings
+    ensures { result ≡ settings_of secret }
+{
+    let mut settings = ToySettings::default();
+    if let Some(secret) = secret {
+        settings.secret = secret;
+    }
+    settings
+}
+
+/// `::1`, port 4433.
+fn usual_address() -> SocketAddr
+    ensures { IsScriptAddress result }
+{
+    SocketAddr::new(IpAddr::V6(Ipv6Addr::new(0, 0, 0, 0, 0, 0, 0, 1)), 4433)
+}
+
+/// The address that a line gives, or the usual one.
+fn address_or(given: Option<SocketAddr>) -> SocketAddr
+    ensures { IsAddressOf given result }
+{
+    match given {
+        Some(address) => address,
+        None => usual_address(),
+    }
+}
+
+/// When the connection is made: the time that a line gives, or 0.
+fn time_or(given: Option<Instant>) -> Instant
+    ensures { result ≡ unwrap_or given 0 }
+{
+    match given {
+        Some(time) => time,
+        None => Instant::from_nanos(0),
+    }
+}
+
+/// A client's session, which announces this transport. Want of memory is the only error.
+fn session_of_client(
+    alloc: Global,
+    set: &Settings,
+    transport: &TransportConfig,
+) -> Result<ToySession, AllocError>
+    requires { transport.now ≡ transport_of set.now.idle }
+    ensures { IfOk result (λ session. session ≡ client_session set.now) }
+{
+    let client = ToyClient {
+        settings: settings_with(set.secret),
+    };
+    let params = announced(transport, MAX_UDP_PAYLOAD, id_or(set.local, 1), true);
+    match client.start_session(alloc, 1, "", &params) {
+        Ok(session) => Ok(session),
+        Err(_) => Err(AllocError),
+    }
+}
+
+/// The token that resets a server's connection: a key of zeros signs its id. Want of memory is the only error.
+fn reset_token_of(alloc: Global, set: &Settings) -> Result<ResetToken, AllocError>
+    ensures { IfOk result (λ token. token ≡ reset_token_of set.now) }
+{
+    reset_token(alloc, &ToyHmacKey::new([0; 16]), id_or(set.local, 1))
+}
+
+/// What a server announces: beside the transport the destination id of the client's first packets, and the token that resets
+/// the connection.
+fn server_parameters(
+    set: &Settings,
+    transport: &TransportConfig,
+    token: ResetToken,
+) -> TransportParameters
+    requires transport { transport.now ≡ transport_of set.now.idle }
+    requires token { token ≡ reset_token_of set.now }
+    ensures { result ≡ server_parameters_of set.now }
+{
+    let mut params = announced(transport, MAX_UDP_PAYLOAD, id_or(set.local, 1), true);
+    params.original_dst_cid = Some(id_or(set.first, 3));
+    params.stateless_reset_token = Some(token);
+    params
+}
+
+/// A server's session, which announces this transport. Want of memory is the only error.
+fn session_of_server(
+    alloc: Global,
+    set: &Settings,
+    transport: &TransportConfig,
+) -> Result<ToySession, AllocError>
+    requires { transport.now ≡ transport_of set.now.idle }
+    ensures { IfOk result (λ session. session ≡ server_session set.now) }
+{
+    let server = ToyServer {
+        settings: settings_with(set.secret),
+    };
+    let token = reset_token_of(alloc, set)?;
+    let params = server_parameters(set, transport, token);
+    match server.start_session(alloc, 1, &params) {
+        Ok(session) => Ok(session),
+        Err(_) => Err(AllocError),
+    }
+}
+
+/// What the client that these set lines make is made of. Want of memory is the only error.
 #[tactic(auto, using(qc_toy::specs::Start::start_fresh, qc_toy::specs::Start::start_side))]
-fn client_setup(alloc: Global) -> Result<ClientSetup<Toy>, AllocError>
+fn client_setup(alloc: Global, set: &Settings) -> Result<ClientSetup<Toy>, AllocError>
     ensures fresh { IfOk result (λ setup. ⟦<ToySession as Session>⟧.is_fresh setup.session) }
     ensures client { IfOk result (λ setup. setup.session.side ≡ Side.Client) }
-    ensures session { IfOk result (λ setup. setup.session ≡ script_session) }
+    ensures session { IfOk result (λ setup. setup.session ≡ client_session set.now) }
     ensures version { IfOk result (λ setup. setup.version ≡ 1) }
-    ensures local_cid { IfOk result (λ setup. setup.local_cid ≡ local_cid) }
+    ensures local_cid { IfOk result (λ setup. setup.local_cid ≡ local_of set.now) }
     ensures local_ip { IfOk result (λ setup. setup.local_ip ≡ None) }
-    ensures first_cid { IfOk result (λ setup. setup.first_cid ≡ first_cid) }
-    ensures transport { IfOk result (λ setup. setup.transport ≡ default_transport) }
+    ensures first_cid { IfOk result (λ setup. setup.first_cid ≡ remote_of set.now) }
+    ensures transport { IfOk result (λ setup. setup.transport ≡ transport_of set.now.idle) }
     ensures grease { IfOk result (λ setup. setup.grease_quic_bit ≡ true) }
-    ensures remote { IfOk result (λ setup. IsScriptAddress setup.remote) }
+    ensures remote { IfOk result (λ setup. IsAddressOf set.now.addr setup.remote) }
 {
-    let transport = TransportConfig::default();
-    let local_cid = ConnectionId::new(&[1; 8]);
-    let session = client_session(alloc, &transport, local_cid)?;
+    let transport = transport_with(set.idle);
+    let local_cid = id_or(set.local, 1);
+    let session = session_of_client(alloc, set, &transport)?;
     Ok(ClientSetup {
         session,
         random: ZeroRandom,
         transport,
         grease_quic_bit: true,
         local_cid,
-        first_cid: ConnectionId::new(&[2; 8]),
-        cid_len: 8,
+        first_cid: id_or(set.remote, 2),
+        cid_len: local_cid.len(),
         cid_lifetime: None,
-        remote: script_address(),
+        remote: address_or(set.addr),
         local_ip: None,
         version: 1,
         allow_mtud: true,
@@ -64,41 +191,78 @@ fn client_setup(alloc: Global) -> Result<ClientSetup<Toy>, AllocError>
     })
 }
 
-/// A toy session that announces this transport.
-fn client_session(
-    alloc: Global,
-    transport: &TransportConfig,
-    local_cid: ConnectionId,
-) -> Result<ToySession, AllocError>
-    ensures { IfOk result (λ session. session ≡ toy_client transport.now local_cid) }
+/// What the server that these set lines make is made of. Want of memory is the only error.
+#[tactic(auto, using(qc_toy::specs::Start::start_fresh))]
+fn server_setup(alloc: Global, set: &Settings) -> Result<ServerSetup<Toy>, AllocError>
+    ensures fresh { IfOk result (λ setup. ⟦<ToySession as Session>⟧.is_fresh setup.session) }
+    ensures session { IfOk result (λ setup. setup.session ≡ server_session set.now) }
+    ensures version { IfOk result (λ setup. setup.version ≡ 1) }
+    ensures local_cid { IfOk result (λ setup. setup.local_cid ≡ local_of set.now) }
+    ensures local_ip { IfOk result (λ setup. setup.local_ip ≡ None) }
+    ensures first_cid { IfOk result (λ setup. setup.first_cid ≡ first_of set.now) }
+    ensures remote_cid { IfOk result (λ setup. setup.remote_cid ≡ remote_of set.now) }
+    ensures transport { IfOk result (λ setup. setup.transport ≡ transport_of set.now.idle) }
+    ensures grease { IfOk result (λ setup. setup.grease_quic_bit ≡ true) }
+    ensures remote { IfOk result (λ setup. IsAddressOf set.now.addr setup.remote) }
+    ensures validated { IfOk result (λ setup. setup.validated ≡ false) }
 {
-    let client = ToyClient {
-        settings: ToySettings::default(),
-    };
-    let params = announced(transport, MAX_UDP_PAYLOAD, local_cid, true);
-    match client.start_session(alloc, 1, "", &params) {
-        Ok(session) => Ok(session),
-        Err(_) => Err(AllocError),
-    }
+    let transport = transport_with(set.idle);
+    let local_cid = id_or(set.local, 1);
+    let session = session_of_server(alloc, set, &transport)?;
+    Ok(ServerSetup {
+        session,
+        random: ZeroRandom,
+        transport,
+        grease_quic_bit: true,
+        local_cid,
+        first_cid: id_or(set.first, 3),
+        cid_len: local_cid.len(),
+        cid_lifetime: None,
+        remote: address_or(set.addr),
+        local_ip: None,
+        version: 1,
+        allow_mtud: true,
+        remote_cid: id_or(set.remote, 2),
+        migration: true,
+        preferred: false,
+        validated: false,
+    })
 }
 
-/// `::1`, port 4433.
-fn script_address() -> SocketAddr
-    ensures { IsScriptAddress result }
-{
-    SocketAddr::new(IpAddr::V6(Ipv6Addr::new(0, 0, 0, 0, 0, 0, 0, 1)), 4433)
-}
-
-/// The client that a script sets up, made at time 0.
-fn script_client(alloc: Global) -> Result<Connection<Toy>, AllocError>
-    ensures client { IfOk result (IsScriptClient ⟦<ToySession as Session>⟧ ⟦<ToyHeaderKey as HeaderMask>⟧ ⟦<ToyPacketKey as PacketKey>⟧) }
-    ensures start { IfOk result (λ client. client.core.timers.greatest ≡ 0) }
+/// The client that these set lines make.
+fn script_client(alloc: Global, set: &Settings) -> Result<Connection<Toy>, AllocError>
+    requires side { set.now.side ≡ Side.Client }
+    requires address { IfSome set.now.addr IsAddress }
+    ensures client { IfOk result (IsScriptEnd ⟦<ToySession as Session>⟧ ⟦<ToyHeaderKey as HeaderMask>⟧ ⟦<ToyPacketKey as PacketKey>⟧ set.now) }
     ensures plain { IfOk result (λ client. IsPlainStart client.core.waiting client.core.paths) }
 {
-    let setup = client_setup(alloc)?;
-    let start = Instant::from_nanos(0);
-    let client = Connection::new_client(alloc, setup, &mut NoneTokenStore, start)?;
+    let setup = client_setup(alloc, set)?;
+    let client = Connection::new_client(alloc, setup, &mut NoneTokenStore, time_or(set.time))?;
     Ok(client)
+}
+
+/// The server that these set lines make.
+fn script_server(alloc: Global, set: &Settings) -> Result<Connection<Toy>, AllocError>
+    requires side { set.now.side ≡ Side.Server }
+    requires address { IfSome set.now.addr IsAddress }
+    ensures server { IfOk result (IsScriptEnd ⟦<ToySession as Session>⟧ ⟦<ToyHeaderKey as HeaderMask>⟧ ⟦<ToyPacketKey as PacketKey>⟧ set.now) }
+    ensures plain { IfOk result (λ server. IsPlainStart server.core.waiting server.core.paths) }
+{
+    let setup = server_setup(alloc, set)?;
+    let server = Connection::new_server(alloc, setup, time_or(set.time))?;
+    Ok(server)
+}
+
+/// The connection that these set lines make.
+fn script_end(alloc: Global, set: &Settings) -> Result<Connection<Toy>, AllocError>
+    requires address { IfSome set.now.addr IsAddress }
+    ensures end { IfOk result (IsScriptEnd ⟦<ToySession as Session>⟧ ⟦<ToyHeaderKey as HeaderMask>⟧ ⟦<ToyPacketKey as PacketKey>⟧ set.now) }
+    ensures plain { IfOk result (λ end. IsPlainStart end.core.waiting end.core.paths) }
+{
+    match set.side {
+        Side::Client => script_client(alloc, set),
+        Side::Server => script_server(alloc, set),
+    }
 }
 
 /// The text of a run.
@@ -110,13 +274,19 @@ pub enum Told {
     Refused(Vec<u8>),
 }
 
-/// The text of that client's trace, driven by these inputs, or that of the steps before the first
+/// The text of the trace of the connection that the set lines make, driven by the inputs, or that of the steps before the first
 /// input that can't be taken. Want of memory is the only error.
-pub fn perform(alloc: Global, inputs: &[Input]) -> Result<Told, AllocError>
-    ensures { IfOk result (λ told. IsToldRun (IsToyRun ⟦<ToySession as Session>⟧ ⟦<ToyHeaderKey as HeaderMask>⟧ ⟦<ToyPacketKey as PacketKey>⟧ ⟦<ZeroRandom as Rng>⟧) (IsToyRefusal ⟦<ToySession as Session>⟧ ⟦<ToyHeaderKey as HeaderMask>⟧ ⟦<ToyPacketKey as PacketKey>⟧ ⟦<ZeroRandom as Rng>⟧) inputs.now told) }
+pub fn perform(alloc: Global, script: &Script) -> Result<Told, AllocError>
+    requires address { IfSome script.now.settings.addr IsAddress }
+    ensures { IfOk result (λ told. IsToldRun (IsToyRun ⟦<ToySession as Session>⟧ ⟦<ToyHeaderKey as HeaderMask>⟧ ⟦<ToyPacketKey as PacketKey>⟧ ⟦<ZeroRandom as Rng>⟧) (IsToyRefusal ⟦<ToySession as Session>⟧ ⟦<ToyHeaderKey as HeaderMask>⟧ ⟦<ToyPacketKey as PacketKey>⟧ ⟦<ZeroRandom as Rng>⟧) script.now.settings script.now.inputs.items told) }
 {
-    let mut client = script_client(alloc)?;
-    match drive(alloc, &mut client, inputs, &mut NoneTokenStore) {
+    let mut end = script_end(alloc, &script.settings)?;
+    match drive(
+        alloc,
+        &mut end,
+        script.inputs.as_slice(),
+        &mut NoneTokenStore,
+    ) {
         Ok(trace) => {
             let text = trace_text(alloc, &trace)?;
             Ok(Told::Whole(text))
@@ -125,7 +295,7 @@ pub fn perform(alloc: Global, inputs: &[Input]) -> Result<Told, AllocError>
     }
 }
 
-/// The text of what was refused. Want of memory is handed on, and so is that a connection had failed, which no client
+/// The text of what was refused. Want of memory is handed on, and so is that a connection had failed, which none
 /// that was just made has.
 fn refusal_told(alloc: Global, error: &DriveError) -> Result<Told, AllocError>
     ensures { IfOk result (λ told. IsRefusalTold error.now told) }
@@ -143,13 +313,22 @@ fn refusal_told(alloc: Global, error: &DriveError) -> Result<Told, AllocError>
 mod tests {
     use super::*;
     use bytes::Bytes;
-    use qc_base::VarInt;
     use std::test::Fail;
 
     // The hello goes out first; then nothing is owed until a PING is asked for.
     #[test]
     fn a_client_is_called_directly(rt: HostRuntime) -> Result<(), Fail> {
-        let mut client = script_client(rt.alloc())?;
+        let set = Settings {
+            side: Side::Client,
+            time: None,
+            local: None,
+            remote: None,
+            first: None,
+            addr: None,
+            secret: None,
+            idle: None,
+        };
+        let mut client = script_client(rt.alloc(), &set)?;
         let now = Instant::from_nanos(5);
         assert!(rt; client.poll_timeout().is_none());
         for asks in [false, true] {

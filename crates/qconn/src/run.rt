@@ -116,7 +116,7 @@ fn follow<Si: Sink>(alloc: Global, bytes: &[u8], sink: &mut Si) -> Status
         return end_bad(sink, 0);
     }
     match read_script(alloc, bytes) {
-        Ok(inputs) => match perform(alloc, inputs.as_slice()) {
+        Ok(script) => match perform(alloc, &script) {
             Ok(Told::Whole(text)) => end(sink, text.as_slice(), Status::Done),
             Ok(Told::Refused(text)) => end(sink, text.as_slice(), Status::Refused),
             Err(_) => end(sink, b"no memory\n", Status::NoMemory),

@@ -1,5 +1,6 @@
 use Rattle.std.proofs.Common.{◌∙◌, sym, Some, None}
 use Rattle.qc_frame.specs.Frame.{typed}
+use Rattle.qc_state.specs.Setup.{ideal_setup}
 use Rattle.qc_core.proofs.Reasons.{reads_as}
 use Rattle.qc_core.proofs.state.Core.item.Goals as goal
 
@@ -9,4 +10,5 @@ returns-in-Some g c = reads_as _ c.args.now c.args.space (typed c.args.read.now)
 
 -- another frame
 pub returns-in-None : goal.returns-in-None
+unfolding ideal_setup
 returns-in-None g c = reads_as _ c.args.now c.args.space (typed c.args.read.now) None _ _ _ _ (sym c.in-None.is ∙ c.in_ok-why.ensures) c.unclosed.ensures

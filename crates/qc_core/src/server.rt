@@ -1,0 +1,93 @@
+//! A server's connection is made.
+
+ghost use Rattle.std.specs.Prelude.{◌≡◌, IfOk};
+ghost use Rattle.qc_state.specs.First.{server_view, fixed_of};
+ghost use Rattle.qc_state.specs.Types.{meaning};
+
+use crate::making::{fixed, made};
+use crate::state::Core;
+use qc_base::{ConnectionId, Duration, Instant, Side};
+use qc_recovery::TransportConfig;
+use qc_state::{Paths, SoundSession, Suite};
+use std::alloc::{AllocError, Global};
+use std::net::{IpAddr, SocketAddr};
+
+/// What a server's connection is made of.
+#[derive(Drop)]
+pub struct ServerSetup<U: Suite> {
+    /// A server's session. It is fresh: it has neither read nor written.
+    pub session: U::Session,
+    /// The source of random words.
+    pub random: U::Random,
+    /// The configuration of the transport.
+    pub transport: TransportConfig,
+    /// Whether this end takes packets whose fixed bit isn't set (RFC 9287).
+    pub grease_quic_bit: bool,
+    /// This end's id, which has `cid_len` bytes.
+    pub local_cid: ConnectionId,
+    /// The destination id of the client's first packets, of which the Initial keys are made (RFC 9001, 5.2).
+    pub first_cid: ConnectionId,
+    /// The length of this end's ids, in bytes.
+    pub cid_len: usize,
+    /// How long an id of this end is used; without a limit where there is none.
+    pub cid_lifetime: Option<Duration>,
+    /// The client's address.
+    pub remote: SocketAddr,
+    /// The address to send from, where one is given.
+    pub local_ip: Option<IpAddr>,
+    /// The version of QUIC (RFC 9000, 15).
+    pub version: u32,
+    /// Whether larger datagrams are searched for (RFC 9000, 14.3).
+    pub allow_mtud: bool,
+    /// The client's id: the source id of its first packets (RFC 9000, 7.2).
+    pub remote_cid: ConnectionId,
+    /// Whether the client may go on from another address (RFC 9000, 9). So far it may not.
+    pub migration: bool,
+    /// Whether this end announced a preferred address (RFC 9000, 9.6).
+    pub preferred: bool,
+    /// Whether it is known that the client gets what is sent to its address, by a token (RFC 9000, 8.1).
+    pub validated: bool,
+}
+
+impl<U: Suite> Core<U> {
+    /// A server's connection: it waits for its first packet. Want of memory is the only refusal.
+    #[tactic(auto, unfolding(qc_state::specs::First::server_view))]
+    pub fn new_server(
+        alloc: Global,
+        setup: ServerSetup<U>,
+        now: Instant,
+    ) -> Result<Core<U>, AllocError>
+        requires fresh { U.Session.is_fresh setup.session }
+        ensures { IfOk result (λ core. core ≡ server_view (meaning U.Session.Session U.Session.HeaderKey.HeaderMask U.Session.PacketKey.PacketKey) setup.session setup.random (fixed_of Side.Server setup.version setup.local_cid setup.first_cid setup.local_ip setup.transport.max_idle_timeout setup.transport.crypto_buffer_size setup.grease_quic_bit) setup.remote setup.remote_cid setup.validated now) }
+    {
+        let session = SoundSession::new(setup.session);
+        let keys = session.initial_keys(&setup.first_cid, Side::Server);
+        let fixed = fixed(
+            Side::Server,
+            setup.version,
+            setup.local_cid,
+            setup.first_cid,
+            setup.local_ip,
+            &setup.transport,
+            setup.grease_quic_bit,
+        );
+        let paths = Paths {
+            remote: setup.remote,
+            remote_cid: setup.remote_cid,
+            peer_fixed: true,
+            validated: setup.validated,
+            sent: 0,
+            received: 0,
+        };
+        Ok(made(
+            alloc,
+            keys,
+            session,
+            Vec::new(alloc),
+            setup.random,
+            fixed,
+            paths,
+            now,
+        ))
+    }
+}

@@ -1,0 +1,436 @@
+-- The lines behind the first as items, in their order.
+use Rattle.std.proofs.Common.{◌≡◌, ℕ, ◌+◌, ◌^◌, ◌<◌, ◌≤◌, List, [], ◌∷◌, ◌++◌, map, Option, Some, None, IfSome, refl, sym, ◌∙◌, ap, subst, arith, codes}
+use Rattle.std.proofs.lemmas.List.{append-nil, append_assoc, map-append}
+use Rattle.std.specs.Fmt.{decimal}
+use Rattle.std.specs.declared.net.socket_addr.SocketAddr.{SocketAddr}
+use Rattle.qc_base.specs.declared.side.Side.{Side}
+use Rattle.qc_state.specs.declared.input.Input.{Input}
+use Rattle.qc_state.specs.declared.input.Input.TheVariants.{Datagram, Transmit, Close, Ping}
+use Rattle.qc_script.specs.declared.settings.Settings.{Settings}
+use Rattle.qc_script.specs.declared.settings.Setting.{Setting}
+use Rattle.qc_script.specs.declared.settings.Setting.TheVariants.{Time, Local, Remote, First, Addr, Secret, Idle}
+use Rattle.qc_script.specs.declared.items.Item.{Item}
+use Rattle.qc_script.specs.declared.items.Item.TheVariants as It
+use Rattle.qc_script.specs.Fields.{hex_field, address_text, IsAddress}
+use Rattle.qc_script.specs.Script.{line_if, side_line, set_lines, input_line, IsWithin, AllWithin, IsId, IsRemote, IsFirst, IsSecret, AreSettings}
+use Rattle.qc_script.specs.Items.{setting_line, IsSetting, IsNextSetting, IsNextItem, setting_place, with_setting, side_alone, item_line, IsItem, item_place, Follows, settings_after, inputs_after}
+use Rattle.qc_script.proofs.LineLemmas.{input_line_injective, datagram_fields, datagram_line, transmit_line, close_line, ping_line}
+use Rattle.qc_script.proofs.SettingLemmas.{setting_line_injective, setting_no_input, setting_ends}
+
+-- ---- one item
+
+-- an item's line is that of no other item
+pub item_line_injective : (side : Side) (i j : Item) → IsItem side i → IsItem side j → item_line i ≡ item_line j → i ≡ j
+item_line_injective side (It.Set x) (It.Set y) h k e = ap It.Set (setting_line_injective side x y h k e)
+item_line_injective side (It.Set x) (It.Input j) h k e = absurd (setting_no_input x j e)
+item_line_injective side (It.Input i) (It.Set y) h k e = absurd (setting_no_input y i (sym e))
+item_line_injective side (It.Input i) (It.Input j) h k e = ap It.Input (input_line_injective i j h k e)
+
+-- a setting's line is no line behind one of its own place or a greater one
+pub not_behind : (side : Side) (before : ℕ) (text : List ℕ) (x : Setting) → IsNextSetting side text x → setting_place x ≤ before → (item : Item) → IsNextItem side before text item → ⊥
+not_behind side before text x h k (It.Set y) n = let same : x ≡ y = setting_line_injective side x y h.within n.within (sym h.spelled ∙ n.spelled) in omega (arith, ap setting_place same, n.follows, k)
+not_behind side before text x h k (It.Input i) n = setting_no_input x i (sym h.spelled ∙ n.spelled)
+
+-- an item's line is a text, and LF
+pub item_ends : (item : Item) → (text : List ℕ) × (item_line item ≡ text ++ 10 ∷ [])
+item_ends (It.Set x) = setting_ends x
+item_ends (It.Input (Datagram now remote ecn bytes)) = (codes "datagram " ++ datagram_fields now remote ecn bytes, datagram_line now remote ecn bytes)
+item_ends (It.Input (Transmit now n)) = (codes "transmit " ++ (decimal now ++ 32 ∷ decimal n), transmit_line now n)
+item_ends (It.Input (Close now code reason)) = (codes "close " ++ (decimal now ++ 32 ∷ (decimal code ++ 32 ∷ hex_field reason)), close_line now code reason)
+item_ends (It.Input (Ping now)) = (codes "ping " ++ decimal now, ping_line now)
+
+-- what may follow a line may follow one of a lesser place
+follows_less : (before less : ℕ) (item : Item) → less ≤ before → Follows before item → Follows less item
+follows_less before less (It.Set x) le h = omega arith
+follows_less before less (It.Input i) le h = tt
+
+-- ---- items in their order
+
+-- items within their bounds, each of which may follow the one before it, and the first of them a line of this place
+abbrev pub Chain : Side → (before : ℕ) → List Item → Type 0
+Chain side before [] = Unit {0}
+Chain side before (item ∷ items) = IsItem side item × Follows before item × Chain side (item_place item) items
+
+-- the place of the last item, or that of the line before them where there is none
+abbrev pub last_place : (before : ℕ) → List Item → ℕ
+last_place before [] = before
+last_place before (item ∷ items) = last_place (item_place item) items
+
+-- what the settings and inputs are after items
+abbrev pub settings_from : Settings → List Item → Settings
+settings_from s [] = s
+settings_from s (item ∷ items) = settings_from (settings_after s item) items
+
+abbrev pub inputs_from : List Input → List Item → List Input
+inputs_from inputs [] = inputs
+inputs_from inputs (item ∷ items) = inputs_from (inputs_after inputs item) items
+
+chain_less : (side : Side) (before less : ℕ) (items : List Item) → less ≤ before → Chain side before items → Chain side less items
+chain_less side before less [] le h = tt
+chain_less side before less (item ∷ items) le h = (h.0, follows_less before less item le h.1, h.2)
+
+-- one item more
+pub chain_push : (side : Side) (before : ℕ) (items : List Item) (item : Item) → Chain side before items → IsItem side item → Follows (last_place before items) item → Chain side before (items ++ item ∷ [])
+chain_push side before [] item h within follows = (within, follows, tt)
+chain_push side before (i ∷ items) item h within follows = (h.0, h.1, chain_push side (item_place i) items item h.2 within follows)
+
+pub last_place-push : (before : ℕ) (items : List Item) (item : Item) → last_place before (items ++ item ∷ []) ≡ item_place item
+last_place-push before [] item = refl
+last_place-push before (i ∷ items) item = last_place-push (item_place i) items item
+
+pub settings_from-push : (s : Settings) (items : List Item) (item : Item) → settings_from s (items ++ item ∷ []) ≡ settings_after (settings_from s items) item
+settings_from-push s [] item = refl
+settings_from-push s (i ∷ items) item = settings_from-push (settings_after s i) items item
+
+pub inputs_from-push : (inputs : List Input) (items : List Item) (item : Item) → inputs_from inputs (items ++ item ∷ []) ≡ inputs_after (inputs_from inputs items) item
+inputs_from-push inputs [] item = refl
+inputs_from-push inputs (i ∷ items) item = inputs_from-push (inputs_after inputs i) items item
+
+-- lines are those of one list of items
+pub same_items : (side : Side) (before : ℕ) (is js : List Item) → Chain side before is → Chain side before js → map item_line is ≡ map item_line js → is ≡ js
+same_items side before [] [] h k e = refl
+same_items side before [] (j ∷ js) h k e = cc
+same_items side before (i ∷ is) [] h k e = cc
+same_items side before (i ∷ is) (j ∷ js) h k e =
+    let first : i ≡ j = item_line_injective side i j h.0 k.0 (cc) in
+    let chain : Chain side (item_place i) js = subst (λ (x : Item). Chain side (item_place x) js) (sym first) k.2 in
+    let rest : is ≡ js = same_items side (item_place i) is js h.2 chain (cc) in
+    cc
+
+-- a line that no item may have there stands in no such list
+pub others_none : (side : Side) (before : ℕ) (is js : List Item) (line : List ℕ) (more : List (List ℕ)) → Chain side before is → Chain side before js → map item_line is ++ line ∷ more ≡ map item_line js
+    → ((j : Item) → line ≡ item_line j → IsItem side j → Follows (last_place before is) j → ⊥) → ⊥
+others_none side before [] [] line more h k e bad = cc
+others_none side before [] (j ∷ js) line more h k e bad = bad j (cc) k.0 k.1
+others_none side before (i ∷ is) [] line more h k e bad = cc
+others_none side before (i ∷ is) (j ∷ js) line more h k e bad =
+    let first : i ≡ j = item_line_injective side i j h.0 k.0 (cc) in
+    let chain : Chain side (item_place i) js = subst (λ (x : Item). Chain side (item_place x) js) (sym first) k.2 in
+    others_none side (item_place i) is js line more h.2 chain (cc) bad
+
+-- ---- the items of a script
+
+-- the item of a value, where there is a value
+abbrev item_if : {T : Type 0} → (T → Setting) → Option T → List Item
+item_if set None = []
+item_if set (Some value) = It.Set (set value) ∷ []
+
+abbrev input_items : List Input → List Item
+input_items [] = []
+input_items (i ∷ inputs) = It.Input i ∷ input_items inputs
+
+-- what a script says behind its first line
+abbrev pub items_of : Settings → List Input → List Item
+items_of s inputs =
+    item_if Time s.time ++ (item_if Local s.local ++ (item_if Remote s.remote ++ (item_if First s.first ++ (item_if Addr s.addr ++ (item_if Secret s.secret ++ (item_if Idle s.idle ++ input_items inputs))))))
+
+-- the set lines of each kind
+abbrev times : Settings → List (List ℕ)
+times s = line_if (codes "set time ") decimal s.time
+
+abbrev locals : Settings → List (List ℕ)
+locals s = line_if (codes "set local ") hex_field s.local
+
+abbrev remotes : Settings → List (List ℕ)
+remotes s = line_if (codes "set remote ") hex_field s.remote
+
+abbrev firsts : Settings → List (List ℕ)
+firsts s = line_if (codes "set first ") hex_field s.first
+
+abbrev addrs : Settings → List (List ℕ)
+addrs s = line_if (codes "set addr ") address_text s.addr
+
+abbrev secrets : Settings → List (List ℕ)
+secrets s = line_if (codes "set secret ") hex_field s.secret
+
+abbrev idles : Settings → List (List ℕ)
+idles s = line_if (codes "set idle ") decimal s.idle
+
+-- the items' lines
+lines_if : {T : Type 0} → (words : List ℕ) (spell : T → List ℕ) (set : T → Setting) (o : Option T) (lines : List (List ℕ)) (items : List Item) → ((v : T) → setting_line (set v) ≡ words ++ (spell v ++ 10 ∷ [])) → lines ≡ map item_line items
+    → line_if words spell o ++ lines ≡ map item_line (item_if set o ++ items)
+lines_if words spell set None lines items is e = e
+lines_if words spell set (Some v) lines items is e = let first = is v in cc
+
+input_lines : (inputs : List Input) → map input_line inputs ≡ map item_line (input_items inputs)
+input_lines [] = refl
+input_lines (i ∷ inputs) = ap (λ (ls : List (List ℕ)). input_line i ∷ ls) (input_lines inputs)
+
+regrouped : (a b c d e f g m : List (List ℕ)) → (a ++ (b ++ (c ++ (d ++ (e ++ (f ++ g)))))) ++ m ≡ a ++ (b ++ (c ++ (d ++ (e ++ (f ++ (g ++ m))))))
+regrouped a b c d e f g m = simp append_assoc
+
+pub script_lines : (s : Settings) (inputs : List Input) → set_lines s ++ map input_line inputs ≡ side_line s.side ∷ map item_line (items_of s inputs)
+unfolding set_lines setting_line
+script_lines s inputs =
+    let idle = lines_if (codes "set idle ") decimal Idle s.idle (map input_line inputs) (input_items inputs) (λ v. refl) (input_lines inputs) in
+    let secret = lines_if (codes "set secret ") hex_field Secret s.secret _ _ (λ v. refl) idle in
+    let addr = lines_if (codes "set addr ") address_text Addr s.addr _ _ (λ v. refl) secret in
+    let first = lines_if (codes "set first ") hex_field First s.first _ _ (λ v. refl) addr in
+    let remote = lines_if (codes "set remote ") hex_field Remote s.remote _ _ (λ v. refl) first in
+    let local = lines_if (codes "set local ") hex_field Local s.local _ _ (λ v. refl) remote in
+    let time = lines_if (codes "set time ") decimal Time s.time _ _ (λ v. refl) local in
+    ap (λ (ls : List (List ℕ)). side_line s.side ∷ ls) (regrouped (times s) (locals s) (remotes s) (firsts s) (addrs s) (secrets s) (idles s) (map input_line inputs) ∙ time)
+
+-- they are in order
+chain_if : {T : Type 0} → (set : T → Setting) (Within : T → Type 0) (side : Side) (o : Option T) (before : ℕ) (items : List Item) → ((v : T) → setting_place (set v) ≡ before + 1) → ((v : T) → Within v → IsSetting side (set v)) → IfSome o Within
+    → Chain side (before + 1) items → Chain side before (item_if set o ++ items)
+chain_if set Within side None before items is within h chain = chain_less side (before + 1) before items (omega arith) chain
+chain_if set Within side (Some v) before items is within h chain = (within v h, omega (arith, is v), subst (λ (p : ℕ). Chain side p items) (sym (is v)) chain)
+
+input_chain : (side : Side) (before : ℕ) (inputs : List Input) → AllWithin inputs → Chain side before (input_items inputs)
+input_chain side before [] h = tt
+input_chain side before (i ∷ inputs) h = (h.0, tt, input_chain side 8 inputs h.1)
+
+pub script_chain : (s : Settings) (inputs : List Input) → AreSettings s → AllWithin inputs → Chain s.side 0 (items_of s inputs)
+script_chain s inputs h within =
+    let idle = chain_if Idle (λ n. n < 2 ^ 62) s.side s.idle 6 (input_items inputs) (λ v. refl) (λ v w. w) h.idle (input_chain s.side 7 inputs within) in
+    let secret = chain_if Secret IsSecret s.side s.secret 5 _ (λ v. refl) (λ v w. w) h.secret idle in
+    let addr = chain_if Addr IsAddress s.side s.addr 4 _ (λ v. refl) (λ v w. w) h.addr secret in
+    let first = chain_if First (IsFirst s.side) s.side s.first 3 _ (λ v. refl) (λ v w. w) h.first addr in
+    let remote = chain_if Remote (IsRemote s.side) s.side s.remote 2 _ (λ v. refl) (λ v w. w) h.remote first in
+    let local = chain_if Local IsId s.side s.local 1 _ (λ v. refl) (λ v w. w) h.local remote in
+    chain_if Time (λ n. n < 2 ^ 64) s.side s.time 0 _ (λ v. refl) (λ v w. w) h.time local
+
+-- and tell the settings
+abbrev said : Side → Option ℕ → Option (List ℕ) → Option (List ℕ) → Option (List ℕ) → Option SocketAddr → Option (List ℕ) → Option ℕ → Settings
+said side time local remote first addr secret idle = record { side = side; time = time; local = local; remote = remote; first = first; addr = addr; secret = secret; idle = idle }
+
+said_time : (side : Side) (o : Option ℕ) (items : List Item) → settings_from (said side None None None None None None None) (item_if Time o ++ items) ≡ settings_from (said side o None None None None None None) items
+said_time side None items = refl
+said_time side (Some v) items = refl
+
+said_local : (side : Side) (t : Option ℕ) (o : Option (List ℕ)) (items : List Item) → settings_from (said side t None None None None None None) (item_if Local o ++ items) ≡ settings_from (said side t o None None None None None) items
+said_local side t None items = refl
+said_local side t (Some v) items = refl
+
+said_remote : (side : Side) (t : Option ℕ) (l o : Option (List ℕ)) (items : List Item) → settings_from (said side t l None None None None None) (item_if Remote o ++ items) ≡ settings_from (said side t l o None None None None) items
+said_remote side t l None items = refl
+said_remote side t l (Some v) items = refl
+
+said_first : (side : Side) (t : Option ℕ) (l r o : Option (List ℕ)) (items : List Item) → settings_from (said side t l r None None None None) (item_if First o ++ items) ≡ settings_from (said side t l r o None None None) items
+said_first side t l r None items = refl
+said_first side t l r (Some v) items = refl
+
+said_addr : (side : Side) (t : Option ℕ) (l r f : Option (List ℕ)) (o : Option SocketAddr) (items : List Item) → settings_from (said side t l r f None None None) (item_if Addr o ++ items) ≡ settings_from (said side t l r f o None None) items
+said_addr side t l r f None items = refl
+said_addr side t l r f (Some v) items = refl
+
+said_secret : (side : Side) (t : Option ℕ) (l r f : Option (List ℕ)) (a : Option SocketAddr) (o : Option (List ℕ)) (items : List Item) → settings_from (said side t l r f a None None) (item_if Secret o ++ items) ≡ settings_from (said side t l r f a o None) items
+said_secret side t l r f a None items = refl
+said_secret side t l r f a (Some v) items = refl
+
+said_idle : (side : Side) (t : Option ℕ) (l r f : Option (List ℕ)) (a : Option SocketAddr) (b : Option (List ℕ)) (o : Option ℕ) (items : List Item) → settings_from (said side t l r f a b None) (item_if Idle o ++ items) ≡ settings_from (said side t l r f a b o) items
+said_idle side t l r f a b None items = refl
+said_idle side t l r f a b (Some v) items = refl
+
+said_inputs : (s : Settings) (inputs : List Input) → settings_from s (input_items inputs) ≡ s
+said_inputs s [] = refl
+said_inputs s (i ∷ inputs) = said_inputs s inputs
+
+pub script_settings : (s : Settings) (inputs : List Input) → settings_from (side_alone s.side) (items_of s inputs) ≡ s
+script_settings s inputs =
+    said_time s.side s.time _ ∙ said_local s.side s.time s.local _ ∙ said_remote s.side s.time s.local s.remote _ ∙ said_first s.side s.time s.local s.remote s.first _ ∙ said_addr s.side s.time s.local s.remote s.first s.addr _
+    ∙ said_secret s.side s.time s.local s.remote s.first s.addr s.secret _ ∙ said_idle s.side s.time s.local s.remote s.first s.addr s.secret s.idle (input_items inputs) ∙ said_inputs s inputs
+
+-- and the inputs
+inputs_if : {T : Type 0} → (set : T → Setting) (o : Option T) (items : List Item) → inputs_from [] (item_if set o ++ items) ≡ inputs_from [] items
+inputs_if set None items = refl
+inputs_if set (Some v) items = refl
+
+inputs_back : (front inputs : List Input) → inputs_from front (input_items inputs) ≡ front ++ inputs
+inputs_back front [] = sym (append-nil front)
+inputs_back front (i ∷ inputs) = inputs_back (front ++ i ∷ []) inputs ∙ append_assoc front (i ∷ []) inputs
+
+pub script_inputs : (s : Settings) (inputs : List Input) → inputs_from [] (items_of s inputs) ≡ inputs
+script_inputs s inputs =
+    inputs_if Time s.time _ ∙ inputs_if Local s.local _ ∙ inputs_if Remote s.remote _ ∙ inputs_if First s.first _ ∙ inputs_if Addr s.addr _ ∙ inputs_if Secret s.secret _ ∙ inputs_if Idle s.idle (input_items inputs) ∙ inputs_back [] inputs
+
+-- ---- back: items in order are a script
+
+-- there is no set line behind this place
+abbrev IsOpen : ℕ → Settings → Type 0
+IsOpen before s = (before < 1 → s.time ≡ None) × (before < 2 → s.local ≡ None) × (before < 3 → s.remote ≡ None) × (before < 4 → s.first ≡ None) × (before < 5 → s.addr ≡ None) × (before < 6 → s.secret ≡ None) × (before < 7 → s.idle ≡ None)
+
+open_more : (before place : ℕ) (s : Settings) → before ≤ place → IsOpen before s → IsOpen place s
+open_more before place s le h = (
+  λ k. h.0 (omega arith),
+  λ k. h.1 (omega arith),
+  λ k. h.2 (omega arith),
+  λ k. h.3 (omega arith),
+  λ k. h.4 (omega arith),
+  λ k. h.5 (omega arith),
+  λ k. h.6 (omega arith),
+)
+
+open_after : (before : ℕ) (s : Settings) (x : Setting) → before < setting_place x → IsOpen before s → IsOpen (setting_place x) (with_setting s x)
+open_after before s (Time v) k h = let l = open_more before 1 s (omega arith) h in (λ (q : 1 < 1). absurd (omega arith), l.1, l.2, l.3, l.4, l.5, l.6)
+open_after before s (Local v) k h = let l = open_more before 2 s (omega arith) h in (l.0, λ (q : 2 < 2). absurd (omega arith), l.2, l.3, l.4, l.5, l.6)
+open_after before s (Remote v) k h = let l = open_more before 3 s (omega arith) h in (l.0, l.1, λ (q : 3 < 3). absurd (omega arith), l.3, l.4, l.5, l.6)
+open_after before s (First v) k h = let l = open_more before 4 s (omega arith) h in (l.0, l.1, l.2, λ (q : 4 < 4). absurd (omega arith), l.4, l.5, l.6)
+open_after before s (Addr v) k h = let l = open_more before 5 s (omega arith) h in (l.0, l.1, l.2, l.3, λ (q : 5 < 5). absurd (omega arith), l.5, l.6)
+open_after before s (Secret v) k h = let l = open_more before 6 s (omega arith) h in (l.0, l.1, l.2, l.3, l.4, λ (q : 6 < 6). absurd (omega arith), l.6)
+open_after before s (Idle v) k h = let l = open_more before 7 s (omega arith) h in (l.0, l.1, l.2, l.3, l.4, l.5, λ (q : 7 < 7). absurd (omega arith))
+
+-- the set lines from each kind on
+abbrev from_secret : Settings → List (List ℕ)
+from_secret s = secrets s ++ idles s
+
+abbrev from_addr : Settings → List (List ℕ)
+from_addr s = addrs s ++ from_secret s
+
+abbrev from_first : Settings → List (List ℕ)
+from_first s = firsts s ++ from_addr s
+
+abbrev from_remote : Settings → List (List ℕ)
+from_remote s = remotes s ++ from_first s
+
+abbrev from_local : Settings → List (List ℕ)
+from_local s = locals s ++ from_remote s
+
+no_line : {T : Type 0} → (words : List ℕ) (spell : T → List ℕ) (o : Option T) → o ≡ None → line_if words spell o ≡ []
+no_line words spell o e = ap (line_if words spell) e
+
+no_lines : (xs ys : List (List ℕ)) → xs ≡ [] → ys ≡ [] → xs ++ ys ≡ []
+no_lines xs ys e f = ap (λ (z : List (List ℕ)). z ++ ys) e ∙ f
+
+none_from_idle : (before : ℕ) (s : Settings) → before < 7 → IsOpen before s → idles s ≡ []
+none_from_idle before s k h = no_line (codes "set idle ") decimal s.idle (h.6 k)
+
+none_from_secret : (before : ℕ) (s : Settings) → before < 6 → IsOpen before s → from_secret s ≡ []
+none_from_secret before s k h = no_lines (secrets s) (idles s) (no_line (codes "set secret ") hex_field s.secret (h.5 k)) (none_from_idle before s (omega arith) h)
+
+none_from_addr : (before : ℕ) (s : Settings) → before < 5 → IsOpen before s → from_addr s ≡ []
+none_from_addr before s k h = no_lines (addrs s) (from_secret s) (no_line (codes "set addr ") address_text s.addr (h.4 k)) (none_from_secret before s (omega arith) h)
+
+none_from_first : (before : ℕ) (s : Settings) → before < 4 → IsOpen before s → from_first s ≡ []
+none_from_first before s k h = no_lines (firsts s) (from_addr s) (no_line (codes "set first ") hex_field s.first (h.3 k)) (none_from_addr before s (omega arith) h)
+
+none_from_remote : (before : ℕ) (s : Settings) → before < 3 → IsOpen before s → from_remote s ≡ []
+none_from_remote before s k h = no_lines (remotes s) (from_first s) (no_line (codes "set remote ") hex_field s.remote (h.2 k)) (none_from_first before s (omega arith) h)
+
+none_from_local : (before : ℕ) (s : Settings) → before < 2 → IsOpen before s → from_local s ≡ []
+none_from_local before s k h = no_lines (locals s) (from_remote s) (no_line (codes "set local ") hex_field s.local (h.1 k)) (none_from_remote before s (omega arith) h)
+
+-- a line behind all others
+put_here : (xs ys : List (List ℕ)) (line : List ℕ) → xs ≡ [] → ys ≡ [] → line ∷ ys ≡ (xs ++ ys) ++ line ∷ []
+put_here xs ys line e f = rw (e, f) refl
+
+put_behind : (xs ys zs : List (List ℕ)) (line : List ℕ) → zs ≡ ys ++ line ∷ [] → xs ++ zs ≡ (xs ++ ys) ++ line ∷ []
+put_behind xs ys zs line e = ap (λ (z : List (List ℕ)). xs ++ z) e ∙ sym (append_assoc xs ys (line ∷ []))
+
+-- a setting's line behind those before it
+lines_after : (before : ℕ) (s : Settings) (x : Setting) → before < setting_place x → IsOpen before s → set_lines (with_setting s x) ≡ set_lines s ++ setting_line x ∷ []
+unfolding set_lines setting_line
+lines_after before s (Time v) k h =
+    let at_time = put_here (times s) (from_local s) (setting_line (Time v)) (no_line (codes "set time ") decimal s.time (h.0 k)) (none_from_local before s (omega arith) h) in
+    ap (λ (ls : List (List ℕ)). side_line s.side ∷ ls) at_time
+lines_after before s (Local v) k h =
+    let at_local = put_here (locals s) (from_remote s) (setting_line (Local v)) (no_line (codes "set local ") hex_field s.local (h.1 k)) (none_from_remote before s (omega arith) h) in
+    let at_time = put_behind (times s) (from_local s) _ (setting_line (Local v)) at_local in
+    ap (λ (ls : List (List ℕ)). side_line s.side ∷ ls) at_time
+lines_after before s (Remote v) k h =
+    let at_remote = put_here (remotes s) (from_first s) (setting_line (Remote v)) (no_line (codes "set remote ") hex_field s.remote (h.2 k)) (none_from_first before s (omega arith) h) in
+    let at_local = put_behind (locals s) (from_remote s) _ (setting_line (Remote v)) at_remote in
+    let at_time = put_behind (times s) (from_local s) _ (setting_line (Remote v)) at_local in
+    ap (λ (ls : List (List ℕ)). side_line s.side ∷ ls) at_time
+lines_after before s (First v) k h =
+    let at_first = put_here (firsts s) (from_addr s) (setting_line (First v)) (no_line (codes "set first ") hex_field s.first (h.3 k)) (none_from_addr before s (omega arith) h) in
+    let at_remote = put_behind (remotes s) (from_first s) _ (setting_line (First v)) at_first in
+    let at_local = put_behind (locals s) (from_remote s) _ (setting_line (First v)) at_remote in
+    let at_time = put_behind (times s) (from_local s) _ (setting_line (First v)) at_local in
+    ap (λ (ls : List (List ℕ)). side_line s.side ∷ ls) at_time
+lines_after before s (Addr v) k h =
+    let at_addr = put_here (addrs s) (from_secret s) (setting_line (Addr v)) (no_line (codes "set addr ") address_text s.addr (h.4 k)) (none_from_secret before s (omega arith) h) in
+    let at_first = put_behind (firsts s) (from_addr s) _ (setting_line (Addr v)) at_addr in
+    let at_remote = put_behind (remotes s) (from_first s) _ (setting_line (Addr v)) at_first in
+    let at_local = put_behind (locals s) (from_remote s) _ (setting_line (Addr v)) at_remote in
+    let at_time = put_behind (times s) (from_local s) _ (setting_line (Addr v)) at_local in
+    ap (λ (ls : List (List ℕ)). side_line s.side ∷ ls) at_time
+lines_after before s (Secret v) k h =
+    let at_secret = put_here (secrets s) (idles s) (setting_line (Secret v)) (no_line (codes "set secret ") hex_field s.secret (h.5 k)) (none_from_idle before s (omega arith) h) in
+    let at_addr = put_behind (addrs s) (from_secret s) _ (setting_line (Secret v)) at_secret in
+    let at_first = put_behind (firsts s) (from_addr s) _ (setting_line (Secret v)) at_addr in
+    let at_remote = put_behind (remotes s) (from_first s) _ (setting_line (Secret v)) at_first in
+    let at_local = put_behind (locals s) (from_remote s) _ (setting_line (Secret v)) at_remote in
+    let at_time = put_behind (times s) (from_local s) _ (setting_line (Secret v)) at_local in
+    ap (λ (ls : List (List ℕ)). side_line s.side ∷ ls) at_time
+lines_after before s (Idle v) k h =
+    let at_idle : setting_line (Idle v) ∷ [] ≡ idles s ++ setting_line (Idle v) ∷ [] = ap (λ (z : List (List ℕ)). z ++ setting_line (Idle v) ∷ []) (sym (none_from_idle before s k h)) in
+    let at_secret = put_behind (secrets s) (idles s) _ (setting_line (Idle v)) at_idle in
+    let at_addr = put_behind (addrs s) (from_secret s) _ (setting_line (Idle v)) at_secret in
+    let at_first = put_behind (firsts s) (from_addr s) _ (setting_line (Idle v)) at_addr in
+    let at_remote = put_behind (remotes s) (from_first s) _ (setting_line (Idle v)) at_first in
+    let at_local = put_behind (locals s) (from_remote s) _ (setting_line (Idle v)) at_remote in
+    let at_time = put_behind (times s) (from_local s) _ (setting_line (Idle v)) at_local in
+    ap (λ (ls : List (List ℕ)). side_line s.side ∷ ls) at_time
+
+-- what is set stays within its bounds
+side_after : (s : Settings) (x : Setting) → (with_setting s x).side ≡ s.side
+side_after s (Time v) = refl
+side_after s (Local v) = refl
+side_after s (Remote v) = refl
+side_after s (First v) = refl
+side_after s (Addr v) = refl
+side_after s (Secret v) = refl
+side_after s (Idle v) = refl
+
+set_after : (s : Settings) (x : Setting) → AreSettings s → IsSetting s.side x → AreSettings (with_setting s x)
+set_after s (Time v) h w = record { time = w; local = h.local; remote = h.remote; first = h.first; addr = h.addr; secret = h.secret; idle = h.idle }
+set_after s (Local v) h w = record { time = h.time; local = w; remote = h.remote; first = h.first; addr = h.addr; secret = h.secret; idle = h.idle }
+set_after s (Remote v) h w = record { time = h.time; local = h.local; remote = w; first = h.first; addr = h.addr; secret = h.secret; idle = h.idle }
+set_after s (First v) h w = record { time = h.time; local = h.local; remote = h.remote; first = w; addr = h.addr; secret = h.secret; idle = h.idle }
+set_after s (Addr v) h w = record { time = h.time; local = h.local; remote = h.remote; first = h.first; addr = w; secret = h.secret; idle = h.idle }
+set_after s (Secret v) h w = record { time = h.time; local = h.local; remote = h.remote; first = h.first; addr = h.addr; secret = w; idle = h.idle }
+set_after s (Idle v) h w = record { time = h.time; local = h.local; remote = h.remote; first = h.first; addr = h.addr; secret = h.secret; idle = w }
+
+set_from : (side : Side) (before : ℕ) (s : Settings) (items : List Item) → s.side ≡ side → Chain side before items → AreSettings s → AreSettings (settings_from s items)
+set_from side before s [] e chain h = h
+set_from side before s (It.Set x ∷ items) e chain h = set_from side (setting_place x) (with_setting s x) items (side_after s x ∙ e) chain.2 (set_after s x h (subst (λ (d : Side). IsSetting d x) (sym e) chain.0))
+set_from side before s (It.Input i ∷ items) e chain h = set_from side 8 s items e chain.2 h
+
+all_push : (is : List Input) (j : Input) → AllWithin is → IsWithin j → AllWithin (is ++ j ∷ [])
+all_push [] j h within = (within, tt)
+all_push (i ∷ is) j h within = (h.0, all_push is j h.1 within)
+
+within_from : (side : Side) (before : ℕ) (inputs : List Input) (items : List Item) → Chain side before items → AllWithin inputs → AllWithin (inputs_from inputs items)
+within_from side before inputs [] chain h = h
+within_from side before inputs (It.Set x ∷ items) chain h = within_from side (setting_place x) inputs items chain.2 h
+within_from side before inputs (It.Input i ∷ items) chain h = within_from side 8 (inputs ++ i ∷ []) items chain.2 (all_push inputs i h chain.0)
+
+place_small : (x : Setting) → setting_place x < 8
+place_small (Time v) = omega arith
+place_small (Local v) = omega arith
+place_small (Remote v) = omega arith
+place_small (First v) = omega arith
+place_small (Addr v) = omega arith
+place_small (Secret v) = omega arith
+place_small (Idle v) = omega arith
+
+set_line_moved : (xs ys zs more : List (List ℕ)) (line : List ℕ) → zs ≡ [] → ys ≡ xs ++ line ∷ [] → (xs ++ zs) ++ line ∷ more ≡ (ys ++ zs) ++ more
+set_line_moved xs ys zs more line e f = rw (e, f) (simp (append-nil, append_assoc))
+
+lines_from : (side : Side) (before : ℕ) (s : Settings) (inputs : List Input) (items : List Item) → Chain side before items → IsOpen before s → (before < 8 → inputs ≡ [])
+    → (set_lines s ++ map input_line inputs) ++ map item_line items ≡ set_lines (settings_from s items) ++ map input_line (inputs_from inputs items)
+lines_from side before s inputs [] chain h none = append-nil (set_lines s ++ map input_line inputs)
+lines_from side before s inputs (It.Set x ∷ items) chain h none =
+    let follows : before < setting_place x = chain.1 in
+    let empty : inputs ≡ [] = none (omega (arith, place_small x, follows)) in
+    set_line_moved (set_lines s) (set_lines (with_setting s x)) (map input_line inputs) (map item_line items) (setting_line x) (ap (map input_line) empty) (lines_after before s x follows h)
+    ∙ lines_from side (setting_place x) (with_setting s x) inputs items chain.2 (open_after before s x follows h) (λ k. empty)
+lines_from side before s inputs (It.Input i ∷ items) chain h none =
+    let moved : (set_lines s ++ map input_line inputs) ++ input_line i ∷ map item_line items ≡ (set_lines s ++ map input_line (inputs ++ i ∷ [])) ++ map item_line items = rw (map-append input_line inputs (i ∷ [])) (simp append_assoc) in
+    moved ∙ lines_from side 8 s (inputs ++ i ∷ []) items chain.2 (open_at_end s) (λ (k : 8 < 8). absurd (omega arith))
+  where
+    open_at_end : (s : Settings) → IsOpen 8 s
+    open_at_end s = (λ (k : 8 < 1). absurd (omega arith), λ (k : 8 < 2). absurd (omega arith), λ (k : 8 < 3). absurd (omega arith), λ (k : 8 < 4). absurd (omega arith), λ (k : 8 < 5). absurd (omega arith), λ (k : 8 < 6). absurd (omega arith), λ (k : 8 < 7). absurd (omega arith))
+
+-- items behind the line of a side: they are the lines of settings and inputs
+pub items_lines : (side : Side) (items : List Item) → Chain side 0 items → side_line side ∷ map item_line items ≡ set_lines (settings_from (side_alone side) items) ++ map input_line (inputs_from [] items)
+unfolding set_lines
+items_lines side items chain = lines_from side 0 (side_alone side) [] items chain (λ k. refl, λ k. refl, λ k. refl, λ k. refl, λ k. refl, λ k. refl, λ k. refl) (λ k. refl)
+
+pub items_settings : (side : Side) (items : List Item) → Chain side 0 items → AreSettings (settings_from (side_alone side) items)
+items_settings side items chain = set_from side 0 (side_alone side) items refl chain (record { time = tt; local = tt; remote = tt; first = tt; addr = tt; secret = tt; idle = tt })
+
+pub items_within : (side : Side) (items : List Item) → Chain side 0 items → AllWithin (inputs_from [] items)
+items_within side items chain = within_from side 0 [] items chain tt

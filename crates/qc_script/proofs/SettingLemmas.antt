@@ -1,0 +1,221 @@
+-- The line of a setting: its field, and that no other setting has it.
+use Rattle.std.proofs.Common.{◌≡◌, ◌≢◌, ℕ, ◌^◌, ◌<◌, ◌≤◌, List, [], ◌∷◌, ◌++◌, length, get_or, refl, sym, ◌∙◌, ap, arith, codes}
+use Rattle.std.proofs.lemmas.List.{append_assoc, append_cancel_left, append_cancel_right}
+use Rattle.std.specs.Fmt.{decimal}
+use Rattle.std.proofs.lemmas.Fmt.{decimal_injective}
+use Rattle.std.specs.declared.net.socket_addr.SocketAddr.{SocketAddr}
+use Rattle.qc_base.specs.Grammar.{IsBytes}
+use Rattle.qc_base.specs.declared.side.Side.{Side}
+use Rattle.qc_base.specs.declared.side.Side.TheVariants.{Client, Server}
+use Rattle.qc_state.specs.declared.input.Input.{Input}
+use Rattle.qc_state.specs.declared.input.Input.TheVariants.{Datagram, Transmit, Close, Ping}
+use Rattle.qc_script.specs.declared.settings.Setting.{Setting}
+use Rattle.qc_script.specs.declared.settings.Setting.TheVariants.{Time, Local, Remote, First, Addr, Secret, Idle}
+use Rattle.qc_script.specs.Fields.{hex_field, address_text, IsAddress}
+use Rattle.qc_script.specs.Script.{side_line, input_line, IsId, IsRemote, IsFirst, IsSecret}
+use Rattle.qc_script.specs.Items.{setting_line, IsSetting, IsNextSetting}
+use Rattle.qc_script.proofs.FieldLemmas.{hex_field_injective, address_injective}
+use Rattle.qc_script.proofs.LineLemmas.{letter, first_letter}
+
+-- ---- words and fields
+
+-- words and a field, with LF behind them
+spelled_on : (words field f : List ℕ) → field ≡ f → (words ++ field) ++ 10 ∷ [] ≡ words ++ (f ++ 10 ∷ [])
+spelled_on words field f e = append_assoc words field (10 ∷ []) ∙ ap (λ (z : List ℕ). words ++ (z ++ 10 ∷ [])) e
+
+words_and_field : (words text f : List ℕ) → text ++ 10 ∷ [] ≡ words ++ (f ++ 10 ∷ []) → text ≡ words ++ f
+words_and_field words text f e = append_cancel_right text (words ++ f) (10 ∷ []) (e ∙ sym (append_assoc words f (10 ∷ [])))
+
+field_same : (words field f : List ℕ) → (words ++ field) ++ 10 ∷ [] ≡ words ++ (f ++ 10 ∷ []) → field ≡ f
+field_same words field f e = append_cancel_left words field f (words_and_field words (words ++ field) f e)
+
+fields_same_behind : (words a b : List ℕ) → words ++ (a ++ 10 ∷ []) ≡ words ++ (b ++ 10 ∷ []) → a ≡ b
+fields_same_behind words a b e = field_same words a b (append_assoc words a (10 ∷ []) ∙ e)
+
+-- the letter behind `set ` in a setting's line
+abbrev kind : Setting → ℕ
+kind (Time now) = 116
+kind (Local id) = 108
+kind (Remote id) = 114
+kind (First id) = 102
+kind (Addr address) = 97
+kind (Secret bytes) = 115
+kind (Idle limit) = 105
+
+kind_at : (x : Setting) → get_or (setting_line x) 4 0 ≡ kind x
+unfolding setting_line
+kind_at (Time now) = refl
+kind_at (Local id) = refl
+kind_at (Remote id) = refl
+kind_at (First id) = refl
+kind_at (Addr address) = refl
+kind_at (Secret bytes) = refl
+kind_at (Idle limit) = refl
+
+kind_of_text : (side : Side) (text : List ℕ) (x : Setting) → IsNextSetting side text x → get_or (text ++ 10 ∷ []) 4 0 ≡ kind x
+kind_of_text side text x h = ap (λ (z : List ℕ). get_or z 4 0) h.spelled ∙ kind_at x
+
+-- ---- the reader's lines
+
+pub time_next : (field : List ℕ) (now : ℕ) → field ≡ decimal now → now < 2 ^ 64 → (side : Side) → IsNextSetting side (codes "set time " ++ field) (Time now)
+unfolding setting_line
+time_next field now e h side = record { spelled = spelled_on (codes "set time ") field (decimal now) e; within = h }
+
+pub local_next : (field id : List ℕ) → field ≡ hex_field id → IsId id → (side : Side) → IsNextSetting side (codes "set local " ++ field) (Local id)
+unfolding setting_line
+local_next field id e h side = record { spelled = spelled_on (codes "set local ") field (hex_field id) e; within = h }
+
+pub remote_next : (field id : List ℕ) (side : Side) → field ≡ hex_field id → IsRemote side id → IsNextSetting side (codes "set remote " ++ field) (Remote id)
+unfolding setting_line
+remote_next field id side e h = record { spelled = spelled_on (codes "set remote ") field (hex_field id) e; within = h }
+
+pub first_next : (field id : List ℕ) (side : Side) → field ≡ hex_field id → IsFirst side id → IsNextSetting side (codes "set first " ++ field) (First id)
+unfolding setting_line
+first_next field id side e h = record { spelled = spelled_on (codes "set first ") field (hex_field id) e; within = h }
+
+pub addr_next : (field : List ℕ) (address : SocketAddr) → field ≡ address_text address → IsAddress address → (side : Side) → IsNextSetting side (codes "set addr " ++ field) (Addr address)
+unfolding setting_line
+addr_next field address e h side = record { spelled = spelled_on (codes "set addr ") field (address_text address) e; within = h }
+
+pub secret_next : (field bytes : List ℕ) → field ≡ hex_field bytes → IsSecret bytes → (side : Side) → IsNextSetting side (codes "set secret " ++ field) (Secret bytes)
+unfolding setting_line
+secret_next field bytes e h side = record { spelled = spelled_on (codes "set secret ") field (hex_field bytes) e; within = h }
+
+pub idle_next : (field : List ℕ) (limit : ℕ) → field ≡ decimal limit → limit < 2 ^ 62 → (side : Side) → IsNextSetting side (codes "set idle " ++ field) (Idle limit)
+unfolding setting_line
+idle_next field limit e h side = record { spelled = spelled_on (codes "set idle ") field (decimal limit) e; within = h }
+
+-- a line that begins with `set time ` is that of no other setting
+pub no_time : (field : List ℕ) → ((n : ℕ) → n < 2 ^ 64 → field ≢ decimal n) → (side : Side) (x : Setting) → IsNextSetting side (codes "set time " ++ field) x → ⊥
+unfolding setting_line
+no_time field none side (Time n) h = none n h.within (field_same (codes "set time ") field (decimal n) h.spelled)
+no_time field none side x h = let e : 116 ≡ kind x = kind_of_text side (codes "set time " ++ field) x h in omega (arith, e)
+
+pub no_local : (field : List ℕ) → ((id : List ℕ) → IsId id → field ≢ hex_field id) → (side : Side) (x : Setting) → IsNextSetting side (codes "set local " ++ field) x → ⊥
+unfolding setting_line
+no_local field none side (Local id) h = none id h.within (field_same (codes "set local ") field (hex_field id) h.spelled)
+no_local field none side x h = let e : 108 ≡ kind x = kind_of_text side (codes "set local " ++ field) x h in omega (arith, e)
+
+pub no_remote : (field : List ℕ) (side : Side) → ((id : List ℕ) → IsRemote side id → field ≢ hex_field id) → (x : Setting) → IsNextSetting side (codes "set remote " ++ field) x → ⊥
+unfolding setting_line
+no_remote field side none (Remote id) h = none id h.within (field_same (codes "set remote ") field (hex_field id) h.spelled)
+no_remote field side none x h = let e : 114 ≡ kind x = kind_of_text side (codes "set remote " ++ field) x h in omega (arith, e)
+
+pub no_first : (field : List ℕ) (side : Side) → ((id : List ℕ) → IsFirst side id → field ≢ hex_field id) → (x : Setting) → IsNextSetting side (codes "set first " ++ field) x → ⊥
+unfolding setting_line
+no_first field side none (First id) h = none id h.within (field_same (codes "set first ") field (hex_field id) h.spelled)
+no_first field side none x h = let e : 102 ≡ kind x = kind_of_text side (codes "set first " ++ field) x h in omega (arith, e)
+
+pub no_addr : (field : List ℕ) → ((a : SocketAddr) → IsAddress a → field ≢ address_text a) → (side : Side) (x : Setting) → IsNextSetting side (codes "set addr " ++ field) x → ⊥
+unfolding setting_line
+no_addr field none side (Addr a) h = none a h.within (field_same (codes "set addr ") field (address_text a) h.spelled)
+no_addr field none side x h = let e : 97 ≡ kind x = kind_of_text side (codes "set addr " ++ field) x h in omega (arith, e)
+
+pub no_secret : (field : List ℕ) → ((bytes : List ℕ) → IsSecret bytes → field ≢ hex_field bytes) → (side : Side) (x : Setting) → IsNextSetting side (codes "set secret " ++ field) x → ⊥
+unfolding setting_line
+no_secret field none side (Secret bytes) h = none bytes h.within (field_same (codes "set secret ") field (hex_field bytes) h.spelled)
+no_secret field none side x h = let e : 115 ≡ kind x = kind_of_text side (codes "set secret " ++ field) x h in omega (arith, e)
+
+pub no_idle : (field : List ℕ) → ((n : ℕ) → n < 2 ^ 62 → field ≢ decimal n) → (side : Side) (x : Setting) → IsNextSetting side (codes "set idle " ++ field) x → ⊥
+unfolding setting_line
+no_idle field none side (Idle n) h = none n h.within (field_same (codes "set idle ") field (decimal n) h.spelled)
+no_idle field none side x h = let e : 105 ≡ kind x = kind_of_text side (codes "set idle " ++ field) x h in omega (arith, e)
+
+-- a text with none of the words is the line of no setting
+pub no_set_word : (text : List ℕ) → ((rest : List ℕ) → text ≢ codes "set time " ++ rest) → ((rest : List ℕ) → text ≢ codes "set local " ++ rest) → ((rest : List ℕ) → text ≢ codes "set remote " ++ rest) → ((rest : List ℕ) → text ≢ codes "set first " ++ rest)
+    → ((rest : List ℕ) → text ≢ codes "set addr " ++ rest) → ((rest : List ℕ) → text ≢ codes "set secret " ++ rest) → ((rest : List ℕ) → text ≢ codes "set idle " ++ rest) → (side : Side) (x : Setting) → IsNextSetting side text x → ⊥
+unfolding setting_line
+no_set_word text times locals remotes firsts addrs secrets idles side (Time now) h = times (decimal now) (words_and_field (codes "set time ") text (decimal now) h.spelled)
+no_set_word text times locals remotes firsts addrs secrets idles side (Local id) h = locals (hex_field id) (words_and_field (codes "set local ") text (hex_field id) h.spelled)
+no_set_word text times locals remotes firsts addrs secrets idles side (Remote id) h = remotes (hex_field id) (words_and_field (codes "set remote ") text (hex_field id) h.spelled)
+no_set_word text times locals remotes firsts addrs secrets idles side (First id) h = firsts (hex_field id) (words_and_field (codes "set first ") text (hex_field id) h.spelled)
+no_set_word text times locals remotes firsts addrs secrets idles side (Addr address) h = addrs (address_text address) (words_and_field (codes "set addr ") text (address_text address) h.spelled)
+no_set_word text times locals remotes firsts addrs secrets idles side (Secret bytes) h = secrets (hex_field bytes) (words_and_field (codes "set secret ") text (hex_field bytes) h.spelled)
+no_set_word text times locals remotes firsts addrs secrets idles side (Idle limit) h = idles (decimal limit) (words_and_field (codes "set idle ") text (decimal limit) h.spelled)
+
+-- ---- lines and settings
+
+pub remote_bytes : (side : Side) (id : List ℕ) → IsRemote side id → IsId id
+remote_bytes Client id h = h.0
+remote_bytes Server id h = h
+
+first_bytes : (side : Side) (id : List ℕ) → IsFirst side id → IsId id
+first_bytes Client id h = absurd h
+first_bytes Server id h = h
+
+-- a remote id by its side
+client_least : (side : Side) (id : List ℕ) → side ≡ Client → IsRemote side id → 8 ≤ length id
+client_least Client id e h = h.1
+client_least Server id e h = cc e
+
+pub client_remote : (side : Side) (id : List ℕ) → side ≡ Client → IsId id → 8 ≤ length id → IsRemote side id
+client_remote Client id e h k = (h, k)
+client_remote Server id e h k = h
+
+pub server_remote : (side : Side) (id : List ℕ) → side ≡ Server → IsId id → IsRemote side id
+server_remote Client id e h = cc e
+server_remote Server id e h = h
+
+-- a field tells how many bytes it spells
+pub hex_length : (field bytes other : List ℕ) → field ≡ hex_field bytes → IsBytes bytes → IsBytes other → field ≡ hex_field other → length bytes ≡ length other
+hex_length field bytes other e h k is = ap length (hex_field_injective bytes other h k (sym e ∙ is))
+
+-- a client's remote id isn't short
+pub remote_short : (field id : List ℕ) (side : Side) → side ≡ Client → field ≡ hex_field id → IsId id → length id < 8 → (x : Setting) → IsNextSetting side (codes "set remote " ++ field) x → ⊥
+remote_short field id side is e h short = no_remote field side (λ other k f. omega (arith, client_least side other is k, hex_length field id other e h.0 (remote_bytes side other k).0 f, short))
+
+kinds : (x y : Setting) → setting_line x ≡ setting_line y → kind x ≡ kind y
+kinds x y e = sym (kind_at x) ∙ ap (λ (z : List ℕ). get_or z 4 0) e ∙ kind_at y
+
+-- a setting's line is that of no other setting
+pub setting_line_injective : (side : Side) (x y : Setting) → IsSetting side x → IsSetting side y → setting_line x ≡ setting_line y → x ≡ y
+unfolding setting_line
+setting_line_injective side (Time n) (Time n') h k e = ap Time (decimal_injective n n' h k (fields_same_behind (codes "set time ") (decimal n) (decimal n') e))
+setting_line_injective side (Local id) (Local id') h k e = ap Local (hex_field_injective id id' h.0 k.0 (fields_same_behind (codes "set local ") (hex_field id) (hex_field id') e))
+setting_line_injective side (Remote id) (Remote id') h k e =
+    ap Remote (hex_field_injective id id' (remote_bytes side id h).0 (remote_bytes side id' k).0 (fields_same_behind (codes "set remote ") (hex_field id) (hex_field id') e))
+setting_line_injective side (First id) (First id') h k e =
+    ap First (hex_field_injective id id' (first_bytes side id h).0 (first_bytes side id' k).0 (fields_same_behind (codes "set first ") (hex_field id) (hex_field id') e))
+setting_line_injective side (Addr a) (Addr a') h k e = ap Addr (address_injective a a' h k (fields_same_behind (codes "set addr ") (address_text a) (address_text a') e))
+setting_line_injective side (Secret bytes) (Secret bytes') h k e = ap Secret (hex_field_injective bytes bytes' h.0 k.0 (fields_same_behind (codes "set secret ") (hex_field bytes) (hex_field bytes') e))
+setting_line_injective side (Idle n) (Idle n') h k e = ap Idle (decimal_injective n n' (omega (arith, h)) (omega (arith, k)) (fields_same_behind (codes "set idle ") (decimal n) (decimal n') e))
+setting_line_injective side x y h k e = absurd (omega (arith, kinds x y e))
+
+-- nor is it an input's
+setting_begins : (x : Setting) → get_or (setting_line x) 0 0 ≡ 115
+unfolding setting_line
+setting_begins (Time now) = refl
+setting_begins (Local id) = refl
+setting_begins (Remote id) = refl
+setting_begins (First id) = refl
+setting_begins (Addr address) = refl
+setting_begins (Secret bytes) = refl
+setting_begins (Idle limit) = refl
+
+other_letter : (i : Input) → letter i ≢ 115
+other_letter (Datagram now remote ecn bytes) e = omega (arith, e)
+other_letter (Transmit now n) e = omega (arith, e)
+other_letter (Close now code reason) e = omega (arith, e)
+other_letter (Ping now) e = omega (arith, e)
+
+pub setting_no_input : (x : Setting) (i : Input) → setting_line x ≢ input_line i
+setting_no_input x i e = other_letter i (sym (first_letter i) ∙ ap (λ (z : List ℕ). get_or z 0 0) (sym e) ∙ setting_begins x)
+
+-- a setting's line is a text, and LF
+pub setting_ends : (x : Setting) → (text : List ℕ) × (setting_line x ≡ text ++ 10 ∷ [])
+unfolding setting_line
+setting_ends (Time now) = (codes "set time " ++ decimal now, sym (append_assoc (codes "set time ") (decimal now) (10 ∷ [])))
+setting_ends (Local id) = (codes "set local " ++ hex_field id, sym (append_assoc (codes "set local ") (hex_field id) (10 ∷ [])))
+setting_ends (Remote id) = (codes "set remote " ++ hex_field id, sym (append_assoc (codes "set remote ") (hex_field id) (10 ∷ [])))
+setting_ends (First id) = (codes "set first " ++ hex_field id, sym (append_assoc (codes "set first ") (hex_field id) (10 ∷ [])))
+setting_ends (Addr address) = (codes "set addr " ++ address_text address, sym (append_assoc (codes "set addr ") (address_text address) (10 ∷ [])))
+setting_ends (Secret bytes) = (codes "set secret " ++ hex_field bytes, sym (append_assoc (codes "set secret ") (hex_field bytes) (10 ∷ [])))
+setting_ends (Idle limit) = (codes "set idle " ++ decimal limit, sym (append_assoc (codes "set idle ") (decimal limit) (10 ∷ [])))
+
+-- a side's line is that of no other side
+pub side_line_injective : (a b : Side) → side_line a ≡ side_line b → a ≡ b
+unfolding side_line
+side_line_injective Client Client e = refl
+side_line_injective Client Server e = absurd (omega (arith, ap (λ (z : List ℕ). get_or z 9 0) e))
+side_line_injective Server Client e = absurd (omega (arith, ap (λ (z : List ℕ). get_or z 9 0) e))
+side_line_injective Server Server e = refl

@@ -1,0 +1,22 @@
+use Rattle.std.proofs.Common.{ℕ, List, ◌++◌, codes, Option, Result, Ok, Err, IfOk}
+use Rattle.qc_base.specs.declared.side.Side.{Side}
+use Rattle.qc_script.specs.declared.settings.Setting.{Setting}
+use Rattle.qc_script.specs.Items.{IsSettingRead}
+use Rattle.qc_script.proofs.SettingLemmas.{no_set_word}
+use Rattle.qc_script.proofs.set_lines.read_setting.Goals as goal
+
+on_side : {E : Type 0} → (r : Result (Option Setting) E) (text : List ℕ) (side : Side) → IfOk r (λ x. (side : Side) → IsSettingRead side text x) → IfOk r (IsSettingRead side text)
+on_side (Ok x) text side h = h side
+on_side (Err e) text side h = h
+
+pub returns-in-Some : goal.returns-in-Some
+returns-in-Some c = rw c.in-Some.ensures (c.time_line.ensures c.args.side)
+
+pub returns-in-Some-after_word-5 : goal.returns-in-Some-after_word-5
+returns-in-Some-after_word-5 c = rw c.in-Some-after_word-5.ensures (on_side c.secret_line.result (codes "set secret " ++ c.in-Some-after_word-5.field.now) c.args.side c.secret_line.ensures)
+
+pub returns-in-Some-after_word-6 : goal.returns-in-Some-after_word-6
+returns-in-Some-after_word-6 c = rw c.in-Some-after_word-6.ensures (c.idle_line.ensures c.args.side)
+
+pub returns-in-None : goal.returns-in-None
+returns-in-None c = no_set_word c.args.text.now c.in_default.ensures c.in_default-after_word.ensures c.in_default-after_word-2.ensures c.in_default-after_word-3.ensures c.in_default-after_word-4.ensures c.in_default-after_word-5.ensures c.in-None.ensures c.args.side

@@ -1,0 +1,107 @@
+-- What a line behind a script's first says: a setting or an input.
+use Rattle.std.specs.Prelude.{◌≡◌, ℕ, ◌^◌, ◌<◌, List, [], ◌∷◌, ◌++◌, codes, Option, Some, None}
+use Rattle.std.specs.Fmt.{decimal}
+use Rattle.qc_base.specs.declared.side.Side.{Side}
+use Rattle.qc_state.specs.declared.input.Input.{Input}
+use Rattle.qc_script.specs.declared.settings.Settings.{Settings}
+use Rattle.qc_script.specs.declared.settings.Setting.{Setting}
+use Rattle.qc_script.specs.declared.settings.Setting.TheVariants.{Time, Local, Remote, First, Addr, Secret, Idle}
+use Rattle.qc_script.specs.declared.items.Item.{Item}
+use Rattle.qc_script.specs.declared.items.Item.TheVariants as It
+use Rattle.qc_script.specs.Fields.{hex_field, address_text, IsAddress}
+use Rattle.qc_script.specs.Script.{IsId, IsRemote, IsFirst, IsSecret, IsWithin, input_line}
+
+-- the line of a setting
+unfoldable pub setting_line : Setting → List ℕ
+setting_line (Time now) = codes "set time " ++ (decimal now ++ 10 ∷ [])
+setting_line (Local id) = codes "set local " ++ (hex_field id ++ 10 ∷ [])
+setting_line (Remote id) = codes "set remote " ++ (hex_field id ++ 10 ∷ [])
+setting_line (First id) = codes "set first " ++ (hex_field id ++ 10 ∷ [])
+setting_line (Addr address) = codes "set addr " ++ (address_text address ++ 10 ∷ [])
+setting_line (Secret bytes) = codes "set secret " ++ (hex_field bytes ++ 10 ∷ [])
+setting_line (Idle limit) = codes "set idle " ++ (decimal limit ++ 10 ∷ [])
+
+-- what a setting says lies within its bounds on this side
+abbrev pub IsSetting : Side → Setting → Type 0
+IsSetting side (Time now) = now < 2 ^ 64
+IsSetting side (Local id) = IsId id
+IsSetting side (Remote id) = IsRemote side id
+IsSetting side (First id) = IsFirst side id
+IsSetting side (Addr address) = IsAddress address
+IsSetting side (Secret bytes) = IsSecret bytes
+IsSetting side (Idle limit) = limit < 2 ^ 62
+
+-- this text and LF is the line of this setting
+pub record IsNextSetting (side : Side) (text : List ℕ) (setting : Setting) : Type 0 where
+  pub spelled : text ++ 10 ∷ [] ≡ setting_line setting
+  pub within : IsSetting side setting
+
+-- what a reader may find of this text: its setting, or nothing where it and LF are the line of none
+abbrev pub IsSettingRead : Side → List ℕ → Option Setting → Type 0
+IsSettingRead side text None = (setting : Setting) → IsNextSetting side text setting → ⊥
+IsSettingRead side text (Some setting) = IsNextSetting side text setting
+
+-- the place of a setting's line in the order of set lines; the side's line has place 0
+abbrev pub setting_place : Setting → ℕ
+setting_place (Time now) = 1
+setting_place (Local id) = 2
+setting_place (Remote id) = 3
+setting_place (First id) = 4
+setting_place (Addr address) = 5
+setting_place (Secret bytes) = 6
+setting_place (Idle limit) = 7
+
+-- the settings with this one among them
+abbrev pub with_setting : Settings → Setting → Settings
+with_setting s (Time now) = record s { time = Some now }
+with_setting s (Local id) = record s { local = Some id }
+with_setting s (Remote id) = record s { remote = Some id }
+with_setting s (First id) = record s { first = Some id }
+with_setting s (Addr address) = record s { addr = Some address }
+with_setting s (Secret bytes) = record s { secret = Some bytes }
+with_setting s (Idle limit) = record s { idle = Some limit }
+
+-- what a script says whose one line names this side
+abbrev pub side_alone : Side → Settings
+side_alone side = record { side = side; time = None; local = None; remote = None; first = None; addr = None; secret = None; idle = None }
+
+-- the line of an item
+abbrev pub item_line : Item → List ℕ
+item_line (It.Set setting) = setting_line setting
+item_line (It.Input input) = input_line input
+
+-- what an item says lies within its bounds on this side
+abbrev pub IsItem : Side → Item → Type 0
+IsItem side (It.Set setting) = IsSetting side setting
+IsItem side (It.Input input) = IsWithin input
+
+-- the place of an item's line: an input's is that behind all set lines
+abbrev pub item_place : Item → ℕ
+item_place (It.Set setting) = setting_place setting
+item_place (It.Input input) = 8
+
+-- the item's line may follow one of place `before`: a set line follows one of a lesser place, and an input any line
+abbrev pub Follows : (before : ℕ) → Item → Type 0
+Follows before (It.Set setting) = before < setting_place setting
+Follows before (It.Input input) = Unit {0}
+
+-- this text and LF is the line of this item, and may follow one of place `before`
+pub record IsNextItem (side : Side) (before : ℕ) (text : List ℕ) (item : Item) : Type 0 where
+  pub spelled : text ++ 10 ∷ [] ≡ item_line item
+  pub within : IsItem side item
+  pub follows : Follows before item
+
+-- what a reader may find of this text: its item, or nothing where it and LF are no line that may stand there
+abbrev pub IsItemRead : Side → (before : ℕ) → List ℕ → Option Item → Type 0
+IsItemRead side before text None = (item : Item) → IsNextItem side before text item → ⊥
+IsItemRead side before text (Some item) = IsNextItem side before text item
+
+-- the settings after this item
+abbrev pub settings_after : Settings → Item → Settings
+settings_after settings (It.Set setting) = with_setting settings setting
+settings_after settings (It.Input input) = settings
+
+-- the inputs after this item
+abbrev pub inputs_after : List Input → Item → List Input
+inputs_after inputs (It.Set setting) = inputs
+inputs_after inputs (It.Input input) = inputs ++ input ∷ []

@@ -1,0 +1,164 @@
+//! The set lines.
+
+ghost use Rattle.qc_script.specs.Fields.{hex_field};
+ghost use Rattle.qc_script.specs.Items.{IsSettingRead};
+ghost use Rattle.qc_script.specs.Script.{IsId, IsSecret, side_line};
+ghost use Rattle.std.specs.Prelude.{◌≡◌, ◌≢◌, ℕ, List, ◌++◌, codes, IfOk, MatchOption};
+
+use crate::address::read_address;
+use crate::fields::{after_word, read_code, read_hex, read_number};
+use crate::settings::Setting;
+use qc_base::{ConnectionId, Instant, Side};
+use std::alloc::{AllocError, Global};
+
+/// The side that the first line names, and what is behind that line.
+pub fn read_side(text: &[u8]) -> Option<(Side, &[u8])>
+    ensures { MatchOption result ((side : Side) → (rest : List ℕ) → text.now ≢ side_line side ++ rest) (λ x. text.now ≡ side_line x.0 ++ x.1.now) }
+{
+    if let Some(rest) = after_word(text, b"set side client\n") {
+        return Some((Side::Client, rest));
+    }
+    match after_word(text, b"set side server\n") {
+        Some(rest) => Some((Side::Server, rest)),
+        None => None,
+    }
+}
+
+/// The id that a field spells.
+fn read_id(alloc: Global, field: &[u8]) -> Result<Option<ConnectionId>, AllocError>
+    ensures { IfOk result (λ r. MatchOption r ((id : List ℕ) → IsId id → field.now ≢ hex_field id) (λ id. (field.now ≡ hex_field id) × IsId id)) }
+{
+    let Some(bytes) = read_hex(alloc, field)? else {
+        return Ok(None);
+    };
+    let bytes = bytes.as_slice();
+    if bytes.len() <= 20 {
+        Ok(Some(ConnectionId::new(bytes)))
+    } else {
+        Ok(None)
+    }
+}
+
+/// The secret that a field spells.
+fn read_secret(alloc: Global, field: &[u8]) -> Result<Option<[u8; 5]>, AllocError>
+    ensures { IfOk result (λ r. MatchOption r ((bytes : List ℕ) → IsSecret bytes → field.now ≢ hex_field bytes) (λ bytes. (field.now ≡ hex_field bytes) × IsSecret bytes)) }
+{
+    let Some(bytes) = read_hex(alloc, field)? else {
+        return Ok(None);
+    };
+    let bytes = bytes.as_slice();
+    if bytes.len() != 5 {
+        return Ok(None);
+    }
+    let mut secret = [0; 5];
+    secret.copy_from_slice(bytes);
+    Ok(Some(secret))
+}
+
+/// What a line sets that gives this time.
+fn time_line(digits: &[u8]) -> Option<Setting>
+    ensures { (side : Side) → IsSettingRead side (codes "set time " ++ digits.now) result }
+{
+    match read_number(digits) {
+        Some(now) => Some(Setting::Time(Instant::from_nanos(now))),
+        None => None,
+    }
+}
+
+/// What a line sets that gives this end's id.
+fn local_line(alloc: Global, field: &[u8]) -> Result<Option<Setting>, AllocError>
+    ensures { IfOk result (λ r. (side : Side) → IsSettingRead side (codes "set local " ++ field.now) r) }
+{
+    match read_id(alloc, field)? {
+        Some(id) => Ok(Some(Setting::Local(id))),
+        None => Ok(None),
+    }
+}
+
+/// What a line sets that gives the remote id.
+fn remote_line(alloc: Global, side: Side, field: &[u8]) -> Result<Option<Setting>, AllocError>
+    ensures { IfOk result (IsSettingRead side (codes "set remote " ++ field.now)) }
+{
+    let Some(id) = read_id(alloc, field)? else {
+        return Ok(None);
+    };
+    let least = match side {
+        Side::Client => 8,
+        Side::Server => 0,
+    };
+    if id.len() < least {
+        return Ok(None);
+    }
+    Ok(Some(Setting::Remote(id)))
+}
+
+/// What a line sets that gives the destination id of the client's first packets.
+fn first_line(alloc: Global, side: Side, field: &[u8]) -> Result<Option<Setting>, AllocError>
+    ensures { IfOk result (IsSettingRead side (codes "set first " ++ field.now)) }
+{
+    match side {
+        Side::Client => Ok(None),
+        Side::Server => match read_id(alloc, field)? {
+            Some(id) => Ok(Some(Setting::First(id))),
+            None => Ok(None),
+        },
+    }
+}
+
+/// What a line sets that gives the peer's address.
+fn addr_line(alloc: Global, field: &[u8]) -> Result<Option<Setting>, AllocError>
+    ensures { IfOk result (λ r. (side : Side) → IsSettingRead side (codes "set addr " ++ field.now) r) }
+{
+    match read_address(alloc, field)? {
+        Some(address) => Ok(Some(Setting::Addr(address))),
+        None => Ok(None),
+    }
+}
+
+/// What a line sets that gives the secret.
+fn secret_line(alloc: Global, field: &[u8]) -> Result<Option<Setting>, AllocError>
+    ensures { IfOk result (λ r. (side : Side) → IsSettingRead side (codes "set secret " ++ field.now) r) }
+{
+    match read_secret(alloc, field)? {
+        Some(bytes) => Ok(Some(Setting::Secret(bytes))),
+        None => Ok(None),
+    }
+}
+
+/// What a line sets that gives this limit on idle time.
+fn idle_line(digits: &[u8]) -> Option<Setting>
+    ensures { (side : Side) → IsSettingRead side (codes "set idle " ++ digits.now) result }
+{
+    match read_code(digits) {
+        Some(limit) => Some(Setting::Idle(limit)),
+        None => None,
+    }
+}
+
+/// What this line, LF excluded, sets on this side.
+pub fn read_setting(alloc: Global, side: Side, text: &[u8]) -> Result<Option<Setting>, AllocError>
+    ensures { IfOk result (IsSettingRead side text.now) }
+{
+    if let Some(digits) = after_word(text, b"set time ") {
+        return Ok(time_line(digits));
+    }
+    if let Some(field) = after_word(text, b"set local ") {
+        return local_line(alloc, field);
+    }
+    if let Some(field) = after_word(text, b"set remote ") {
+        return remote_line(alloc, side, field);
+    }
+    if let Some(field) = after_word(text, b"set first ") {
+        return first_line(alloc, side, field);
+    }
+    if let Some(field) = after_word(text, b"set addr ") {
+        return addr_line(alloc, field);
+    }
+    if let Some(field) = after_word(text, b"set secret ") {
+        return secret_line(alloc, field);
+    }
+    match after_word(text, b"set idle ") {
+        Some(digits) => Ok(idle_line(digits)),
+        None => Ok(None),
+    }
+}

@@ -1,0 +1,97 @@
+//! What the set lines of a script say.
+
+ghost use Rattle.qc_script.specs.Items.{setting_place, side_alone, with_setting};
+ghost use Rattle.std.specs.Prelude.{◌≡◌};
+
+use qc_base::{ConnectionId, Instant, Side, VarInt};
+use std::net::SocketAddr;
+
+/// What the set lines of a script say: which end this one is, and each value for which there is a line.
+#[derive(Drop)]
+pub struct Settings {
+    /// This end's side.
+    pub side: Side,
+    /// When the connection is made.
+    pub time: Option<Instant>,
+    /// This end's id.
+    pub local: Option<ConnectionId>,
+    /// On a client the destination id of its first packets, of 8 bytes at least (RFC 9000, 7.2); on a server the client's id.
+    pub remote: Option<ConnectionId>,
+    /// On a server the destination id of the client's first packets; none on a client.
+    pub first: Option<ConnectionId>,
+    /// The peer's address.
+    pub addr: Option<SocketAddr>,
+    /// The secret of the toy's keys.
+    pub secret: Option<[u8; 5]>,
+    /// This end's limit on idle time in milliseconds; 0 is none (RFC 9000, 10.1).
+    pub idle: Option<VarInt>,
+}
+
+/// What one set line behind the first says.
+#[derive(Drop)]
+pub enum Setting {
+    /// When the connection is made.
+    Time(Instant),
+    /// This end's id.
+    Local(ConnectionId),
+    /// What `Settings::remote` is.
+    Remote(ConnectionId),
+    /// What `Settings::first` is.
+    First(ConnectionId),
+    /// The peer's address.
+    Addr(SocketAddr),
+    /// The secret of the toy's keys.
+    Secret([u8; 5]),
+    /// This end's limit on idle time in milliseconds.
+    Idle(VarInt),
+}
+
+impl Setting {
+    /// The place of its line in the order of set lines; the side's line has place 0.
+    pub fn place(&self) -> u8
+        ensures { result ≡ setting_place self.now }
+    {
+        match self {
+            Setting::Time(_) => 1,
+            Setting::Local(_) => 2,
+            Setting::Remote(_) => 3,
+            Setting::First(_) => 4,
+            Setting::Addr(_) => 5,
+            Setting::Secret(_) => 6,
+            Setting::Idle(_) => 7,
+        }
+    }
+}
+
+impl Settings {
+    /// What a script says whose one line names this side.
+    pub(crate) fn new(side: Side) -> Settings
+        ensures { result ≡ side_alone side }
+    {
+        Settings {
+            side,
+            time: None,
+            local: None,
+            remote: None,
+            first: None,
+            addr: None,
+            secret: None,
+            idle: None,
+        }
+    }
+
+    /// Sets what this line says.
+    pub(crate) fn set(&mut self, setting: Setting)
+        ensures { self.new ≡ with_setting self.old setting }
+    {
+        match setting {
+            Setting::Time(now) => self.time = Some(now),
+            Setting::Local(id) => self.local = Some(id),
+            Setting::Remote(id) => self.remote = Some(id),
+            Setting::First(id) => self.first = Some(id),
+            Setting::Addr(address) => self.addr = Some(address),
+            Setting::Secret(bytes) => self.secret = Some(bytes),
+            Setting::Idle(limit) => self.idle = Some(limit),
+        }
+    }
+}

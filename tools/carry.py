@@ -1,0 +1,91 @@
+#!/usr/bin/env python3
+"""Carries datagrams between a client and a server, each a run of `./qconn`, and writes the scripts of both ends.
+
+    tools/carry.py           writes examples/client.script and examples/server.script
+    tools/carry.py --check   fails where they aren't what the two ends make of one another
+
+The client says hello; when neither end sends any more, it asks for a PING, and then it closes with code 7 and the reason `bye`.
+A script has no answer of the other end but as datagrams, so each turn runs the whole script of one end again and takes what its
+last transmit sent.
+"""
+import os
+import subprocess
+import sys
+
+TOP = os.path.dirname(os.path.dirname(os.path.realpath(__file__)))
+# The address of each end, as the other end's scripts name it.
+CLIENT, SERVER = "00000000000000000000000000000001/50000", "00000000000000000000000000000001/4433"
+
+
+class End:
+    """One end: the lines of its script, and the address that its datagrams come from."""
+
+    def __init__(self, lines, address):
+        self.lines, self.address = lines, address
+
+    def step(self, line):
+        """Adds an input line and gives the lines of its step."""
+        self.lines.append(line)
+        script = "".join(f"{it}\n" for it in self.lines)
+        ran = subprocess.run([f"{TOP}/qconn", "run"], input=script.encode(), stdout=subprocess.PIPE, check=True, cwd=TOP)
+        return ran.stdout.decode().rsplit("\nstep ", 1)[1].splitlines()
+
+    def sent(self, time):
+        """A transmit: gives the datagram that it sent, if it sent one."""
+        for line in self.step(f"transmit {time} 1"):
+            if line.startswith("out "):
+                return line.split(" ")[5]
+        return None
+
+
+def carry(time, one, other):
+    """Carries all that `one` sends to `other`, and gives the time afterwards and whether there was anything."""
+    some = False
+    while True:
+        time += 1000
+        datagram = one.sent(time)
+        if datagram is None:
+            return time, some
+        some = True
+        time += 1000
+        other.step(f"datagram {time} {one.address} - {datagram}")
+
+
+def talk(time, client, server):
+    """Carries datagrams both ways until neither end sends any more, and gives the time afterwards."""
+    while True:
+        time, from_client = carry(time, client, server)
+        time, from_server = carry(time, server, client)
+        if not from_client and not from_server:
+            return time
+
+
+def conversation():
+    """The scripts of both ends."""
+    client = End(["set side client", "set remote 0303030303030303"], CLIENT)
+    server = End(["set side server", "set local 0404040404040404", "set remote 0101010101010101", f"set addr {CLIENT}"], SERVER)
+    time = talk(0, client, server)
+    client.step(f"ping {time}")
+    time = talk(time, client, server)
+    client.step(f"close {time} 7 627965")
+    talk(time, client, server)
+    return {"client": client.lines, "server": server.lines}
+
+
+def main():
+    bad = False
+    for name, lines in conversation().items():
+        path, text = f"{TOP}/examples/{name}.script", "".join(f"{it}\n" for it in lines)
+        if sys.argv[1:] == ["--check"]:
+            with open(path, encoding="ascii") as file:
+                if file.read() != text:
+                    print(f"examples/{name}.script isn't what the two ends make of one another: tools/carry.py writes it")
+                    bad = True
+        else:
+            with open(path, "w", encoding="ascii") as file:
+                file.write(text)
+    sys.exit(bad)
+
+
+if __name__ == "__main__":
+    main()
