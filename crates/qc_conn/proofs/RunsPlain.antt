@@ -27,6 +27,8 @@ use Rattle.qc_state.specs.declared.life.Close.{Close}
 use Rattle.qc_state.specs.declared.life.Close.TheVariants.{Connection, Application}
 use Rattle.qc_state.specs.declared.life.Life.{Life}
 use Rattle.qc_state.specs.declared.life.State.TheVariants.{Drained}
+use Rattle.qc_state.specs.declared.deeds.Verdict.{Verdict}
+use Rattle.qc_state.specs.declared.deeds.Verdict.TheVariants as verdict
 use Rattle.qc_state.specs.declared.paths.Paths.{Paths}
 use Rattle.qc_state.specs.declared.transmit.TheConstants.{DATAGRAM_SIZE}
 use Rattle.qc_state.specs.declared.trace.Step.{Step}
@@ -34,9 +36,9 @@ use Rattle.qc_state.specs.declared.trace.Answer.TheVariants as answer
 use Rattle.qc_state.specs.declared.waiting.SpaceWaiting.{SpaceWaiting}
 use Rattle.qc_state.specs.declared.waiting.Waiting.{Waiting}
 use Rattle.qc_state.specs.Life.{is_closed}
-use Rattle.qc_state.specs.Moves.{Move, Clock, Take, Seal, Forget, Raise, Say, Give, Enter, Fail, Accept, Fix, Hear, Ack, Calm, Come, Read, Write, Ready, Learn, Establish, Tell, Drain, Leave, Owe, Shut, IsTold, MayMove, state_move, move_to, deeds_move, paths_move, waiting_move, keys_move, calmed, Expect, Validate, Confirm}
+use Rattle.qc_state.specs.Moves.{Move, Clock, Take, Seal, Forget, Raise, Say, Give, Enter, Fail, Accept, Fix, Hear, Ack, Calm, Come, Read, Write, Ready, Learn, Establish, Tell, Drain, Leave, Owe, Shut, IsTold, MayMove, state_move, move_to, deeds_move, paths_move, waiting_move, keys_move, calmed, Expect, Confirm}
 use Rattle.qc_state.specs.Numbers.{next_number}
-use Rattle.qc_state.specs.Paths.{path_sent, path_received, peer_fixed, path_validated, is_blocked}
+use Rattle.qc_state.specs.Paths.{path_sent, path_received, peer_fixed, path_accepted, is_blocked}
 use Rattle.qc_state.specs.Receiving.{datagram_after, is_taken}
 use Rattle.qc_state.specs.Run.{time_of, packets_of, began, close_after, input_after, called, reported, step_after, IsAllowed, out_of, answer_of, IsStep, Run, Ran}
 use Rattle.qc_state.specs.Sending.{told_code, told_type, told_application_code, told_close, close_frame, closing_frame, IsKeptReason, close_room, Closes, sending_space, Carries, drops_initial, initial_left, sealed_in, internal_error, given_after, killed_after, quiet_after, packet_after, transmit_after, MayTransmit, transmit_bytes, transmit_of, owed_quiet_after, is_silent, owes}
@@ -250,6 +252,12 @@ done_plain : (b : Bool) → IsAnswerPlain (if b then answer.Done else answer.Dro
 done_plain true = tt
 done_plain false = tt
 
+-- accepting a packet leaves the address
+accepted_remote : (p : Paths) (id : SpaceId) (v : Verdict) → (path_accepted p id v).remote ≡ p.remote
+unfolding path_accepted
+accepted_remote p Handshake verdict.Admitted = refl
+accepted_remote p _ _ = refl
+
 module _ {t : Types} where
   quiet_by : (a : At t) (x y u z : Bool) → let b : At t = move_to (Raise Drained) a in
       let q : At t = if x then move_to (Say Silent) a else if y then (if u then move_to (Say Amplification) a else move_to (Say Killed) (if z then move_to (Give internal_error) b else b)) else move_to (Say NothingOwed) a in
@@ -349,14 +357,13 @@ module _ {t : Types} where
   keeps_next a b c g h = record { deeds = λ p. h.deeds (g.deeds p); crypto = λ p. h.crypto (g.crypto p); path = h.path ∙ g.path }
 
   keeps_move : (x : Move t) → IsReceived x → (a : At t) → MayMove x a.state → Keeps a (move_to x a)
-  unfolding MayMove move_to state_move deeds_move waiting_move close_begun space_left packet_came came_in packets_settled settled_in crypto_written done_asked paths_move path_received path_validated peer_fixed
+  unfolding MayMove move_to state_move deeds_move waiting_move close_begun space_left packet_came came_in packets_settled settled_in crypto_written done_asked paths_move path_received path_accepted peer_fixed
   keeps_move (Forget id) r a h = record { deeds = λ p. p; crypto = set_below a.state.waiting id _ (nothing_below (space_of a.state.waiting.spaces id)); path = refl }
   keeps_move (Enter id n v) r a h = record { deeds = one_more a.did _ tt; crypto = λ p. p; path = refl }
   keeps_move (Expect token) r a h = record { deeds = λ p. p; crypto = λ p. p; path = refl }
   keeps_move Fail r a h = record { deeds = λ p. p; crypto = λ p. p; path = refl }
-  keeps_move (Accept time id n e v) r a h = record { deeds = one_more a.did _ tt; crypto = set_below a.state.waiting id _ (λ p. p); path = refl }
+  keeps_move (Accept time id n e v) r a h = record { deeds = one_more a.did _ tt; crypto = set_below a.state.waiting id _ (λ p. p); path = accepted_remote a.state.paths id v }
   keeps_move (Fix cid) r a h = record { deeds = λ p. p; crypto = λ p. p; path = refl }
-  keeps_move Validate r a h = record { deeds = λ p. p; crypto = λ p. p; path = refl }
   keeps_move (Hear bytes) r a h = record { deeds = λ p. p; crypto = λ p. p; path = refl }
   keeps_move (Ack id n rs) r a h = record { deeds = λ p. p; crypto = set_below a.state.waiting id _ (λ p. p); path = refl }
   keeps_move Calm r a h = record { deeds = λ p. p; crypto = λ p. p; path = refl }

@@ -7,7 +7,7 @@ ghost use Rattle.qc_frame.specs.Frame.{ack_map, borrowed, typed};
 ghost use Rattle.qc_frame.specs.FrameSpelling.{spelling};
 ghost use Rattle.qc_frame.specs.Payload.{items_of};
 ghost use Rattle.qc_state.specs.Numbers.{next_number};
-ghost use Rattle.qc_state.specs.Receiving.{accepted_after, acked_after, admitted_after, applied_after, close_and, close_given, closed_in_data, confirmed_after, data_stop, done_stop, end_after, fixed_after, fixes_peer, frame_and, frame_stop, is_close_item, is_eliciting_item, items_after, left_after, payload_after, read_and, read_for_close, reason_of, received_after, stop_in, taken_and, validated_after};
+ghost use Rattle.qc_state.specs.Receiving.{accepted_after, acked_after, admitted_after, applied_after, close_and, close_given, closed_in_data, confirmed_after, data_stop, done_stop, end_after, fixed_after, fixes_peer, frame_and, frame_stop, is_close_item, is_eliciting_item, items_after, left_after, payload_after, read_and, read_for_close, reason_of, received_after, stop_in, taken_and};
 ghost use Rattle.qc_state.specs.Stopping.{stopped_after, violation_at};
 ghost use Rattle.qc_state.specs.Types.{meaning};
 ghost use Rattle.qc_state.specs.Verdicts.{is_other_token, verdict_of};
@@ -533,17 +533,6 @@ impl<U: Suite> Core<U> {
         Ok(())
     }
 
-    /// A Handshake packet that is admitted shows that the peer gets what is sent to its address (RFC 9000, section 8.1).
-    #[tactic(auto, unfolding(qc_state::specs::Moves::move_to, qc_state::specs::Moves::deeds_move))]
-    fn validate(&mut self, space: SpaceId, did: &Dids)
-        ensures { (held U.Random.stream self.new did.now) ≡ validated_after space (held U.Random.stream self.old did.now) }
-    {
-        match space {
-            SpaceId::Handshake => self.do_validate(),
-            SpaceId::Initial | SpaceId::Data => {}
-        }
-    }
-
     /// A packet that is admitted.
     #[tactic(auto, unfolding(qc_state::specs::Receiving::admitted_after))]
     fn admitted(
@@ -559,7 +548,6 @@ impl<U: Suite> Core<U> {
         ensures { OnOk result ((held U.Random.stream self.new did.new) ≡ admitted_after (meaning U.Session.Session U.Session.HeaderKey.HeaderMask U.Session.PacketKey.PacketKey) now space source number payload.now (held U.Random.stream self.old did.old)) }
     {
         self.accepted(did, now, space, number, elicits(payload), Verdict::Admitted)?;
-        self.validate(space, did);
         self.fix(space, source, did);
         self.payload(alloc, did, now, space, payload)
     }

@@ -7,7 +7,7 @@ ghost use Rattle.qc_state.specs.Life.{ready_event, connected_event, lost_event, 
 ghost use Rattle.qc_state.specs.Lower.{ready_bytes, stream_of};
 ghost use Rattle.qc_frame.specs.AckRanges.{ranges_of};
 ghost use Rattle.qc_frame.specs.Frame.{ack_map};
-ghost use Rattle.qc_state.specs.Moves.{Clock, Ask, Take, Seal, Forget, Expect, Enter, Fail, Accept, Fix, Validate, Hear, Ack, Calm, Come, Ready, Learn, Confirm, Establish, Tell, Drain, Leave, Owe, Shut, Raise, Give, Say, ReportReady, ReportConnected, ReportLost, ReportDrained, move_to, state_move};
+ghost use Rattle.qc_state.specs.Moves.{Clock, Ask, Take, Seal, Forget, Expect, Enter, Fail, Accept, Fix, Hear, Ack, Calm, Come, Ready, Learn, Confirm, Establish, Tell, Drain, Leave, Owe, Shut, Raise, Give, Say, ReportReady, ReportConnected, ReportLost, ReportDrained, move_to, state_move};
 ghost use Rattle.qc_state.specs.Spaces.{space_of};
 ghost use Rattle.qc_state.specs.View.{ideal, held};
 ghost use Rattle.qc_state.specs.Waiting.{TakenPart};
@@ -152,6 +152,7 @@ impl<U: Suite> Core<U> {
             ce: false,
         };
         self.waiting.came(space, self.numbers.came(space), &packet);
+        self.paths.accepted(space, verdict);
         self.timers.accepted(self.setup.idle_limit(), now);
         did.push_piece(Some(space), Some(number), verdict)
     }
@@ -161,13 +162,6 @@ impl<U: Suite> Core<U> {
         ensures { (ideal U.Random.stream self.new) ≡ state_move (Fix cid) (ideal U.Random.stream self.old) }
     {
         self.paths.fix(cid);
-    }
-
-    /// The peer has shown that it gets what is sent to its address.
-    pub(crate) fn do_validate(&mut self)
-        ensures { (ideal U.Random.stream self.new) ≡ state_move Validate (ideal U.Random.stream self.old) }
-    {
-        self.paths.validate();
     }
 
     /// So many bytes came from the path's address.

@@ -1,6 +1,6 @@
 -- Fields of a line: what each spells, and that nothing else does.
-use Rattle.std.proofs.Common.{zero, suc, nat_lt, if◌then◌else◌, ◌/◌, ◌%◌, slice_index, Ok, Err, ◌≡◌, ◌≢◌, ℕ, ◌+◌, ◌*◌, ◌^◌, ◌<◌, ◌≤◌, List, [], ◌∷◌, ◌++◌, length, get_or, drop, Option, Some, None, refl, sym, ◌∙◌, ap, subst, arith, codes, Bool, true, false}
-use Rattle.std.proofs.lemmas.List.{append_assoc}
+use Rattle.std.proofs.Common.{zero, suc, nat_lt, if◌then◌else◌, ◌/◌, ◌%◌, slice_index, slice_set, take, ◌≡◌, ◌≢◌, ℕ, ◌+◌, ◌*◌, ◌^◌, ◌<◌, ◌≤◌, List, [], ◌∷◌, ◌++◌, length, get_or, drop, Option, Some, None, refl, sym, ◌∙◌, ap, subst, arith, codes, Bool, true, false}
+use Rattle.std.proofs.lemmas.List.{append_assoc, take_more, take_more_set}
 use Rattle.std.specs.Fmt.{decimal}
 use Rattle.std.proofs.lemmas.Fmt.{decimal_injective, decimal_digit}
 use Rattle.std.specs.Net.Addr.{ipv6_octets, ipv6_segments, octets_of, segments_of}
@@ -10,9 +10,8 @@ use Rattle.std.specs.declared.net.ip_addr.IpAddr.{IpAddr}
 use Rattle.std.specs.declared.net.ip_addr.IpAddr.TheVariants as Ip
 use Rattle.std.specs.declared.net.socket_addr.SocketAddr.{SocketAddr}
 use Rattle.std.specs.declared.net.socket_addr.SocketAddr.TheVariants.{V4, V6}
-use Rattle.hex.specs.declared.error.FromHexError.{FromHexError}
 use Rattle.hex.specs.Hex.{lower_digits, encode_with, encode_lower, decode_of}
-use Rattle.hex.proofs.HexLemmas.{decode_of-encode_lower, decode_of-same}
+use Rattle.hex.proofs.HexLemmas.{decode_of-encode_lower, decode_of-same, length-encode_with}
 use Rattle.qc_base.specs.Grammar.{IsBytes}
 use Rattle.qc_base.specs.declared.ecn.EcnCodepoint.{EcnCodepoint}
 use Rattle.qc_base.specs.declared.ecn.EcnCodepoint.TheVariants.{Ect0, Ect1, Ce}
@@ -86,19 +85,56 @@ hex_field_some : (bs : List ℕ) → 0 < length bs → hex_field bs ≡ encode_l
 hex_field_some [] h = absurd (omega arith)
 hex_field_some (x ∷ xs) h = refl
 
-pub hex_read : (field bs text : List ℕ) → 0 < length bs → text ≡ encode_lower bs → text ≡ field → field ≡ hex_field bs
-hex_read field bs text some is same = sym same ∙ is ∙ sym (hex_field_some bs some)
+-- each byte of a hex text is a digit
+encoded_digit : (bs : List ℕ) → IsBytes bs → (k : ℕ) → k < length (encode_lower bs) → (v : ℕ) × (v < 16) × (slice_index lower_digits v ≡ get_or (encode_lower bs) k 0)
+unfolding encode_with
+encoded_digit [] h k inside = absurd (omega arith)
+encoded_digit (b ∷ bs) h zero inside = (b / 16, (let byte : b < 256 = h 0 in omega arith), refl)
+encoded_digit (b ∷ bs) h (suc zero) inside = (b % 16, omega arith, refl)
+encoded_digit (b ∷ bs) h (suc (suc k)) inside = encoded_digit bs (λ i. h (suc i)) k (omega arith)
 
-pub hex_not_read : (field : List ℕ) (e : FromHexError) → field ≢ codes "-" → decode_of field ≡ Err e → (bs : List ℕ) → IsBytes bs → field ≢ hex_field bs
-hex_not_read field e dash err [] h is = dash is
-hex_not_read field e dash err (x ∷ xs) h is = let ok : decode_of field ≡ Ok (x ∷ xs) = ap decode_of is ∙ decode_of-encode_lower (x ∷ xs) h in cc
+-- so a text with another byte is none
+pub no_hex : (digits : List ℕ) (k : ℕ) → k < length digits → ((v : ℕ) → v < 16 → slice_index lower_digits v ≢ get_or digits k 0) → (bs : List ℕ) → IsBytes bs → digits ≢ encode_lower bs
+no_hex digits k inside none bs h e =
+    let digit = encoded_digit bs h k (omega (arith, ap length e)) in
+    none digit.0 digit.1 (digit.2 ∙ ap (λ (r : List ℕ). get_or r k 0) (sym e))
 
-pub hex_other : (field bs text : List ℕ) → field ≢ codes "-" → decode_of field ≡ Ok bs → text ≡ encode_lower bs → (text ≡ field → 0 < length bs → ⊥) → (cs : List ℕ) → IsBytes cs → field ≢ hex_field cs
-hex_other field bs text dash ok is other [] h e = dash e
-hex_other field bs text dash ok is other (x ∷ xs) h e =
-    let again : decode_of field ≡ Ok (x ∷ xs) = ap decode_of e ∙ decode_of-encode_lower (x ∷ xs) h in
-    let same : bs ≡ x ∷ xs = decode_of-same field bs (x ∷ xs) ok again in
-    other (is ∙ ap (λ (y : List ℕ). encode_lower y) same ∙ sym e) (rw same (omega arith))
+-- one byte more is two digits more
+encode_more : (xs : List ℕ) (b : ℕ) → encode_lower (xs ++ b ∷ []) ≡ encode_lower xs ++ slice_index lower_digits (b / 16) ∷ slice_index lower_digits (b % 16) ∷ []
+unfolding encode_with
+encode_more [] b = refl
+encode_more (x ∷ xs) b = ap (λ (r : List ℕ). slice_index lower_digits (x / 16) ∷ slice_index lower_digits (x % 16) ∷ r) (encode_more xs b)
+
+take_two : (xs : List ℕ) (i : ℕ) → 2 * i + 1 < length xs → take (2 * (i + 1)) xs ≡ take (2 * i) xs ++ get_or xs (2 * i) 0 ∷ get_or xs (2 * i + 1) 0 ∷ []
+take_two xs i inside =
+    let two : 2 * (i + 1) ≡ 2 * i + 1 + 1 = omega arith in
+    let first = take_more xs (2 * i) 0 (omega arith) in
+    let second = take_more xs (2 * i + 1) 0 inside in
+    rw (two, second, first) (append_assoc (take (2 * i) xs) (get_or xs (2 * i) 0 ∷ []) (get_or xs (2 * i + 1) 0 ∷ []))
+
+pub decode_more : (digits bytes : List ℕ) (i high low b : ℕ) → 2 * i + 1 < length digits → i < length bytes → high < 16 → low < 16 → b ≡ high * 16 + low
+    → slice_index lower_digits high ≡ get_or digits (2 * i) 0 → slice_index lower_digits low ≡ get_or digits (2 * i + 1) 0
+    → take (2 * i) digits ≡ encode_lower (take i bytes) → take (2 * (i + 1)) digits ≡ encode_lower (take (i + 1) (slice_set bytes i b))
+decode_more digits bytes i high low b inside room h l is first second front =
+    let top : b / 16 ≡ high = omega arith in
+    let bottom : b % 16 ≡ low = omega arith in
+    let more = encode_more (take i bytes) b in
+    rw (take_two digits i inside, take_more_set bytes i b room, more, top, bottom, first, second, front) refl
+
+-- a field that spells no bytes
+pub hex_odd : (field : List ℕ) → field ≢ codes "-" → ((0 < length field) → length field % 2 ≡ 0 → ⊥) → (bs : List ℕ) → IsBytes bs → field ≢ hex_field bs
+hex_odd field dash odd [] h is = dash is
+hex_odd field dash odd (x ∷ xs) h is =
+    let size = ap length is ∙ length-encode_with lower_digits (x ∷ xs) in
+    odd (omega (arith, size)) (omega (arith, size))
+
+pub hex_other : (field : List ℕ) → field ≢ codes "-" → ((bs : List ℕ) → IsBytes bs → field ≢ encode_lower bs) → (bs : List ℕ) → IsBytes bs → field ≢ hex_field bs
+hex_other field dash none [] h is = dash is
+hex_other field dash none (x ∷ xs) h is = none (x ∷ xs) h is
+
+pub hex_read : (field bs : List ℕ) → 0 < length field → field ≡ encode_lower bs → field ≡ hex_field bs
+hex_read field [] some is = absurd (omega (arith, ap length is ∙ length-encode_with lower_digits []))
+hex_read field (x ∷ xs) some is = is
 
 pub hex_field_injective : (bs cs : List ℕ) → IsBytes bs → IsBytes cs → hex_field bs ≡ hex_field cs → bs ≡ cs
 unfolding encode_with

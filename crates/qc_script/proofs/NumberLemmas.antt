@@ -4,7 +4,9 @@ use Rattle.std.specs.Fmt.{decimal}
 use Rattle.std.specs.Int.{IsInRange}
 use Rattle.std.proofs.lemmas.Str.Parse.{IsNumeralModel, numerals_by_fold, tells_by_index}
 use Rattle.std.proofs.lemmas.Fmt.{digits_decimal, digits_value-decimal, decimal-digits_value, first_decimal, decimal_digit, decimal_nonempty, decimal_by_steps}
-use Rattle.std.proofs.lemmas.List.{drop_more, take_more, take_all, take-append-drop}
+use Rattle.std.proofs.lemmas.List.{drop-drop, drop_more, take_more, take_all, take-append-drop}
+use Rattle.std.proofs.Math.Seq.{take-add}
+use Rattle.std.specs.Simd.{first_chunks}
 use Rattle.qc_script.specs.Fields.{Lacks}
 
 -- the number that these digits go on to, after the number so far
@@ -55,6 +57,10 @@ pub Lacks-append : (b : ℕ) (xs ys : List ℕ) → Lacks b xs → Lacks b ys �
 Lacks-append b [] ys h k = k
 Lacks-append b (x ∷ xs) ys h k = (h.0, Lacks-append b xs ys h.1 k)
 
+Lacks-parts : (b : ℕ) (xs ys : List ℕ) → Lacks b (xs ++ ys) → Lacks b xs × Lacks b ys
+Lacks-parts b [] ys h = (tt, h)
+Lacks-parts b (x ∷ xs) ys h = let rest = Lacks-parts b xs ys h.1 in ((h.0, rest.0), rest.1)
+
 -- a decimal has digits alone
 pub Lacks-decimal : (b n : ℕ) → (b < 48) → n < 2 ^ 64 → Lacks b (decimal n)
 Lacks-decimal b n low h = decimal_by_steps (λ m ds. Lacks b ds) (λ m l. ((λ e. omega (arith, e)), tt)) (λ m ds l front. Lacks-append b ds ((48 + m % 10) ∷ []) front ((λ e. omega (arith, e)), tt)) n h
@@ -80,8 +86,23 @@ no_split b (t ∷ text) (x ∷ xs) ys h e = no_split b text xs ys h.1 (cc)
 pub lacks_more : (b i : ℕ) (xs : List ℕ) → i < length xs → (get_or xs i 0 ≡ b → ⊥) → Lacks b (take i xs) → Lacks b (take (i + 1) xs)
 lacks_more b i xs inside other front = rw (take_more xs i 0 inside) (Lacks-append b (take i xs) (get_or xs i 0 ∷ []) front (other, tt))
 
+pub lacks_less : (b i : ℕ) (xs : List ℕ) → i < length xs → Lacks b (take (i + 1) xs) → (get_or xs i 0 ≡ b → ⊥) × Lacks b (take i xs)
+lacks_less b i xs inside h = let parts = Lacks-parts b (take i xs) (get_or xs i 0 ∷ []) (rw (take_more xs i 0 inside) at h) in (parts.1.0, parts.0)
+
 pub lacks_all : (b i : ℕ) (xs : List ℕ) → length xs ≤ i → Lacks b (take i xs) → Lacks b xs
 lacks_all b i xs past front = rw (take_all i xs past) at front
 
 pub split_found : (b i : ℕ) (xs : List ℕ) → i < length xs → get_or xs i 0 ≡ b → xs ≡ take i xs ++ b ∷ drop (i + 1) xs
 split_found b i xs inside is = sym (take-append-drop i xs) ∙ ap (λ (r : List ℕ). take i xs ++ r) (drop_more xs i 0 inside ∙ ap (λ (x : ℕ). x ∷ drop (i + 1) xs) is)
+
+-- chunk i of the chunks of 16 bytes in front of a text
+chunk_at : (k i j : ℕ) (xs : List ℕ) → i < k → j ≡ 16 * i → get_or (first_chunks 16 k xs) i [] ≡ take 16 (drop j xs)
+chunk_at zero i j xs inside is = absurd (omega arith)
+chunk_at (suc k) zero j xs inside is = let none : j ≡ 0 = omega arith in rw none refl
+chunk_at (suc k) (suc i) j xs inside is =
+    let rest = chunk_at k i (16 * i) (drop 16 xs) (omega arith) refl in
+    let sum : j ≡ 16 + 16 * i = omega arith in
+    rw sum (rest ∙ ap (λ (r : List ℕ). take 16 r) (drop-drop (16 * i) 16 xs))
+
+pub lacks_chunk : (b i j k : ℕ) (xs : List ℕ) → i < k → j ≡ 16 * i → Lacks b (take j xs) → Lacks b (get_or (first_chunks 16 k xs) i []) → Lacks b (take (j + 16) xs)
+lacks_chunk b i j k xs inside is front chunk = rw take-add (Lacks-append b (take j xs) (take 16 (drop j xs)) front (rw (chunk_at k i j xs inside is) at chunk))

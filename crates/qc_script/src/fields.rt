@@ -1,13 +1,13 @@
 //! The fields of a line: words, numbers and bytes.
 
-ghost use Rattle.hex.specs.Hex.{decode_of};
+ghost use Rattle.hex.specs.Hex.{encode_lower, lower_digits};
 ghost use Rattle.qc_base.specs.Grammar.{IsBytes};
 ghost use Rattle.qc_script.specs.Fields.{AreFields, Lacks, hex_field};
+ghost use Rattle.std.specs.Bool.{MatchBool, OnFalse, OnTrue};
 ghost use Rattle.std.specs.Fmt.{decimal};
 ghost use Rattle.std.specs.Int.{IsInRange};
-ghost use Rattle.std.specs.Prelude.{codes, Ok, ◌≡◌, ◌≢◌, ℕ, ◌+◌, ◌-◌, ◌*◌, ◌^◌, ◌<◌, ◌≤◌, List, ◌∷◌, ◌++◌, IfOk, MatchOption, IfSome, IfNone};
+ghost use Rattle.std.specs.Prelude.{◌≡◌, ◌≢◌, ℕ, ◌+◌, ◌-◌, ◌*◌, ◌^◌, ◌<◌, ◌≤◌, List, ◌∷◌, ◌++◌, length, take, slice_index, IfOk, MatchOption, IfSome, IfNone};
 
-use hex::FromHexError;
 use qc_base::VarInt;
 use qc_state::Body;
 use std::alloc::{AllocError, Global};
@@ -74,13 +74,40 @@ pub fn after_word<'a>(text: &'a [u8], word: &[u8]) -> Option<&'a [u8]>
     if front == word { Some(rest) } else { None }
 }
 
+/// Whether such a byte is among these. All of them are looked at, so that they can be looked at side by side.
+fn has_byte(chunk: &[u8; 16], byte: u8) -> bool
+    ensures { MatchBool result (Lacks byte chunk.now → ⊥) (Lacks byte chunk.now) }
+{
+    let mut found = false;
+    for b in chunk {
+        found |= *b == byte;
+    }
+    found
+}
+
+/// The length of a front that lacks such a byte: of the chunks before the first that has one.
+fn count_before(text: &[u8], byte: u8) -> usize
+    ensures bound { result ≤ length text.now }
+    ensures lacks { Lacks byte (take result text.now) }
+{
+    let (chunks, _) = text.as_chunks::<16>();
+    let mut count = 0;
+    for chunk in chunks {
+        if has_byte(chunk, byte) {
+            return count;
+        }
+        count += 16;
+    }
+    count
+}
+
 /// The parts before and after the first such byte.
 #[tactic(auto, using(crate::proofs::NumberLemmas::lacks_more, crate::proofs::NumberLemmas::lacks_all, crate::proofs::NumberLemmas::split_found))]
 pub fn split_at_byte(text: &[u8], byte: u8) -> Option<(&[u8], &[u8])>
     ensures { MatchOption result (Lacks byte text.now) (λ parts. (text.now ≡ parts.0.now ++ byte ∷ parts.1.now) × Lacks byte parts.0.now) }
 {
-    for (place, b) in text.iter().enumerate() {
-        if *b == byte {
+    for place in count_before(text, byte)..text.len() {
+        if text[place] == byte {
             return Some((&text[..place], &text[place + 1..]));
         }
     }
@@ -97,20 +124,33 @@ pub fn four_fields(text: &[u8]) -> Option<(&[u8], &[u8], &[u8], &[u8])>
     Some((first, second, third, last))
 }
 
-/// The bytes that a field spells in hex.
-pub fn read_hex(alloc: Global, field: &[u8]) -> Result<Option<Body>, AllocError>
-    ensures { IfOk result (λ r. MatchOption r ((bytes : List ℕ) → IsBytes bytes → field.now ≢ hex_field bytes) (λ body. (field.now ≡ hex_field body) × IsBytes body)) }
+/// The value of a digit of lower-case hex, and 16 where the byte is none.
+fn digit_value(byte: u8) -> u8
+    ensures digit { result < 16 → slice_index lower_digits result ≡ byte }
+    ensures none { 16 ≤ result → (v : ℕ) → v < 16 → slice_index lower_digits v ≢ byte }
 {
-    if field == b"-".as_slice() {
-        return Ok(Some(Body::from_vec(Vec::new(alloc))));
+    match byte {
+        b'0'..=b'9' => byte - b'0',
+        b'a'..=b'f' => byte - b'a' + 10,
+        _ => 16,
     }
-    match hex::decode(alloc, field) {
-        Ok(bytes) => in_lower_case(alloc, field, bytes),
-        Err(why) => match why {
-            FromHexError::OutOfMemory => Err(AllocError),
-            _ => Ok(None),
-        },
+}
+
+/// Writes the bytes that these digits spell in lower-case hex, and says whether they do spell any. No digit ends the
+/// loop, so that many can be read side by side.
+fn decode(digits: &[u8], bytes: &mut [u8]) -> bool
+    requires { length digits.now ≡ 2 * length bytes.old }
+    ensures spelled { OnTrue result (digits.now ≡ encode_lower bytes.new) }
+    ensures other { OnFalse result ((others : List ℕ) → IsBytes others → digits.now ≢ encode_lower others) }
+{
+    let mut greatest: u8 = 0;
+    for place in 0..bytes.len() {
+        let high = digit_value(digits[2 * place]);
+        let low = digit_value(digits[2 * place + 1]);
+        greatest = greatest.max(high).max(low);
+        bytes[place] = high.wrapping_mul(16).wrapping_add(low);
     }
+    greatest < 16
 }
 
 /// Each item of a slice of bytes is a byte. (This does nothing; its clause is the law.)
@@ -120,19 +160,21 @@ fn are_bytes(bytes: &[u8])
     let _count = bytes.len();
 }
 
-/// The bytes, where the field spells them in lower case, and there are any.
-fn in_lower_case(alloc: Global, field: &[u8], bytes: Vec<u8>) -> Result<Option<Body>, AllocError>
-    requires bytes { decode_of field.now ≡ Ok bytes.items }
-    requires some { field.now ≢ codes "-" }
+/// The bytes that a field spells in hex.
+pub fn read_hex(alloc: Global, field: &[u8]) -> Result<Option<Body>, AllocError>
     ensures { IfOk result (λ r. MatchOption r ((bytes : List ℕ) → IsBytes bytes → field.now ≢ hex_field bytes) (λ body. (field.now ≡ hex_field body) × IsBytes body)) }
 {
-    are_bytes(bytes.as_slice());
-    let text = hex::encode(alloc, bytes.as_slice())?;
-    if bytes.is_empty() {
+    if field == b"-".as_slice() {
+        return Ok(Some(Body::from_vec(Vec::new(alloc))));
+    }
+    if field.is_empty() || field.len() % 2 != 0 {
         return Ok(None);
     }
-    if text.as_bytes() == field {
-        return Ok(Some(Body::from_vec(bytes)));
+    let mut bytes = vec![in alloc; 0u8; field.len() / 2]?;
+    if decode(field, bytes.as_mut_slice()) {
+        are_bytes(bytes.as_slice());
+        Ok(Some(Body::from_vec(bytes)))
+    } else {
+        Ok(None)
     }
-    Ok(None)
 }

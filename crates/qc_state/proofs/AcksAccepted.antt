@@ -25,7 +25,7 @@ use Rattle.qc_state.specs.declared.waiting.SpaceWaiting.{SpaceWaiting}
 use Rattle.qc_state.specs.declared.waiting.Waiting.{Waiting}
 use Rattle.qc_state.specs.Headline.{deeds_of, KnownBehind, AcksOnly, SealsKnown, AcksKnown, IsKept, EachAcksKnown}
 use Rattle.qc_state.specs.Life.{is_open, is_drained}
-use Rattle.qc_state.specs.Moves.{Move, Clock, Ask, Take, Seal, Forget, Enter, Expect, Fail, Accept, Fix, Validate, Hear, Ack, Calm, Come, Read, Write, Ready, Learn, Confirm, Establish, Tell, Drain, Leave, Owe, Shut, Raise, Give, Say, ReportReady, ReportConnected, ReportLost, ReportDrained, accepts, state_move, move_to, deeds_move, waiting_move, numbers_move, life_move, MayMove, IsTold, calmed, told}
+use Rattle.qc_state.specs.Moves.{Move, Clock, Ask, Take, Seal, Forget, Enter, Expect, Fail, Accept, Fix, Hear, Ack, Calm, Come, Read, Write, Ready, Learn, Confirm, Establish, Tell, Drain, Leave, Owe, Shut, Raise, Give, Say, ReportReady, ReportConnected, ReportLost, ReportDrained, accepts, state_move, move_to, deeds_move, waiting_move, numbers_move, life_move, MayMove, IsTold, calmed, told}
 use Rattle.qc_state.specs.Numbers.{next_number}
 use Rattle.qc_state.specs.Numbers as numbers
 use Rattle.qc_state.specs.Run.{time_of, packets_of, began, close_after, input_after, called, reported, step_after, IsAllowed, IsStep, Run, Ran}
@@ -177,7 +177,6 @@ module _ {t : Types} where
       deed_knows id (Accept time space n e v) (did.Piece (Some space) (Some n) v) a refl tt
       (came_kept id space a.state.waiting (arrived n (numbers.came_in a.state.numbers space)) (record { number = n; at = time; ack_eliciting = e; ce = false }) v k)
   knows_move id (Fix cid) a h k = silent_knows id (Fix cid) a refl (λ n m. m)
-  knows_move id Validate a h k = silent_knows id Validate a refl (λ n m. m)
   knows_move id (Hear bytes) a h k = silent_knows id (Hear bytes) a refl (λ n m. m)
   knows_move id (Ack space n rs) a h k = silent_knows id (Ack space n rs) a refl (same_kept id space a.state.waiting _ a.state.waiting.close_owed refl)
   knows_move id Calm a h k = silent_knows id Calm a refl (λ n m. m)
@@ -268,7 +267,6 @@ module _ {t : Types} where
   received_knows Fail s r = tt
   received_knows (Accept time id n e v) s r = r
   received_knows (Fix cid) s r = tt
-  received_knows Validate s r = tt
   received_knows (Hear bytes) s r = tt
   received_knows (Ack id n rs) s r = tt
   received_knows Calm s r = tt

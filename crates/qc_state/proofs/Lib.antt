@@ -6,6 +6,7 @@ mod AcksKnown
 pub mod Expansions
 pub mod Joins
 pub mod OnlyOnce
+pub mod PathsHold
 pub mod Receives
 pub mod Seals
 pub mod Steps

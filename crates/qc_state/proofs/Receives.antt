@@ -29,11 +29,11 @@ use Rattle.qc_state.specs.declared.opening.Opening.{Opening}
 use Rattle.qc_state.specs.declared.opening.Opening.TheVariants.{Unreadable, Unopened, Reserved, Opened}
 use Rattle.qc_state.specs.Life.{rank_of, is_open, is_closed, is_handshake}
 use Rattle.qc_state.specs.Lower.{ready_bytes, stream_of}
-use Rattle.qc_state.specs.Moves.{Move, Give, Forget, Enter, Expect, Fail, Accept, Fix, Validate, Hear, Ack, Calm, Come, Read, Write, Ready, Learn, Confirm, Establish, Tell, Drain, Leave, Owe, Shut, move_to, state_move, life_move, MayMove, accepts, enters, calmed}
+use Rattle.qc_state.specs.Moves.{Move, Give, Forget, Enter, Expect, Fail, Accept, Fix, Hear, Ack, Calm, Come, Read, Write, Ready, Learn, Confirm, Establish, Tell, Drain, Leave, Owe, Shut, move_to, state_move, life_move, MayMove, accepts, enters, calmed}
 use Rattle.qc_state.specs.Numbers.{is_new_in}
 use Rattle.qc_state.specs.Opening.{opening_of}
 use Rattle.qc_state.specs.Progress.{is_written, write_after, writes_after, written_after, ids_fit, parameters_and, is_end, ended_after, progress_after, learned_after, over_after}
-use Rattle.qc_state.specs.Receiving.{reason_of, is_close_item, is_eliciting_item, left_after, acked_after, confirmed_after, applied_after, close_given, closed_in_data, close_and, end_after, crypto_stop, answered_and, given_and, kept_and, crypto_and, taken_and, frame_and, read_and, items_after, payload_after, fixes_peer, fixed_after, piece_told, read_for_close, admitted_after, verdict_after, received_after, opening_after, piece_after, pieces_after, cut_of, datagram_after, accepted_after, validated_after, heard_after, first_token, first_after}
+use Rattle.qc_state.specs.Receiving.{reason_of, is_close_item, is_eliciting_item, left_after, acked_after, confirmed_after, applied_after, close_given, closed_in_data, close_and, end_after, crypto_stop, answered_and, given_and, kept_and, crypto_and, taken_and, frame_and, read_and, items_after, payload_after, fixes_peer, fixed_after, piece_told, read_for_close, admitted_after, verdict_after, received_after, opening_after, piece_after, pieces_after, cut_of, datagram_after, accepted_after, heard_after, first_token, first_after}
 use Rattle.qc_state.specs.Sending.{given_after, initial_left, drops_initial}
 use Rattle.qc_state.specs.Stopping.{missing_parameters, parameter_error, violation_at, stopped_after}
 use Rattle.qc_state.specs.Types.{Types, Meaning}
@@ -81,37 +81,46 @@ first_holds : (a b : Bool) → (a && b) ≡ true → a ≡ true
 first_holds true b h = refl
 first_holds false b h = cc
 
+-- the moves that a packet which came makes
+abbrev pub IsInPacket : {t : Types} → Move t → Type 0
+IsInPacket (Forget id) = Unit {0}
+IsInPacket (Enter id n v) = Unit {0}
+IsInPacket Fail = Unit {0}
+IsInPacket (Accept time id n e v) = accepts v ≡ true
+IsInPacket (Fix cid) = Unit {0}
+IsInPacket (Ack id n rs) = Unit {0}
+IsInPacket Calm = Unit {0}
+IsInPacket (Come id offset bytes) = Unit {0}
+IsInPacket (Read id count session) = Unit {0}
+IsInPacket (Write bytes keys session) = Unit {0}
+IsInPacket Ready = Unit {0}
+IsInPacket (Learn parameters) = Unit {0}
+IsInPacket Confirm = Unit {0}
+IsInPacket Establish = Unit {0}
+IsInPacket (Tell d) = Unit {0}
+IsInPacket Drain = Unit {0}
+IsInPacket (Leave time) = Unit {0}
+IsInPacket Owe = Unit {0}
+IsInPacket (Shut time close) = Unit {0}
+IsInPacket (Give why) = Unit {0}
+IsInPacket _ = ⊥
+
 -- the moves that receiving makes
 abbrev pub IsReceived : {t : Types} → Move t → Type 0
-IsReceived (Forget id) = Unit {0}
-IsReceived (Enter id n v) = Unit {0}
 IsReceived (Expect token) = Unit {0}
-IsReceived Fail = Unit {0}
-IsReceived (Accept time id n e v) = accepts v ≡ true
-IsReceived (Fix cid) = Unit {0}
-IsReceived Validate = Unit {0}
 IsReceived (Hear bytes) = Unit {0}
-IsReceived (Ack id n rs) = Unit {0}
-IsReceived Calm = Unit {0}
-IsReceived (Come id offset bytes) = Unit {0}
-IsReceived (Read id count session) = Unit {0}
-IsReceived (Write bytes keys session) = Unit {0}
-IsReceived Ready = Unit {0}
-IsReceived (Learn parameters) = Unit {0}
-IsReceived Confirm = Unit {0}
-IsReceived Establish = Unit {0}
-IsReceived (Tell d) = Unit {0}
-IsReceived Drain = Unit {0}
-IsReceived (Leave time) = Unit {0}
-IsReceived Owe = Unit {0}
-IsReceived (Shut time close) = Unit {0}
-IsReceived (Give why) = Unit {0}
-IsReceived _ = ⊥
+IsReceived x = IsInPacket x
 
--- what holds of no move, of two moves one after the other, and of each of these moves where it may be made, holds of a
--- datagram
+-- those of a packet among them
+in_packet_received : {t : Types} (x : Move t) → IsInPacket x → IsReceived x
+in_packet_received (Expect token) h = tt
+in_packet_received (Hear bytes) h = tt
+in_packet_received _ h = h
+
+-- what holds of no move, of two moves one after the other, and of each move that a packet makes, where it may be made, holds of
+-- the packets of a datagram
 module _ {t : Types} (R : At t → At t → Type 0) (here : (a : At t) → R a a) (next : (a b c : At t) → R a b → R b c → R a c)
-    (move : (x : Move t) → IsReceived x → (a : At t) → MayMove x a.state → R a (move_to x a)) where
+    (move : (x : Move t) → IsInPacket x → (a : At t) → MayMove x a.state → R a (move_to x a)) where
   given_by : (why : ConnectionError) (a : At t) (b : Bool) → is_none a.state.life.reason ≡ b → R a (if b then move_to (Give why) a else a)
   unfolding MayMove
   given_by why a true h = move (Give why) tt a (is_none_none a.state.life.reason h)
@@ -353,20 +362,13 @@ module _ {t : Types} (R : At t → At t → Type 0) (here : (a : At t) → R a a
       let b : At t = move_to (Accept time space number e v) a in
       next a b _ (move (Accept time space number e v) accepts_v a (new, enters_v)) (holds_initial Server space b)
 
-  holds_validated : (space : SpaceId) (a : At t) → R a (validated_after space a)
-  unfolding MayMove
-  holds_validated Initial a = here a
-  holds_validated Handshake a = move Validate tt a tt
-  holds_validated Data a = here a
-
   holds_admitted : (m : Meaning t) (time : ℕ) (space : SpaceId) (source : List ℕ) (number : ℕ) (payload : List ℕ) (a : At t) → is_new_in a.state.numbers space number ≡ true → R a (admitted_after m time space source number payload a)
   unfolding admitted_after
   holds_admitted m time space source number payload a new =
       let e : Bool = list_any is_eliciting_item (items_of payload) in
       let b : At t = accepted_after time space number e verdict.Admitted a in
-      let c : At t = validated_after space b in
-      let d : At t = fixed_after space source c in
-      next a b _ (holds_accepted time space number e verdict.Admitted a new refl refl) (next b c _ (holds_validated space b) (next c d _ (holds_fixed space source c) (holds_payload m time space payload d)))
+      let c : At t = fixed_after space source b in
+      next a b _ (holds_accepted time space number e verdict.Admitted a new refl refl) (next b c _ (holds_fixed space source b) (holds_payload m time space payload c))
 
   verdict_by : (m : Meaning t) (time : ℕ) (space : SpaceId) (source : List ℕ) (number : ℕ) (payload : List ℕ) (v : Verdict) (a : At t) →
       (enters v ≡ true → is_new_in a.state.numbers space number ≡ true) → (v ≡ verdict.ReadForClose → is_closed a.state.life.state ≡ true) →
@@ -405,17 +407,20 @@ module _ {t : Types} (R : At t → At t → Type 0) (here : (a : At t) → R a a
   piece_by m time p a true = move (Tell (did.Piece (space_of p.header) None verdict.Ignored)) tt a refl
   piece_by m time p a false = holds_opening m time (space_of p.header) (opening_of m a.state p) a
 
-  holds_pieces : (m : Meaning t) (time : ℕ) (items : List DatagramItem) (a : At t) → R a (pieces_after m time items a)
+  pub holds_pieces : (m : Meaning t) (time : ℕ) (items : List DatagramItem) (a : At t) → R a (pieces_after m time items a)
   unfolding piece_after
   holds_pieces m time [] a = here a
   holds_pieces m time (Err fault ∷ items) a = here a
   holds_pieces m time (Ok p ∷ items) a = next a (piece_after m time p a) _ (piece_by m time p a _) (holds_pieces m time items (piece_after m time p a))
 
+-- what holds of these, and of each move that receiving makes, holds of a datagram
+module _ {t : Types} (R : At t → At t → Type 0) (here : (a : At t) → R a a) (next : (a b c : At t) → R a b → R b c → R a c)
+    (move : (x : Move t) → IsReceived x → (a : At t) → MayMove x a.state → R a (move_to x a)) where
   datagram_by : (m : Meaning t) (time : ℕ) (bytes : List ℕ) (items : List DatagramItem) (a : At t) (b : Bool) (n : ℕ) → R a (if b then move_to (Hear n) (pieces_after m time items a) else a)
   unfolding MayMove
   datagram_by m time bytes items a true n =
       let b : At t = pieces_after m time items a in
-      next a b _ (holds_pieces m time items a) (move (Hear n) tt b tt)
+      next a b _ (holds_pieces R here next (λ x h. move x (in_packet_received x h)) m time items a) (move (Hear n) tt b tt)
   datagram_by m time bytes items a false n = here a
 
   holds_heard : (m : Meaning t) (time : ℕ) (remote : SocketAddr) (bytes : List ℕ) (a : At t) → R a (heard_after m time remote bytes a)

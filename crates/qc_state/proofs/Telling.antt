@@ -14,7 +14,7 @@ use Rattle.qc_path.specs.Arrived.{Window, is_new, arrived}
 use Rattle.qc_state.specs.declared.deeds.Verdict.{Verdict}
 use Rattle.qc_state.specs.Headline.{sealed_in, reasons_in, lives_in, entered_number, entered_in, EachNew, came_with, CloseFrom, RisesFrom, Kernel, kernel_of, kernel_after, Tells}
 use Rattle.qc_state.specs.Life.{rank_of, is_open, is_drained, reason_given, life_raised, life_closed, life_drained, life_established, data_ready, ready_reported, connected_reported, lost_reported, drained_reported}
-use Rattle.qc_state.specs.Moves.{Move, ClosesOnly, Clock, Ask, Take, Seal, Forget, Enter, Expect, Fail, Accept, Fix, Validate, Hear, Ack, Calm, Come, Read, Write, Ready, Learn, Confirm, Establish, Tell, Drain, Leave, Owe, IsTold, enters, Shut, Raise, Give, Say, ReportReady, ReportConnected, ReportLost, ReportDrained, state_move, move_to, deeds_move, MayMove, told, numbers_move, life_move, timers_move}
+use Rattle.qc_state.specs.Moves.{Move, ClosesOnly, Clock, Ask, Take, Seal, Forget, Enter, Expect, Fail, Accept, Fix, Hear, Ack, Calm, Come, Read, Write, Ready, Learn, Confirm, Establish, Tell, Drain, Leave, Owe, IsTold, enters, Shut, Raise, Give, Say, ReportReady, ReportConnected, ReportLost, ReportDrained, state_move, move_to, deeds_move, MayMove, told, numbers_move, life_move, timers_move}
 use Rattle.qc_state.specs.Numbers.{next_number, came_in, is_new_in, number_used, used_in, number_entered, number_accepted, number_acked}
 use Rattle.qc_state.specs.Numbers as numbers
 use Rattle.qc_state.specs.Setup.{idle_limit_now}
@@ -223,7 +223,6 @@ module _ {t : Types} where
   move_tells id Fail s h = refl
   move_tells id (Accept time space n e v) s h = enter_tells id space s n v (λ w. numbers.accepted_in n w) h.0 h.1 (λ w. refl) (λ w. refl)
   move_tells id (Fix cid) s h = refl
-  move_tells id Validate s h = refl
   move_tells id (Hear bytes) s h = refl
   move_tells id (Ack space n rs) s h = next_same id space s (λ w. numbers.acked_in n w) refl refl
   move_tells id Calm s h = refl
@@ -260,7 +259,6 @@ module _ {t : Types} where
   clock_kept Fail s h = refl
   clock_kept (Accept time space n e v) s h = refl
   clock_kept (Fix cid) s h = refl
-  clock_kept Validate s h = refl
   clock_kept (Hear bytes) s h = refl
   clock_kept (Ack space n rs) s h = refl
   clock_kept Calm s h = refl

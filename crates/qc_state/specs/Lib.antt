@@ -9,6 +9,7 @@ pub mod Lower
 pub mod Moves
 pub mod Numbers
 pub mod Opening
+pub mod PathLaws
 pub mod Paths
 pub mod Polls
 pub mod Progress

@@ -31,7 +31,7 @@ use Rattle.qc_state.specs.Life.{rank_of, reason_given, life_raised, life_closed,
 use Rattle.qc_state.specs.Numbers.{next_number, number_used, is_new_in, came_in, number_entered, number_accepted, number_acked}
 use Rattle.qc_state.specs.Keys.{key_used, failure_counted, keys_given, keys_dropped}
 use Rattle.qc_state.specs.Lower.{bytes_came, session_read, session_wrote}
-use Rattle.qc_state.specs.Paths.{path_sent, path_received, path_validated, peer_fixed}
+use Rattle.qc_state.specs.Paths.{path_sent, path_received, path_accepted, peer_fixed}
 use Rattle.qc_state.specs.Setup.{idle_limit_now, parameters_known, token_expected}
 use Rattle.qc_state.specs.Spaces.{is_space}
 use Rattle.qc_state.specs.Timers.{timers_sealed, timers_stopped, timers_closing, timers_accepted, timers_settled, clock_set}
@@ -89,7 +89,6 @@ pub data Move (t : Types) : Type 0 where
   Fail : Move t  -- a packet didn't open
   Accept : (time : ℕ) → (id : SpaceId) → (number : ℕ) → (eliciting : Bool) → (verdict : Verdict) → Move t  -- a packet was accepted
   Fix : (cid : List ℕ) → Move t  -- the peer has chosen its id
-  Validate : Move t  -- the peer has shown that it gets what is sent to its address
   Hear : (bytes : ℕ) → Move t  -- so many bytes came from the path's address
   Ack : (id : SpaceId) → (largest : ℕ) → (ranges : List NumberRange) → Move t  -- the peer acknowledged packets
   Calm : Move t  -- nothing in flight elicits an acknowledgement any more
@@ -145,7 +144,7 @@ module _ {t : Types} where
   unfoldable pub paths_move : Move t → View t → Paths
   paths_move (Seal time id n size fs) s = path_sent s.paths size
   paths_move (Fix cid) s = peer_fixed s.paths cid
-  paths_move Validate s = path_validated s.paths
+  paths_move (Accept time id n e v) s = path_accepted s.paths id v
   paths_move (Hear bytes) s = path_received s.paths bytes
   paths_move _ s = s.paths
 

@@ -6,6 +6,10 @@ use Rattle.std.specs.Net.Socket.{v4_ip, v4_port, v6_ip, v6_port, v6_flowinfo, v6
 use Rattle.std.specs.declared.net.SocketAddr.{SocketAddr}
 use Rattle.std.specs.declared.net.socket_addr.SocketAddr.TheVariants.{V4, V6}
 use Rattle.qc_base.specs.Time.{plus}
+use Rattle.qc_base.specs.declared.side.SpaceId.{SpaceId}
+use Rattle.qc_base.specs.declared.side.SpaceId.TheVariants.{Handshake}
+use Rattle.qc_state.specs.declared.deeds.Verdict.{Verdict}
+use Rattle.qc_state.specs.declared.deeds.Verdict.TheVariants.{Admitted}
 use Rattle.qc_state.specs.declared.paths.Paths.{Paths}
 
 -- so many bytes were sent to the path's address
@@ -20,9 +24,10 @@ path_received v bytes = record v { received = plus v.received bytes }
 unfoldable pub peer_fixed : Paths → List ℕ → Paths
 peer_fixed v cid = record v { remote_cid = cid; peer_fixed = true }
 
--- the peer has shown that it gets what is sent to its address
-unfoldable pub path_validated : Paths → Paths
-path_validated v = record v { validated = true }
+-- a packet of this space was accepted: a Handshake packet that was admitted shows that the peer gets what is sent to its address
+unfoldable pub path_accepted : Paths → SpaceId → Verdict → Paths
+path_accepted v Handshake Admitted = record v { validated = true }
+path_accepted v _ _ = v
 
 -- no datagram may be begun: the peer's address isn't validated, and three times the bytes that came from it were sent (RFC
 -- 9000, section 8.1); the last datagram may go past that

@@ -32,7 +32,7 @@ use Rattle.qc_state.specs.declared.transmit.TheConstants.{DATAGRAM_SIZE}
 use Rattle.qc_state.specs.declared.opening.Opening.TheVariants.{Unreadable, Unopened, Reserved, Opened}
 use Rattle.qc_state.specs.Life.{is_open, is_over, is_handshake, is_established}
 use Rattle.qc_state.specs.Lower.{ready_bytes, stream_of}
-use Rattle.qc_state.specs.Moves.{is_close, Forget, Expect, Enter, Fail, Accept, Fix, Validate, Hear, Ack, Come, Read, Ready, Tell, Drain, Leave, Owe, move_to, calmed}
+use Rattle.qc_state.specs.Moves.{is_close, Forget, Expect, Enter, Fail, Accept, Fix, Hear, Ack, Come, Read, Ready, Tell, Drain, Leave, Owe, move_to, calmed}
 use Rattle.qc_state.specs.Numbers.{next_number}
 use Rattle.qc_state.specs.Opening.{opening_of}
 use Rattle.qc_state.specs.Paths.{same_address}
@@ -254,21 +254,16 @@ module _ {t : Types} where
       let b = move_to (Enter id number verdict.ReadForClose) a in
       if list_any is_close_item (items_of payload) then move_to Drain b else move_to Owe b
 
-  -- a packet is accepted: its number counts, it is to be acknowledged, and with a Handshake packet a server leaves the Initial space
+  -- a packet is accepted: its number counts, it is to be acknowledged, a Handshake packet that is admitted validates the path (RFC
+  -- 9000, section 8.1), and with a Handshake packet a server leaves the Initial space
   unfoldable pub accepted_after : (time : ℕ) → SpaceId → (number : ℕ) → (eliciting : Bool) → Verdict → At t → At t
   accepted_after time id number eliciting v a = initial_left Server id (move_to (Accept time id number eliciting v) a)
-
-  -- a Handshake packet that is admitted shows that the peer gets what is sent to its address (RFC 9000, section 8.1)
-  abbrev pub validated_after : SpaceId → At t → At t
-  validated_after Initial a = a
-  validated_after Handshake a = move_to Validate a
-  validated_after Data a = a
 
   -- a packet that is admitted
   unfoldable pub admitted_after : Meaning t → (time : ℕ) → SpaceId → (source : List ℕ) → (number : ℕ) → (payload : List ℕ) → At t → At t
   admitted_after m time id source number payload a =
       payload_after m time id payload
-      (fixed_after id source (validated_after id (accepted_after time id number (list_any is_eliciting_item (items_of payload)) verdict.Admitted a)))
+      (fixed_after id source (accepted_after time id number (list_any is_eliciting_item (items_of payload)) verdict.Admitted a))
 
   -- what a packet does that opened, by its verdict; it has no other one
   abbrev pub verdict_after : Meaning t → (time : ℕ) → SpaceId → (source : List ℕ) → (number : ℕ) → (payload : List ℕ) → Verdict → At t → At t

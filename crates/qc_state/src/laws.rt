@@ -5,6 +5,7 @@ ghost use Rattle.qc_base.specs.declared.side.SpaceId.{SpaceId};
 ghost use Rattle.qc_frame.specs.Frame.{FrameValue};
 ghost use Rattle.qc_path.specs.Arrived.{Remembers, Window, is_among};
 ghost use Rattle.qc_state.specs.Headline.{deeds_of, accepted_in, AcksOnly, EachAcksKnown, EachNew, IsKept, NoneTwice};
+ghost use Rattle.qc_state.specs.PathLaws.{PathHolds, all_from};
 ghost use Rattle.qc_state.specs.Run.{Run, placed_behind};
 ghost use Rattle.qc_state.specs.Types.{meaning};
 ghost use Rattle.qc_state.specs.View.{View};
@@ -34,4 +35,11 @@ pub fn runs_join<U: Suite>()
 /// acknowledged at the start.
 pub fn acks_were_accepted<U: Suite>()
     ensures { (s : View (record { S = U.Session; H = U.Session.HeaderKey; P = U.Session.PacketKey; D = U.Session.HandshakeData; I = U.Session.PeerIdentity })) (xs : List Step) (id : SpaceId) (ds es : List Did) (number epoch : ℕ) (early : Bool) (fs : List FrameValue) → EachAcksKnown s xs → deeds_of xs ≡ ds ++ did.Sealed id number epoch early fs ∷ es → AcksOnly (λ n. (is_among (accepted_in id ds) n ≡ true) ⊎ IsKept id s.waiting n) fs }
+{}
+
+/// A law, which runs no code. Over a run the path keeps its address, which is validated only where it was before or a Handshake
+/// packet was admitted; no more bytes count as received on it than came in datagrams from that address; and what is sent to an address that isn't validated stays less than three times what came from
+/// it, and one datagram (RFC 9000, 8.1).
+pub fn paths_hold<U: Suite>()
+    ensures { (s last : View (record { S = U.Session; H = U.Session.HeaderKey; P = U.Session.PacketKey; D = U.Session.HandshakeData; I = U.Session.PeerIdentity })) (k : ℕ) (is : List Input) (xs : List Step) → Run (meaning U.Session.Session U.Session.HeaderKey.HeaderMask U.Session.PacketKey.PacketKey) k s is xs last → PathHolds (all_from s.paths.remote is) (deeds_of xs) s.paths last.paths }
 {}

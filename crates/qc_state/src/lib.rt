@@ -32,7 +32,7 @@ pub use events::{EndpointEvent, EndpointEvents, Event, Events};
 pub use flight::Flight;
 pub use input::{Input, Word};
 pub use keys::{KeyGroup, SpaceKeys};
-pub use laws::{acks_were_accepted, numbers_count_once, runs_join};
+pub use laws::{acks_were_accepted, numbers_count_once, paths_hold, runs_join};
 pub use life::{ApplicationClose, Close, ConnectionClose, ConnectionError, Life, State};
 pub use lower::Lower;
 pub use numbers::{Numbers, SpaceNumbers};

@@ -1,10 +1,11 @@
 //! The path to the peer.
 
 ghost use Rattle.std.specs.Prelude.{◌≡◌};
-ghost use Rattle.qc_state.specs.Paths.{path_sent, path_received, path_validated, peer_fixed, is_blocked, same_address};
+ghost use Rattle.qc_state.specs.Paths.{path_sent, path_received, path_accepted, peer_fixed, is_blocked, same_address};
 ghost use Rattle.std.specs.Net.Addr.{ipv4_octets, ipv6_segments};
 
-use qc_base::ConnectionId;
+use crate::deeds::Verdict;
+use qc_base::{ConnectionId, SpaceId};
 use std::net::SocketAddr;
 
 /// The path to the peer (RFC 9000, 9).
@@ -24,7 +25,7 @@ pub struct Paths {
     pub received: u64,
 }
 
-#[tactic(auto, unfolding(crate::specs::Paths::path_sent, crate::specs::Paths::path_received, crate::specs::Paths::peer_fixed, crate::specs::Paths::path_validated, crate::specs::Paths::is_blocked))]
+#[tactic(auto, unfolding(crate::specs::Paths::path_sent, crate::specs::Paths::path_received, crate::specs::Paths::peer_fixed, crate::specs::Paths::path_accepted, crate::specs::Paths::is_blocked))]
 impl Paths {
     /// So many bytes came from the path's address.
     pub fn received(&mut self, bytes: u64)
@@ -33,11 +34,15 @@ impl Paths {
         self.received = self.received.saturating_add(bytes);
     }
 
-    /// The peer has shown that it gets what is sent to its address.
-    pub fn validate(&mut self)
-        ensures { self.new ≡ path_validated self.old }
+    /// A packet of this space was accepted: a Handshake packet that was admitted shows that the peer gets what is sent to its
+    /// address (RFC 9000, 8.1).
+    pub fn accepted(&mut self, space: SpaceId, verdict: Verdict)
+        ensures { self.new ≡ path_accepted self.old space verdict }
     {
-        self.validated = true;
+        match (space, verdict) {
+            (SpaceId::Handshake, Verdict::Admitted) => self.validated = true,
+            _ => {}
+        }
     }
 
     /// Whether no datagram may be begun: the address isn't validated, and three times the bytes that came from it were sent

@@ -4,5 +4,5 @@ use Rattle.qc_core.proofs.state.Core.do_accept.Goals as goal
 -- the packet's number and time are noted
 pub returns : goal.returns
 returns g c =
-    accepted_by g.U.Random.Rng.stream c.push_piece.result _ _ c.args.now c.args.space c.args.number c.args.eliciting c.args.verdict c.accepted.new.self c.came.result.now c.came-2.new.self c.accepted-2.new.self c.idle_limit.result c.args.did.now _
-    c.self.view_is c.accepted.ensures c.came.ensures c.came-2.ensures c.idle_limit.ensures c.accepted-2.ensures c.push_piece.ensures.ok
+    accepted_by g.U.Random.Rng.stream c.push_piece.result _ _ c.args.now c.args.space c.args.number c.args.eliciting c.args.verdict c.accepted.new.self c.came.result.now c.came-2.new.self c.accepted-2.new.self c.accepted-3.new.self c.idle_limit.result c.args.did.now _
+    c.self.view_is c.accepted.ensures c.came.ensures c.came-2.ensures c.accepted-2.ensures c.idle_limit.ensures c.accepted-3.ensures c.push_piece.ensures.ok
