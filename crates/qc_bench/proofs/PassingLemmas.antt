@@ -27,7 +27,7 @@ use Rattle.qc_packet.proofs.Arrivals.{arrives, number_arrives, opened_as, is_tak
 use Rattle.qc_packet.specs.declared.builder.PacketBuilder.{PacketBuilder}
 use Rattle.qc_packet.specs.Building.{IsReady, IsOf, builder_for, header_len, min_size_of}
 use Rattle.qc_packet.specs.PacketSpelling.{header_bytes, with_flip, sealed_packet, packet_spelling}
-use Rattle.qc_packet.proofs.Full.{full_builder, full_size, full_ready, full_is_of}
+use Rattle.qc_packet.proofs.Full.{full_builder, full_ready, full_is_of}
 use Rattle.qc_bench.specs.Passing.{passing_header, passing_payload, number_in}
 
 -- its header has 13 bytes
@@ -37,16 +37,23 @@ header_size number = simp length-append (omega (arith, length-number_bytes (U32 
 
 -- the builder of the packet
 pub builder_is : (number size start : ℕ) (h : Header) (begun b : PacketBuilder) → h ≡ passing_header number → start ≡ 0
-    → begun ≡ builder_for Data number h start size 0 true → b ≡ record begun { min_size = max begun.min_size (plus begun.datagram_start (size - 16)) }
+    → begun ≡ builder_for Data number h start 16383 0 true → b ≡ record begun { min_size = max begun.min_size (plus begun.datagram_start (size - 16)) }
     → b ≡ full_builder Data number (passing_header number) size
 builder_is number size start h begun b is_h is_start is_begun is_b =
-    is_b ∙ ap (λ (x : PacketBuilder). record x { min_size = max x.min_size (plus x.datagram_start (size - 16)) }) (is_begun ∙ ap (λ (x : Header). builder_for Data number x start size 0 true) is_h ∙ ap (λ (n : ℕ). builder_for Data number (passing_header number) n size 0 true) is_start)
+    is_b ∙ ap (λ (x : PacketBuilder). record x { min_size = max x.min_size (plus x.datagram_start (size - 16)) }) (is_begun ∙ ap (λ (x : Header). builder_for Data number x start 16383 0 true) is_h ∙ ap (λ (n : ℕ). builder_for Data number (passing_header number) n 16383 0 true) is_start)
 
 pub builder_ready : (number size len : ℕ) (b : PacketBuilder) → 34 ≤ size → size ≤ 16383 → b ≡ full_builder Data number (passing_header number) size → len ≡ 14 → IsReady b len
 builder_ready number size len b least most is_b is_len =
     let begins = header_size number in
     subst (λ (x : PacketBuilder). IsReady x len) (sym is_b)
     (full_ready Data number (passing_header number) size 1 len refl (omega arith) (omega arith) (omega arith) (omega arith))
+
+-- its payload ends where the tag begins
+passing_end : (number size : ℕ) → 34 ≤ size → size ≤ 16383 → max (min_size_of 0 (passing_header number)) (plus 0 (size - 16)) ≡ size - 16
+unfolding min_size_of
+passing_end number size least most =
+    let begins = header_size number in
+    omega arith
 
 -- what stands in the buffer then
 pub begun_bytes : (number : ℕ) (h : Header) (before begun pushed : List ℕ) → h ≡ passing_header number → before ≡ [] → begun ≡ before ++ header_spelling h 0
@@ -68,8 +75,7 @@ pub passing_spelled : (mask : List ℕ → List ℕ) (seal : Sealing) (number si
     → out ≡ packet_spelling mask seal (passing_header number) number (passing_payload size)
 passing_spelled mask seal number size b pushed out least most is_b is_pushed packet =
     let begins = header_size number in
-    let full : max (min_size_of 0 (passing_header number)) (plus 0 (size - 16)) ≡ size - 16 = full_size (passing_header number) size 1 (omega arith) (omega arith) in
-    let min : b.min_size ≡ size - 16 = ap (λ (x : PacketBuilder). x.min_size) is_b ∙ full in
+    let min : b.min_size ≡ size - 16 = ap (λ (x : PacketBuilder). x.min_size) is_b ∙ passing_end number size least most in
     let pad : b.min_size - length pushed ≡ size - 30 = omega (arith, begun_size number pushed is_pushed) in
     let is_of = subst (λ (x : PacketBuilder). IsOf x (passing_header number)) (sym is_b) (full_is_of Data number (passing_header number) size refl) in
     packet [] false (passing_header number) (1 ∷ []) (ap (λ (x : PacketBuilder). x.start) is_b) is_of is_pushed

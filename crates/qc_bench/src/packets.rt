@@ -65,7 +65,14 @@ fn build<H: HeaderKey, P: PacketKey>(
     };
     let header = header_of(number);
     let mut buf = Vec::with_capacity(alloc, size as usize)?;
-    let mut builder = match PacketBuilder::new(&slot, &header, &mut buf, size as usize, 0, true) {
+    let mut builder = match PacketBuilder::new(
+        &slot,
+        &header,
+        &mut buf,
+        MOST_SIZE as usize,
+        0,
+        true,
+    ) {
         Ok(builder) => builder,
         Err(_) => return Err(AllocError),
     };

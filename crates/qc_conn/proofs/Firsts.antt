@@ -1,7 +1,8 @@
 -- The first datagram of a server, by a call of its own.
-use Rattle.std.proofs.Common.{◌≡◌, ℕ, List, [], ap, ◌∙◌, Bool, true}
+use Rattle.std.proofs.Common.{◌≡◌, ℕ, List, [], ap, ◌∙◌, Bool, true, Option}
 use Rattle.std.specs.declared.net.SocketAddr.{SocketAddr}
 use Rattle.rand_core.specs.Stream.{Stream}
+use Rattle.qc_base.specs.declared.ecn.EcnCodepoint.{EcnCodepoint}
 use Rattle.qc_state.specs.declared.deeds.Did.{Did}
 use Rattle.qc_state.specs.Moves.{Clock, state_move, setup_move}
 use Rattle.qc_state.specs.Receiving.{datagram_after, is_taken}
@@ -22,7 +23,7 @@ module _ {t : Types} (m : Meaning t) where
   first_answer s mid now remote bytes taken told is = is ∙ ap (λ (v : View t). is_taken m v remote bytes) told
 
   -- what it leads to
-  pub first_leads : (s mid last : View t) (now : ℕ) (remote : SocketAddr) (bytes : List ℕ) (ds es : List Did) → mid ≡ state_move (Clock now) s → ds ≡ [] → at last es ≡ datagram_after m now remote bytes (at mid ds) → last ≡ (datagram_after m now remote bytes (began s now)).state
+  pub first_leads : (s mid last : View t) (now : ℕ) (mark : Option EcnCodepoint) (remote : SocketAddr) (bytes : List ℕ) (ds es : List Did) → mid ≡ state_move (Clock now) s → ds ≡ [] → at last es ≡ datagram_after m now mark remote bytes (at mid ds) → last ≡ (datagram_after m now mark remote bytes (began s now)).state
   unfolding began
-  first_leads s mid last now remote bytes ds es told none is =
-      ap (λ (a : At t). a.state) is ∙ ap (λ (x : List Did). (datagram_after m now remote bytes (at mid x)).state) none ∙ ap (λ (v : View t). (datagram_after m now remote bytes (at v [])).state) told
+  first_leads s mid last now mark remote bytes ds es told none is =
+      ap (λ (a : At t). a.state) is ∙ ap (λ (x : List Did). (datagram_after m now mark remote bytes (at mid x)).state) none ∙ ap (λ (v : View t). (datagram_after m now mark remote bytes (at v [])).state) told

@@ -1,5 +1,5 @@
 -- The steps of a run leave nothing out of their text.
-use Rattle.std.specs.Prelude.{is_none}
+use Rattle.std.specs.Prelude.{IfSome, is_none, option_map, option_to_list}
 use Rattle.std.proofs.Common.{◌≡◌, ℕ, ◌+◌, ◌<◌, ◌≤◌, ◌^◌, ◌==◌, ◌||◌, Bool, true, false, if◌then◌else◌, List, [], ◌∷◌, ◌++◌, length, length-append, replicate, take, zero, suc, Option, Some, None, refl, sym, ap, ◌∙◌, subst, arith}
 use Rattle.std.specs.Prelude.{nat_lt, nat_le}
 use Rattle.std.specs.List.{All, list_any}
@@ -8,6 +8,8 @@ use Rattle.std.proofs.lemmas.List.{length-drop}
 use Rattle.std.proofs.lemmas.Bool.Decides.{nat_tests}
 use Rattle.std.proofs.lemmas.List.Elements.{All-nil, All-cons, All-append}
 use Rattle.qc_base.specs.Varint.{IsNumber}
+use Rattle.qc_base.specs.declared.ecn.EcnCodepoint.{EcnCodepoint}
+use Rattle.qc_base.specs.declared.side.Side.{Side}
 use Rattle.qc_base.specs.declared.side.Side.TheVariants.{Client}
 use Rattle.qc_base.specs.declared.side.SpaceId.{SpaceId}
 use Rattle.qc_base.specs.declared.side.SpaceId.TheVariants.{Initial, Handshake, «Data»}
@@ -25,23 +27,27 @@ use Rattle.qc_state.specs.declared.input.Input.{Input}
 use Rattle.qc_state.specs.declared.input.Input.TheVariants as input
 use Rattle.qc_state.specs.declared.life.Close.{Close}
 use Rattle.qc_state.specs.declared.life.Close.TheVariants.{Connection, Application}
+use Rattle.qc_state.specs.declared.events.EndpointEvent.{EndpointEvent}
+use Rattle.qc_state.specs.declared.events.EndpointEvent.TheVariants as endpoint
+use Rattle.qc_state.specs.declared.life.ConnectionError.{ConnectionError}
 use Rattle.qc_state.specs.declared.life.Life.{Life}
+use Rattle.qc_state.specs.declared.life.PeerToken.{PeerToken}
+use Rattle.qc_state.specs.declared.life.Wanted.{Wanted}
 use Rattle.qc_state.specs.declared.life.State.TheVariants.{Drained}
 use Rattle.qc_state.specs.declared.deeds.Verdict.{Verdict}
 use Rattle.qc_state.specs.declared.deeds.Verdict.TheVariants as verdict
 use Rattle.qc_state.specs.declared.paths.Paths.{Paths}
-use Rattle.qc_state.specs.declared.transmit.TheConstants.{DATAGRAM_SIZE}
 use Rattle.qc_state.specs.declared.trace.Step.{Step}
 use Rattle.qc_state.specs.declared.trace.Answer.TheVariants as answer
 use Rattle.qc_state.specs.declared.waiting.SpaceWaiting.{SpaceWaiting}
 use Rattle.qc_state.specs.declared.waiting.Waiting.{Waiting}
-use Rattle.qc_state.specs.Life.{is_closed}
-use Rattle.qc_state.specs.Moves.{Move, Clock, Take, Seal, Forget, Raise, Say, Give, Enter, Fail, Accept, Fix, Hear, Ack, Calm, Come, Read, Write, Ready, Learn, Establish, Tell, Drain, Leave, Owe, Shut, IsTold, MayMove, state_move, move_to, deeds_move, paths_move, waiting_move, keys_move, calmed, Expect, Confirm}
-use Rattle.qc_state.specs.Numbers.{next_number}
-use Rattle.qc_state.specs.Paths.{path_sent, path_received, peer_fixed, path_accepted, is_blocked}
+use Rattle.qc_state.specs.Life.{is_closed, data_ready, drained_event, endpoint_events, identifiers_wanted, life_closed, life_drained, life_established, life_raised, reason_given, token_event, token_learned, token_reported, wanted_event, wanted_reported, drained_reported, lost_reported, connected_reported, ready_reported}
+use Rattle.qc_state.specs.Moves.{Move, Clock, Take, Seal, Forget, Raise, Say, Give, Enter, Fail, Accept, Fix, Hear, Ack, Calm, Come, Read, Write, Ready, Learn, Establish, Tell, Drain, Leave, Owe, Shut, IsTold, MayMove, state_move, move_to, deeds_move, life_move, paths_move, waiting_move, keys_move, calmed, Expect, Confirm, Token, Want}
+use Rattle.qc_state.specs.Numbers.{next_number, received_number}
+use Rattle.qc_state.specs.Paths.{path_sent, path_received, peer_fixed, path_accepted, path_spun, is_blocked}
 use Rattle.qc_state.specs.Receiving.{datagram_after, is_taken}
 use Rattle.qc_state.specs.Run.{time_of, packets_of, began, close_after, input_after, called, reported, step_after, IsAllowed, out_of, answer_of, IsStep, Run, Ran}
-use Rattle.qc_state.specs.Sending.{told_code, told_type, told_application_code, told_close, close_frame, closing_frame, IsKeptReason, close_room, Closes, sending_space, Carries, drops_initial, initial_left, sealed_in, internal_error, given_after, killed_after, quiet_after, packet_after, transmit_after, MayTransmit, transmit_bytes, transmit_of, owed_quiet_after, is_silent, owes}
+use Rattle.qc_state.specs.Sending.{told_code, told_type, told_application_code, told_close, close_frame, closing_frame, IsKeptReason, close_room, Closes, padded, padding_of, packet_size, sending_space, Carries, drops_initial, initial_left, sealed_in, internal_error, given_after, killed_after, quiet_after, packet_after, transmit_after, MayTransmit, transmit_bytes, transmit_of, transmit_with, owed_quiet_after, is_silent, owes}
 use Rattle.qc_state.specs.Spaces.{space_of, with_space, is_space}
 use Rattle.qc_state.specs.Types.{Types, Meaning}
 use Rattle.qc_state.specs.Unsent.{unsent_with}
@@ -50,19 +56,18 @@ use Rattle.qc_state.specs.First.{first_view, server_view}
 use Rattle.qc_state.specs.declared.setup.Fixed.{Fixed}
 use Rattle.qc_state.specs.Waiting.{ping_asked, waiting_without, close_begun, packet_told, untold, flown_in, packet_flown, settled_in, packets_settled, came_in, packet_came, crypto_written, nothing_left, space_left, is_calm, without, Waits, without_all, WaitAll, done_asked}
 use Rattle.qc_state.proofs.Receives.{IsReceived, holds_datagram}
-use Rattle.qc_text.specs.OneText.{IsSpelled, IsDeedPlain, IsPlainAddress, IsAnswerPlain, IsPlain, IsSpaceBelowLimit, IsBelowLimit, IsPlainStart, IsTellingRun}
+use Rattle.qc_text.specs.OneText.{IsSpelled, IsDeedPlain, IsPlainAddress, IsAnswerPlain, IsEndpointPlain, IsPlain, IsSpaceBelowLimit, IsBelowLimit, IsPlainStart, IsTellingRun}
 use Rattle.qc_text.specs.TraceText.{trace_text}
 use Rattle.qc_text.proofs.TraceBack.{trace_back}
 
 -- ---- frames that waited
 
-ack_spelled : (time : ℕ) (w : SpaceWaiting) (ack : AckValue) → SaysAck time w.acks ack → IsSpelled (frames.Ack ack)
+ack_spelled : (time : ℕ) (w : SpaceWaiting) (ack : AckValue) → SaysAck time w ack → IsSpelled (frames.Ack ack)
 ack_spelled time w ack says =
     (says.fits, ap (λ (more : List ℕ). frames.Ack (record { largest = ack.largest; delay = ack.delay; additional = more; ecn = ack.ecn })) (sym says.shortest))
 
 frame_spelled : (time : ℕ) (w : SpaceWaiting) (f : FrameValue) → Waits time w f → IsSpaceBelowLimit w → IsSpelled f × IsSpaceBelowLimit (without w f)
 unfolding Waits without Fits
-frame_spelled time w frames.Padding h b = ((tt, refl), b)
 frame_spelled time w frames.HandshakeDone h b = ((tt, refl), b)
 frame_spelled time w frames.Ping h b = ((tt, refl), b)
 frame_spelled time w (frames.Ack ack) h b = (ack_spelled time w ack h.1, b)
@@ -172,7 +177,7 @@ closing_plain w id room kept v few k h = (
   subst IsSpaceBelowLimit (sym (close_stays w (is_closed v.state) id kept v.close)) h,
 )
 
-close_plain : (time : ℕ) (w : SpaceWaiting) (acks : List FrameValue) (due : Bool) (id : SpaceId) (room : ℕ) (kept : List ℕ) (v : Life) → AckPart time w.acks acks due → room < 2 ^ 62
+close_plain : (time : ℕ) (w : SpaceWaiting) (acks : List FrameValue) (due : Bool) (id : SpaceId) (room : ℕ) (kept : List ℕ) (v : Life) → AckPart time w acks due → room < 2 ^ 62
     → IsKeptReason room kept v.close → IsSpaceBelowLimit w → ArePlain w (acks ++ closing_frame id kept v ∷ [])
 unfolding without_all without
 close_plain time w acks true id room kept v (AckPart.one ack says is) few k h =
@@ -258,18 +263,62 @@ unfolding path_accepted
 accepted_remote p Handshake verdict.Admitted = refl
 accepted_remote p _ _ = refl
 
+-- so does its spin bit
+spun_remote : (p : Paths) (side : Side) (greatest bit : Bool) → (path_spun p side greatest bit).remote ≡ p.remote
+unfolding path_spun
+spun_remote p side true bit = refl
+spun_remote p side false bit = refl
+
+-- a token that waits to be reported holds for such an address
+abbrev IsTokenPlain : Life → Type 0
+IsTokenPlain v = IfSome v.reset_token (λ peer. IsPlainAddress peer.remote)
+
+same_token : (v w : Life) → w.reset_token ≡ v.reset_token → IsTokenPlain v → IsTokenPlain w
+same_token v w same h = subst (λ (o : Option PeerToken). IfSome o (λ peer. IsPlainAddress peer.remote)) (sym same) h
+
+-- a reason leaves it
+given_token : (v : Life) (why : ConnectionError) → (reason_given v why).reset_token ≡ v.reset_token
+unfolding reason_given
+given_token v why = by_test (is_none v.reason)
+  where
+    by_test : (b : Bool) → (if b then record v { reason = Some why; lost = Some why } else v).reset_token ≡ v.reset_token
+    by_test true = refl
+    by_test false = refl
+
+-- what is reported to the endpoint leaves nothing out then
+all_plain : (o : Option PeerToken) (w : Option Wanted) (d : Bool) → IfSome o (λ peer. IsPlainAddress peer.remote)
+    → All IsEndpointPlain (option_to_list (option_map (λ k. endpoint.ResetToken k.remote k.token) o) ++ (option_to_list (option_map (λ k. endpoint.NeedIdentifiers k.now k.count) w) ++ option_to_list (if d then Some endpoint.Drained else None)))
+all_plain o w d h =
+    All-append IsEndpointPlain _ _ (token_plain o h) (All-append IsEndpointPlain _ _ (wanted_plain w) (drained_plain d))
+  where
+    token_plain : (o : Option PeerToken) → IfSome o (λ peer. IsPlainAddress peer.remote) → All IsEndpointPlain (option_to_list (option_map (λ k. endpoint.ResetToken k.remote k.token) o))
+    token_plain None h = All-nil IsEndpointPlain
+    token_plain (Some peer) h = All-cons IsEndpointPlain (endpoint.ResetToken peer.remote peer.token) [] h (All-nil IsEndpointPlain)
+
+    wanted_plain : (w : Option Wanted) → All IsEndpointPlain (option_to_list (option_map (λ k. endpoint.NeedIdentifiers k.now k.count) w))
+    wanted_plain None = All-nil IsEndpointPlain
+    wanted_plain (Some wanted) = All-cons IsEndpointPlain (endpoint.NeedIdentifiers wanted.now wanted.count) [] tt (All-nil IsEndpointPlain)
+
+    drained_plain : (d : Bool) → All IsEndpointPlain (option_to_list (if d then Some endpoint.Drained else None))
+    drained_plain true = All-cons IsEndpointPlain endpoint.Drained [] tt (All-nil IsEndpointPlain)
+    drained_plain false = All-nil IsEndpointPlain
+
+endpoint_plain : (v : Life) → IsTokenPlain v → All IsEndpointPlain (endpoint_events v)
+unfolding endpoint_events token_event wanted_event drained_event
+endpoint_plain v h = all_plain v.reset_token v.wanted v.drained h
+
 module _ {t : Types} where
   quiet_by : (a : At t) (x y u z : Bool) → let b : At t = move_to (Raise Drained) a in
       let q : At t = if x then move_to (Say Silent) a else if y then (if u then move_to (Say Amplification) a else move_to (Say Killed) (if z then move_to (Give internal_error) b else b)) else move_to (Say NothingOwed) a in
-      (q.state.waiting ≡ a.state.waiting) × (q.state.paths ≡ a.state.paths)
-  unfolding move_to state_move waiting_move paths_move
-  quiet_by a true y u z = (refl, refl)
-  quiet_by a false true true z = (refl, refl)
-  quiet_by a false true false true = (refl, refl)
-  quiet_by a false true false false = (refl, refl)
-  quiet_by a false false u z = (refl, refl)
+      (q.state.waiting ≡ a.state.waiting) × (q.state.paths ≡ a.state.paths) × (q.state.life.reset_token ≡ a.state.life.reset_token)
+  unfolding move_to state_move waiting_move paths_move life_move life_raised
+  quiet_by a true y u z = (refl, refl, refl)
+  quiet_by a false true true z = (refl, refl, refl)
+  quiet_by a false true false true = (refl, refl, given_token (life_raised a.state.life Drained) internal_error)
+  quiet_by a false true false false = (refl, refl, refl)
+  quiet_by a false false u z = (refl, refl, refl)
 
-  quiet_stays : (a : At t) → ((quiet_after a).state.waiting ≡ a.state.waiting) × ((quiet_after a).state.paths ≡ a.state.paths)
+  quiet_stays : (a : At t) → ((quiet_after a).state.waiting ≡ a.state.waiting) × ((quiet_after a).state.paths ≡ a.state.paths) × ((quiet_after a).state.life.reset_token ≡ a.state.life.reset_token)
   unfolding quiet_after owed_quiet_after killed_after given_after
   quiet_stays a = quiet_by a (is_silent a.state) (owes a.state) (is_blocked a.state.paths) (is_none (move_to (Raise Drained) a).state.life.reason)
 
@@ -283,22 +332,25 @@ module _ {t : Types} where
       subst (ArePlain w) (sym is) (close_plain time w acks (may_acknowledge w.acks) id (close_room s id acks) kept s.life part (room_below s id acks) is_kept h)
 
   carried_plain : (time : ℕ) (s : View t) (id : SpaceId) (fs : List FrameValue) → Carries time s id fs → IsSpaceBelowLimit (space_of s.waiting.spaces id) → ArePlain (space_of s.waiting.spaces id) fs
-  carried_plain time s id fs (Carries.a_close owed gs closes n is) h =
+  unfolding padded
+  carried_plain time s id fs (Carries.a_close owed gs closes is) h =
       let w : SpaceWaiting = space_of s.waiting.spaces id in
-      subst (ArePlain w) (sym is) (padded_plain w gs n (closes_plain time s id gs closes h))
-  carried_plain time s id fs (Carries.what_waits free wait holds) h = frames_spelled time (space_of s.waiting.spaces id) fs wait h
+      subst (ArePlain w) (sym is) (padded_plain w gs (padding_of s id gs) (closes_plain time s id gs closes h))
+  carried_plain time s id fs (Carries.what_waits free gs wait some is) h =
+      let w : SpaceWaiting = space_of s.waiting.spaces id in
+      subst (ArePlain w) (sym is) (padded_plain w gs (padding_of s id gs) (frames_spelled time w gs wait h))
 
   -- leaving the Initial space
   left_by : (a : At t) (x y : Bool) → let b : At t = move_to (Forget Initial) a in
       let r : At t = if x then (if y then move_to Calm b else b) else a in
-      (r.did ≡ a.did) × (IsBelowLimit a.state.waiting → IsBelowLimit r.state.waiting) × (r.state.paths ≡ a.state.paths)
-  unfolding move_to state_move deeds_move waiting_move space_left paths_move
-  left_by a true true = (refl, λ h. (nothing_below a.state.waiting.spaces.initial h.0, h.1, h.2), refl)
-  left_by a true false = (refl, λ h. (nothing_below a.state.waiting.spaces.initial h.0, h.1, h.2), refl)
-  left_by a false y = (refl, λ h. h, refl)
+      (r.did ≡ a.did) × (IsBelowLimit a.state.waiting → IsBelowLimit r.state.waiting) × (r.state.paths ≡ a.state.paths) × (r.state.life ≡ a.state.life)
+  unfolding move_to state_move deeds_move waiting_move space_left paths_move life_move
+  left_by a true true = (refl, λ h. (nothing_below a.state.waiting.spaces.initial h.0, h.1, h.2), refl, refl)
+  left_by a true false = (refl, λ h. (nothing_below a.state.waiting.spaces.initial h.0, h.1, h.2), refl, refl)
+  left_by a false y = (refl, λ h. h, refl, refl)
 
   initial_stays : (id : SpaceId) (a : At t) → let r : At t = initial_left Client id a in
-      (r.did ≡ a.did) × (IsBelowLimit a.state.waiting → IsBelowLimit r.state.waiting) × (r.state.paths ≡ a.state.paths)
+      (r.did ≡ a.did) × (IsBelowLimit a.state.waiting → IsBelowLimit r.state.waiting) × (r.state.paths ≡ a.state.paths) × (r.state.life ≡ a.state.life)
   unfolding initial_left calmed
   initial_stays id a = left_by a (drops_initial Client a.state id) (is_calm (move_to (Forget Initial) a).state.waiting)
 
@@ -309,7 +361,7 @@ module _ {t : Types} where
   sealed_plain time id fs s carries h =
       let frames = carried_plain time s id fs carries (space_below s.waiting id h) in
       let taken : At t = move_to (Take id fs) (at s []) in
-      let a : At t = move_to (Seal time id (next_number s.numbers id) DATAGRAM_SIZE fs) taken in
+      let a : At t = move_to (Seal time id (next_number s.numbers id) (packet_size s id fs) fs) taken in
       let left = initial_stays id a in
       let one : Did = deed.Sealed id (next_number s.numbers id) 0 false fs in
       let plain : All IsDeedPlain (one ∷ []) = All-cons IsDeedPlain one [] ((λ e. refl), frames.0) (All-nil IsDeedPlain) in
@@ -329,8 +381,16 @@ module _ {t : Types} where
   transmit_path time [] a = ap (λ (p : Paths). p.remote) (quiet_stays a).1
   transmit_path time (fs ∷ _) a =
       let id : SpaceId = sending_space a.state in
-      let b : At t = move_to (Seal time id (next_number a.state.numbers id) DATAGRAM_SIZE fs) (move_to (Take id fs) a) in
+      let b : At t = move_to (Seal time id (next_number a.state.numbers id) (packet_size a.state id fs) fs) (move_to (Take id fs) a) in
       ap (λ (p : Paths). p.remote) (initial_stays id b).2
+
+  transmit_token : (time : ℕ) (ps : List (List FrameValue)) (a : At t) → (transmit_after time ps a).state.life.reset_token ≡ a.state.life.reset_token
+  unfolding transmit_after packet_after sealed_in move_to state_move life_move
+  transmit_token time [] a = (quiet_stays a).2
+  transmit_token time (fs ∷ _) a =
+      let id : SpaceId = sending_space a.state in
+      let b : At t = move_to (Seal time id (next_number a.state.numbers id) (packet_size a.state id fs) fs) (move_to (Take id fs) a) in
+      ap (λ (v : Life). v.reset_token) (initial_stays id b).3
 
   shut_plain : (time : ℕ) (close : Close) (ds : List Did) (s : View t) (b : Bool) → ds ≡ (if b then move_to (Shut time close) (at s []) else at s []).did
       → IsBelowLimit s.waiting → All IsDeedPlain ds × IsBelowLimit (if b then move_to (Shut time close) (at s []) else at s []).state.waiting
@@ -343,73 +403,93 @@ module _ {t : Types} where
   shut_path time close a true = refl
   shut_path time close a false = refl
 
+  shut_token : (time : ℕ) (close : Close) (a : At t) (b : Bool) → (if b then move_to (Shut time close) a else a).state.life.reset_token ≡ a.state.life.reset_token
+  unfolding move_to state_move life_move life_closed
+  shut_token time close a true = refl
+  shut_token time close a false = refl
+
   -- what receiving keeps, from one moment to another: the deeds leave nothing out, what waits lies below the limit, and
   -- datagrams go to the same address
   record Keeps (a b : At t) : Type 0 where
     pub deeds : All IsDeedPlain a.did → All IsDeedPlain b.did
     pub crypto : IsBelowLimit a.state.waiting → IsBelowLimit b.state.waiting
     pub path : b.state.paths.remote ≡ a.state.paths.remote
+    pub token : IsPlainAddress a.state.paths.remote → IsTokenPlain a.state.life → IsTokenPlain b.state.life
 
   keeps_here : (a : At t) → Keeps a a
-  keeps_here a = record { deeds = λ p. p; crypto = λ p. p; path = refl }
+  keeps_here a = record { deeds = λ p. p; crypto = λ p. p; path = refl; token = λ p k. k }
 
   keeps_next : (a b c : At t) → Keeps a b → Keeps b c → Keeps a c
-  keeps_next a b c g h = record { deeds = λ p. h.deeds (g.deeds p); crypto = λ p. h.crypto (g.crypto p); path = h.path ∙ g.path }
+  keeps_next a b c g h = record { deeds = λ p. h.deeds (g.deeds p); crypto = λ p. h.crypto (g.crypto p); path = h.path ∙ g.path; token = λ p k. h.token (subst IsPlainAddress (sym g.path) p) (g.token p k) }
 
   keeps_move : (x : Move t) → IsReceived x → (a : At t) → MayMove x a.state → Keeps a (move_to x a)
-  unfolding MayMove move_to state_move deeds_move waiting_move close_begun space_left packet_came came_in packets_settled settled_in crypto_written done_asked paths_move path_received path_accepted peer_fixed
-  keeps_move (Forget id) r a h = record { deeds = λ p. p; crypto = set_below a.state.waiting id _ (nothing_below (space_of a.state.waiting.spaces id)); path = refl }
-  keeps_move (Enter id n v) r a h = record { deeds = one_more a.did _ tt; crypto = λ p. p; path = refl }
-  keeps_move (Expect token) r a h = record { deeds = λ p. p; crypto = λ p. p; path = refl }
-  keeps_move Fail r a h = record { deeds = λ p. p; crypto = λ p. p; path = refl }
-  keeps_move (Accept time id n e v) r a h = record { deeds = one_more a.did _ tt; crypto = set_below a.state.waiting id _ (λ p. p); path = accepted_remote a.state.paths id v }
-  keeps_move (Fix cid) r a h = record { deeds = λ p. p; crypto = λ p. p; path = refl }
-  keeps_move (Hear bytes) r a h = record { deeds = λ p. p; crypto = λ p. p; path = refl }
-  keeps_move (Ack id n rs) r a h = record { deeds = λ p. p; crypto = set_below a.state.waiting id _ (λ p. p); path = refl }
-  keeps_move Calm r a h = record { deeds = λ p. p; crypto = λ p. p; path = refl }
-  keeps_move (Come id offset bytes) r a h = record { deeds = λ p. p; crypto = λ p. p; path = refl }
-  keeps_move (Read id count session) r a h = record { deeds = λ p. p; crypto = λ p. p; path = refl }
-  keeps_move (Write bytes keys session) r a h = record { deeds = λ p. p; crypto = set_below a.state.waiting a.state.keys.highest _ (unsent_below (space_of a.state.waiting.spaces a.state.keys.highest) bytes); path = refl }
-  keeps_move Ready r a h = record { deeds = λ p. p; crypto = λ p. p; path = refl }
-  keeps_move (Learn parameters) r a h = record { deeds = λ p. p; crypto = λ p. p; path = refl }
-  keeps_move Confirm r a h = record { deeds = λ p. p; crypto = set_below a.state.waiting «Data» (record (space_of a.state.waiting.spaces «Data») { done = true }) (λ p. p); path = refl }
-  keeps_move Establish r a h = record { deeds = one_more a.did _ tt; crypto = λ p. p; path = refl }
-  keeps_move (Tell d) r a h = record { deeds = one_more a.did d (told_plain d h); crypto = λ p. p; path = refl }
-  keeps_move Drain r a h = record { deeds = one_more a.did _ tt; crypto = λ p. p; path = refl }
-  keeps_move (Leave time) r a h = record { deeds = one_more a.did _ tt; crypto = λ p. p; path = refl }
-  keeps_move Owe r a h = record { deeds = λ p. p; crypto = begun_below a.state.waiting a.state.waiting.close_owed; path = refl }
-  keeps_move (Shut time close) r a h = record { deeds = one_more a.did _ tt; crypto = begun_below a.state.waiting a.state.waiting.close_owed; path = refl }
-  keeps_move (Give why) r a h = record { deeds = one_more a.did _ tt; crypto = λ p. p; path = refl }
+  unfolding MayMove move_to state_move deeds_move waiting_move close_begun space_left packet_came came_in packets_settled settled_in crypto_written done_asked paths_move path_received path_accepted peer_fixed life_move data_ready life_established life_drained life_closed token_learned identifiers_wanted
+  keeps_move (Forget id) r a h = record { deeds = λ p. p; crypto = set_below a.state.waiting id _ (nothing_below (space_of a.state.waiting.spaces id)); path = refl; token = λ p k. k }
+  keeps_move (Enter id n v) r a h = record { deeds = one_more a.did _ tt; crypto = λ p. p; path = refl; token = λ p k. k }
+  keeps_move (Expect token) r a h = record { deeds = λ p. p; crypto = λ p. p; path = refl; token = λ p k. k }
+  keeps_move Fail r a h = record { deeds = λ p. p; crypto = λ p. p; path = refl; token = λ p k. k }
+  keeps_move (Accept time id n e g v) r a h = record {
+    deeds = one_more a.did _ tt;
+    crypto = set_below a.state.waiting id _ (λ p. p);
+    path = spun_remote (path_accepted a.state.paths id v) a.state.setup.fixed.side (nat_le (received_number a.state.numbers id) n) g.spin ∙ accepted_remote a.state.paths id v;
+    token = λ p k. k;
+  }
+  keeps_move (Fix cid) r a h = record { deeds = λ p. p; crypto = λ p. p; path = refl; token = λ p k. k }
+  keeps_move (Hear bytes) r a h = record { deeds = λ p. p; crypto = λ p. p; path = refl; token = λ p k. k }
+  keeps_move (Ack id n rs) r a h = record { deeds = λ p. p; crypto = set_below a.state.waiting id _ (λ p. p); path = refl; token = λ p k. k }
+  keeps_move Calm r a h = record { deeds = λ p. p; crypto = λ p. p; path = refl; token = λ p k. k }
+  keeps_move (Come id offset bytes) r a h = record { deeds = λ p. p; crypto = λ p. p; path = refl; token = λ p k. k }
+  keeps_move (Read id count session) r a h = record { deeds = λ p. p; crypto = λ p. p; path = refl; token = λ p k. k }
+  keeps_move (Write bytes keys session) r a h = record { deeds = λ p. p; crypto = set_below a.state.waiting a.state.keys.highest _ (unsent_below (space_of a.state.waiting.spaces a.state.keys.highest) bytes); path = refl; token = λ p k. k }
+  keeps_move Ready r a h = record { deeds = λ p. p; crypto = λ p. p; path = refl; token = λ p k. k }
+  keeps_move (Token token) r a h = record { deeds = λ p. p; crypto = λ p. p; path = refl; token = λ p k. p }
+  keeps_move (Learn parameters) r a h = record { deeds = λ p. p; crypto = λ p. p; path = refl; token = λ p k. k }
+  keeps_move (Want time count) r a h = record { deeds = λ p. p; crypto = λ p. p; path = refl; token = λ p k. k }
+  keeps_move Confirm r a h = record { deeds = λ p. p; crypto = set_below a.state.waiting «Data» (record (space_of a.state.waiting.spaces «Data») { done = true }) (λ p. p); path = refl; token = λ p k. k }
+  keeps_move Establish r a h = record { deeds = one_more a.did _ tt; crypto = λ p. p; path = refl; token = λ p k. k }
+  keeps_move (Tell d) r a h = record { deeds = one_more a.did d (told_plain d h); crypto = λ p. p; path = refl; token = λ p k. k }
+  keeps_move Drain r a h = record { deeds = one_more a.did _ tt; crypto = λ p. p; path = refl; token = λ p k. k }
+  keeps_move (Leave time) r a h = record { deeds = one_more a.did _ tt; crypto = λ p. p; path = refl; token = λ p k. k }
+  keeps_move Owe r a h = record { deeds = λ p. p; crypto = begun_below a.state.waiting a.state.waiting.close_owed; path = refl; token = λ p k. k }
+  keeps_move (Shut time close) r a h = record { deeds = one_more a.did _ tt; crypto = begun_below a.state.waiting a.state.waiting.close_owed; path = refl; token = λ p k. k }
+  keeps_move (Give why) r a h = record { deeds = one_more a.did _ tt; crypto = λ p. p; path = refl; token = λ p k. same_token a.state.life (reason_given a.state.life why) (given_token a.state.life why) k }
   keeps_move _ r a h = absurd r
 
-  keeps_datagram : (m : Meaning t) (time : ℕ) (remote : SocketAddr) (bytes : List ℕ) (a : At t) → Keeps a (datagram_after m time remote bytes a)
-  keeps_datagram m time remote bytes a = holds_datagram Keeps keeps_here keeps_next keeps_move m time remote bytes a
+  keeps_datagram : (m : Meaning t) (time : ℕ) (mark : Option EcnCodepoint) (remote : SocketAddr) (bytes : List ℕ) (a : At t) → Keeps a (datagram_after m time mark remote bytes a)
+  keeps_datagram m time mark remote bytes a = holds_datagram Keeps keeps_here keeps_next keeps_move m time mark remote bytes a
 
-  datagram_plain : (m : Meaning t) (time : ℕ) (remote : SocketAddr) (bytes : List ℕ) (ds : List Did) (s : View t) → ds ≡ (datagram_after m time remote bytes (at s [])).did
-      → IsBelowLimit s.waiting → All IsDeedPlain ds × IsBelowLimit (datagram_after m time remote bytes (at s [])).state.waiting
-  datagram_plain m time remote bytes ds s told h =
-      let keeps = keeps_datagram m time remote bytes (at s []) in
+  datagram_plain : (m : Meaning t) (time : ℕ) (mark : Option EcnCodepoint) (remote : SocketAddr) (bytes : List ℕ) (ds : List Did) (s : View t) → ds ≡ (datagram_after m time mark remote bytes (at s [])).did
+      → IsBelowLimit s.waiting → All IsDeedPlain ds × IsBelowLimit (datagram_after m time mark remote bytes (at s [])).state.waiting
+  datagram_plain m time mark remote bytes ds s told h =
+      let keeps = keeps_datagram m time mark remote bytes (at s []) in
       (subst (All IsDeedPlain) (sym told) (keeps.deeds (All-nil IsDeedPlain)), keeps.crypto h)
 
   -- what an input does
   input_plain : (m : Meaning t) (i : Input) (ds : List Did) (s : View t) → IsAllowed i ds s → ds ≡ (input_after m i ds (at s [])).did
       → IsBelowLimit s.waiting → All IsDeedPlain ds × IsBelowLimit (input_after m i ds (at s [])).state.waiting
   unfolding IsAllowed input_after close_after move_to state_move deeds_move waiting_move ping_asked
-  input_plain m (input.Datagram time remote ecn bytes) ds s may told h = datagram_plain m time remote bytes ds s told h
+  input_plain m (input.Datagram time remote ecn bytes) ds s may told h = datagram_plain m time ecn remote bytes ds s told h
   input_plain m (input.Transmit time max) ds s may told h = transmit_plain time ds (packets_of ds) s refl may told h
   input_plain m (input.Close time code reason) ds s may told h = shut_plain time _ ds s _ told h
   input_plain m (input.Ping time) ds s may told h = (subst (All IsDeedPlain) (sym told) (All-nil IsDeedPlain), set_below s.waiting s.keys.highest _ (λ p. p) h)
 
   input_path : (m : Meaning t) (i : Input) (ds : List Did) (a : At t) → (input_after m i ds a).state.paths.remote ≡ a.state.paths.remote
   unfolding input_after close_after move_to state_move paths_move
-  input_path m (input.Datagram time remote ecn bytes) ds a = (keeps_datagram m time remote bytes a).path
+  input_path m (input.Datagram time remote ecn bytes) ds a = (keeps_datagram m time ecn remote bytes a).path
   input_path m (input.Transmit time max) ds a = transmit_path time (packets_of ds) a
   input_path m (input.Close time code reason) ds a = shut_path time _ a _
   input_path m (input.Ping time) ds a = refl
 
+  input_token : (m : Meaning t) (i : Input) (ds : List Did) (a : At t) → IsPlainAddress a.state.paths.remote → IsTokenPlain a.state.life → IsTokenPlain (input_after m i ds a).state.life
+  unfolding input_after close_after move_to state_move life_move
+  input_token m (input.Datagram time remote ecn bytes) ds a p k = (keeps_datagram m time ecn remote bytes a).token p k
+  input_token m (input.Transmit time max) ds a p k = same_token a.state.life (transmit_after time (packets_of ds) a).state.life (transmit_token time (packets_of ds) a) k
+  input_token m (input.Close time code reason) ds a p k = same_token a.state.life (close_after time code reason a).state.life (shut_token time _ a _) k
+  input_token m (input.Ping time) ds a p k = k
+
   -- what it answers
   out_plain : (m : Meaning t) (ps : List (List FrameValue)) (s : View t) → IsPlainAddress s.paths.remote → IsAnswerPlain (out_of (transmit_of ps s) (transmit_bytes m ps s))
-  unfolding transmit_of
+  unfolding transmit_of transmit_with
   out_plain m [] s h = tt
   out_plain m (fs ∷ _) s h = h
 
@@ -435,6 +515,14 @@ module _ {t : Types} where
       let same : s'.paths.remote ≡ s.paths.remote = ap (λ (p : Paths). p.remote) e.paths ∙ input_path m i x.did (at clock []) in
       (subst IsAnswerPlain (sym e.answer) (answer_plain m i x.did clock h), subst IsPlainAddress (sym same) h)
 
+  -- what it tells the endpoint
+  step_endpoint : (m : Meaning t) (k : ℕ) (s : View t) (i : Input) (x : Step) (s' : View t) → IsStep m k s i x s' → IsPlainAddress s.paths.remote → IsTokenPlain s.life → All IsEndpointPlain x.endpoint × IsTokenPlain s'.life
+  unfolding called began step_after reported move_to state_move life_move token_reported wanted_reported drained_reported lost_reported connected_reported ready_reported paths_move
+  step_endpoint m k s i x s' e p h =
+      let clock : View t = state_move (Clock (time_of i)) s in
+      let there : IsTokenPlain (called m s i x.did).state.life = input_token m i x.did (at clock []) p h in
+      (subst (All IsEndpointPlain) (sym e.endpoint) (endpoint_plain (called m s i x.did).state.life there), subst IsTokenPlain (sym e.life) tt)
+
   -- ---- runs
 
   run_deeds : (m : Meaning t) (k : ℕ) (s : View t) (is : List Input) (xs : List Step) (s' : View t) → Run m k s is xs s' → IsBelowLimit s.waiting → All (λ x. All IsDeedPlain x.did) xs × IsBelowLimit s'.waiting
@@ -457,43 +545,56 @@ module _ {t : Types} where
   run_answers m k s [] (x ∷ xs) s' r h = absurd r
   run_answers m k s (i ∷ is) [] s' r h = absurd r
 
+  run_endpoints : (m : Meaning t) (k : ℕ) (s : View t) (is : List Input) (xs : List Step) (s' : View t) → Run m k s is xs s' → IsPlainAddress s.paths.remote → IsTokenPlain s.life → All (λ x. All IsEndpointPlain x.endpoint) xs × IsTokenPlain s'.life
+  unfolding Run
+  run_endpoints m k s [] [] s' r p h = (All-nil (λ (x : Step). All IsEndpointPlain x.endpoint), subst (λ (v : View t). IsTokenPlain v.life) (sym r) h)
+  run_endpoints m k s (i ∷ is) (x ∷ xs) s' r p h =
+      let first = step_endpoint m k s i x r.0 r.1 p h in
+      let others = run_endpoints m (k + 1) r.0 is xs s' r.2 (step_answer m k s i x r.0 r.1 p).1 first.1 in
+      (All-cons (λ (x : Step). All IsEndpointPlain x.endpoint) x xs first.0 others.0, others.1)
+  run_endpoints m k s [] (x ∷ xs) s' r p h = absurd r
+  run_endpoints m k s (i ∷ is) [] s' r p h = absurd r
+
   -- the steps of a run from a plain start leave nothing out
-  pub run_plain : (m : Meaning t) (k : ℕ) (s : View t) (is : List Input) (xs : List Step) (s' : View t) → Run m k s is xs s' → IsPlainStart s.waiting s.paths → All IsPlain xs
+  pub run_plain : (m : Meaning t) (k : ℕ) (s : View t) (is : List Input) (xs : List Step) (s' : View t) → Run m k s is xs s' → IsPlainStart s.waiting s.paths s.life → All IsPlain xs
   run_plain m k s is xs s' r h =
       let deeds = run_deeds m k s is xs s' r h.crypto in
       let answers = run_answers m k s is xs s' r h.address in
-      λ n d l. record { did = deeds.0 n d l; answer = answers.0 n d l }
+      let ends = run_endpoints m k s is xs s' r h.address h.token in
+      λ n d l. record { did = deeds.0 n d l; answer = answers.0 n d l; endpoint = ends.0 n d l }
 
   -- and where it ends is a plain start again
-  pub run_stays : (m : Meaning t) (k : ℕ) (s : View t) (is : List Input) (xs : List Step) (s' : View t) → Run m k s is xs s' → IsPlainStart s.waiting s.paths → IsPlainStart s'.waiting s'.paths
-  run_stays m k s is xs s' r h = record { crypto = (run_deeds m k s is xs s' r h.crypto).1; address = (run_answers m k s is xs s' r h.address).1 }
+  pub run_stays : (m : Meaning t) (k : ℕ) (s : View t) (is : List Input) (xs : List Step) (s' : View t) → Run m k s is xs s' → IsPlainStart s.waiting s.paths s.life → IsPlainStart s'.waiting s'.paths s'.life
+  run_stays m k s is xs s' r h = record { crypto = (run_deeds m k s is xs s' r h.crypto).1; address = (run_answers m k s is xs s' r h.address).1; token = (run_endpoints m k s is xs s' r h.address h.token).1 }
 
   -- the same of a run over the first inputs
-  pub ran_plain : (m : Meaning t) (k : ℕ) (s : View t) (is : List Input) (xs : List Step) → Ran m k s is xs → IsPlainStart s.waiting s.paths → All IsPlain xs
+  pub ran_plain : (m : Meaning t) (k : ℕ) (s : View t) (is : List Input) (xs : List Step) → Ran m k s is xs → IsPlainStart s.waiting s.paths s.life → All IsPlain xs
   ran_plain m k s is xs r h = run_plain m k s (take (length xs) is) xs r.last r.run h
 
 module _ {t : Types} {R : Type 0} where
   -- a client that was just made, and its hello
   pub first_plain : (m : Meaning t) (session : t.S) (random : R) (fixed : Fixed) (remote : SocketAddr) (first_cid : List ℕ) (time : ℕ) (v : Held t R) → v ≡ first_view m session random fixed remote first_cid time
-      → length v.waiting.spaces.initial.crypto.bytes < 2 ^ 62 → IsPlainAddress remote → IsPlainStart v.waiting v.paths
+      → length v.waiting.spaces.initial.crypto.bytes < 2 ^ 62 → IsPlainAddress remote → IsPlainStart v.waiting v.paths v.life
   unfolding first_view
   first_plain m session random fixed remote first_cid time v made hello plain =
       let start : v.waiting.spaces.initial.crypto.offset ≡ 0 = ap (λ (v : Held t R). v.waiting.spaces.initial.crypto.offset) made in
       let after : v.waiting.spaces.handshake.crypto.offset + length v.waiting.spaces.handshake.crypto.bytes ≡ 0 = ap (λ (v : Held t R). v.waiting.spaces.handshake.crypto.offset + length v.waiting.spaces.handshake.crypto.bytes) made in
       let last : v.waiting.spaces.application.crypto.offset + length v.waiting.spaces.application.crypto.bytes ≡ 0 = ap (λ (v : Held t R). v.waiting.spaces.application.crypto.offset + length v.waiting.spaces.application.crypto.bytes) made in
       let path : v.paths.remote ≡ remote = ap (λ (v : Held t R). v.paths.remote) made in
-      record { crypto = (omega arith, omega arith, omega arith); address = subst IsPlainAddress (sym path) plain }
+      let none : v.life.reset_token ≡ None = ap (λ (v : Held t R). v.life.reset_token) made in
+      record { crypto = (omega arith, omega arith, omega arith); address = subst IsPlainAddress (sym path) plain; token = subst (λ (o : Option PeerToken). IfSome o (λ peer. IsPlainAddress peer.remote)) (sym none) tt }
 
   -- a server that was just made
   pub server_plain : (m : Meaning t) (session : t.S) (random : R) (fixed : Fixed) (remote : SocketAddr) (remote_cid : List ℕ) (validated : Bool) (time : ℕ) (v : Held t R) → v ≡ server_view m session random fixed remote remote_cid validated time
-      → IsPlainAddress remote → IsPlainStart v.waiting v.paths
+      → IsPlainAddress remote → IsPlainStart v.waiting v.paths v.life
   unfolding server_view
   server_plain m session random fixed remote remote_cid validated time v made plain =
       let before : v.waiting.spaces.initial.crypto.offset + length v.waiting.spaces.initial.crypto.bytes ≡ 0 = ap (λ (v : Held t R). v.waiting.spaces.initial.crypto.offset + length v.waiting.spaces.initial.crypto.bytes) made in
       let after : v.waiting.spaces.handshake.crypto.offset + length v.waiting.spaces.handshake.crypto.bytes ≡ 0 = ap (λ (v : Held t R). v.waiting.spaces.handshake.crypto.offset + length v.waiting.spaces.handshake.crypto.bytes) made in
       let last : v.waiting.spaces.application.crypto.offset + length v.waiting.spaces.application.crypto.bytes ≡ 0 = ap (λ (v : Held t R). v.waiting.spaces.application.crypto.offset + length v.waiting.spaces.application.crypto.bytes) made in
       let path : v.paths.remote ≡ remote = ap (λ (v : Held t R). v.paths.remote) made in
-      record { crypto = (omega arith, omega arith, omega arith); address = subst IsPlainAddress (sym path) plain }
+      let none : v.life.reset_token ≡ None = ap (λ (v : Held t R). v.life.reset_token) made in
+      record { crypto = (omega arith, omega arith, omega arith); address = subst IsPlainAddress (sym path) plain; token = subst (λ (o : Option PeerToken). IfSome o (λ peer. IsPlainAddress peer.remote)) (sym none) tt }
 
 -- ---- two runs
 
@@ -502,4 +603,4 @@ module _ {t u : Types} where
   runs_differ m n xs ys p q e =
       let left = run_deeds m p.place p.first p.inputs xs p.last p.run p.crypto in
       let right = run_deeds n q.place q.first q.inputs ys q.last q.run q.crypto in
-      trace_back xs ys p.in_range q.in_range (λ k d l. record { did = left.0 k d l; answer = p.addresses k d l }) (λ k d l. record { did = right.0 k d l; answer = q.addresses k d l }) e
+      trace_back xs ys p.in_range q.in_range (λ k d l. record { did = left.0 k d l; answer = p.addresses k d l; endpoint = p.tokens k d l }) (λ k d l. record { did = right.0 k d l; answer = q.addresses k d l; endpoint = q.tokens k d l }) e

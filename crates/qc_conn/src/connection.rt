@@ -6,9 +6,8 @@ ghost use Rattle.qc_conn.specs.Seen.{Sends};
 ghost use Rattle.qc_state.specs.Receiving.{datagram_after, is_taken};
 ghost use Rattle.qc_state.specs.Setup.{is_first_awaited};
 ghost use Rattle.qc_state.specs.First.{first_view, server_view, fixed_of};
-ghost use Rattle.qc_state.specs.Life.{drained_event};
-ghost use Rattle.qc_state.specs.Moves.{Ask, ReportDrained, state_move};
-ghost use Rattle.qc_state.specs.Polls.{first_event, polled};
+ghost use Rattle.qc_state.specs.Moves.{Ask, state_move};
+ghost use Rattle.qc_state.specs.Polls.{first_endpoint_event, first_event, polled, polled_endpoint};
 ghost use Rattle.qc_state.specs.Run.{began, time_of, close_after, IsStep};
 ghost use Rattle.qc_state.specs.Timers.{next_timeout};
 ghost use Rattle.qc_state.specs.Types.{meaning};
@@ -59,7 +58,7 @@ impl<U: Suite> Connection<U> {
         requires fresh { U.Session.is_fresh setup.session }
         requires client { U.Session.side_of setup.session ≡ Side.Client }
         ensures made { IfOk result (λ c. c.core ≡ first_view (meaning U.Session.Session U.Session.HeaderKey.HeaderMask U.Session.PacketKey.PacketKey) setup.session setup.random (fixed_of Side.Client setup.version setup.local_cid setup.first_cid setup.local_ip setup.transport.max_idle_timeout setup.transport.crypto_buffer_size setup.grease_quic_bit) setup.remote setup.first_cid now) }
-        ensures plain { IsPlainAddress setup.remote → IfOk result (λ c. IsPlainStart c.core.waiting c.core.paths) }
+        ensures plain { IsPlainAddress setup.remote → IfOk result (λ c. IsPlainStart c.core.waiting c.core.paths c.core.life) }
         ensures alive { IfOk result (λ c. c.failed ≡ false) }
         ensures store { store.new ≡ store.old }
     {
@@ -84,7 +83,7 @@ impl<U: Suite> Connection<U> {
     ) -> Result<Connection<U>, AllocError>
         requires fresh { U.Session.is_fresh setup.session }
         ensures made { IfOk result (λ c. c.core ≡ server_view (meaning U.Session.Session U.Session.HeaderKey.HeaderMask U.Session.PacketKey.PacketKey) setup.session setup.random (fixed_of Side.Server setup.version setup.local_cid setup.first_cid setup.local_ip setup.transport.max_idle_timeout setup.transport.crypto_buffer_size setup.grease_quic_bit) setup.remote setup.remote_cid setup.validated now) }
-        ensures plain { IsPlainAddress setup.remote → IfOk result (λ c. IsPlainStart c.core.waiting c.core.paths) }
+        ensures plain { IsPlainAddress setup.remote → IfOk result (λ c. IsPlainStart c.core.waiting c.core.paths c.core.life) }
         ensures alive { IfOk result (λ c. c.failed ≡ false) }
     {
         let core = Core::new_server(alloc, setup, now)?;
@@ -98,7 +97,7 @@ impl<U: Suite> Connection<U> {
     /// handshake goes on, it has at least 1200 bytes, it comes from the path's address, and it begins with an Initial packet
     /// with the ids that this end was made with, which opens and whose reserved bits are 0. Its token is then expected of the
     /// client's other Initial packets, and the datagram does what any other one does. Otherwise nothing changes but the
-    /// greatest time that was told. So far the mark of congestion isn't counted.
+    /// greatest time that was told.
     ///
     /// # Errors
     ///
@@ -114,17 +113,16 @@ impl<U: Suite> Connection<U> {
     ) -> Result<bool, Fault>
         requires awaited { is_first_awaited self.old.core.setup ≡ true }
         ensures answer { IfOk result (λ taken. taken ≡ is_taken (meaning U.Session.Session U.Session.HeaderKey.HeaderMask U.Session.PacketKey.PacketKey) (began (ideal U.Random.stream self.old.core) now).state remote bytes.items) }
-        ensures leads { OnOk result ((ideal U.Random.stream self.new.core) ≡ (datagram_after (meaning U.Session.Session U.Session.HeaderKey.HeaderMask U.Session.PacketKey.PacketKey) now remote bytes.items (began (ideal U.Random.stream self.old.core) now)).state) }
+        ensures leads { OnOk result ((ideal U.Random.stream self.new.core) ≡ (datagram_after (meaning U.Session.Session U.Session.HeaderKey.HeaderMask U.Session.PacketKey.PacketKey) now ecn remote bytes.items (began (ideal U.Random.stream self.old.core) now)).state) }
         ensures alive { OnOk result (self.new.failed ≡ false) }
         ensures failed { self.old.failed ≡ true → (result ≡ Err Fault.Failed) × (self.new ≡ self.old) }
         ensures cause { result ≡ Err Fault.Failed → self.old.failed ≡ true }
         ensures memory { result ≡ Err Fault.OutOfMemory → self.new.failed ≡ true }
     {
-        let _mark = ecn;
         if self.failed {
             return Err(Fault::Failed);
         }
-        match core_first(&mut self.core, alloc, now, remote, bytes) {
+        match core_first(&mut self.core, alloc, now, ecn, remote, bytes) {
             Ok(taken) => Ok(taken),
             Err(_) => {
                 self.failed = true;
@@ -200,8 +198,8 @@ impl<U: Suite> Connection<U> {
 
     /// The next event for the endpoint. None exactly where none waits.
     pub fn poll_endpoint_events(&mut self) -> Option<EndpointEvent>
-        ensures event { result ≡ drained_event self.old.core.life }
-        ensures leads { (ideal U.Random.stream self.new.core) ≡ state_move ReportDrained (ideal U.Random.stream self.old.core) }
+        ensures event { result ≡ first_endpoint_event self.old.core.life }
+        ensures leads { (ideal U.Random.stream self.new.core) ≡ polled_endpoint (ideal U.Random.stream self.old.core) }
         ensures mark { self.new.failed ≡ self.old.failed }
     {
         self.core.poll_endpoint_events()

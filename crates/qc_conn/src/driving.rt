@@ -5,7 +5,7 @@ ghost use Rattle.std.specs.List.{All};
 ghost use Rattle.qc_text.specs.OneText.{IsPlain, IsPlainStart};
 ghost use Rattle.qc_conn.specs.Refusal.{bad_call, refusal_of, first_refusal, NamesInput, RefusedAt};
 ghost use Rattle.qc_state.specs.PathLaws.{PathHolds, all_from};
-ghost use Rattle.qc_state.specs.Headline.{deeds_of, EachRises, EachAdmitted, EachAcksKnown, LifeRises, OnlyCloses, LosesOnce};
+ghost use Rattle.qc_state.specs.Headline.{deeds_of, EachRises, EachAdmitted, EachAcksKnown, Harmless, LifeRises, OnlyCloses, LosesOnce};
 ghost use Rattle.qc_state.specs.Run.{time_of, Adds, Run, Ran};
 ghost use Rattle.qc_state.specs.Types.{meaning};
 ghost use Rattle.qc_state.specs.View.{ideal};
@@ -164,7 +164,7 @@ fn drive_all<U: Suite>(
 /// name the first input whose time lies before the greatest so far, or which asks for a call that can't be made; the
 /// connection is as the inputs before left it, and their steps are carried. `OutOfMemory` for want of memory; the steps
 /// of the inputs before are carried, and the connection is marked as failed.
-#[tactic(auto, using(qc_state::proofs::PathsHold::path_run, qc_state::proofs::Told::run_rises, qc_state::proofs::Told::run_admits, qc_state::proofs::Told::ran_admits, qc_state::proofs::AcksAccepted::run_acks_known, qc_state::proofs::AcksAccepted::ran_acks_known, qc_state::proofs::Told::run_life_rises, qc_state::proofs::Told::run_closes, qc_state::proofs::Told::run_loses_once, qc_state::proofs::Told::ran_rises, qc_state::proofs::Told::ran_life_rises, qc_state::proofs::Told::ran_closes, qc_state::proofs::Told::ran_loses_once, crate::proofs::RunsPlain::run_plain, crate::proofs::RunsPlain::run_stays, crate::proofs::RunsPlain::ran_plain))]
+#[tactic(auto, using(qc_state::proofs::PathsHold::path_run, qc_state::proofs::HarmlessBytes::run_harmless, qc_state::proofs::Told::run_rises, qc_state::proofs::Told::run_admits, qc_state::proofs::Told::ran_admits, qc_state::proofs::AcksAccepted::run_acks_known, qc_state::proofs::AcksAccepted::ran_acks_known, qc_state::proofs::Told::run_life_rises, qc_state::proofs::Told::run_closes, qc_state::proofs::Told::run_loses_once, qc_state::proofs::Told::ran_rises, qc_state::proofs::Told::ran_life_rises, qc_state::proofs::Told::ran_closes, qc_state::proofs::Told::ran_loses_once, crate::proofs::RunsPlain::run_plain, crate::proofs::RunsPlain::run_stays, crate::proofs::RunsPlain::ran_plain))]
 pub fn drive<U: Suite, G: TokenStore>(
     alloc: Global,
     connection: &mut Connection<U>,
@@ -188,13 +188,14 @@ pub fn drive<U: Suite, G: TokenStore>(
     ensures closing { IfOk result (λ trace. OnlyCloses (ideal U.Random.stream connection.old.core) trace) }
     ensures closing_part { IfErr result (λ e. OnlyCloses (ideal U.Random.stream connection.old.core) e.done) }
     ensures paths { IfOk result (λ trace. PathHolds (all_from connection.old.core.paths.remote inputs.now) (deeds_of trace) connection.old.core.paths connection.new.core.paths) }
+    ensures harmless { IfOk result (λ trace. Harmless (ideal U.Random.stream connection.old.core) inputs.now trace (ideal U.Random.stream connection.new.core)) }
     ensures reason { IfOk result (λ trace. LosesOnce (ideal U.Random.stream connection.old.core) trace) }
     ensures reason_part { IfErr result (λ e. LosesOnce (ideal U.Random.stream connection.old.core) e.done) }
 
     // Where the path's address has neither flow label nor scope, the trace's text leaves nothing out.
-    ensures plain { IsPlainStart connection.old.core.waiting connection.old.core.paths → IfOk result (λ trace. All IsPlain trace) }
-    ensures plain_part { IsPlainStart connection.old.core.waiting connection.old.core.paths → IfErr result (λ e. All IsPlain e.done) }
-    ensures plain_end { IsPlainStart connection.old.core.waiting connection.old.core.paths → OnOk result (IsPlainStart connection.new.core.waiting connection.new.core.paths) }
+    ensures plain { IsPlainStart connection.old.core.waiting connection.old.core.paths connection.old.core.life → IfOk result (λ trace. All IsPlain trace) }
+    ensures plain_part { IsPlainStart connection.old.core.waiting connection.old.core.paths connection.old.core.life → IfErr result (λ e. All IsPlain e.done) }
+    ensures plain_end { IsPlainStart connection.old.core.waiting connection.old.core.paths connection.old.core.life → OnOk result (IsPlainStart connection.new.core.waiting connection.new.core.paths connection.new.core.life) }
 
     // The first input that is to be refused is named, with the values that don't fit, and changes nothing.
     ensures valid { OnOk result (first_refusal 0 connection.old.core.timers.greatest inputs.now ≡ None) }

@@ -2,8 +2,8 @@
 
 ghost use Rattle.std.specs.Prelude.{◌≡◌, ◌≤◌, ◌++◌, [], true, OnOk, IfOk, option_to_list};
 ghost use Rattle.qc_conn.specs.Seen.{Sends};
-ghost use Rattle.qc_state.specs.Life.{waiting_events, drained_event};
-ghost use Rattle.qc_state.specs.Moves.{ReportReady, ReportConnected, ReportLost, ReportDrained, state_move};
+ghost use Rattle.qc_state.specs.Life.{waiting_events, endpoint_events};
+ghost use Rattle.qc_state.specs.Moves.{ReportReady, ReportConnected, ReportLost, ReportToken, ReportWanted, ReportDrained, state_move};
 ghost use Rattle.qc_state.specs.Receiving.{datagram_after, is_taken};
 ghost use Rattle.qc_state.specs.Setup.{is_first_awaited};
 ghost use Rattle.qc_state.specs.Run.{began, time_of, word_of, out_of, close_after, Calls, IsStep};
@@ -57,16 +57,17 @@ pub(crate) fn core_first<U: Suite>(
     core: &mut Core<U>,
     alloc: Global,
     now: Instant,
+    mark: Option<EcnCodepoint>,
     remote: SocketAddr,
     bytes: BytesMut,
 ) -> Result<bool, AllocError>
     requires { is_first_awaited core.old.setup ≡ true }
     ensures answer { IfOk result (λ taken. taken ≡ is_taken (meaning U.Session.Session U.Session.HeaderKey.HeaderMask U.Session.PacketKey.PacketKey) (began (ideal U.Random.stream core.old) now).state remote bytes.items) }
-    ensures leads { OnOk result ((ideal U.Random.stream core.new) ≡ (datagram_after (meaning U.Session.Session U.Session.HeaderKey.HeaderMask U.Session.PacketKey.PacketKey) now remote bytes.items (began (ideal U.Random.stream core.old) now)).state) }
+    ensures leads { OnOk result ((ideal U.Random.stream core.new) ≡ (datagram_after (meaning U.Session.Session U.Session.HeaderKey.HeaderMask U.Session.PacketKey.PacketKey) now mark remote bytes.items (began (ideal U.Random.stream core.old) now)).state) }
 {
     let mut did = Dids::new(alloc);
     core.clock(now);
-    let taken = core.first_datagram(alloc, &mut did, now, remote, bytes)?;
+    let taken = core.first_datagram(alloc, &mut did, now, mark, remote, bytes)?;
     Ok(taken)
 }
 
@@ -148,10 +149,9 @@ fn datagram_call<U: Suite>(
     requires { did.old ≡ [] }
     ensures { IfOk result (λ answer. Calls (meaning U.Session.Session U.Session.HeaderKey.HeaderMask U.Session.PacketKey.PacketKey) (ideal U.Random.stream core.old) (Input.Datagram now remote ecn bytes.now) (held U.Random.stream core.new did.new) answer) }
 {
-    let _mark = ecn;
     let bytes = BytesMut::copy_from_slice(alloc, bytes.as_slice())?;
     core.clock(now);
-    if core.datagram(alloc, did, now, remote, bytes)? {
+    if core.datagram(alloc, did, now, ecn, remote, bytes)? {
         return Ok(Answer::Done);
     }
     Ok(Answer::Dropped)
@@ -213,15 +213,17 @@ fn report_events<U: Suite>(core: &mut Core<U>, alloc: Global) -> Result<Events, 
 }
 
 /// What waits to be reported to the endpoint.
-fn report_end<U: Suite>(core: &mut Core<U>, alloc: Global) -> Result<EndpointEvents, AllocError>
-    ensures events { IfOk result (λ events. events ≡ option_to_list (drained_event core.old.life)) }
-    ensures leads { OnOk result ((ideal U.Random.stream core.new) ≡ state_move ReportDrained (ideal U.Random.stream core.old)) }
+fn report_endpoint<U: Suite>(
+    core: &mut Core<U>,
+    alloc: Global,
+) -> Result<EndpointEvents, AllocError>
+    ensures events { IfOk result (λ events. events ≡ endpoint_events core.old.life) }
+    ensures leads { OnOk result ((ideal U.Random.stream core.new) ≡ state_move ReportDrained (state_move ReportWanted (state_move ReportToken (ideal U.Random.stream core.old)))) }
 {
     let mut events = EndpointEvents::new(alloc);
-    match core.poll_endpoint_events() {
-        None => {}
-        Some(event) => events.push(event)?,
-    }
+    events.push(core.poll_token())?;
+    events.push(core.poll_wanted())?;
+    events.push(core.poll_drained())?;
     Ok(events)
 }
 
@@ -263,7 +265,7 @@ pub(crate) fn core_step<U: Suite>(
     let mut did = Dids::new(alloc);
     let answer = call(core, alloc, input, &mut did)?;
     let events = report_events(core, alloc)?;
-    let endpoint = report_end(core, alloc)?;
+    let endpoint = report_endpoint(core, alloc)?;
     let timeout = core.poll_timeout();
     Ok(Step {
         at,

@@ -1,6 +1,6 @@
 -- A packet is accepted.
 use Rattle.std.proofs.Common.{◌≡◌, ℕ, List, [], ◌∷◌, ◌++◌, refl, ap, ◌∙◌, subst, Bool, false, Option, Some, Result, Ok, Err}
-use Rattle.std.specs.Prelude.{OnOk}
+use Rattle.std.specs.Prelude.{OnOk, nat_le}
 use Rattle.std.specs.declared.alloc.AllocError.{AllocError}
 use Rattle.rand_core.specs.Stream.{Stream}
 use Rattle.qc_base.specs.declared.side.SpaceId.{SpaceId}
@@ -10,13 +10,14 @@ use Rattle.qc_state.specs.declared.deeds.Did.{Did}
 use Rattle.qc_state.specs.declared.deeds.Did.TheVariants as did
 use Rattle.qc_state.specs.declared.deeds.Verdict.{Verdict}
 use Rattle.qc_state.specs.declared.numbers.Numbers.{Numbers}
+use Rattle.qc_state.specs.declared.opening.Signs.{Signs}
 use Rattle.qc_state.specs.declared.paths.Paths.{Paths}
 use Rattle.qc_state.specs.declared.timers.Timers.{Timers}
 use Rattle.qc_state.specs.declared.waiting.Waiting.{Waiting}
 use Rattle.qc_state.specs.Moves.{Accept, move_to, state_move, numbers_move, keys_move, life_move, paths_move, timers_move, waiting_move, setup_move, lower_move, deeds_move}
-use Rattle.qc_state.specs.Numbers.{came_in, number_accepted, accepted_in}
-use Rattle.qc_state.specs.Paths.{path_accepted}
-use Rattle.qc_state.specs.Setup.{ideal_setup, idle_limit_now}
+use Rattle.qc_state.specs.Numbers.{came_in, received_number, number_accepted, accepted_in}
+use Rattle.qc_state.specs.Paths.{path_accepted, path_spun}
+use Rattle.qc_state.specs.Setup.{ideal_setup, idle_limit_now, probe_timeout_now}
 use Rattle.qc_state.specs.Timers.{timers_accepted}
 use Rattle.qc_state.specs.Types.{Types}
 use Rattle.qc_state.specs.View.{Held, held}
@@ -31,22 +32,23 @@ accepted_window v Data n = refl
 
 module _ {t : Types} {R : Type 0} (stream : R → Stream) where
   -- the groups that change are those of the move
-  pub accepted_by : (r : Result (Unit {0}) AllocError) (v w : Held t R) (time : ℕ) (id : SpaceId) (n : ℕ) (eliciting : Bool) (verdict : Verdict) (numbers : Numbers) (seen : Window) (waiting : Waiting) (paths : Paths) (timers : Timers) (limit : Option ℕ) (ds ds' : List Did) →
-      w ≡ v → numbers ≡ number_accepted w.numbers id n → seen ≡ came_in numbers id → waiting ≡ packet_came w.waiting id seen (record { number = n; at = time; ack_eliciting = eliciting; ce = false }) →
-      paths ≡ path_accepted w.paths id verdict → limit ≡ idle_limit_now w.setup → timers ≡ timers_accepted w.timers limit time → OnOk r (ds' ≡ ds ++ did.Piece (Some id) (Some n) verdict ∷ []) →
-      OnOk r (held stream (record w { numbers = numbers; paths = paths; timers = timers; waiting = waiting }) ds' ≡ move_to (Accept time id n eliciting verdict) (held stream v ds))
-  unfolding move_to state_move numbers_move keys_move life_move paths_move timers_move waiting_move setup_move lower_move deeds_move ideal_setup idle_limit_now
-  accepted_by (Ok done) v w time id n eliciting verdict numbers seen waiting paths timers limit ds ds' same is_numbers is_seen is_waiting is_paths is_limit is_timers deeds =
+  pub accepted_by : (r : Result (Unit {0}) AllocError) (v w : Held t R) (time : ℕ) (id : SpaceId) (n : ℕ) (eliciting : Bool) (signs : Signs) (verdict : Verdict) (numbers : Numbers) (seen : Window) (waiting : Waiting) (middle paths : Paths) (timers : Timers) (limit : Option ℕ) (probe rx : ℕ) (greatest : Bool) (ds ds' : List Did) →
+      w ≡ v → numbers ≡ number_accepted w.numbers id n → seen ≡ came_in numbers id → waiting ≡ packet_came w.waiting id seen (record { number = n; at = time; ack_eliciting = eliciting; ce = false }) signs.mark →
+      middle ≡ path_accepted w.paths id verdict → rx ≡ received_number w.numbers id → greatest ≡ nat_le rx n → paths ≡ path_spun middle w.setup.fixed.side greatest signs.spin → limit ≡ idle_limit_now w.setup → probe ≡ probe_timeout_now w.setup id → timers ≡ timers_accepted w.timers limit probe time → OnOk r (ds' ≡ ds ++ did.Piece (Some id) (Some n) verdict ∷ []) →
+      OnOk r (held stream (record w { numbers = numbers; paths = paths; timers = timers; waiting = waiting }) ds' ≡ move_to (Accept time id n eliciting signs verdict) (held stream v ds))
+  unfolding move_to state_move numbers_move keys_move life_move paths_move timers_move waiting_move setup_move lower_move deeds_move ideal_setup idle_limit_now probe_timeout_now
+  accepted_by (Ok done) v w time id n eliciting signs verdict numbers seen waiting middle paths timers limit probe rx greatest ds ds' same is_numbers is_seen is_waiting is_middle is_rx is_greatest is_paths is_limit is_probe is_timers deeds =
       let window : seen ≡ arrived n (came_in w.numbers id) = is_seen ∙ ap (λ (x : Numbers). came_in x id) is_numbers ∙ accepted_window w.numbers id n in
-      let waits = is_waiting ∙ ap (λ (x : Window). packet_came w.waiting id x (record { number = n; at = time; ack_eliciting = eliciting; ce = false })) window in
-      let times = is_timers ∙ ap (λ (x : Option ℕ). timers_accepted w.timers x time) is_limit in
-      subst (λ (x : Held t R). held stream (record w { numbers = numbers; paths = paths; timers = timers; waiting = waiting }) ds' ≡ move_to (Accept time id n eliciting verdict) (held stream x ds)) same
+      let waits = is_waiting ∙ ap (λ (x : Window). packet_came w.waiting id x (record { number = n; at = time; ack_eliciting = eliciting; ce = false }) signs.mark) window in
+      let spun = is_paths ∙ ap (λ (x : Paths). path_spun x w.setup.fixed.side greatest signs.spin) is_middle ∙ ap (λ (b : Bool). path_spun (path_accepted w.paths id verdict) w.setup.fixed.side b signs.spin) (is_greatest ∙ ap (λ (k : ℕ). nat_le k n) is_rx) in
+      let times = is_timers ∙ ap (λ (x : Option ℕ). timers_accepted w.timers x probe time) is_limit ∙ ap (λ (k : ℕ). timers_accepted w.timers (idle_limit_now w.setup) k time) is_probe in
+      subst (λ (x : Held t R). held stream (record w { numbers = numbers; paths = paths; timers = timers; waiting = waiting }) ds' ≡ move_to (Accept time id n eliciting signs verdict) (held stream x ds)) same
       (λ i. record {
         state = record {
           numbers = is_numbers i;
           keys = w.keys;
           life = w.life;
-          paths = is_paths i;
+          paths = spun i;
           timers = times i;
           waiting = waits i;
           setup = ideal_setup stream w.setup;
@@ -54,4 +56,4 @@ module _ {t : Types} {R : Type 0} (stream : R → Stream) where
         };
         did = deeds i;
       })
-  accepted_by (Err x) v w time id n eliciting verdict numbers seen waiting paths timers limit ds ds' same is_numbers is_seen is_waiting is_paths is_limit is_timers deeds = tt
+  accepted_by (Err x) v w time id n eliciting signs verdict numbers seen waiting middle paths timers limit probe rx greatest ds ds' same is_numbers is_seen is_waiting is_middle is_rx is_greatest is_paths is_limit is_probe is_timers deeds = tt

@@ -5,6 +5,7 @@ use Rattle.rand_core.specs.Stream.{Stream}
 use Rattle.std.specs.Global.{Global}
 use Rattle.std.specs.declared.net.SocketAddr.{SocketAddr}
 use Rattle.bytes.specs.declared.unique.BytesMut.{BytesMut}
+use Rattle.qc_base.specs.declared.ecn.EcnCodepoint.{EcnCodepoint}
 use Rattle.qc_base.specs.declared.side.SpaceId.{SpaceId}
 use Rattle.qc_base.specs.declared.side.SpaceId.TheVariants as space
 use Rattle.qc_core.specs.Cutting.{Cuts, front_of, rest_of, others_of}
@@ -89,9 +90,9 @@ module _ {t : Types} (m : Meaning t) where
   not_taken s remote bytes awaits none = rw (awaits, none) refl
 
   -- and changes nothing
-  pub left_alone : (time : ℕ) (remote : SocketAddr) (bytes : List ℕ) (a : At t) → is_first_awaited a.state.setup ≡ true → first_token m a.state remote bytes ≡ None → a ≡ datagram_after m time remote bytes a
+  pub left_alone : (time : ℕ) (mark : Option EcnCodepoint) (remote : SocketAddr) (bytes : List ℕ) (a : At t) → is_first_awaited a.state.setup ≡ true → first_token m a.state remote bytes ≡ None → a ≡ datagram_after m time mark remote bytes a
   unfolding datagram_after
-  left_alone time remote bytes a awaits none = rw (awaits, none) refl
+  left_alone time mark remote bytes a awaits none = rw (awaits, none) refl
 
   -- the test on length and address
   may_is : (s : View t) (remote : SocketAddr) (bytes : List ℕ) (len : ℕ) (may : Bool) → may ≡ (is_handshake s.life.state && (nat_le DATAGRAM_SIZE len && same_address s.paths.remote remote)) → len ≡ length bytes →
@@ -124,66 +125,66 @@ module _ {t : Types} (m : Meaning t) where
   no_first c s remote bytes p rest h e none = if_none _ _ (ap (token_in_items m s) (cut_first c s bytes p rest h e) ∙ none)
 
   -- it may be one
-  token_is : (c : Cutting) (s : View t) (remote : SocketAddr) (bytes : List ℕ) (p : Piece) (rest : Option (BytesMut Global)) (source token : List ℕ) (number : ℕ) (payload : List ℕ) → Cuts s c → front_of c bytes ≡ Ok (p, rest_of rest) →
-      (is_handshake s.life.state && (nat_le DATAGRAM_SIZE (length bytes) && same_address s.paths.remote remote)) ≡ true → has_first_ids s p.header ≡ true → opening_of m s p ≡ Opened source token number payload → first_token m s remote bytes ≡ Some token
+  token_is : (c : Cutting) (s : View t) (remote : SocketAddr) (bytes : List ℕ) (p : Piece) (rest : Option (BytesMut Global)) (source token : List ℕ) (spin : Bool) (number : ℕ) (payload : List ℕ) → Cuts s c → front_of c bytes ≡ Ok (p, rest_of rest) →
+      (is_handshake s.life.state && (nat_le DATAGRAM_SIZE (length bytes) && same_address s.paths.remote remote)) ≡ true → has_first_ids s p.header ≡ true → opening_of m s p ≡ Opened source token spin number payload → first_token m s remote bytes ≡ Some token
   unfolding first_token token_in_first
-  token_is c s remote bytes p rest source token number payload h e may ids opens =
+  token_is c s remote bytes p rest source token spin number payload h e may ids opens =
       ap (λ (b : Bool). if b then token_in_items m s (cut_of s bytes) else None) may
       ∙ ap (token_in_items m s) (cut_first c s bytes p rest h e)
       ∙ ap (λ (b : Bool). if b then opened_token (opening_of m s p) else None) ids
       ∙ ap opened_token opens
 
-  pub first_taken : (c : Cutting) (s : View t) (remote : SocketAddr) (bytes : List ℕ) (len : ℕ) (may : Bool) (p : Piece) (rest : Option (BytesMut Global)) (source token : List ℕ) (number : ℕ) (payload : List ℕ) →
+  pub first_taken : (c : Cutting) (s : View t) (remote : SocketAddr) (bytes : List ℕ) (len : ℕ) (may : Bool) (p : Piece) (rest : Option (BytesMut Global)) (source token : List ℕ) (spin : Bool) (number : ℕ) (payload : List ℕ) →
       is_first_awaited s.setup ≡ true → Cuts s c → front_of c bytes ≡ Ok (p, rest_of rest) →
-      may ≡ (is_handshake s.life.state && (nat_le DATAGRAM_SIZE len && same_address s.paths.remote remote)) → len ≡ length bytes → may ≡ true → has_first_ids s p.header ≡ true → opening_of m s p ≡ Opened source token number payload →
+      may ≡ (is_handshake s.life.state && (nat_le DATAGRAM_SIZE len && same_address s.paths.remote remote)) → len ≡ length bytes → may ≡ true → has_first_ids s p.header ≡ true → opening_of m s p ≡ Opened source token spin number payload →
       true ≡ is_taken m s remote bytes
   unfolding is_taken
-  first_taken c s remote bytes len may p rest source token number payload awaits h e is is_len holds ids opens =
-      rw (awaits, token_is c s remote bytes p rest source token number payload h e (may_is s remote bytes len may is is_len ∙ holds) ids opens) refl
+  first_taken c s remote bytes len may p rest source token spin number payload awaits h e is is_len holds ids opens =
+      rw (awaits, token_is c s remote bytes p rest source token spin number payload h e (may_is s remote bytes len may is is_len ∙ holds) ids opens) refl
 
   -- its first packet does what a packet does that opened
-  first_piece : (time : ℕ) (p : Piece) (source token : List ℕ) (number : ℕ) (payload : List ℕ) (a : At t) → is_handshake a.state.life.state ≡ true → has_first_ids a.state p.header ≡ true → opening_of m a.state p ≡ Opened source token number payload →
-      piece_after m time p a ≡ received_after m time space.Initial source token number payload a
+  first_piece : (time : ℕ) (mark : Option EcnCodepoint) (p : Piece) (source token : List ℕ) (spin : Bool) (number : ℕ) (payload : List ℕ) (a : At t) → is_handshake a.state.life.state ≡ true → has_first_ids a.state p.header ≡ true → opening_of m a.state p ≡ Opened source token spin number payload →
+      piece_after m time mark p a ≡ received_after m time space.Initial (record { mark = mark; spin = spin }) source token number payload a
   unfolding piece_after has_first_ids
-  first_piece time p source token number payload a shakes ids opens =
-      ap (λ (x : Bool). if x then piece_told (space_of p.header) None verdict.Ignored a else opening_after m time (space_of p.header) (opening_of m a.state p) a) (handshake_not_over a.state.life.state shakes)
-      ∙ ap (λ (x : Option SpaceId). opening_after m time x (opening_of m a.state p) a) (initial_space a.state.setup.fixed.first_cid a.state.paths.remote_cid p.header ids)
-      ∙ ap (λ (o : Opening). opening_after m time (Some space.Initial) o a) opens
+  first_piece time mark p source token spin number payload a shakes ids opens =
+      ap (λ (x : Bool). if x then piece_told (space_of p.header) None verdict.Ignored a else opening_after m time mark (space_of p.header) (opening_of m a.state p) a) (handshake_not_over a.state.life.state shakes)
+      ∙ ap (λ (x : Option SpaceId). opening_after m time mark x (opening_of m a.state p) a) (initial_space a.state.setup.fixed.first_cid a.state.paths.remote_cid p.header ids)
+      ∙ ap (λ (o : Opening). opening_after m time mark (Some space.Initial) o a) opens
 
   -- its packets do what they do
-  heard_packets : (time : ℕ) (c : Cutting) (remote : SocketAddr) (bytes : List ℕ) (p : Piece) (rest : Option (BytesMut Global)) (source token : List ℕ) (number : ℕ) (payload : List ℕ) (a : At t) → Cuts a.state c → front_of c bytes ≡ Ok (p, rest_of rest) →
-      is_handshake a.state.life.state ≡ true → same_address a.state.paths.remote remote ≡ true → has_first_ids a.state p.header ≡ true → opening_of m a.state p ≡ Opened source token number payload →
-      heard_after m time remote bytes a ≡ move_to (Hear (length bytes)) (pieces_after m time (others_of c rest) (received_after m time space.Initial source token number payload a))
+  heard_packets : (time : ℕ) (mark : Option EcnCodepoint) (c : Cutting) (remote : SocketAddr) (bytes : List ℕ) (p : Piece) (rest : Option (BytesMut Global)) (source token : List ℕ) (spin : Bool) (number : ℕ) (payload : List ℕ) (a : At t) → Cuts a.state c → front_of c bytes ≡ Ok (p, rest_of rest) →
+      is_handshake a.state.life.state ≡ true → same_address a.state.paths.remote remote ≡ true → has_first_ids a.state p.header ≡ true → opening_of m a.state p ≡ Opened source token spin number payload →
+      heard_after m time mark remote bytes a ≡ move_to (Hear (length bytes)) (pieces_after m time mark (others_of c rest) (received_after m time space.Initial (record { mark = mark; spin = spin }) source token number payload a))
   unfolding heard_after lets_in
-  heard_packets time c remote bytes p rest source token number payload a h e shakes same ids opens =
-      let heard : At t = move_to (Hear (length bytes)) (pieces_after m time (cut_of a.state bytes) a) in
+  heard_packets time mark c remote bytes p rest source token spin number payload a h e shakes same ids opens =
+      let heard : At t = move_to (Hear (length bytes)) (pieces_after m time mark (cut_of a.state bytes) a) in
       ap (λ (x : Bool). if x && lets_in a.state remote then heard else a) (sym (readable_is c a.state bytes p (rest_of rest) h e))
       ∙ ap (λ (x : Bool). if x then heard else a) (both_hold (is_over a.state.life.state) (same_address a.state.paths.remote remote) (handshake_not_over a.state.life.state shakes) same)
-      ∙ ap (λ (items : List DatagramItem). move_to (Hear (length bytes)) (pieces_after m time items a)) (cut_first c a.state bytes p rest h e)
-      ∙ ap (λ (x : At t). move_to (Hear (length bytes)) (pieces_after m time (others_of c rest) x)) (first_piece time p source token number payload a shakes ids opens)
+      ∙ ap (λ (items : List DatagramItem). move_to (Hear (length bytes)) (pieces_after m time mark items a)) (cut_first c a.state bytes p rest h e)
+      ∙ ap (λ (x : At t). move_to (Hear (length bytes)) (pieces_after m time mark (others_of c rest) x)) (first_piece time mark p source token spin number payload a shakes ids opens)
 
   -- that the token is expected changes nothing of that
-  heard_first : (time : ℕ) (c : Cutting) (remote : SocketAddr) (bytes : List ℕ) (p : Piece) (rest : Option (BytesMut Global)) (source token : List ℕ) (number : ℕ) (payload : List ℕ) (a : At t) → Cuts a.state c → front_of c bytes ≡ Ok (p, rest_of rest) →
-      is_handshake a.state.life.state ≡ true → same_address a.state.paths.remote remote ≡ true → has_first_ids a.state p.header ≡ true → opening_of m a.state p ≡ Opened source token number payload →
-      heard_after m time remote bytes (move_to (Expect token) a) ≡ move_to (Hear (length bytes)) (pieces_after m time (others_of c rest) (received_after m time space.Initial source token number payload (move_to (Expect token) a)))
+  heard_first : (time : ℕ) (mark : Option EcnCodepoint) (c : Cutting) (remote : SocketAddr) (bytes : List ℕ) (p : Piece) (rest : Option (BytesMut Global)) (source token : List ℕ) (spin : Bool) (number : ℕ) (payload : List ℕ) (a : At t) → Cuts a.state c → front_of c bytes ≡ Ok (p, rest_of rest) →
+      is_handshake a.state.life.state ≡ true → same_address a.state.paths.remote remote ≡ true → has_first_ids a.state p.header ≡ true → opening_of m a.state p ≡ Opened source token spin number payload →
+      heard_after m time mark remote bytes (move_to (Expect token) a) ≡ move_to (Hear (length bytes)) (pieces_after m time mark (others_of c rest) (received_after m time space.Initial (record { mark = mark; spin = spin }) source token number payload (move_to (Expect token) a)))
   unfolding has_first_ids opening_of move_to state_move numbers_move keys_move life_move paths_move setup_move token_expected
-  heard_first time c remote bytes p rest source token number payload a h e shakes same ids opens =
-      heard_packets time c remote bytes p rest source token number payload (move_to (Expect token) a) (record { len = h.len; version = h.version; grease = h.grease }) e shakes same ids opens
+  heard_first time mark c remote bytes p rest source token spin number payload a h e shakes same ids opens =
+      heard_packets time mark c remote bytes p rest source token spin number payload (move_to (Expect token) a) (record { len = h.len; version = h.version; grease = h.grease }) e shakes same ids opens
 
   expect_moved : (token : List ℕ) (s s1 : View t) (ds : List Did) → s1 ≡ state_move (Expect token) s → at s1 ds ≡ move_to (Expect token) (at s ds)
   unfolding move_to deeds_move
   expect_moved token s s1 ds is = ap (λ (v : View t). at v ds) is
 
-  pub first_heard : (time : ℕ) (c : Cutting) (remote : SocketAddr) (bytes : List ℕ) (len : ℕ) (may : Bool) (p : Piece) (rest : Option (BytesMut Global)) (source token copy : List ℕ) (number : ℕ) (payload : List ℕ) (s s1 : View t) (ds : List Did) (b d : At t) (e' : At t) →
+  pub first_heard : (time : ℕ) (mark : Option EcnCodepoint) (c : Cutting) (remote : SocketAddr) (bytes : List ℕ) (len : ℕ) (may : Bool) (p : Piece) (rest : Option (BytesMut Global)) (source token copy : List ℕ) (spin : Bool) (number : ℕ) (payload : List ℕ) (s s1 : View t) (ds : List Did) (b d : At t) (e' : At t) →
       is_first_awaited s.setup ≡ true → Cuts s c → front_of c bytes ≡ Ok (p, rest_of rest) →
-      may ≡ (is_handshake s.life.state && (nat_le DATAGRAM_SIZE len && same_address s.paths.remote remote)) → len ≡ length bytes → may ≡ true → has_first_ids s p.header ≡ true → opening_of m s p ≡ Opened source token number payload →
-      copy ≡ token → s1 ≡ state_move (Expect copy) s → b ≡ received_after m time space.Initial source token number payload (at s1 ds) → d ≡ pieces_after m time (others_of c rest) b → e' ≡ move_to (Hear (length bytes)) d →
-      e' ≡ datagram_after m time remote bytes (at s ds)
+      may ≡ (is_handshake s.life.state && (nat_le DATAGRAM_SIZE len && same_address s.paths.remote remote)) → len ≡ length bytes → may ≡ true → has_first_ids s p.header ≡ true → opening_of m s p ≡ Opened source token spin number payload →
+      copy ≡ token → s1 ≡ state_move (Expect copy) s → b ≡ received_after m time space.Initial (record { mark = mark; spin = spin }) source token number payload (at s1 ds) → d ≡ pieces_after m time mark (others_of c rest) b → e' ≡ move_to (Hear (length bytes)) d →
+      e' ≡ datagram_after m time mark remote bytes (at s ds)
   unfolding datagram_after
-  first_heard time c remote bytes len may p rest source token copy number payload s s1 ds b d e' awaits h e is is_len holds ids opens is_copy is_s1 is_b is_d is_e =
+  first_heard time mark c remote bytes len may p rest source token copy spin number payload s s1 ds b d e' awaits h e is is_len holds ids opens is_copy is_s1 is_b is_d is_e =
       let whole : (is_handshake s.life.state && (nat_le DATAGRAM_SIZE (length bytes) && same_address s.paths.remote remote)) ≡ true = may_is s remote bytes len may is is_len ∙ holds in
       let moved : at s1 ds ≡ move_to (Expect token) (at s ds) = expect_moved copy s s1 ds is_s1 ∙ ap (λ (x : List ℕ). move_to (Expect x) (at s ds)) is_copy in
-      is_e ∙ ap (λ (x : At t). move_to (Hear (length bytes)) x) (is_d ∙ ap (λ (x : At t). pieces_after m time (others_of c rest) x) (is_b ∙ ap (λ (x : At t). received_after m time space.Initial source token number payload x) moved))
-      ∙ sym (heard_first time c remote bytes p rest source token number payload (at s ds) h e (first_of (is_handshake s.life.state) (nat_le DATAGRAM_SIZE (length bytes)) (same_address s.paths.remote remote) whole) (third_of (is_handshake s.life.state) (nat_le DATAGRAM_SIZE (length bytes)) (same_address s.paths.remote remote) whole) ids opens)
-      ∙ sym (ap (λ (x : Bool). if x then first_after m time remote bytes (first_token m s remote bytes) (at s ds) else heard_after m time remote bytes (at s ds)) awaits
-      ∙ ap (λ (x : Option (List ℕ)). first_after m time remote bytes x (at s ds)) (token_is c s remote bytes p rest source token number payload h e whole ids opens))
+      is_e ∙ ap (λ (x : At t). move_to (Hear (length bytes)) x) (is_d ∙ ap (λ (x : At t). pieces_after m time mark (others_of c rest) x) (is_b ∙ ap (λ (x : At t). received_after m time space.Initial (record { mark = mark; spin = spin }) source token number payload x) moved))
+      ∙ sym (heard_first time mark c remote bytes p rest source token spin number payload (at s ds) h e (first_of (is_handshake s.life.state) (nat_le DATAGRAM_SIZE (length bytes)) (same_address s.paths.remote remote) whole) (third_of (is_handshake s.life.state) (nat_le DATAGRAM_SIZE (length bytes)) (same_address s.paths.remote remote) whole) ids opens)
+      ∙ sym (ap (λ (x : Bool). if x then first_after m time mark remote bytes (first_token m s remote bytes) (at s ds) else heard_after m time mark remote bytes (at s ds)) awaits
+      ∙ ap (λ (x : Option (List ℕ)). first_after m time mark remote bytes x (at s ds)) (token_is c s remote bytes p rest source token spin number payload h e whole ids opens))

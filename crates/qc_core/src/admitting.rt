@@ -19,7 +19,8 @@ use qc_base::{ConnectionId, Instant, Side, SpaceId, TransportError, TransportErr
 use qc_frame::{Ack, Frame, FrameOf, Iter, TypedFrame, put_frame};
 use qc_state::spaces::is_space;
 use qc_state::{
-    ApplicationClose, Body, Close, ConnectionClose, ConnectionError, Dids, Layer, Suite, Verdict,
+    ApplicationClose, Body, Close, ConnectionClose, ConnectionError, Dids, Layer, Signs, Suite,
+    Verdict,
 };
 use std::alloc::{AllocError, Global};
 
@@ -524,11 +525,12 @@ impl<U: Suite> Core<U> {
         space: SpaceId,
         number: u64,
         eliciting: bool,
+        signs: Signs,
         verdict: Verdict,
     ) -> Result<(), AllocError>
-        ensures { OnOk result ((held U.Random.stream self.new did.new) ≡ accepted_after now space number eliciting verdict (held U.Random.stream self.old did.old)) }
+        ensures { OnOk result ((held U.Random.stream self.new did.new) ≡ accepted_after now space number eliciting signs verdict (held U.Random.stream self.old did.old)) }
     {
-        self.do_accept(did, now, space, number, eliciting, verdict)?;
+        self.do_accept(did, now, space, number, eliciting, signs, verdict)?;
         self.leave_initial(Side::Server, space, did);
         Ok(())
     }
@@ -541,13 +543,15 @@ impl<U: Suite> Core<U> {
         did: &mut Dids,
         now: Instant,
         space: SpaceId,
+        signs: Signs,
         source: ConnectionId,
         number: u64,
         payload: &[u8],
     ) -> Result<(), AllocError>
-        ensures { OnOk result ((held U.Random.stream self.new did.new) ≡ admitted_after (meaning U.Session.Session U.Session.HeaderKey.HeaderMask U.Session.PacketKey.PacketKey) now space source number payload.now (held U.Random.stream self.old did.old)) }
+        ensures { OnOk result ((held U.Random.stream self.new did.new) ≡ admitted_after (meaning U.Session.Session U.Session.HeaderKey.HeaderMask U.Session.PacketKey.PacketKey) now space signs source number payload.now (held U.Random.stream self.old did.old)) }
     {
-        self.accepted(did, now, space, number, elicits(payload), Verdict::Admitted)?;
+        let eliciting = elicits(payload);
+        self.accepted(did, now, space, number, eliciting, signs, Verdict::Admitted)?;
         self.fix(space, source, did);
         self.payload(alloc, did, now, space, payload)
     }
@@ -604,20 +608,32 @@ impl<U: Suite> Core<U> {
         did: &mut Dids,
         now: Instant,
         space: SpaceId,
+        signs: Signs,
         source: ConnectionId,
         token: Bytes,
         number: u64,
         payload: Bytes,
     ) -> Result<(), AllocError>
-        ensures { OnOk result ((held U.Random.stream self.new did.new) ≡ received_after (meaning U.Session.Session U.Session.HeaderKey.HeaderMask U.Session.PacketKey.PacketKey) now space source token number payload (held U.Random.stream self.old did.old)) }
+        ensures { OnOk result ((held U.Random.stream self.new did.new) ≡ received_after (meaning U.Session.Session U.Session.HeaderKey.HeaderMask U.Session.PacketKey.PacketKey) now space signs source token number payload (held U.Random.stream self.old did.old)) }
     {
         match self.verdict(space, source, token.as_slice(), number) {
             Verdict::Seen => { self.do_tell_piece(did, Some(space), Some(number), Verdict::Seen) }
             Verdict::ReadForClose => { self.read_for_close(did, space, number, payload.as_slice()) }
             Verdict::NumberOnly => self.do_enter(did, space, number, Verdict::NumberOnly),
-            Verdict::AckOnly => self.accepted(did, now, space, number, false, Verdict::AckOnly),
+            Verdict::AckOnly => {
+                self.accepted(did, now, space, number, false, signs, Verdict::AckOnly)
+            }
             Verdict::Admitted => {
-                self.admitted(alloc, did, now, space, source, number, payload.as_slice())
+                self.admitted(
+                    alloc,
+                    did,
+                    now,
+                    space,
+                    signs,
+                    source,
+                    number,
+                    payload.as_slice(),
+                )
             }
             Verdict::Ignored | Verdict::Failure | Verdict::BadBits => Ok(()),
         }

@@ -1,9 +1,9 @@
 //! The calls of a connection.
 
 ghost use Rattle.std.specs.Prelude.{◌≡◌, ◌<◌, ◌^◌, ◌≤◌, [], length, OnOk, IfOk};
-ghost use Rattle.qc_state.specs.Life.{is_open, ready_event, connected_event, lost_event, drained_event};
-ghost use Rattle.qc_state.specs.Moves.{Clock, Ask, ReportReady, ReportConnected, ReportLost, ReportDrained, move_to, state_move};
-ghost use Rattle.qc_state.specs.Polls.{first_event, polled};
+ghost use Rattle.qc_state.specs.Life.{is_open, ready_event, connected_event, lost_event, token_event, wanted_event, drained_event};
+ghost use Rattle.qc_state.specs.Moves.{Clock, Ask, ReportReady, ReportConnected, ReportLost, ReportToken, ReportWanted, ReportDrained, move_to, state_move};
+ghost use Rattle.qc_state.specs.Polls.{first_endpoint_event, first_event, polled, polled_endpoint};
 ghost use Rattle.qc_state.specs.Run.{close_after};
 ghost use Rattle.qc_state.specs.Timers.{next_timeout};
 ghost use Rattle.qc_state.specs.View.{at, ideal, held};
@@ -84,12 +84,43 @@ impl<U: Suite> Core<U> {
         self.poll_lost()
     }
 
-    /// The next event for the endpoint. None exactly where none waits.
-    pub fn poll_endpoint_events(&mut self) -> Option<EndpointEvent>
+    /// The report of the peer's token for a stateless reset. None exactly where it doesn't wait.
+    pub fn poll_token(&mut self) -> Option<EndpointEvent>
+        ensures event { result ≡ token_event self.old.life }
+        ensures leads { (ideal U.Random.stream self.new) ≡ state_move ReportToken (ideal U.Random.stream self.old) }
+    {
+        self.do_report_token()
+    }
+
+    /// The report of how many identifiers are wanted. None exactly where it doesn't wait.
+    pub fn poll_wanted(&mut self) -> Option<EndpointEvent>
+        ensures event { result ≡ wanted_event self.old.life }
+        ensures leads { (ideal U.Random.stream self.new) ≡ state_move ReportWanted (ideal U.Random.stream self.old) }
+    {
+        self.do_report_wanted()
+    }
+
+    /// The report of the end. None exactly where it doesn't wait.
+    pub fn poll_drained(&mut self) -> Option<EndpointEvent>
         ensures event { result ≡ drained_event self.old.life }
         ensures leads { (ideal U.Random.stream self.new) ≡ state_move ReportDrained (ideal U.Random.stream self.old) }
     {
         self.do_report_drained()
+    }
+
+    /// The next event for the endpoint. None exactly where none waits.
+    #[tactic(auto, unfolding(qc_state::specs::Polls::first_endpoint_event, qc_state::specs::Polls::polled_endpoint))]
+    pub fn poll_endpoint_events(&mut self) -> Option<EndpointEvent>
+        ensures event { result ≡ first_endpoint_event self.old.life }
+        ensures leads { (ideal U.Random.stream self.new) ≡ polled_endpoint (ideal U.Random.stream self.old) }
+    {
+        if self.life.reset_token.is_some() {
+            return self.poll_token();
+        }
+        if self.life.wanted.is_some() {
+            return self.poll_wanted();
+        }
+        self.poll_drained()
     }
 
     /// The greatest time that the connection was told, its creation included.

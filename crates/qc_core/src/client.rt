@@ -74,6 +74,7 @@ impl<U: Suite> Core<U> {
             remote_cid: setup.first_cid,
             peer_fixed: false,
             validated: true,
+            spin: false,
             sent: 0,
             received: 0,
         };

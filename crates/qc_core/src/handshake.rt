@@ -5,7 +5,7 @@ ghost use Rattle.qc_assembler.specs.Assembly.{inserted, part_count};
 ghost use Rattle.qc_base.specs.declared.transport_error.TransportError.{TransportError};
 ghost use Rattle.qc_core.specs.Reading.{HasRead, HasWritten};
 ghost use Rattle.qc_state.specs.Lower.{ready_bytes, stream_of};
-ghost use Rattle.qc_state.specs.Progress.{ended_after, ids_fit, is_end, is_server_start, is_written, learned_after, names_id, over_after, parameters_and, progress_after, written_after};
+ghost use Rattle.qc_state.specs.Progress.{ended_after, ids_fit, is_end, is_server_start, is_written, learned_after, learned_with, names_id, over_after, parameters_and, progress_after, token_after, written_after};
 ghost use Rattle.qc_state.specs.Life.{is_handshake};
 ghost use Rattle.qc_state.specs.Moves.{Confirm, Establish, Forget, calmed, move_to};
 ghost use Rattle.qc_base.specs.declared.side.SpaceId.TheVariants.{Handshake};
@@ -18,7 +18,9 @@ use crate::admitting::error_at;
 use crate::state::Core;
 use bytes::Bytes;
 use qc_assembler::InsertError;
-use qc_base::{ConnectionId, Instant, Side, SpaceId, TransportError, TransportErrorCode};
+use qc_base::{
+    ConnectionId, Instant, ResetToken, Side, SpaceId, TransportError, TransportErrorCode,
+};
 use qc_crypto::{Keys, Session, SessionError};
 use qc_params::TransportParameters;
 use qc_state::{Body, Dids, Layer, SoundSession, Suite};
@@ -304,8 +306,33 @@ impl<U: Suite> Core<U> {
         }
     }
 
+    /// A client is told a server's token for a stateless reset, where its parameters have one.
+    #[tactic(auto, unfolding(qc_state::specs::Moves::move_to, qc_state::specs::Moves::deeds_move, qc_state::specs::Setup::ideal_setup))]
+    fn tell_token(&mut self, token: Option<ResetToken>, did: &Dids)
+        ensures { (held U.Random.stream self.new did.now) ≡ token_after self.old.setup.fixed.side token (held U.Random.stream self.old did.now) }
+    {
+        match (self.setup.fixed.side, token) {
+            (Side::Client, Some(token)) => self.do_token(token),
+            _ => {}
+        }
+    }
+
+    /// The peer's parameters count from now on, and identifiers are wanted, where this end's ids aren't empty.
+    #[tactic(auto, unfolding(qc_state::specs::Progress::learned_with, qc_state::specs::Moves::move_to, qc_state::specs::Moves::deeds_move, qc_state::specs::Setup::ideal_setup))]
+    fn learn_with(&mut self, now: Instant, parameters: TransportParameters, did: &Dids)
+        ensures { (held U.Random.stream self.new did.now) ≡ learned_with now parameters (held U.Random.stream self.old did.now) }
+    {
+        let has_no_ids = self.setup.fixed.local_cid.is_empty();
+        let count = parameters.issue_cids_limit().saturating_sub(1);
+        self.do_learn(parameters);
+        if has_no_ids {
+            return;
+        }
+        self.do_want(now, count);
+    }
+
     /// The peer's parameters, as the session gives them. Answers whether they can be read and their ids fit; otherwise this end
-    /// closes.
+    /// closes. A server's token counts also where the ids don't fit.
     fn learned(
         &mut self,
         did: &mut Dids,
@@ -319,8 +346,10 @@ impl<U: Suite> Core<U> {
             Err(error) => self.stopped(did, now, error)?,
             Ok(None) => self.stopped(did, now, error_at(TransportErrorCode::crypto(0x6d), None))?,
             Ok(Some(parameters)) => {
-                if self.ids_fit(&parameters) {
-                    self.do_learn(parameters);
+                let fits = self.ids_fit(&parameters);
+                self.tell_token(parameters.stateless_reset_token, did);
+                if fits {
+                    self.learn_with(now, parameters, did);
                     return Ok(true);
                 }
                 let error = error_at(TransportErrorCode::TRANSPORT_PARAMETER_ERROR, None);

@@ -8,6 +8,7 @@ use crate::state::Core;
 use qc_assembler::Assembler;
 use qc_base::{ConnectionId, Duration, Instant, Side, SpaceId, VarInt};
 use qc_crypto::{Keys, Session};
+use qc_frame::EcnCounts;
 use qc_path::PendingAcks;
 use qc_recovery::{IdleTimeout, TransportConfig};
 use qc_state::setup::limit_of_millis;
@@ -62,6 +63,11 @@ fn nothing_waits(alloc: Global, crypto: Vec<u8>) -> SpaceWaiting
         ping: false,
         crypto: CryptoQueue::from_vec(crypto),
         acks: PendingAcks::new(),
+        marks: EcnCounts {
+            ect0: 0,
+            ect1: 0,
+            ce: 0,
+        },
         flight: Flight::new(alloc),
         told: false,
     }
@@ -85,7 +91,7 @@ fn waiting(alloc: Global, hello: Vec<u8>) -> Waiting
 
 /// The life of a connection that was just made.
 fn life() -> Life
-    ensures { result ≡ record { state = State.Handshake; reason = None; ready = false; connected = false; lost = None; drained = false; close = None } }
+    ensures { result ≡ record { state = State.Handshake; reason = None; ready = false; connected = false; lost = None; reset_token = None; wanted = None; drained = false; close = None } }
 {
     Life {
         state: State::Handshake,
@@ -93,6 +99,8 @@ fn life() -> Life
         ready: false,
         connected: false,
         lost: None,
+        reset_token: None,
+        wanted: None,
         drained: false,
         close: None,
     }

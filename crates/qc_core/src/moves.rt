@@ -3,11 +3,11 @@
 ghost use Rattle.std.specs.Prelude.{◌≡◌, ◌+◌, ◌<◌, ◌≤◌, ◌^◌, Err, length, OnOk, OnErr, IfOk};
 ghost use Rattle.qc_assembler.specs.Assembly.{inserted, part_count};
 ghost use Rattle.qc_state.specs.Acks.{AckPart, may_acknowledge};
-ghost use Rattle.qc_state.specs.Life.{ready_event, connected_event, lost_event, drained_event};
+ghost use Rattle.qc_state.specs.Life.{ready_event, connected_event, lost_event, token_event, wanted_event, drained_event};
 ghost use Rattle.qc_state.specs.Lower.{ready_bytes, stream_of};
 ghost use Rattle.qc_frame.specs.AckRanges.{ranges_of};
 ghost use Rattle.qc_frame.specs.Frame.{ack_map};
-ghost use Rattle.qc_state.specs.Moves.{Clock, Ask, Take, Seal, Forget, Expect, Enter, Fail, Accept, Fix, Hear, Ack, Calm, Come, Ready, Learn, Confirm, Establish, Tell, Drain, Leave, Owe, Shut, Raise, Give, Say, ReportReady, ReportConnected, ReportLost, ReportDrained, move_to, state_move};
+ghost use Rattle.qc_state.specs.Moves.{Clock, Ask, Take, Seal, Forget, Expect, Enter, Fail, Accept, Fix, Hear, Ack, Calm, Come, Ready, Token, Learn, Want, Confirm, Establish, Tell, Drain, Leave, Owe, Shut, Raise, Give, Say, ReportReady, ReportConnected, ReportLost, ReportToken, ReportWanted, ReportDrained, move_to, state_move};
 ghost use Rattle.qc_state.specs.Spaces.{space_of};
 ghost use Rattle.qc_state.specs.View.{ideal, held};
 ghost use Rattle.qc_state.specs.Waiting.{TakenPart};
@@ -15,18 +15,18 @@ ghost use Rattle.qc_state.specs.Waiting.{TakenPart};
 use crate::state::Core;
 use bytes::Bytes;
 use qc_assembler::InsertError;
-use qc_base::{ConnectionId, Instant, SpaceId};
+use qc_base::{ConnectionId, Instant, ResetToken, SpaceId};
 use qc_frame::{Ack, FrameList};
 use qc_params::TransportParameters;
 use qc_path::Arrival;
 use qc_state::spaces::is_space;
 use qc_state::{
-    Body, Close, ConnectionError, Did, Dids, EndpointEvent, Event, Layer, Quiet, State, Suite,
-    Verdict,
+    Body, Close, ConnectionError, Did, Dids, EndpointEvent, Event, Layer, Quiet, Signs, State,
+    Suite, Verdict,
 };
 use std::alloc::{AllocError, Global};
 
-#[tactic(auto, unfolding(qc_state::specs::Moves::move_to, qc_state::specs::Moves::state_move, qc_state::specs::Moves::numbers_move, qc_state::specs::Moves::keys_move, qc_state::specs::Moves::life_move, qc_state::specs::Moves::paths_move, qc_state::specs::Moves::timers_move, qc_state::specs::Moves::waiting_move, qc_state::specs::Moves::setup_move, qc_state::specs::Moves::lower_move, qc_state::specs::Moves::deeds_move, qc_state::specs::Setup::ideal_setup, qc_state::specs::Setup::idle_limit_now, qc_state::specs::Setup::parameters_known, qc_state::specs::Setup::token_expected, qc_state::specs::Lower::session_wrote), using(qc_state::proofs::Arrivals::came_accepted))]
+#[tactic(auto, unfolding(qc_state::specs::Moves::move_to, qc_state::specs::Moves::state_move, qc_state::specs::Moves::numbers_move, qc_state::specs::Moves::keys_move, qc_state::specs::Moves::life_move, qc_state::specs::Moves::paths_move, qc_state::specs::Moves::timers_move, qc_state::specs::Moves::waiting_move, qc_state::specs::Moves::setup_move, qc_state::specs::Moves::lower_move, qc_state::specs::Moves::deeds_move, qc_state::specs::Setup::ideal_setup, qc_state::specs::Setup::idle_limit_now, qc_state::specs::Setup::probe_timeout_now, qc_state::specs::Setup::parameters_known, qc_state::specs::Setup::token_expected, qc_state::specs::Lower::session_wrote), using(qc_state::proofs::Arrivals::came_accepted))]
 impl<U: Suite> Core<U> {
     /// The connection is told a time.
     pub(crate) fn do_clock(&mut self, now: Instant)
@@ -64,7 +64,7 @@ impl<U: Suite> Core<U> {
         now: Instant,
         space: SpaceId,
     ) -> Result<FrameList, AllocError>
-        ensures frames { IfOk result (λ frames. AckPart now (space_of self.old.waiting.spaces space).acks frames (may_acknowledge (space_of self.old.waiting.spaces space).acks)) }
+        ensures frames { IfOk result (λ frames. AckPart now (space_of self.old.waiting.spaces space) frames (may_acknowledge (space_of self.old.waiting.spaces space).acks)) }
         ensures leads { IfOk result (λ frames. (ideal U.Random.stream self.new) ≡ state_move (Take space frames) (ideal U.Random.stream self.old)) }
         ensures most { OnOk result (length (space_of self.old.waiting.spaces space).acks.ranges ≤ 64) }
     {
@@ -91,7 +91,8 @@ impl<U: Suite> Core<U> {
         self.waiting.tell(space, last);
         if frames.elicits() {
             self.waiting.fly(space, number)?;
-            self.timers.sealed(self.setup.idle_limit(), now);
+            let probe = self.setup.probe_timeout(space);
+            self.timers.sealed(self.setup.idle_limit(), probe, now);
         }
         did.push_sealed(space, number, frames)
     }
@@ -140,10 +141,12 @@ impl<U: Suite> Core<U> {
         space: SpaceId,
         number: u64,
         eliciting: bool,
+        signs: Signs,
         verdict: Verdict,
     ) -> Result<(), AllocError>
-        ensures { OnOk result ((held U.Random.stream self.new did.new) ≡ move_to (Accept now space number eliciting verdict) (held U.Random.stream self.old did.old)) }
+        ensures { OnOk result ((held U.Random.stream self.new did.new) ≡ move_to (Accept now space number eliciting signs verdict) (held U.Random.stream self.old did.old)) }
     {
+        let greatest = self.numbers.received(space) <= number;
         self.numbers.accepted(space, number);
         let packet = Arrival {
             number,
@@ -151,9 +154,12 @@ impl<U: Suite> Core<U> {
             ack_eliciting: eliciting,
             ce: false,
         };
-        self.waiting.came(space, self.numbers.came(space), &packet);
+        let came = self.numbers.came(space);
+        self.waiting.came(space, came, &packet, signs.mark);
         self.paths.accepted(space, verdict);
-        self.timers.accepted(self.setup.idle_limit(), now);
+        self.paths.spun(self.setup.fixed.side, greatest, signs.spin);
+        let probe = self.setup.probe_timeout(space);
+        self.timers.accepted(self.setup.idle_limit(), probe, now);
         did.push_piece(Some(space), Some(number), verdict)
     }
 
@@ -212,6 +218,20 @@ impl<U: Suite> Core<U> {
         ensures { (ideal U.Random.stream self.new) ≡ state_move Ready (ideal U.Random.stream self.old) }
     {
         self.life.data_ready();
+    }
+
+    /// The peer's token for a stateless reset was read.
+    pub(crate) fn do_token(&mut self, token: ResetToken)
+        ensures { (ideal U.Random.stream self.new) ≡ state_move (Token token) (ideal U.Random.stream self.old) }
+    {
+        self.life.learn_token(self.paths.remote, token);
+    }
+
+    /// So many identifiers are wanted.
+    pub(crate) fn do_want(&mut self, now: Instant, count: u64)
+        ensures { (ideal U.Random.stream self.new) ≡ state_move (Want now count) (ideal U.Random.stream self.old) }
+    {
+        self.life.want(now, count);
     }
 
     /// The peer's parameters were read.
@@ -273,8 +293,9 @@ impl<U: Suite> Core<U> {
     pub(crate) fn do_leave(&mut self, did: &mut Dids, now: Instant) -> Result<(), AllocError>
         ensures { OnOk result ((held U.Random.stream self.new did.new) ≡ move_to (Leave now) (held U.Random.stream self.old did.old)) }
     {
+        let probe = self.setup.probe_timeout(self.keys.highest);
         self.life.drain();
-        self.timers.closing(now);
+        self.timers.closing(probe, now);
         did.push_rose(3)
     }
 
@@ -289,8 +310,9 @@ impl<U: Suite> Core<U> {
     pub(crate) fn do_shut(&mut self, now: Instant, close: Close)
         ensures { (ideal U.Random.stream self.new) ≡ state_move (Shut now close) (ideal U.Random.stream self.old) }
     {
+        let probe = self.setup.probe_timeout(self.keys.highest);
         self.life.shut(close);
-        self.timers.closing(now);
+        self.timers.closing(probe, now);
         self.waiting.owe_close();
     }
 
@@ -342,6 +364,22 @@ impl<U: Suite> Core<U> {
         ensures leads { (ideal U.Random.stream self.new) ≡ state_move ReportLost (ideal U.Random.stream self.old) }
     {
         self.life.take_lost()
+    }
+
+    /// The peer's token is reported, where it waits.
+    pub(crate) fn do_report_token(&mut self) -> Option<EndpointEvent>
+        ensures event { result ≡ token_event self.old.life }
+        ensures leads { (ideal U.Random.stream self.new) ≡ state_move ReportToken (ideal U.Random.stream self.old) }
+    {
+        self.life.take_token()
+    }
+
+    /// How many identifiers are wanted is reported, where it waits.
+    pub(crate) fn do_report_wanted(&mut self) -> Option<EndpointEvent>
+        ensures event { result ≡ wanted_event self.old.life }
+        ensures leads { (ideal U.Random.stream self.new) ≡ state_move ReportWanted (ideal U.Random.stream self.old) }
+    {
+        self.life.take_wanted()
     }
 
     /// The end is reported, where it waits.

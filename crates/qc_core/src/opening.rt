@@ -4,7 +4,7 @@ ghost use Rattle.std.specs.Prelude.{◌≡◌, Some, IsSome, IfOk};
 ghost use Rattle.qc_base.specs.Mask.{first_byte};
 ghost use Rattle.qc_header.specs.HeaderSpelling.{header_number};
 ghost use Rattle.qc_packet.specs.OpenedPacket.{reserved_bits};
-ghost use Rattle.qc_state.specs.Opening.{is_other_phase, judged, opened_space, source_of, token_of, whole_number, opened_by, opened_under, opening_of};
+ghost use Rattle.qc_state.specs.Opening.{is_other_phase, judged, opened_space, source_of, spin_of, token_of, whole_number, opened_by, opened_under, opening_of};
 ghost use Rattle.qc_state.specs.Types.{meaning};
 ghost use Rattle.qc_state.specs.View.{ideal};
 
@@ -55,6 +55,19 @@ fn token_of(header: &Header) -> Result<Bytes, AllocError>
         | Header::Retry { .. }
         | Header::Short { .. }
         | Header::VersionNegotiate { .. } => Ok(Bytes::new()),
+    }
+}
+
+/// The spin bit of a header; only short headers have one.
+fn spin_of(header: &Header) -> bool
+    ensures { result ≡ spin_of header.now }
+{
+    match header {
+        Header::Short { spin, .. } => *spin,
+        Header::Initial(_)
+        | Header::Long { .. }
+        | Header::Retry { .. }
+        | Header::VersionNegotiate { .. } => false,
     }
 }
 
@@ -114,10 +127,12 @@ fn judged(number: u64, packet: Packet) -> Result<Opening, AllocError>
     }
     let source = source_of(&packet.header);
     let token = token_of(&packet.header)?;
+    let spin = spin_of(&packet.header);
     match packet.payload.freeze() {
         Ok(payload) => Ok(Opening::Opened {
             source,
             token,
+            spin,
             number,
             payload,
         }),

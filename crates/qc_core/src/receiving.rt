@@ -10,10 +10,10 @@ ghost use Rattle.qc_state.specs.View.{ideal, held};
 
 use crate::state::Core;
 use bytes::{Bytes, BytesMut};
-use qc_base::{ConnectionId, Instant, SpaceId};
+use qc_base::{ConnectionId, EcnCodepoint, Instant, SpaceId};
 use qc_header::{PacketDecodeError, PartialDecode, ProtectedHeader};
 use qc_state::paths::same_address;
-use qc_state::{DATAGRAM_SIZE, Dids, Opening, Suite, Verdict};
+use qc_state::{DATAGRAM_SIZE, Dids, Opening, Signs, Suite, Verdict};
 use std::alloc::{AllocError, Global};
 use std::net::SocketAddr;
 
@@ -55,6 +55,8 @@ struct First {
     source: ConnectionId,
     /// Its token.
     token: Bytes,
+    /// Its spin bit.
+    spin: bool,
     /// Its whole number.
     number: u64,
     /// Its payload.
@@ -88,10 +90,11 @@ impl<U: Suite> Core<U> {
         alloc: Global,
         did: &mut Dids,
         now: Instant,
+        mark: Option<EcnCodepoint>,
         space: Option<SpaceId>,
         opening: Opening,
     ) -> Result<(), AllocError>
-        ensures { OnOk result ((held U.Random.stream self.new did.new) ≡ opening_after (meaning U.Session.Session U.Session.HeaderKey.HeaderMask U.Session.PacketKey.PacketKey) now space opening (held U.Random.stream self.old did.old)) }
+        ensures { OnOk result ((held U.Random.stream self.new did.new) ≡ opening_after (meaning U.Session.Session U.Session.HeaderKey.HeaderMask U.Session.PacketKey.PacketKey) now mark space opening (held U.Random.stream self.old did.old)) }
     {
         match opening {
             Opening::Unreadable => self.do_tell_piece(did, space, None, Verdict::Ignored),
@@ -106,12 +109,16 @@ impl<U: Suite> Core<U> {
             Opening::Opened {
                 source,
                 token,
+                spin,
                 number,
                 payload,
             } => match space {
                 None => self.do_tell_piece(did, None, None, Verdict::Ignored),
                 Some(space) => {
-                    self.received(alloc, did, now, space, source, token, number, payload)
+                    let signs = Signs { mark, spin };
+                    self.received(
+                        alloc, did, now, space, signs, source, token, number, payload,
+                    )
                 }
             },
         }
@@ -124,16 +131,17 @@ impl<U: Suite> Core<U> {
         alloc: Global,
         did: &mut Dids,
         now: Instant,
+        mark: Option<EcnCodepoint>,
         partial: PartialDecode,
     ) -> Result<(), AllocError>
-        ensures { OnOk result ((held U.Random.stream self.new did.new) ≡ piece_after (meaning U.Session.Session U.Session.HeaderKey.HeaderMask U.Session.PacketKey.PacketKey) now partial (held U.Random.stream self.old did.old)) }
+        ensures { OnOk result ((held U.Random.stream self.new did.new) ≡ piece_after (meaning U.Session.Session U.Session.HeaderKey.HeaderMask U.Session.PacketKey.PacketKey) now mark partial (held U.Random.stream self.old did.old)) }
     {
         let space = partial.space();
         if self.life.is_over() {
             return self.do_tell_piece(did, space, None, Verdict::Ignored);
         }
         let opening = self.open(partial)?;
-        self.opened(alloc, did, now, space, opening)
+        self.opened(alloc, did, now, mark, space, opening)
     }
 
     /// The packets of a datagram behind its first one. Want of memory is the only refusal.
@@ -142,19 +150,20 @@ impl<U: Suite> Core<U> {
         alloc: Global,
         did: &mut Dids,
         now: Instant,
+        mark: Option<EcnCodepoint>,
         cutting: Cutting,
         behind: Option<BytesMut>,
     ) -> Result<(), AllocError>
         requires fits { cutting.local_cid_len ≤ 20 }
         requires some { IfSome behind (λ b. 0 < length b.items) }
-        ensures { OnOk result ((held U.Random.stream self.new did.new) ≡ pieces_after (meaning U.Session.Session U.Session.HeaderKey.HeaderMask U.Session.PacketKey.PacketKey) now (others_of cutting behind) (held U.Random.stream self.old did.old)) }
+        ensures { OnOk result ((held U.Random.stream self.new did.new) ≡ pieces_after (meaning U.Session.Session U.Session.HeaderKey.HeaderMask U.Session.PacketKey.PacketKey) now mark (others_of cutting behind) (held U.Random.stream self.old did.old)) }
     {
         let mut rest = behind;
         while let Some(bytes) = rest {
             match cut(cutting, bytes)? {
                 None => return Ok(()),
                 Some((piece, others)) => {
-                    self.piece(alloc, did, now, piece)?;
+                    self.piece(alloc, did, now, mark, piece)?;
                     rest = others;
                 }
             }
@@ -168,16 +177,17 @@ impl<U: Suite> Core<U> {
         alloc: Global,
         did: &mut Dids,
         now: Instant,
+        mark: Option<EcnCodepoint>,
         cutting: Cutting,
         first: PartialDecode,
         behind: Option<BytesMut>,
     ) -> Result<(), AllocError>
         requires fits { cutting.local_cid_len ≤ 20 }
         requires some { IfSome behind (λ b. 0 < length b.items) }
-        ensures { OnOk result ((held U.Random.stream self.new did.new) ≡ pieces_after (meaning U.Session.Session U.Session.HeaderKey.HeaderMask U.Session.PacketKey.PacketKey) now (Ok first ∷ others_of cutting behind) (held U.Random.stream self.old did.old)) }
+        ensures { OnOk result ((held U.Random.stream self.new did.new) ≡ pieces_after (meaning U.Session.Session U.Session.HeaderKey.HeaderMask U.Session.PacketKey.PacketKey) now mark (Ok first ∷ others_of cutting behind) (held U.Random.stream self.old did.old)) }
     {
-        self.piece(alloc, did, now, first)?;
-        self.others(alloc, did, now, cutting, behind)
+        self.piece(alloc, did, now, mark, first)?;
+        self.others(alloc, did, now, mark, cutting, behind)
     }
 
     /// A datagram came from `remote` at `now` to an end that doesn't wait for its first packet. Answers whether it begins with a
@@ -188,11 +198,12 @@ impl<U: Suite> Core<U> {
         alloc: Global,
         did: &mut Dids,
         now: Instant,
+        mark: Option<EcnCodepoint>,
         remote: SocketAddr,
         bytes: BytesMut,
     ) -> Result<bool, AllocError>
         ensures answer { IfOk result (λ read. read ≡ is_readable (ideal U.Random.stream self.old) bytes.items) }
-        ensures leads { OnOk result ((held U.Random.stream self.new did.new) ≡ heard_after (meaning U.Session.Session U.Session.HeaderKey.HeaderMask U.Session.PacketKey.PacketKey) now remote bytes.items (held U.Random.stream self.old did.old)) }
+        ensures leads { OnOk result ((held U.Random.stream self.new did.new) ≡ heard_after (meaning U.Session.Session U.Session.HeaderKey.HeaderMask U.Session.PacketKey.PacketKey) now mark remote bytes.items (held U.Random.stream self.old did.old)) }
     {
         let len = bytes.len() as u64;
         let cutting = self.cutting();
@@ -200,7 +211,7 @@ impl<U: Suite> Core<U> {
             None => Ok(false),
             Some((first, behind)) => {
                 if self.lets_in(remote) {
-                    self.pieces(alloc, did, now, cutting, first, behind)?;
+                    self.pieces(alloc, did, now, mark, cutting, first, behind)?;
                     self.do_hear(len);
                 }
                 Ok(true)
@@ -239,7 +250,7 @@ impl<U: Suite> Core<U> {
     /// has another form or other ids, it doesn't open, or its reserved bits aren't 0. Want of memory is the only refusal.
     #[tactic(auto, unfolding(qc_state::specs::Receiving::token_in_first))]
     fn first_opened(&self, first: PartialDecode) -> Result<Option<First>, AllocError>
-        ensures some { IfOk result (λ r. IfSome r (λ x. (has_first_ids (ideal U.Random.stream self.now) first.header ≡ true) × (opening_of (meaning U.Session.Session U.Session.HeaderKey.HeaderMask U.Session.PacketKey.PacketKey) (ideal U.Random.stream self.now) first ≡ Opening.Opened x.source x.token x.number x.payload))) }
+        ensures some { IfOk result (λ r. IfSome r (λ x. (has_first_ids (ideal U.Random.stream self.now) first.header ≡ true) × (opening_of (meaning U.Session.Session U.Session.HeaderKey.HeaderMask U.Session.PacketKey.PacketKey) (ideal U.Random.stream self.now) first ≡ Opening.Opened x.source x.token x.spin x.number x.payload))) }
         ensures none { IfOk result (λ r. IfNone r (token_in_first (meaning U.Session.Session U.Session.HeaderKey.HeaderMask U.Session.PacketKey.PacketKey) (ideal U.Random.stream self.now) first ≡ None)) }
     {
         if !self.has_first_ids(first.header()) {
@@ -249,11 +260,13 @@ impl<U: Suite> Core<U> {
             Opening::Opened {
                 source,
                 token,
+                spin,
                 number,
                 payload,
             } => Ok(Some(First {
                 source,
                 token,
+                spin,
                 number,
                 payload,
             })),
@@ -269,12 +282,13 @@ impl<U: Suite> Core<U> {
         alloc: Global,
         did: &mut Dids,
         now: Instant,
+        mark: Option<EcnCodepoint>,
         remote: SocketAddr,
         bytes: BytesMut,
     ) -> Result<bool, AllocError>
         requires { is_first_awaited self.old.setup ≡ true }
         ensures answer { IfOk result (λ taken. taken ≡ is_taken (meaning U.Session.Session U.Session.HeaderKey.HeaderMask U.Session.PacketKey.PacketKey) (ideal U.Random.stream self.old) remote bytes.items) }
-        ensures leads { OnOk result ((held U.Random.stream self.new did.new) ≡ datagram_after (meaning U.Session.Session U.Session.HeaderKey.HeaderMask U.Session.PacketKey.PacketKey) now remote bytes.items (held U.Random.stream self.old did.old)) }
+        ensures leads { OnOk result ((held U.Random.stream self.new did.new) ≡ datagram_after (meaning U.Session.Session U.Session.HeaderKey.HeaderMask U.Session.PacketKey.PacketKey) now mark remote bytes.items (held U.Random.stream self.old did.old)) }
     {
         let len = bytes.len();
         if !self.may_begin(remote, len) {
@@ -290,17 +304,22 @@ impl<U: Suite> Core<U> {
             Some(first) => {
                 let token = first.token.clone()?;
                 self.do_expect(token);
+                let signs = Signs {
+                    mark,
+                    spin: first.spin,
+                };
                 self.received(
                     alloc,
                     did,
                     now,
                     SpaceId::Initial,
+                    signs,
                     first.source,
                     first.token,
                     first.number,
                     first.payload,
                 )?;
-                self.others(alloc, did, now, cutting, behind)?;
+                self.others(alloc, did, now, mark, cutting, behind)?;
                 self.do_hear(len as u64);
                 Ok(true)
             }
@@ -315,16 +334,17 @@ impl<U: Suite> Core<U> {
         alloc: Global,
         did: &mut Dids,
         now: Instant,
+        mark: Option<EcnCodepoint>,
         remote: SocketAddr,
         bytes: BytesMut,
     ) -> Result<bool, AllocError>
         ensures answer { IfOk result (λ taken. taken ≡ is_taken (meaning U.Session.Session U.Session.HeaderKey.HeaderMask U.Session.PacketKey.PacketKey) (ideal U.Random.stream self.old) remote bytes.items) }
-        ensures leads { OnOk result ((held U.Random.stream self.new did.new) ≡ datagram_after (meaning U.Session.Session U.Session.HeaderKey.HeaderMask U.Session.PacketKey.PacketKey) now remote bytes.items (held U.Random.stream self.old did.old)) }
+        ensures leads { OnOk result ((held U.Random.stream self.new did.new) ≡ datagram_after (meaning U.Session.Session U.Session.HeaderKey.HeaderMask U.Session.PacketKey.PacketKey) now mark remote bytes.items (held U.Random.stream self.old did.old)) }
     {
         if self.setup.is_first_awaited() {
-            return self.first_datagram(alloc, did, now, remote, bytes);
+            return self.first_datagram(alloc, did, now, mark, remote, bytes);
         }
-        self.heard(alloc, did, now, remote, bytes)
+        self.heard(alloc, did, now, mark, remote, bytes)
     }
 
     /// Whether datagrams from this address count.

@@ -4,12 +4,13 @@ ghost use Rattle.std.specs.Prelude.{◌≡◌, ◌+◌, ◌-◌, ◌<◌, ◌≤
 ghost use Rattle.qc_frame.specs.Frame.{owned};
 ghost use Rattle.qc_frame.specs.FrameSpelling.{frames_spelling};
 ghost use Rattle.qc_frame.specs.declared.frames.FrameOf.TheVariants.{Padding};
+ghost use Rattle.qc_packet.specs.Building.{padded_size};
 ghost use Rattle.qc_packet.specs.PacketSpelling.{padding_len};
 ghost use Rattle.qc_header.specs.HeaderSpelling.{header_spelling, header_number};
 ghost use Rattle.qc_state.specs.Keys.{keys_of};
 ghost use Rattle.qc_state.specs.Moves.{Take, Seal, move_to, calmed, state_move};
 ghost use Rattle.qc_state.specs.Numbers.{next_number, acked_number};
-ghost use Rattle.qc_state.specs.Sending.{internal_error, told_code, told_type, told_application_code, application_close, closing_frame, IsKeptReason, TakenNow, close_frame, is_silent, owes, owes_in, sending_space, is_used_up, may_be_quiet, given_after, killed_after, owed_quiet_after, quiet_after, header_in, leaves_initial, drops_initial, initial_left, sealed_with, transmit_of};
+ghost use Rattle.qc_state.specs.Sending.{internal_error, told_code, told_type, told_application_code, application_close, closing_frame, IsKeptReason, TakenNow, close_frame, is_silent, owes, owes_in, sending_space, is_used_up, may_be_quiet, given_after, killed_after, owed_quiet_after, quiet_after, header_in, fills, least_size, leaves_initial, drops_initial, initial_left, sealed_with, transmit_with};
 ghost use Rattle.qc_state.specs.Spaces.{space_of};
 ghost use Rattle.qc_state.specs.Types.{meaning};
 ghost use Rattle.qc_state.specs.View.{ideal, held};
@@ -22,7 +23,7 @@ use qc_base::{
 };
 use qc_frame::{FrameList, FrameOf, OwnedFrame, fit_application_reason};
 use qc_header::{Header, InitialHeader};
-use qc_packet::{NUMBER_LIMIT, seal_full};
+use qc_packet::{NUMBER_LIMIT, seal_padded};
 use qc_state::{Close, ConnectionError, DATAGRAM_SIZE, Dids, Quiet, State, Suite, Transmit};
 use std::alloc::{AllocError, Global};
 
@@ -105,6 +106,17 @@ fn leaves_initial(side: Side, end: Side, space: SpaceId) -> bool
     match (side, end, space) {
         (Side::Client, Side::Client, SpaceId::Handshake)
         | (Side::Server, Side::Server, SpaceId::Handshake) => true,
+        _ => false,
+    }
+}
+
+/// Whether a packet fills a datagram: a client's Initial packet does, and a server's that elicits an acknowledgement.
+fn fills(side: Side, space: SpaceId, eliciting: bool) -> bool
+    ensures { result ≡ fills side space eliciting }
+{
+    match (side, space) {
+        (Side::Client, SpaceId::Initial) => true,
+        (Side::Server, SpaceId::Initial) => eliciting,
         _ => false,
     }
 }
@@ -272,7 +284,7 @@ impl<U: Suite> Core<U> {
                 version,
             },
             SpaceId::Data => Header::Short {
-                spin: false,
+                spin: self.paths.spin,
                 key_phase: false,
                 dst_cid,
                 number,
@@ -361,19 +373,32 @@ impl<U: Suite> Core<U> {
         self.do_take(alloc, now, space, room)
     }
 
-    /// A packet of a datagram's size was sealed.
+    /// How many bytes a packet of this space with these frames is to have at least: a datagram's size where it fills one.
+    #[tactic(auto, unfolding(qc_state::specs::Sending::least_size, qc_state::specs::Setup::ideal_setup))]
+    pub fn least_size(&self, space: SpaceId, frames: &FrameList) -> usize
+        ensures value { result ≡ least_size (ideal U.Random.stream self.now) space frames.now }
+        ensures most { result ≤ DATAGRAM_SIZE }
+    {
+        if fills(self.setup.fixed.side, space, frames.elicits()) {
+            return DATAGRAM_SIZE as usize;
+        }
+        0
+    }
+
+    /// A packet of this size was sealed.
     pub fn sealed(
         &mut self,
         did: &mut Dids,
         now: Instant,
         space: SpaceId,
         number: u64,
+        size: u64,
         frames: FrameList,
     ) -> Result<(), AllocError>
         requires { number < 2 ^ 62 }
-        ensures { OnOk result ((held U.Random.stream self.new did.new) ≡ move_to (Seal now space number DATAGRAM_SIZE frames) (held U.Random.stream self.old did.old)) }
+        ensures { OnOk result ((held U.Random.stream self.new did.new) ≡ move_to (Seal now space number size frames) (held U.Random.stream self.old did.old)) }
     {
-        self.do_seal(did, now, space, number, DATAGRAM_SIZE, frames)
+        self.do_seal(did, now, space, number, size, frames)
     }
 
     /// Nothing more may be in flight that elicits an acknowledgement.
@@ -407,46 +432,48 @@ impl<U: Suite> Core<U> {
         }
     }
 
-    /// Where the datagrams of a transmit that seals a packet go.
-    #[tactic(auto, unfolding(qc_state::specs::Sending::transmit_of, qc_state::specs::Setup::ideal_setup))]
-    pub fn transmit_to(&self) -> Transmit
-        ensures { Some result ≡ transmit_of ([] ∷ []) (ideal U.Random.stream self.now) }
+    /// Where a datagram of this size goes.
+    #[tactic(auto, unfolding(qc_state::specs::Sending::transmit_with, qc_state::specs::Setup::ideal_setup))]
+    pub fn transmit_to(&self, size: usize) -> Transmit
+        ensures { result ≡ transmit_with (ideal U.Random.stream self.now) size }
     {
         Transmit {
             destination: self.paths.remote,
             ecn: Some(EcnCodepoint::Ect0),
-            size: DATAGRAM_SIZE as usize,
+            size,
             segment_size: None,
             src_ip: self.setup.fixed.local_ip,
         }
     }
 
-    /// Seals a packet with these frames, filled up with PADDING to a datagram's size, into an empty buffer. The PADDING
-    /// frames are added to the list.
+    /// Seals a packet with these frames into an empty buffer, filled up with PADDING to `least` bytes at least, and to what
+    /// each packet has to have. The PADDING frames are added to the list.
     pub fn seal(
         &self,
         space: SpaceId,
         number: u64,
         header: &Header,
         frames: &mut FrameList,
+        least: usize,
         buf: &mut Vec<u8>,
     ) -> Result<(), AllocError>
         requires empty { buf.old.items ≡ [] }
         requires keyed { IsSome (keys_of self.now.keys space) }
         requires numbered { IsSome (header_number header.now) }
         requires room { length (header_spelling header.now 0) + length (frames_spelling frames.old) + 20 ≤ DATAGRAM_SIZE }
-        ensures frames { OnOk result (frames.new ≡ frames.old ++ replicate (padding_len header.now frames.old DATAGRAM_SIZE) Padding) }
+        requires small { least ≤ DATAGRAM_SIZE }
+        ensures frames { OnOk result (frames.new ≡ frames.old ++ replicate (padding_len header.now frames.old (padded_size header.now frames.old least)) Padding) }
         ensures bytes { OnOk result (buf.new.items ≡ sealed_with (meaning U.Session.Session U.Session.HeaderKey.HeaderMask U.Session.PacketKey.PacketKey) (keys_of self.now.keys space) header.now number (frames_spelling frames.new)) }
-        ensures full { OnOk result (length buf.new.items ≡ DATAGRAM_SIZE) }
+        ensures full { OnOk result (length buf.new.items ≡ padded_size header.now frames.old least) }
     {
         match self.keys.get(space) {
-            Some(keys) => seal_full(
+            Some(keys) => seal_padded(
                 &keys.keys.header.local,
                 &keys.keys.packet.local,
                 number,
                 header,
                 frames,
-                DATAGRAM_SIZE as usize,
+                least,
                 buf,
             ),
             None => unreachable!(),

@@ -76,6 +76,7 @@ impl<U: Suite> Core<U> {
             remote_cid: setup.remote_cid,
             peer_fixed: true,
             validated: setup.validated,
+            spin: false,
             sent: 0,
             received: 0,
         };

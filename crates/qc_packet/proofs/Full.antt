@@ -15,7 +15,7 @@ use Rattle.qc_header.specs.declared.header.Header.{Header}
 use Rattle.qc_header.specs.declared.header.Header.TheVariants.{Initial, Long, Retry, Short, VersionNegotiate}
 use Rattle.qc_header.specs.HeaderSpelling.{header_spelling, header_number, initial_spelling, short_spelling, long_start}
 use Rattle.qc_packet.specs.declared.builder.PacketBuilder.{PacketBuilder}
-use Rattle.qc_packet.specs.Building.{header_len, pn_len, is_short, dst_cid_of, min_size_of, max_size_of, builder_for, IsSound, IsReady, IsOf}
+use Rattle.qc_packet.specs.Building.{header_len, pn_len, is_short, dst_cid_of, min_size_of, max_size_of, builder_for, padded_size, IsSound, IsReady, IsOf}
 use Rattle.qc_packet.specs.PacketSpelling.{len_of, padding_len, packet_spelling, sealed_packet}
 
 number_filled : (number : PacketNumber) → 1 ≤ length (number_bytes number)
@@ -41,13 +41,14 @@ number_there (Some (U16 n)) some = omega arith
 number_there (Some (U24 n)) some = omega arith
 number_there (Some (U32 n)) some = omega arith
 
--- a builder asked to fill a datagram of this size
+-- a builder asked for so many bytes at least
 abbrev pub full_builder : SpaceId → ℕ → Header → ℕ → PacketBuilder
-full_builder space number h size = record (builder_for space number h 0 size 0 true) { min_size = max (min_size_of 0 h) (plus 0 (size - 16)) }
+full_builder space number h least = record (builder_for space number h 0 16383 0 true) { min_size = max (min_size_of 0 h) (plus 0 (least - 16)) }
 
-pub full_size : (h : Header) (size frames_len : ℕ) → header_len h + frames_len + 20 ≤ size → size < 2 ^ 14 → max (min_size_of 0 h) (plus 0 (size - 16)) ≡ size - 16
-unfolding min_size_of
-full_size h size frames_len room small = omega (arith, dst_within h)
+-- where its payload ends, by the size of the packet
+pub full_size : (h : Header) (least frames_len : ℕ) → least < 2 ^ 14
+    → max (header_len h + frames_len) (max (min_size_of 0 h) (plus 0 (least - 16))) + 16 ≡ max (max (min_size_of 0 h + 16) least) (header_len h + frames_len + 16)
+full_size h least frames_len small = omega arith
 
 -- where a packet of a datagram below 2^14 bytes may end
 record IsMost (h : Header) (size most : ℕ) : Type 0 where
@@ -62,11 +63,11 @@ most_of h size longer small =
       | false ↦ λ e. record { same = omega arith; long = λ f. omega arith }
     ] refl
 
-pub full_ready : (space : SpaceId) (number : ℕ) (h : Header) (size frames_len len : ℕ) → IsSome (header_number h) → pn_len h < header_len h → header_len h + frames_len + 20 ≤ size → size < 2 ^ 14
-    → len ≡ header_len h + frames_len → IsReady (full_builder space number h size) len
-full_ready space number h size frames_len len some longer room small is_len =
-    let full : max (min_size_of 0 h) (plus 0 (size - 16)) ≡ size - 16 = full_size h size frames_len room small in
-    let most : IsMost h size (max_size_of 0 h size) = most_of h size longer small in
+pub full_ready : (space : SpaceId) (number : ℕ) (h : Header) (least frames_len len : ℕ) → IsSome (header_number h) → pn_len h < header_len h → header_len h + frames_len + 20 ≤ 16383 → least < 2 ^ 14
+    → len ≡ header_len h + frames_len → IsReady (full_builder space number h least) len
+unfolding min_size_of
+full_ready space number h least frames_len len some longer room small is_len =
+    let most : IsMost h 16383 (max_size_of 0 h 16383) = most_of h 16383 longer (omega arith) in
     record {
       sound = record {
         numbered = number_there (header_number h) some;
@@ -76,22 +77,22 @@ full_ready space number h size frames_len len some longer room small is_len =
         length_field = λ e. omega (arith, most.long e);
       };
       begun = omega arith;
-      sizes = omega (arith, most.same);
+      sizes = omega (arith, most.same, dst_within h);
       room = omega (arith, most.same);
     }
 
-pub full_is_of : (space : SpaceId) (number : ℕ) (h : Header) (size : ℕ) → IsSome (header_number h) → IsOf (full_builder space number h size) h
-full_is_of space number h size some = record { header = refl; number = refl; numbered = number_there (header_number h) some; short = refl }
+pub full_is_of : (space : SpaceId) (number : ℕ) (h : Header) (least : ℕ) → IsSome (header_number h) → IsOf (full_builder space number h least) h
+full_is_of space number h least some = record { header = refl; number = refl; numbered = number_there (header_number h) some; short = refl }
 
 -- padding of zeros is so many PADDING frames
-pub full_bytes : (mask : List ℕ → List ℕ) (seal : ℕ → List ℕ → List ℕ → List ℕ) (space : SpaceId) (number : ℕ) (h : Header) (fs : List FrameValue) (size : ℕ) (b : PacketBuilder) (items out : List ℕ)
-    → header_len h + length (frames_spelling fs) + 20 ≤ size → size < 2 ^ 14 → b ≡ full_builder space number h size → length items ≡ header_len h + length (frames_spelling fs)
+pub full_bytes : (mask : List ℕ → List ℕ) (seal : ℕ → List ℕ → List ℕ → List ℕ) (space : SpaceId) (number : ℕ) (h : Header) (fs : List FrameValue) (least : ℕ) (b : PacketBuilder) (items out : List ℕ)
+    → least < 2 ^ 14 → b ≡ full_builder space number h least → length items ≡ header_len h + length (frames_spelling fs)
     → out ≡ sealed_packet mask seal false h b.exact_number (frames_spelling fs ++ replicate (b.min_size - length items) 0)
-    → out ≡ packet_spelling mask seal h number (frames_spelling (fs ++ replicate (padding_len h fs size) Padding))
-full_bytes mask seal space number h fs size b items out room small is_b is_len is_out =
-    let full : max (min_size_of 0 h) (plus 0 (size - 16)) ≡ size - 16 = full_size h size (length (frames_spelling fs)) room small in
-    let pad : b.min_size - length items ≡ padding_len h fs size = omega (arith, ap (λ (x : PacketBuilder). x.min_size) is_b) in
-    let spelled : frames_spelling (fs ++ replicate (padding_len h fs size) Padding) ≡ frames_spelling fs ++ replicate (padding_len h fs size) 0 = rw (flat_map-append spelling fs (replicate (padding_len h fs size) Padding), zeros (padding_len h fs size)) refl in
+    → out ≡ packet_spelling mask seal h number (frames_spelling (fs ++ replicate (padding_len h fs (padded_size h fs least)) Padding))
+full_bytes mask seal space number h fs least b items out small is_b is_len is_out =
+    let pad : b.min_size - length items ≡ padding_len h fs (padded_size h fs least) = omega (arith, ap (λ (x : PacketBuilder). x.min_size) is_b, is_len) in
+    let spelled : frames_spelling (fs ++ replicate (padding_len h fs (padded_size h fs least)) Padding) ≡ frames_spelling fs ++ replicate (padding_len h fs (padded_size h fs least)) 0 =
+    rw (flat_map-append spelling fs (replicate (padding_len h fs (padded_size h fs least)) Padding), zeros (padding_len h fs (padded_size h fs least))) refl in
     is_out
     ∙ ap (λ (n : ℕ). sealed_packet mask seal false h n (frames_spelling fs ++ replicate (b.min_size - length items) 0)) (ap (λ (x : PacketBuilder). x.exact_number) is_b)
     ∙ ap (λ (n : ℕ). sealed_packet mask seal false h number (frames_spelling fs ++ replicate n 0)) pad

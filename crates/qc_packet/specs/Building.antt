@@ -1,6 +1,8 @@
 -- How big a packet may be, when none is begun, and what a builder knows of the packet that it began.
 use Rattle.std.specs.Prelude.{◌≡◌, ℕ, ◌+◌, ◌-◌, ◌<◌, ◌≤◌, ◌^◌, Bool, true, false, ◌&&◌, ◌||◌, List, length, Option, Some, None, max, min, nat_lt, nat_le, if◌then◌else◌}
 use Rattle.qc_base.specs.declared.side.SpaceId.{SpaceId}
+use Rattle.qc_frame.specs.Frame.{FrameValue}
+use Rattle.qc_frame.specs.FrameSpelling.{frames_spelling}
 use Rattle.qc_header.specs.declared.header.Header.{Header}
 use Rattle.qc_header.specs.declared.header.Header.TheVariants.{Initial, Long, Retry, Short, VersionNegotiate}
 use Rattle.qc_header.specs.HeaderSpelling.{header_spelling, header_number}
@@ -102,6 +104,11 @@ pub record IsOf (b : PacketBuilder) (h : Header) : Type 0 where
   pub number : b.pn_len ≡ pn_len h
   pub numbered : 1 ≤ pn_len h
   pub short : b.short_header ≡ is_short h
+
+-- How many bytes a packet with these frames has that begins an empty buffer, where `least` are asked for: as many as it needs
+-- for a sample and to look like no reset, or that many, or as many as header, frames and tag have.
+abbrev pub padded_size : Header → List FrameValue → (least : ℕ) → ℕ
+padded_size h fs least = max (max (min_size_of 0 h + 16) least) (header_len h + length (frames_spelling fs) + 16)
 
 -- where the payload ends, its padding with it
 abbrev pub end_of : PacketBuilder → ℕ → ℕ

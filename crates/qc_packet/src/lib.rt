@@ -15,7 +15,7 @@ pub use qc_rings::{
     KeyRing, PairLog, PairOutcome, RingEvent, Which, ends_in_step_agree, ends_stay_in_step,
     ring_pair,
 };
-pub use seal::{NUMBER_LIMIT, seal_full};
+pub use seal::{NUMBER_LIMIT, seal_padded};
 pub use slot::{BuildError, Kill, Slot};
 pub use unprotect::{UnprotectHeaderResult, unprotect_header};
 

@@ -1,8 +1,24 @@
 -- Answers to PATH_CHALLENGE that wait, each to one address (RFC 9000, section 8.2.2). `eq` tells whether two addresses are
 -- the same.
-use Rattle.std.specs.Prelude.{◌<◌, ℕ, Bool, not, nat_lt, nat_le, if◌then◌else◌, List, [], ◌∷◌, ◌++◌, length, Option, Some, None, position, remove, slice_get, slice_index_or, slice_set}
+use Rattle.std.specs.Prelude.{◌≡◌, ◌<◌, ℕ, Bool, not, nat_lt, nat_le, if◌then◌else◌, List, [], ◌∷◌, ◌++◌, length, Option, Some, None, position, remove, slice_get, slice_index_or, slice_set}
+use Rattle.std.specs.Net.Addr.{ipv4_octets}
+use Rattle.std.specs.Net.Socket.{socket_ip, socket_port}
+use Rattle.std.specs.declared.net.IpAddr.{IpAddr}
+use Rattle.std.specs.declared.net.ip_addr.IpAddr.TheVariants.{V4, V6}
 use Rattle.std.specs.declared.net.socket_addr.SocketAddr.{SocketAddr}
 use Rattle.qc_path.specs.declared.path_responses.PathResponse.{PathResponse}
+
+-- the address that is none, of IPv4: four bytes of 0
+abbrev pub IsNoIp : IpAddr → Type 0
+IsNoIp (V4 ip) = ipv4_octets ip ≡ 0 ∷ 0 ∷ 0 ∷ 0 ∷ []
+IsNoIp (V6 ip) = ⊥
+
+-- an answer to nobody
+pub record IsToNobody (r : PathResponse) : Type 0 where
+  pub number : r.number ≡ 0
+  pub word : r.word ≡ 0
+  pub ip : IsNoIp (socket_ip r.remote)
+  pub port : socket_port r.remote ≡ 0
 
 -- the answer goes to this address
 abbrev pub is_for : (SocketAddr → SocketAddr → Bool) → SocketAddr → PathResponse → Bool

@@ -1,7 +1,7 @@
 //! Answers to the peer's PATH_CHALLENGEs (RFC 9000, section 8.2.2).
 
 ghost use Rattle.std.specs.Prelude.{◌≡◌, ◌==◌, [], length, position};
-ghost use Rattle.qc_path.specs.PathResponses.{IsWithin, challenged, counting, is_for, is_for_other, left_at, taken_at};
+ghost use Rattle.qc_path.specs.PathResponses.{IsToNobody, IsWithin, challenged, counting, is_for, is_for_other, left_at, taken_at};
 
 use arrayvec::ArrayVec;
 use std::default::Default;
@@ -23,6 +23,8 @@ pub struct PathResponse {
 }
 
 impl Default for PathResponse {
+    ghost is_default = { IsToNobody };
+
     /// An answer to nobody.
     fn default() -> Self {
         PathResponse {

@@ -1,4 +1,4 @@
-//! One transmit. So far it seals at most one packet, which fills a datagram of its own.
+//! One transmit. So far it seals at most one packet, which has a datagram of its own.
 
 ghost use Rattle.std.specs.Prelude.{◌≡◌, ◌≤◌, ◌<◌, ◌^◌, [], true, false, OnOk, IfOk};
 ghost use Rattle.qc_state.specs.Numbers.{next_number};
@@ -32,8 +32,9 @@ fn seal_one<U: Suite>(
     let header = core.header(space);
     let room = DATAGRAM_SIZE as usize - RESERVED - header.encoded_len();
     let mut frames = core.take(alloc, now, space, room)?;
-    core.seal(space, number, &header, &mut frames, buf)?;
-    core.sealed(did, now, space, number, frames)?;
+    let least = core.least_size(space, &frames);
+    core.seal(space, number, &header, &mut frames, least, buf)?;
+    core.sealed(did, now, space, number, buf.len() as u64, frames)?;
     core.leave_initial(Side::Client, space, did);
     Ok(())
 }
@@ -55,7 +56,8 @@ pub fn transmit<U: Suite>(
         core.quiet(did)?;
         return Ok(None);
     }
-    let to = core.transmit_to();
+    let mut to = core.transmit_to(0);
     seal_one(core, did, alloc, now, buf)?;
+    to.size = buf.len();
     Ok(Some(to))
 }

@@ -6,5 +6,5 @@ mod space;
 mod tests;
 mod timers;
 
-pub use space::PacketSpace;
+pub use space::{PacketSpace, with_mark};
 pub use timers::{Timer, TimerTable};

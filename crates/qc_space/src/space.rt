@@ -35,7 +35,9 @@ fn one_more(count: u64) -> u64
     }
 }
 
-fn with_mark(counts: EcnCounts, mark: Option<EcnCodepoint>) -> EcnCounts
+/// The counts of marks with one packet more, if it came with a mark (RFC 9000, section 13.4.1). A count stands still at
+/// 2^62 - 1, the greatest that an ACK has room for.
+pub fn with_mark(counts: EcnCounts, mark: Option<EcnCodepoint>) -> EcnCounts
     ensures { result ≡ marked counts mark }
 {
     match mark {

@@ -1,7 +1,8 @@
 //! Packets that came to one space, and the order of timers.
 
-use crate::{PacketSpace, Timer, TimerTable};
+use crate::{PacketSpace, Timer, TimerTable, with_mark};
 use qc_base::{EcnCodepoint, Instant};
+use qc_frame::EcnCounts;
 use std::test::Fail;
 
 // Two packets that elicit an ACK are acknowledged at once in the Data space, and the first of them within a delay (RFC
@@ -25,6 +26,27 @@ fn packets_come(rt: HostRuntime) -> Result<(), Fail> {
         assert_eq!(rt; counts, marks, "{number}");
     }
     Ok(())
+}
+
+// One more of the mark that a packet came with, and of none where it had none. A count stands still at 2^62 - 1, the greatest that
+// an ACK has room for (RFC 9000, 16).
+#[test]
+fn a_mark_counts_one_packet(rt: HostRuntime) {
+    let greatest = 0x3fff_ffff_ffff_ffff;
+    let counts = EcnCounts {
+        ect0: 5,
+        ect1: greatest - 1,
+        ce: greatest,
+    };
+    for (mark, ect0, ect1, ce) in [
+        (None, 5, greatest - 1, greatest),
+        (Some(EcnCodepoint::Ect0), 6, greatest - 1, greatest),
+        (Some(EcnCodepoint::Ect1), 5, greatest, greatest),
+        (Some(EcnCodepoint::Ce), 5, greatest - 1, greatest),
+    ] {
+        let more = with_mark(counts, mark);
+        assert_eq!(rt; (more.ect0, more.ect1, more.ce), (ect0, ect1, ce));
+    }
 }
 
 #[test]

@@ -1,9 +1,10 @@
 -- Each number that a run acknowledges is that of a packet which was accepted before.
-use Rattle.std.proofs.Common.{◌≡◌, ℕ, ◌+◌, ◌⊎◌, inl, inr, List, [], ◌∷◌, ◌++◌, length, take, refl, ap, sym, ◌∙◌, subst, Bool, true, false, Some, None, if◌then◌else◌, append_assoc, append-nil}
+use Rattle.std.proofs.Common.{◌≡◌, ℕ, ◌+◌, ◌⊎◌, inl, inr, List, [], ◌∷◌, ◌++◌, length, take, refl, ap, sym, ◌∙◌, subst, Bool, true, false, Option, Some, None, if◌then◌else◌, append_assoc, append-nil}
 use Rattle.std.specs.List.{list_any}
 use Rattle.std.specs.Prelude.{is_none}
 use Rattle.std.specs.declared.net.SocketAddr.{SocketAddr}
 use Rattle.qc_base.specs.RangeSet.{Member}
+use Rattle.qc_base.specs.declared.ecn.EcnCodepoint.{EcnCodepoint}
 use Rattle.qc_base.specs.declared.side.Side.TheVariants.{Client}
 use Rattle.qc_base.specs.declared.side.SpaceId.{SpaceId}
 use Rattle.qc_base.specs.declared.side.SpaceId.TheVariants.{Initial, Handshake, «Data»}
@@ -25,12 +26,12 @@ use Rattle.qc_state.specs.declared.waiting.SpaceWaiting.{SpaceWaiting}
 use Rattle.qc_state.specs.declared.waiting.Waiting.{Waiting}
 use Rattle.qc_state.specs.Headline.{deeds_of, KnownBehind, AcksOnly, SealsKnown, AcksKnown, IsKept, EachAcksKnown}
 use Rattle.qc_state.specs.Life.{is_open, is_drained}
-use Rattle.qc_state.specs.Moves.{Move, Clock, Ask, Take, Seal, Forget, Enter, Expect, Fail, Accept, Fix, Hear, Ack, Calm, Come, Read, Write, Ready, Learn, Confirm, Establish, Tell, Drain, Leave, Owe, Shut, Raise, Give, Say, ReportReady, ReportConnected, ReportLost, ReportDrained, accepts, state_move, move_to, deeds_move, waiting_move, numbers_move, life_move, MayMove, IsTold, calmed, told}
+use Rattle.qc_state.specs.Moves.{Move, Clock, Ask, Take, Seal, Forget, Enter, Expect, Fail, Accept, Fix, Hear, Ack, Calm, Come, Read, Write, Ready, Token, Learn, Want, Confirm, Establish, Tell, Drain, Leave, Owe, Shut, Raise, Give, Say, ReportReady, ReportConnected, ReportLost, ReportToken, ReportWanted, ReportDrained, accepts, state_move, move_to, deeds_move, waiting_move, numbers_move, life_move, MayMove, IsTold, calmed, told}
 use Rattle.qc_state.specs.Numbers.{next_number}
 use Rattle.qc_state.specs.Numbers as numbers
 use Rattle.qc_state.specs.Run.{time_of, packets_of, began, close_after, input_after, called, reported, step_after, IsAllowed, IsStep, Run, Ran}
 use Rattle.qc_state.specs.Paths.{is_blocked}
-use Rattle.qc_state.specs.Sending.{is_silent, owes, sending_space, internal_error, given_after, killed_after, quiet_after, drops_initial, initial_left, sealed_in, packet_after, transmit_after, MaySeal, MayTransmit, owed_quiet_after}
+use Rattle.qc_state.specs.Sending.{is_silent, owes, sending_space, internal_error, given_after, killed_after, quiet_after, drops_initial, initial_left, packet_size, sealed_in, packet_after, transmit_after, MaySeal, MayTransmit, owed_quiet_after}
 use Rattle.qc_state.specs.Spaces.{space_of, with_space, is_space}
 use Rattle.qc_state.specs.Receiving.{datagram_after}
 use Rattle.qc_state.specs.Types.{Types, Meaning}
@@ -86,18 +87,18 @@ accepted_by number n v K e (inl is) = inl (rw e (ap Some is))
 accepted_by number n v K e (inr there) = inr there
 
 -- so it is in each space
-came_kept : (id space : SpaceId) (v : Waiting) (seen : Window) (a : Arrival) (verdict : Verdict) → accepts verdict ≡ true
-    → (n : ℕ) → IsKept id (packet_came v space seen a) n → KnownBehind id (IsKept id v) (did.Piece (Some space) (Some a.number) verdict) n
+came_kept : (id space : SpaceId) (v : Waiting) (seen : Window) (a : Arrival) (mark : Option EcnCodepoint) (verdict : Verdict) → accepts verdict ≡ true
+    → (n : ℕ) → IsKept id (packet_came v space seen a mark) n → KnownBehind id (IsKept id v) (did.Piece (Some space) (Some a.number) verdict) n
 unfolding packet_came came_in
-came_kept Initial Initial v seen a verdict e n m = accepted_by a.number n verdict (IsKept Initial v n) e (received_has false seen a v.spaces.initial.acks n m)
-came_kept Initial Handshake v seen a verdict e n m = inr m
-came_kept Initial Data v seen a verdict e n m = inr m
-came_kept Handshake Initial v seen a verdict e n m = inr m
-came_kept Handshake Handshake v seen a verdict e n m = accepted_by a.number n verdict (IsKept Handshake v n) e (received_has false seen a v.spaces.handshake.acks n m)
-came_kept Handshake Data v seen a verdict e n m = inr m
-came_kept Data Initial v seen a verdict e n m = inr m
-came_kept Data Handshake v seen a verdict e n m = inr m
-came_kept Data Data v seen a verdict e n m = accepted_by a.number n verdict (IsKept Data v n) e (received_has false seen a v.spaces.application.acks n m)
+came_kept Initial Initial v seen a mark verdict e n m = accepted_by a.number n verdict (IsKept Initial v n) e (received_has false seen a v.spaces.initial.acks n m)
+came_kept Initial Handshake v seen a mark verdict e n m = inr m
+came_kept Initial Data v seen a mark verdict e n m = inr m
+came_kept Handshake Initial v seen a mark verdict e n m = inr m
+came_kept Handshake Handshake v seen a mark verdict e n m = accepted_by a.number n verdict (IsKept Handshake v n) e (received_has false seen a v.spaces.handshake.acks n m)
+came_kept Handshake Data v seen a mark verdict e n m = inr m
+came_kept Data Initial v seen a mark verdict e n m = inr m
+came_kept Data Handshake v seen a mark verdict e n m = inr m
+came_kept Data Data v seen a mark verdict e n m = accepted_by a.number n verdict (IsKept Data v n) e (received_has false seen a v.spaces.application.acks n m)
 
 -- what a packet acknowledges, said of its space
 said_there : (id space : SpaceId) (v : Waiting) (fs : List FrameValue) → AcksOnly (IsKept space v) fs → is_space id space ≡ true → AcksOnly (IsKept id v) fs
@@ -116,7 +117,7 @@ module _ {t : Types} where
   -- says so
   abbrev pub IsKnowing : Move t → View t → Type 0
   IsKnowing (Seal time space n size fs) s = AcksOnly (IsKept space s.waiting) fs
-  IsKnowing (Accept time space n e v) s = accepts v ≡ true
+  IsKnowing (Accept time space n e g v) s = accepts v ≡ true
   IsKnowing _ s = Unit {0}
 
   -- from one moment to another, what is acknowledged is known, and so is what is kept at the end
@@ -173,9 +174,9 @@ module _ {t : Types} where
   knows_move id (Enter space n v) a h k = deed_knows id (Enter space n v) _ a refl tt (λ n m. inr m)
   knows_move id (Expect token) a h k = silent_knows id (Expect token) a refl (λ n m. m)
   knows_move id Fail a h k = silent_knows id Fail a refl (λ n m. m)
-  knows_move id (Accept time space n e v) a h k =
-      deed_knows id (Accept time space n e v) (did.Piece (Some space) (Some n) v) a refl tt
-      (came_kept id space a.state.waiting (arrived n (numbers.came_in a.state.numbers space)) (record { number = n; at = time; ack_eliciting = e; ce = false }) v k)
+  knows_move id (Accept time space n e g v) a h k =
+      deed_knows id (Accept time space n e g v) (did.Piece (Some space) (Some n) v) a refl tt
+      (came_kept id space a.state.waiting (arrived n (numbers.came_in a.state.numbers space)) (record { number = n; at = time; ack_eliciting = e; ce = false }) g.mark v k)
   knows_move id (Fix cid) a h k = silent_knows id (Fix cid) a refl (λ n m. m)
   knows_move id (Hear bytes) a h k = silent_knows id (Hear bytes) a refl (λ n m. m)
   knows_move id (Ack space n rs) a h k = silent_knows id (Ack space n rs) a refl (same_kept id space a.state.waiting _ a.state.waiting.close_owed refl)
@@ -184,7 +185,9 @@ module _ {t : Types} where
   knows_move id (Read space count session) a h k = silent_knows id (Read space count session) a refl (λ n m. m)
   knows_move id (Write bytes keys session) a h k = silent_knows id (Write bytes keys session) a refl (same_kept id a.state.keys.highest a.state.waiting _ a.state.waiting.close_owed refl)
   knows_move id Ready a h k = silent_knows id Ready a refl (λ n m. m)
+  knows_move id (Token token) a h k = silent_knows id (Token token) a refl (λ n m. m)
   knows_move id (Learn parameters) a h k = silent_knows id (Learn parameters) a refl (λ n m. m)
+  knows_move id (Want time count) a h k = silent_knows id (Want time count) a refl (λ n m. m)
   knows_move id Confirm a h k = silent_knows id Confirm a refl (same_kept id «Data» a.state.waiting _ a.state.waiting.close_owed refl)
   knows_move id Establish a h k = deed_knows id Establish _ a refl tt (λ n m. m)
   knows_move id (Tell d) a h k = tell_knows id d a h
@@ -198,6 +201,8 @@ module _ {t : Types} where
   knows_move id ReportReady a h k = silent_knows id ReportReady a refl (λ n m. m)
   knows_move id ReportConnected a h k = silent_knows id ReportConnected a refl (λ n m. m)
   knows_move id ReportLost a h k = silent_knows id ReportLost a refl (λ n m. m)
+  knows_move id ReportToken a h k = silent_knows id ReportToken a refl (λ n m. m)
+  knows_move id ReportWanted a h k = silent_knows id ReportWanted a refl (λ n m. m)
   knows_move id ReportDrained a h k = silent_knows id ReportDrained a refl (λ n m. m)
 
   -- ---- inputs
@@ -240,11 +245,12 @@ module _ {t : Types} where
       let space : SpaceId = sending_space a.state in
       let b : At t = move_to (Take space fs) a in
       let n : ℕ = next_number a.state.numbers space in
-      let c : At t = move_to (Seal time space n 1200 fs) b in
+      let size : ℕ = packet_size a.state space fs in
+      let c : At t = move_to (Seal time space n size fs) b in
       let said : AcksOnly (IsKept space (waiting_without a.state.waiting space fs)) fs =
       only_more (IsKept space a.state.waiting) (IsKept space (waiting_without a.state.waiting space fs)) (taken_kept space a.state.waiting fs) fs (carries_known time a.state space fs may.carries) in
       knows_next id a b _ (knows_move id (Take space fs) a tt tt)
-      (knows_next id b c _ (knows_move id (Seal time space n 1200 fs) b (refl, closes_only time a.state fs may) said) (left_by id c (drops_initial Client c.state space)))
+      (knows_next id b c _ (knows_move id (Seal time space n size fs) b (refl, closes_only time a.state fs may) said) (left_by id c (drops_initial Client c.state space)))
 
   -- a transmit seals a packet or none
   knows_transmit : (id : SpaceId) (time : ℕ) (ps : List (List FrameValue)) (a : At t) → MayTransmit time a.state ps → Knows id a (transmit_after time ps a)
@@ -265,7 +271,7 @@ module _ {t : Types} where
   received_knows (Enter id n v) s r = tt
   received_knows (Expect token) s r = tt
   received_knows Fail s r = tt
-  received_knows (Accept time id n e v) s r = r
+  received_knows (Accept time id n e g v) s r = r
   received_knows (Fix cid) s r = tt
   received_knows (Hear bytes) s r = tt
   received_knows (Ack id n rs) s r = tt
@@ -274,7 +280,9 @@ module _ {t : Types} where
   received_knows (Read id count session) s r = tt
   received_knows (Write bytes keys session) s r = tt
   received_knows Ready s r = tt
+  received_knows (Token token) s r = tt
   received_knows (Learn parameters) s r = tt
+  received_knows (Want time count) s r = tt
   received_knows Confirm s r = tt
   received_knows Establish s r = tt
   received_knows (Tell d) s r = tt
@@ -286,14 +294,14 @@ module _ {t : Types} where
   received_knows _ s r = absurd r
 
   -- a datagram
-  knows_datagram : (id : SpaceId) (m : Meaning t) (time : ℕ) (remote : SocketAddr) (bytes : List ℕ) (a : At t) → Knows id a (datagram_after m time remote bytes a)
-  knows_datagram id m time remote bytes a =
-      holds_datagram (Knows id) (knows_here id) (knows_next id) (λ x received b may. knows_move id x b may (received_knows x b.state received)) m time remote bytes a
+  knows_datagram : (id : SpaceId) (m : Meaning t) (time : ℕ) (mark : Option EcnCodepoint) (remote : SocketAddr) (bytes : List ℕ) (a : At t) → Knows id a (datagram_after m time mark remote bytes a)
+  knows_datagram id m time mark remote bytes a =
+      holds_datagram (Knows id) (knows_here id) (knows_next id) (λ x received b may. knows_move id x b may (received_knows x b.state received)) m time mark remote bytes a
 
   -- each input
   knows_input : (id : SpaceId) (m : Meaning t) (i : Input) (ds : List Did) (a : At t) → IsAllowed i ds a.state → Knows id a (input_after m i ds a)
   unfolding IsAllowed input_after close_after MayMove
-  knows_input id m (input.Datagram time remote ecn bytes) ds a h = knows_datagram id m time remote bytes a
+  knows_input id m (input.Datagram time remote ecn bytes) ds a h = knows_datagram id m time ecn remote bytes a
   knows_input id m (input.Transmit time max) ds a h = knows_transmit id time (packets_of ds) a h
   knows_input id m (input.Close time code reason) ds a h = closed_by id time _ a _ refl
   knows_input id m (input.Ping time) ds a h = knows_move id (Ask a.state.keys.highest) a tt tt

@@ -21,7 +21,7 @@ use Rattle.qc_state.specs.declared.life.Close.TheVariants.{Connection, Applicati
 use Rattle.qc_state.specs.declared.waiting.SpaceWaiting.{SpaceWaiting}
 use Rattle.qc_state.specs.Headline.{KnownBehind, AcksOnly, SealsKnown, AcksKnown, IsKept}
 use Rattle.qc_state.specs.Life.{is_closed}
-use Rattle.qc_state.specs.Sending.{Carries, Closes, application_close, close_frame, closing_frame, told_close}
+use Rattle.qc_state.specs.Sending.{Carries, Closes, application_close, close_frame, closing_frame, told_close, padding_of, padded}
 use Rattle.qc_state.specs.Spaces.{space_of}
 use Rattle.qc_state.specs.Types.{Types}
 use Rattle.qc_state.specs.Unsent.{unsent_after}
@@ -169,22 +169,21 @@ close_only K true id kept (Some (Application c)) = application_only K id c.error
 close_only K false id kept c = tt
 
 -- the ACK of a space acknowledges what is kept there
-says_known : (time : ℕ) (p : PendingValues) (ack : AckValue) → SaysAck time p ack → (n : ℕ) → Acknowledges ack n → Member n p.ranges
-says_known time p ack says n m = reverse_member n p.ranges (subst (Member n) says.ranges m)
+says_known : (time : ℕ) (w : SpaceWaiting) (ack : AckValue) → SaysAck time w ack → (n : ℕ) → Acknowledges ack n → Member n w.acks.ranges
+says_known time w ack says n m = reverse_member n w.acks.ranges (subst (Member n) says.ranges m)
 
 -- where there is none, nothing is acknowledged
-part_known : (time : ℕ) (p : PendingValues) (acks : List FrameValue) (b : Bool) → AckPart time p acks b → AcksOnly (λ n. Member n p.ranges) acks
-part_known time p acks true (AckPart.one ack says is) = subst (AcksOnly (λ n. Member n p.ranges)) (sym is) (says_known time p ack says, tt)
-part_known time p acks false (AckPart.none is) = subst (AcksOnly (λ n. Member n p.ranges)) (sym is) tt
+part_known : (time : ℕ) (w : SpaceWaiting) (acks : List FrameValue) (b : Bool) → AckPart time w acks b → AcksOnly (λ n. Member n w.acks.ranges) acks
+part_known time w acks true (AckPart.one ack says is) = subst (AcksOnly (λ n. Member n w.acks.ranges)) (sym is) (says_known time w ack says, tt)
+part_known time w acks false (AckPart.none is) = subst (AcksOnly (λ n. Member n w.acks.ranges)) (sym is) tt
 
 -- so do the frames that wait
 wait_known : (time : ℕ) (w : SpaceWaiting) (fs : List FrameValue) → WaitAll time w fs → AcksOnly (λ n. Member n w.acks.ranges) fs
 unfolding WaitAll Waits without
 wait_known time w [] h = tt
-wait_known time w (frames.Padding ∷ fs) h = wait_known time w fs h.1
 wait_known time w (frames.HandshakeDone ∷ fs) h = wait_known time (record w { done = false }) fs h.1
 wait_known time w (frames.Ping ∷ fs) h = wait_known time (record w { ping = false }) fs h.1
-wait_known time w (frames.Ack ack ∷ fs) h = (says_known time w.acks ack h.0.1, wait_known time (record w { acks = ack_sent w.acks }) fs h.1)
+wait_known time w (frames.Ack ack ∷ fs) h = (says_known time w ack h.0.1, wait_known time (record w { acks = ack_sent w.acks }) fs h.1)
 wait_known time w (frames.Crypto offset body ∷ fs) h = wait_known time (record w { crypto = unsent_after w.crypto (length body) }) fs h.1
 wait_known time w (_ ∷ fs) h = absurd h.0
 
@@ -206,13 +205,16 @@ module _ {t : Types} where
   -- an ACK and a close behind it acknowledge what is kept in their space
   closes_known : (time : ℕ) (s : View t) (id : SpaceId) (gs : List FrameValue) → Closes time s id gs → AcksOnly (IsKept id s.waiting) gs
   closes_known time s id gs (Closes.closing acks part kept fits is) =
-      let p : PendingValues = (space_of s.waiting.spaces id).acks in
-      let K : ℕ → Type 0 = λ k. Member k p.ranges in
-      subst (AcksOnly K) (sym is) (only_append K acks (closing_frame id kept s.life ∷ []) (part_known time p acks _ part) (close_only K (is_closed s.life.state) id kept s.life.close))
+      let w : SpaceWaiting = space_of s.waiting.spaces id in
+      let K : ℕ → Type 0 = λ k. Member k w.acks.ranges in
+      subst (AcksOnly K) (sym is) (only_append K acks (closing_frame id kept s.life ∷ []) (part_known time w acks _ part) (close_only K (is_closed s.life.state) id kept s.life.close))
+
+  -- frames with PADDING behind them acknowledge no more
+  padded_known : (K : ℕ → Type 0) (s : View t) (id : SpaceId) (fs gs : List FrameValue) → fs ≡ padded s id gs → AcksOnly K gs → AcksOnly K fs
+  unfolding padded
+  padded_known K s id fs gs is known = subst (AcksOnly K) (sym is) (only_append K gs (replicate (padding_of s id gs) frames.Padding) known (padding_only K (padding_of s id gs)))
 
   -- what a packet carries acknowledges what is kept in its space
   pub carries_known : (time : ℕ) (s : View t) (id : SpaceId) (fs : List FrameValue) → Carries time s id fs → AcksOnly (IsKept id s.waiting) fs
-  carries_known time s id fs (Carries.a_close owed gs closes n is) =
-      let K : ℕ → Type 0 = IsKept id s.waiting in
-      subst (AcksOnly K) (sym is) (only_append K gs (replicate n frames.Padding) (closes_known time s id gs closes) (padding_only K n))
-  carries_known time s id fs (Carries.what_waits free wait holds) = wait_known time (space_of s.waiting.spaces id) fs wait
+  carries_known time s id fs (Carries.a_close owed gs closes is) = padded_known (IsKept id s.waiting) s id fs gs is (closes_known time s id gs closes)
+  carries_known time s id fs (Carries.what_waits free gs wait some is) = padded_known (IsKept id s.waiting) s id fs gs is (wait_known time (space_of s.waiting.spaces id) gs wait)

@@ -4,6 +4,7 @@ pub mod AcksAccepted
 pub mod AcksBefore
 mod AcksKnown
 pub mod Expansions
+pub mod HarmlessBytes
 pub mod Joins
 pub mod OnlyOnce
 pub mod PathsHold

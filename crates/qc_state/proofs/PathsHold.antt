@@ -1,11 +1,13 @@
 -- The laws of the path, of each input and of a run.
-use Rattle.std.proofs.Common.{◌≡◌, ℕ, ◌+◌, ◌*◌, ◌<◌, List, [], ◌∷◌, ◌++◌, ◌⊎◌, inl, inr, length, refl, ap, sym, ◌∙◌, subst, Bool, true, false, Option, Some, None, if◌then◌else◌, arith}
+use Rattle.std.proofs.Common.{◌≡◌, ℕ, ◌+◌, ◌*◌, ◌<◌, ◌≤◌, List, [], ◌∷◌, ◌++◌, ◌⊎◌, inl, inr, length, refl, ap, sym, ◌∙◌, subst, Bool, true, false, Option, Some, None, if◌then◌else◌, arith}
 use Rattle.std.proofs.lemmas.Bool.Decides.{nat_tests}
 use Rattle.std.proofs.lemmas.List.{append_assoc, append-nil}
 use Rattle.std.proofs.lemmas.List.Folds.{list_any-append}
 use Rattle.std.specs.Prelude.{◌&&◌, ◌||◌, not, nat_le, is_none}
 use Rattle.std.specs.List.{list_any}
 use Rattle.std.specs.declared.net.SocketAddr.{SocketAddr}
+use Rattle.qc_base.specs.declared.ecn.EcnCodepoint.{EcnCodepoint}
+use Rattle.qc_base.specs.declared.side.Side.{Side}
 use Rattle.qc_base.specs.declared.side.Side.TheVariants.{Client}
 use Rattle.qc_base.specs.declared.side.SpaceId.{SpaceId}
 use Rattle.qc_base.specs.declared.side.SpaceId.TheVariants.{Initial, Handshake}
@@ -24,14 +26,14 @@ use Rattle.qc_state.specs.declared.paths.Paths.{Paths}
 use Rattle.qc_state.specs.declared.trace.Step.{Step}
 use Rattle.qc_state.specs.declared.transmit.TheConstants.{DATAGRAM_SIZE}
 use Rattle.qc_state.specs.Life.{is_open}
-use Rattle.qc_state.specs.Moves.{Accept, Ack, Calm, Come, Confirm, Drain, Enter, Establish, Expect, Fail, Fix, Forget, Give, Hear, Learn, Leave, MayMove, Move, Owe, Raise, Read, Ready, Say, Seal, Shut, Take, Tell, Write, calmed, deeds_move, move_to, paths_move, state_move, told}
-use Rattle.qc_state.specs.Numbers.{next_number}
+use Rattle.qc_state.specs.Moves.{Accept, Ack, Calm, Come, Confirm, Drain, Enter, Establish, Expect, Fail, Fix, Forget, Give, Hear, Learn, Leave, MayMove, Move, Owe, Raise, Read, Ready, Say, Seal, Shut, Take, Tell, Token, Want, Write, calmed, deeds_move, move_to, paths_move, state_move, told}
+use Rattle.qc_state.specs.Numbers.{next_number, received_number}
 use Rattle.qc_state.specs.Headline.{deeds_of}
 use Rattle.qc_state.specs.PathLaws.{PathHolds, all_from, bytes_from, is_handshake_admitted}
-use Rattle.qc_state.specs.Paths.{is_blocked, path_accepted, path_received, path_sent, peer_fixed, same_address}
+use Rattle.qc_state.specs.Paths.{is_blocked, path_accepted, path_received, path_sent, path_spun, peer_fixed, same_address, spun_by}
 use Rattle.qc_state.specs.Receiving.{cut_of, datagram_after, first_after, first_token, heard_after, is_readable, lets_in, pieces_after}
 use Rattle.qc_state.specs.Run.{IsAllowed, IsStep, Run, began, called, close_after, input_after, packets_of, reported, step_after, time_of}
-use Rattle.qc_state.specs.Sending.{MaySeal, MayTransmit, drops_initial, given_after, initial_left, internal_error, is_silent, killed_after, owed_quiet_after, owes, packet_after, quiet_after, sealed_in, sending_space, transmit_after}
+use Rattle.qc_state.specs.Sending.{MaySeal, MayTransmit, drops_initial, given_after, initial_left, internal_error, is_silent, killed_after, owed_quiet_after, owes, packet_after, packet_size, quiet_after, sealed_in, sending_space, transmit_after}
 use Rattle.qc_state.specs.Setup.{is_first_awaited}
 use Rattle.qc_state.specs.Types.{Types, Meaning}
 use Rattle.qc_state.specs.View.{View, At, at}
@@ -112,6 +114,34 @@ unfolding path_accepted
 accepted_shown p Handshake n verdict.Admitted h = inr refl
 accepted_shown p _ n _ h = inl h
 
+-- the spin bit leaves the counts, the address and whether it is validated
+spun_by_greatest : (p : Paths) (side : Side) (bit b : Bool) → Still p (if b then record p { spin = spun_by side bit } else p)
+spun_by_greatest p side bit true = record { same = refl; received = refl; sent = refl; kept = λ v. v }
+spun_by_greatest p side bit false = still_here p
+
+spun_still : (p : Paths) (side : Side) (greatest bit : Bool) → Still p (path_spun p side greatest bit)
+unfolding path_spun
+spun_still p side greatest bit = spun_by_greatest p side bit greatest
+
+spun_same_by : (p : Paths) (side : Side) (bit b : Bool) → (if b then record p { spin = spun_by side bit } else p).validated ≡ p.validated
+spun_same_by p side bit true = refl
+spun_same_by p side bit false = refl
+
+spun_shown : (p : Paths) (side : Side) (greatest bit : Bool) → Shown [] p (path_spun p side greatest bit)
+unfolding path_spun
+spun_shown p side greatest bit v = inl (sym (spun_same_by p side bit greatest) ∙ v)
+
+-- a packet with this spin bit was accepted
+accepted_spun : (p : Paths) (id : SpaceId) (v : Verdict) (side : Side) (greatest bit : Bool) → Still p (path_spun (path_accepted p id v) side greatest bit)
+accepted_spun p id v side greatest bit =
+    let q : Paths = path_accepted p id v in
+    still_next p q (path_spun q side greatest bit) (accepted_still p id v) (spun_still q side greatest bit)
+
+spun_after : (p : Paths) (id : SpaceId) (n : ℕ) (v : Verdict) (side : Side) (greatest bit : Bool) → Shown (did.Piece (Some id) (Some n) v ∷ []) p (path_spun (path_accepted p id v) side greatest bit)
+spun_after p id n v side greatest bit =
+    let q : Paths = path_accepted p id v in
+    shown_next (did.Piece (Some id) (Some n) v ∷ []) [] p q (path_spun q side greatest bit) (accepted_shown p id n v) (spun_shown q side greatest bit)
+
 -- so many bytes were heard from the path's address
 heard_path : (came : ℕ) (ds : List Did) (p q : Paths) → Still p q → Shown ds p q → PathHolds came ds p (path_received q came)
 unfolding path_received
@@ -133,9 +163,9 @@ came_length : (remote from : SocketAddr) (bytes : List ℕ) → same_address rem
 came_length remote from bytes h = ap (λ (b : Bool). if b then length bytes else 0) h
 
 -- a datagram is sent on a path that isn't blocked
-sent_path : (came : ℕ) (ds : List Did) (p : Paths) → is_blocked p ≡ false → PathHolds came ds p (path_sent p DATAGRAM_SIZE)
+sent_path : (came : ℕ) (ds : List Did) (p : Paths) (size : ℕ) → size ≤ DATAGRAM_SIZE → is_blocked p ≡ false → PathHolds came ds p (path_sent p size)
 unfolding is_blocked path_sent
-sent_path came ds p free = record {
+sent_path came ds p size small free = record {
   same = refl;
   validated = λ v. inl v;
   received = omega arith;
@@ -182,7 +212,10 @@ module _ {t : Types} where
   still_move (Forget id) r a h = silent_at (Forget id) a refl (still_here a.state.paths) (λ v. inl v)
   still_move (Enter id n v) r a h = deed_at (Enter id n v) _ a refl (still_here a.state.paths) (λ v. inl v)
   still_move Fail r a h = silent_at Fail a refl (still_here a.state.paths) (λ v. inl v)
-  still_move (Accept time id n e v) r a h = deed_at (Accept time id n e v) (did.Piece (Some id) (Some n) v) a refl (accepted_still a.state.paths id v) (accepted_shown a.state.paths id n v)
+  still_move (Accept time id n e g v) r a h =
+      let greatest : Bool = nat_le (received_number a.state.numbers id) n in
+      let side : Side = a.state.setup.fixed.side in
+      deed_at (Accept time id n e g v) (did.Piece (Some id) (Some n) v) a refl (accepted_spun a.state.paths id v side greatest g.spin) (spun_after a.state.paths id n v side greatest g.spin)
   still_move (Fix cid) r a h = silent_at (Fix cid) a refl (record { same = refl; received = refl; sent = refl; kept = λ v. v }) (λ v. inl v)
   still_move (Ack id n rs) r a h = silent_at (Ack id n rs) a refl (still_here a.state.paths) (λ v. inl v)
   still_move Calm r a h = silent_at Calm a refl (still_here a.state.paths) (λ v. inl v)
@@ -190,6 +223,8 @@ module _ {t : Types} where
   still_move (Read id count session) r a h = silent_at (Read id count session) a refl (still_here a.state.paths) (λ v. inl v)
   still_move (Write bytes keys session) r a h = silent_at (Write bytes keys session) a refl (still_here a.state.paths) (λ v. inl v)
   still_move Ready r a h = silent_at Ready a refl (still_here a.state.paths) (λ v. inl v)
+  still_move (Token token) r a h = silent_at (Token token) a refl (still_here a.state.paths) (λ v. inl v)
+  still_move (Want time count) r a h = silent_at (Want time count) a refl (still_here a.state.paths) (λ v. inl v)
   still_move (Learn parameters) r a h = silent_at (Learn parameters) a refl (still_here a.state.paths) (λ v. inl v)
   still_move Confirm r a h = silent_at Confirm a refl (still_here a.state.paths) (λ v. inl v)
   still_move Establish r a h = deed_at Establish _ a refl (still_here a.state.paths) (λ v. inl v)
@@ -202,52 +237,52 @@ module _ {t : Types} where
   still_move _ r a h = absurd r
 
   -- the packets of a datagram
-  still_pieces : (m : Meaning t) (time : ℕ) (items : List DatagramItem) (a : At t) → StillAt a (pieces_after m time items a)
-  still_pieces m time items a = holds_pieces StillAt at_here at_next still_move m time items a
+  still_pieces : (m : Meaning t) (time : ℕ) (mark : Option EcnCodepoint) (items : List DatagramItem) (a : At t) → StillAt a (pieces_after m time mark items a)
+  still_pieces m time mark items a = holds_pieces StillAt at_here at_next still_move m time mark items a
 
   -- a datagram, where its bytes are those that count, or none
-  heard_by : (m : Meaning t) (time : ℕ) (came : ℕ) (bytes : List ℕ) (items : List DatagramItem) (s : View t) (b : Bool) → (b ≡ true → came ≡ length bytes) →
-      let r : At t = if b then move_to (Hear (length bytes)) (pieces_after m time items (at s [])) else at s [] in PathHolds came r.did s.paths r.state.paths
+  heard_by : (m : Meaning t) (time : ℕ) (mark : Option EcnCodepoint) (came : ℕ) (bytes : List ℕ) (items : List DatagramItem) (s : View t) (b : Bool) → (b ≡ true → came ≡ length bytes) →
+      let r : At t = if b then move_to (Hear (length bytes)) (pieces_after m time mark items (at s [])) else at s [] in PathHolds came r.did s.paths r.state.paths
   unfolding move_to state_move paths_move deeds_move
-  heard_by m time came bytes items s true h =
-      let q : At t = pieces_after m time items (at s []) in
-      let pieces = still_pieces m time items (at s []) in
+  heard_by m time mark came bytes items s true h =
+      let q : At t = pieces_after m time mark items (at s []) in
+      let pieces = still_pieces m time mark items (at s []) in
       subst (λ (n : ℕ). PathHolds n q.did s.paths (path_received q.state.paths (length bytes))) (sym (h refl))
       (subst (λ (ds : List Did). PathHolds (length bytes) ds s.paths (path_received q.state.paths (length bytes))) (sym pieces.appended) (heard_path (length bytes) pieces.since s.paths q.state.paths pieces.still pieces.shown))
-  heard_by m time came bytes items s false h = unchanged came [] s.paths
+  heard_by m time mark came bytes items s false h = unchanged came [] s.paths
 
   lets_same : (s : View t) (from : SocketAddr) → lets_in s from ≡ true → same_address s.paths.remote from ≡ true
   unfolding lets_in
   lets_same s from h = second_holds _ _ h
 
-  holds_heard : (m : Meaning t) (time : ℕ) (from : SocketAddr) (bytes : List ℕ) (s : View t) →
-      let r : At t = heard_after m time from bytes (at s []) in PathHolds (if same_address s.paths.remote from then length bytes else 0) r.did s.paths r.state.paths
+  holds_heard : (m : Meaning t) (time : ℕ) (mark : Option EcnCodepoint) (from : SocketAddr) (bytes : List ℕ) (s : View t) →
+      let r : At t = heard_after m time mark from bytes (at s []) in PathHolds (if same_address s.paths.remote from then length bytes else 0) r.did s.paths r.state.paths
   unfolding heard_after
-  holds_heard m time from bytes s =
-      heard_by m time _ bytes (cut_of s bytes) s (is_readable s bytes && lets_in s from)
+  holds_heard m time mark from bytes s =
+      heard_by m time mark _ bytes (cut_of s bytes) s (is_readable s bytes && lets_in s from)
       (λ h. came_length s.paths.remote from bytes (lets_same s from (second_holds (is_readable s bytes) (lets_in s from) h)))
 
   -- that a token is expected changes nothing of the path
-  expected_first : (m : Meaning t) (time : ℕ) (from : SocketAddr) (bytes token : List ℕ) (s : View t) →
-      let r : At t = heard_after m time from bytes (move_to (Expect token) (at s [])) in PathHolds (if same_address s.paths.remote from then length bytes else 0) r.did s.paths r.state.paths
+  expected_first : (m : Meaning t) (time : ℕ) (mark : Option EcnCodepoint) (from : SocketAddr) (bytes token : List ℕ) (s : View t) →
+      let r : At t = heard_after m time mark from bytes (move_to (Expect token) (at s [])) in PathHolds (if same_address s.paths.remote from then length bytes else 0) r.did s.paths r.state.paths
   unfolding move_to state_move paths_move deeds_move
-  expected_first m time from bytes token s = holds_heard m time from bytes (state_move (Expect token) s)
+  expected_first m time mark from bytes token s = holds_heard m time mark from bytes (state_move (Expect token) s)
 
-  holds_first : (m : Meaning t) (time : ℕ) (from : SocketAddr) (bytes : List ℕ) (token : Option (List ℕ)) (s : View t) →
-      let r : At t = first_after m time from bytes token (at s []) in PathHolds (if same_address s.paths.remote from then length bytes else 0) r.did s.paths r.state.paths
-  holds_first m time from bytes None s = unchanged _ [] s.paths
-  holds_first m time from bytes (Some token) s = expected_first m time from bytes token s
+  holds_first : (m : Meaning t) (time : ℕ) (mark : Option EcnCodepoint) (from : SocketAddr) (bytes : List ℕ) (token : Option (List ℕ)) (s : View t) →
+      let r : At t = first_after m time mark from bytes token (at s []) in PathHolds (if same_address s.paths.remote from then length bytes else 0) r.did s.paths r.state.paths
+  holds_first m time mark from bytes None s = unchanged _ [] s.paths
+  holds_first m time mark from bytes (Some token) s = expected_first m time mark from bytes token s
 
-  datagram_by : (m : Meaning t) (time : ℕ) (from : SocketAddr) (bytes : List ℕ) (token : Option (List ℕ)) (s : View t) (b : Bool) →
-      let r : At t = if b then first_after m time from bytes token (at s []) else heard_after m time from bytes (at s []) in
+  datagram_by : (m : Meaning t) (time : ℕ) (mark : Option EcnCodepoint) (from : SocketAddr) (bytes : List ℕ) (token : Option (List ℕ)) (s : View t) (b : Bool) →
+      let r : At t = if b then first_after m time mark from bytes token (at s []) else heard_after m time mark from bytes (at s []) in
       PathHolds (if same_address s.paths.remote from then length bytes else 0) r.did s.paths r.state.paths
-  datagram_by m time from bytes token s true = holds_first m time from bytes token s
-  datagram_by m time from bytes token s false = holds_heard m time from bytes s
+  datagram_by m time mark from bytes token s true = holds_first m time mark from bytes token s
+  datagram_by m time mark from bytes token s false = holds_heard m time mark from bytes s
 
-  path_datagram : (m : Meaning t) (time : ℕ) (from : SocketAddr) (bytes : List ℕ) (s : View t) →
-      let r : At t = datagram_after m time from bytes (at s []) in PathHolds (if same_address s.paths.remote from then length bytes else 0) r.did s.paths r.state.paths
+  path_datagram : (m : Meaning t) (time : ℕ) (mark : Option EcnCodepoint) (from : SocketAddr) (bytes : List ℕ) (s : View t) →
+      let r : At t = datagram_after m time mark from bytes (at s []) in PathHolds (if same_address s.paths.remote from then length bytes else 0) r.did s.paths r.state.paths
   unfolding datagram_after
-  path_datagram m time from bytes s = datagram_by m time from bytes (first_token m s from bytes) s (is_first_awaited s.setup)
+  path_datagram m time mark from bytes s = datagram_by m time mark from bytes (first_token m s from bytes) s (is_first_awaited s.setup)
 
   -- a transmit that sends nothing
   quiet_paths : (a : At t) (x y u z : Bool) →
@@ -280,8 +315,8 @@ module _ {t : Types} where
   unfolding packet_after sealed_in move_to state_move paths_move
   path_packet time fs ds a may =
       let id : SpaceId = sending_space a.state in
-      let b : At t = move_to (Seal time id (next_number a.state.numbers id) DATAGRAM_SIZE fs) (move_to (Take id fs) a) in
-      subst (λ (p : Paths). PathHolds 0 ds a.state.paths p) (sym (path_left id b)) (sent_path 0 ds a.state.paths may.free)
+      let b : At t = move_to (Seal time id (next_number a.state.numbers id) (packet_size a.state id fs) fs) (move_to (Take id fs) a) in
+      subst (λ (p : Paths). PathHolds 0 ds a.state.paths p) (sym (path_left id b)) (sent_path 0 ds a.state.paths (packet_size a.state id fs) may.fits may.free)
 
   path_transmit : (time : ℕ) (ps : List (List FrameValue)) (ds : List Did) (a : At t) → MayTransmit time a.state ps → PathHolds 0 ds a.state.paths (transmit_after time ps a).state.paths
   unfolding MayTransmit transmit_after
@@ -298,7 +333,7 @@ module _ {t : Types} where
   -- each input
   path_input : (m : Meaning t) (i : Input) (ds : List Did) (s : View t) → IsAllowed i ds s → let r : At t = input_after m i ds (at s []) in PathHolds (bytes_from s.paths.remote i) r.did s.paths r.state.paths
   unfolding IsAllowed input_after close_after move_to state_move paths_move
-  path_input m (input.Datagram time from ecn bytes) ds s may = path_datagram m time from bytes s
+  path_input m (input.Datagram time from ecn bytes) ds s may = path_datagram m time ecn from bytes s
   path_input m (input.Transmit time max) ds s may = path_transmit time (packets_of ds) _ (at s []) may
   path_input m (input.Close time code reason) ds s may = path_close time _ _ (at s []) (is_open s.life.state)
   path_input m (input.Ping time) ds s may = unchanged 0 _ s.paths

@@ -1,8 +1,9 @@
 -- What holds of each move that receiving makes holds of a datagram.
-use Rattle.std.proofs.Common.{◌≡◌, ℕ, ◌<◌, List, [], ◌∷◌, length, refl, Bool, true, false, Option, Some, None, if◌then◌else◌, arith}
-use Rattle.std.specs.Prelude.{zero, suc, is_none, not, ◌&&◌, Result, Ok, Err}
+use Rattle.std.proofs.Common.{◌≡◌, ℕ, ◌<◌, List, [], ◌∷◌, length, refl, sym, ◌∙◌, subst, Bool, true, false, Option, Some, None, if◌then◌else◌, arith}
+use Rattle.std.specs.Prelude.{zero, suc, ◌-◌, ◌==◌, min, is_none, not, ◌&&◌, Result, Ok, Err}
 use Rattle.std.specs.List.{list_any}
 use Rattle.std.specs.declared.net.SocketAddr.{SocketAddr}
+use Rattle.qc_base.specs.declared.ecn.EcnCodepoint.{EcnCodepoint}
 use Rattle.qc_base.specs.declared.transport_error.TransportError.{TransportError}
 use Rattle.qc_base.specs.declared.side.Side.{Side}
 use Rattle.qc_base.specs.declared.side.Side.TheVariants.{Client, Server}
@@ -26,13 +27,14 @@ use Rattle.qc_state.specs.declared.life.ConnectionError.TheVariants as lost
 use Rattle.qc_state.specs.declared.life.State.{State}
 use Rattle.qc_state.specs.declared.life.State.TheVariants as state
 use Rattle.qc_state.specs.declared.opening.Opening.{Opening}
+use Rattle.qc_state.specs.declared.opening.Signs.{Signs}
 use Rattle.qc_state.specs.declared.opening.Opening.TheVariants.{Unreadable, Unopened, Reserved, Opened}
-use Rattle.qc_state.specs.Life.{rank_of, is_open, is_closed, is_handshake}
+use Rattle.qc_state.specs.Life.{rank_of, is_open, is_closed, is_handshake, token_learned, identifiers_wanted}
 use Rattle.qc_state.specs.Lower.{ready_bytes, stream_of}
-use Rattle.qc_state.specs.Moves.{Move, Give, Forget, Enter, Expect, Fail, Accept, Fix, Hear, Ack, Calm, Come, Read, Write, Ready, Learn, Confirm, Establish, Tell, Drain, Leave, Owe, Shut, move_to, state_move, life_move, MayMove, accepts, enters, calmed}
+use Rattle.qc_state.specs.Moves.{Move, Give, Forget, Enter, Expect, Fail, Accept, Fix, Hear, Ack, Calm, Come, Read, Write, Ready, Token, Learn, Want, Confirm, Establish, Tell, Drain, Leave, Owe, Shut, move_to, state_move, life_move, MayMove, accepts, enters, calmed}
 use Rattle.qc_state.specs.Numbers.{is_new_in}
 use Rattle.qc_state.specs.Opening.{opening_of}
-use Rattle.qc_state.specs.Progress.{is_written, write_after, writes_after, written_after, ids_fit, parameters_and, is_end, ended_after, progress_after, learned_after, over_after}
+use Rattle.qc_state.specs.Progress.{is_written, write_after, writes_after, written_after, ids_fit, token_after, learned_with, parameters_and, is_end, ended_after, progress_after, learned_after, over_after}
 use Rattle.qc_state.specs.Receiving.{reason_of, is_close_item, is_eliciting_item, left_after, acked_after, confirmed_after, applied_after, close_given, closed_in_data, close_and, end_after, crypto_stop, answered_and, given_and, kept_and, crypto_and, taken_and, frame_and, read_and, items_after, payload_after, fixes_peer, fixed_after, piece_told, read_for_close, admitted_after, verdict_after, received_after, opening_after, piece_after, pieces_after, cut_of, datagram_after, accepted_after, heard_after, first_token, first_after}
 use Rattle.qc_state.specs.Sending.{given_after, initial_left, drops_initial}
 use Rattle.qc_state.specs.Stopping.{missing_parameters, parameter_error, violation_at, stopped_after}
@@ -86,7 +88,7 @@ abbrev pub IsInPacket : {t : Types} → Move t → Type 0
 IsInPacket (Forget id) = Unit {0}
 IsInPacket (Enter id n v) = Unit {0}
 IsInPacket Fail = Unit {0}
-IsInPacket (Accept time id n e v) = accepts v ≡ true
+IsInPacket (Accept time id n e g v) = accepts v ≡ true
 IsInPacket (Fix cid) = Unit {0}
 IsInPacket (Ack id n rs) = Unit {0}
 IsInPacket Calm = Unit {0}
@@ -94,7 +96,9 @@ IsInPacket (Come id offset bytes) = Unit {0}
 IsInPacket (Read id count session) = Unit {0}
 IsInPacket (Write bytes keys session) = Unit {0}
 IsInPacket Ready = Unit {0}
+IsInPacket (Token token) = Unit {0}
 IsInPacket (Learn parameters) = Unit {0}
+IsInPacket (Want time count) = Unit {0}
 IsInPacket Confirm = Unit {0}
 IsInPacket Establish = Unit {0}
 IsInPacket (Tell d) = Unit {0}
@@ -117,6 +121,24 @@ in_packet_received (Expect token) h = tt
 in_packet_received (Hear bytes) h = tt
 in_packet_received _ h = h
 
+module _ {t : Types} where
+  -- a token that is told leaves the life where it stands
+  token_state : (side : Side) (token : Option (List ℕ)) (a : At t) → (token_after side token a).state.life.state ≡ a.state.life.state
+  unfolding move_to state_move life_move token_learned
+  token_state Client (Some token) a = refl
+  token_state Client None a = refl
+  token_state Server token a = refl
+
+  wanted_state : (time count : ℕ) (a : At t) (b : Bool) → (if b then a else move_to (Want time count) a).state.life.state ≡ a.state.life.state
+  unfolding move_to state_move life_move identifiers_wanted
+  wanted_state time count a true = refl
+  wanted_state time count a false = refl
+
+  -- and so do parameters that count
+  known_state : (time : ℕ) (p : TransportParameters) (a : At t) → (learned_with time p a).state.life.state ≡ a.state.life.state
+  unfolding learned_with move_to state_move life_move
+  known_state time p a = wanted_state time (min p.active_connection_id_limit 8 - 1) (move_to (Learn p) a) (length a.state.setup.fixed.local_cid == 0)
+
 -- what holds of no move, of two moves one after the other, and of each move that a packet makes, where it may be made, holds of
 -- the packets of a datagram
 module _ {t : Types} (R : At t → At t → Type 0) (here : (a : At t) → R a a) (next : (a b c : At t) → R a b → R b c → R a c)
@@ -135,7 +157,7 @@ module _ {t : Types} (R : At t → At t → Type 0) (here : (a : At t) → R a a
   stopped_by time close why a true h = next a (move_to (Shut time close) a) _ (move (Shut time close) tt a (open_rank a.state.life.state h)) (holds_given why (move_to (Shut time close) a))
   stopped_by time close why a false h = here a
 
-  holds_stopped : (time : ℕ) (error : TransportError) (a : At t) → R a (stopped_after time error a)
+  pub holds_stopped : (time : ℕ) (error : TransportError) (a : At t) → R a (stopped_after time error a)
   unfolding stopped_after
   holds_stopped time error a = stopped_by time _ (lost.TransportError error) a _ refl
 
@@ -215,22 +237,44 @@ module _ {t : Types} (R : At t → At t → Type 0) (here : (a : At t) → R a a
   unfolding written_after
   holds_written m a = holds_writes (m.left a.state.lower.session) m a
 
-  -- parameters whose ids fit are known, and others stop the packet
-  fit_by : (time : ℕ) (p : TransportParameters) (others : At t → At t) (a : At t) (b : Bool) → R (move_to (Learn p) a) (others (move_to (Learn p) a)) →
-      R a (if b then others (move_to (Learn p) a) else stopped_after time parameter_error a)
+  -- a client is told a server's token, where there is one
+  holds_token : (side : Side) (token : Option (List ℕ)) (a : At t) → R a (token_after side token a)
   unfolding MayMove
-  fit_by time p others a true h = next a (move_to (Learn p) a) _ (move (Learn p) tt a tt) h
+  holds_token Client (Some token) a = move (Token token) tt a tt
+  holds_token Client None a = here a
+  holds_token Server token a = here a
+
+  -- identifiers are wanted, or not
+  wanted_by : (time count : ℕ) (a : At t) (b : Bool) → R a (if b then a else move_to (Want time count) a)
+  unfolding MayMove
+  wanted_by time count a true = here a
+  wanted_by time count a false = move (Want time count) tt a tt
+
+  -- the peer's parameters count
+  holds_known : (time : ℕ) (p : TransportParameters) (a : At t) → R a (learned_with time p a)
+  unfolding learned_with MayMove
+  holds_known time p a =
+      let b : At t = move_to (Learn p) a in
+      next a b _ (move (Learn p) tt a tt) (wanted_by time (min p.active_connection_id_limit 8 - 1) b (length a.state.setup.fixed.local_cid == 0))
+
+  -- parameters whose ids fit are known, and others stop the packet
+  fit_by : (time : ℕ) (p : TransportParameters) (others : At t → At t) (a : At t) (b : Bool) → R (learned_with time p a) (others (learned_with time p a)) →
+      R a (if b then others (learned_with time p a) else stopped_after time parameter_error a)
+  fit_by time p others a true h = next a (learned_with time p a) _ (holds_known time p a) h
   fit_by time p others a false h = holds_stopped time parameter_error a
 
   -- the peer's parameters
-  holds_parameters : (time : ℕ) (r : Result (Option TransportParameters) TransportError) (others : At t → At t) (a : At t) → ((p : TransportParameters) → R (move_to (Learn p) a) (others (move_to (Learn p) a))) → R a (parameters_and time r others a)
+  holds_parameters : (time : ℕ) (r : Result (Option TransportParameters) TransportError) (others : At t → At t) (a : At t) →
+      ((p : TransportParameters) → let b : At t = learned_with time p (token_after a.state.setup.fixed.side p.stateless_reset_token a) in R b (others b)) → R a (parameters_and time r others a)
   holds_parameters time (Err error) others a h = holds_stopped time error a
   holds_parameters time (Ok None) others a h = holds_stopped time missing_parameters a
-  holds_parameters time (Ok (Some p)) others a h = fit_by time p others a (ids_fit a.state p) (h p)
+  holds_parameters time (Ok (Some p)) others a h =
+      let b : At t = token_after a.state.setup.fixed.side p.stateless_reset_token a in
+      next a b _ (holds_token a.state.setup.fixed.side p.stateless_reset_token a) (fit_by time p others b (ids_fit a.state p) (h p))
 
   -- a server reads the client's, or not
   learned_by : (m : Meaning t) (time : ℕ) (a : At t) (b : Bool) → R a (if b then parameters_and time (m.parameters a.state.lower.session) (λ c. c) a else a)
-  learned_by m time a true = holds_parameters time (m.parameters a.state.lower.session) (λ c. c) a (λ p. here (move_to (Learn p) a))
+  learned_by m time a true = holds_parameters time (m.parameters a.state.lower.session) (λ c. c) a (λ p. here (learned_with time p (token_after a.state.setup.fixed.side p.stateless_reset_token a)))
   learned_by m time a false = here a
 
   holds_learned : (m : Meaning t) (time : ℕ) (before : SpaceId) (a : At t) → R a (learned_after m time before a)
@@ -240,7 +284,9 @@ module _ {t : Types} (R : At t → At t → Type 0) (here : (a : At t) → R a a
   -- the handshake is over, which went on before
   holds_over : (m : Meaning t) (time : ℕ) (side : Side) (a : At t) → rank_of a.state.life.state < 1 → R a (over_after m time side a)
   unfolding MayMove calmed move_to state_move life_move
-  holds_over m time Client a low = holds_parameters time (m.parameters a.state.lower.session) (move_to Establish) a (λ p. move Establish tt (move_to (Learn p) a) low)
+  holds_over m time Client a low = holds_parameters time (m.parameters a.state.lower.session) (move_to Establish) a
+      (λ p. let b : At t = token_after a.state.setup.fixed.side p.stateless_reset_token a in
+      move Establish tt (learned_with time p b) (subst (λ (s : State). rank_of s < 1) (sym (known_state time p b ∙ token_state a.state.setup.fixed.side p.stateless_reset_token a)) low))
   holds_over m time Server a low =
       let b : At t = move_to Confirm a in
       let c : At t = move_to (Forget Handshake) b in
@@ -320,7 +366,7 @@ module _ {t : Types} (R : At t → At t → Type 0) (here : (a : At t) → R a a
   holds_items m time space (Ok read ∷ items) close a = holds_read m time space read (reason_of read.frame) close (items_after m time space items) a (λ c b. holds_items m time space items c b)
 
   -- a payload
-  holds_payload : (m : Meaning t) (time : ℕ) (space : SpaceId) (payload : List ℕ) (a : At t) → R a (payload_after m time space payload a)
+  pub holds_payload : (m : Meaning t) (time : ℕ) (space : SpaceId) (payload : List ℕ) (a : At t) → R a (payload_after m time space payload a)
   unfolding payload_after
   holds_payload m time space [] a = holds_stopped time _ a
   holds_payload m time space (b ∷ bytes) a = holds_items m time space (items_of (b ∷ bytes)) None a
@@ -330,7 +376,7 @@ module _ {t : Types} (R : At t → At t → Type 0) (here : (a : At t) → R a a
   fixed_by source a true = move (Fix source) tt a tt
   fixed_by source a false = here a
 
-  holds_fixed : (space : SpaceId) (source : List ℕ) (a : At t) → R a (fixed_after space source a)
+  pub holds_fixed : (space : SpaceId) (source : List ℕ) (a : At t) → R a (fixed_after space source a)
   unfolding fixed_after
   holds_fixed space source a = fixed_by source a (fixes_peer space a.state)
 
@@ -351,92 +397,92 @@ module _ {t : Types} (R : At t → At t → Type 0) (here : (a : At t) → R a a
   initial_by a true = let b : At t = move_to (Forget Initial) a in next a b _ (move (Forget Initial) tt a tt) (calmed_by b (is_calm b.state.waiting))
   initial_by a false = here a
 
-  holds_initial : (side : Side) (space : SpaceId) (a : At t) → R a (initial_left side space a)
+  pub holds_initial : (side : Side) (space : SpaceId) (a : At t) → R a (initial_left side space a)
   unfolding initial_left
   holds_initial side space a = initial_by a (drops_initial side a.state space)
 
   -- a packet is accepted
-  holds_accepted : (time : ℕ) (space : SpaceId) (number : ℕ) (e : Bool) (v : Verdict) (a : At t) → is_new_in a.state.numbers space number ≡ true → enters v ≡ true → accepts v ≡ true → R a (accepted_after time space number e v a)
+  holds_accepted : (time : ℕ) (space : SpaceId) (number : ℕ) (e : Bool) (signs : Signs) (v : Verdict) (a : At t) → is_new_in a.state.numbers space number ≡ true → enters v ≡ true → accepts v ≡ true → R a (accepted_after time space number e signs v a)
   unfolding accepted_after MayMove
-  holds_accepted time space number e v a new enters_v accepts_v =
-      let b : At t = move_to (Accept time space number e v) a in
-      next a b _ (move (Accept time space number e v) accepts_v a (new, enters_v)) (holds_initial Server space b)
+  holds_accepted time space number e signs v a new enters_v accepts_v =
+      let b : At t = move_to (Accept time space number e signs v) a in
+      next a b _ (move (Accept time space number e signs v) accepts_v a (new, enters_v)) (holds_initial Server space b)
 
-  holds_admitted : (m : Meaning t) (time : ℕ) (space : SpaceId) (source : List ℕ) (number : ℕ) (payload : List ℕ) (a : At t) → is_new_in a.state.numbers space number ≡ true → R a (admitted_after m time space source number payload a)
+  holds_admitted : (m : Meaning t) (time : ℕ) (space : SpaceId) (signs : Signs) (source : List ℕ) (number : ℕ) (payload : List ℕ) (a : At t) → is_new_in a.state.numbers space number ≡ true → R a (admitted_after m time space signs source number payload a)
   unfolding admitted_after
-  holds_admitted m time space source number payload a new =
+  holds_admitted m time space signs source number payload a new =
       let e : Bool = list_any is_eliciting_item (items_of payload) in
-      let b : At t = accepted_after time space number e verdict.Admitted a in
+      let b : At t = accepted_after time space number e signs verdict.Admitted a in
       let c : At t = fixed_after space source b in
-      next a b _ (holds_accepted time space number e verdict.Admitted a new refl refl) (next b c _ (holds_fixed space source b) (holds_payload m time space payload c))
+      next a b _ (holds_accepted time space number e signs verdict.Admitted a new refl refl) (next b c _ (holds_fixed space source b) (holds_payload m time space payload c))
 
-  verdict_by : (m : Meaning t) (time : ℕ) (space : SpaceId) (source : List ℕ) (number : ℕ) (payload : List ℕ) (v : Verdict) (a : At t) →
+  verdict_by : (m : Meaning t) (time : ℕ) (space : SpaceId) (signs : Signs) (source : List ℕ) (number : ℕ) (payload : List ℕ) (v : Verdict) (a : At t) →
       (enters v ≡ true → is_new_in a.state.numbers space number ≡ true) → (v ≡ verdict.ReadForClose → is_closed a.state.life.state ≡ true) →
-      R a (verdict_after m time space source number payload v a)
-  unfolding MayMove
-  verdict_by m time space source number payload verdict.Ignored a new closed = here a
-  verdict_by m time space source number payload verdict.Failure a new closed = here a
-  verdict_by m time space source number payload verdict.BadBits a new closed = here a
-  verdict_by m time space source number payload verdict.Seen a new closed = move (Tell (did.Piece (Some space) (Some number) verdict.Seen)) tt a refl
-  verdict_by m time space source number payload verdict.ReadForClose a new closed = holds_closing space number payload a (new refl) (closed refl)
-  verdict_by m time space source number payload verdict.NumberOnly a new closed = move (Enter space number verdict.NumberOnly) tt a (new refl, refl)
-  verdict_by m time space source number payload verdict.AckOnly a new closed = holds_accepted time space number false verdict.AckOnly a (new refl) refl refl
-  verdict_by m time space source number payload verdict.Admitted a new closed = holds_admitted m time space source number payload a (new refl)
+      R a (verdict_after m time space signs source number payload v a)
+  unfolding verdict_after MayMove
+  verdict_by m time space signs source number payload verdict.Ignored a new closed = here a
+  verdict_by m time space signs source number payload verdict.Failure a new closed = here a
+  verdict_by m time space signs source number payload verdict.BadBits a new closed = here a
+  verdict_by m time space signs source number payload verdict.Seen a new closed = move (Tell (did.Piece (Some space) (Some number) verdict.Seen)) tt a refl
+  verdict_by m time space signs source number payload verdict.ReadForClose a new closed = holds_closing space number payload a (new refl) (closed refl)
+  verdict_by m time space signs source number payload verdict.NumberOnly a new closed = move (Enter space number verdict.NumberOnly) tt a (new refl, refl)
+  verdict_by m time space signs source number payload verdict.AckOnly a new closed = holds_accepted time space number false signs verdict.AckOnly a (new refl) refl refl
+  verdict_by m time space signs source number payload verdict.Admitted a new closed = holds_admitted m time space signs source number payload a (new refl)
 
-  holds_received : (m : Meaning t) (time : ℕ) (space : SpaceId) (source token : List ℕ) (number : ℕ) (payload : List ℕ) (a : At t) → R a (received_after m time space source token number payload a)
+  holds_received : (m : Meaning t) (time : ℕ) (space : SpaceId) (signs : Signs) (source token : List ℕ) (number : ℕ) (payload : List ℕ) (a : At t) → R a (received_after m time space signs source token number payload a)
   unfolding received_after verdict_of
-  holds_received m time space source token number payload a =
-      verdict_by m time space source number payload (verdict_of a.state space source token number) a
+  holds_received m time space signs source token number payload a =
+      verdict_by m time space signs source number payload (verdict_of a.state space source token number) a
       (λ h. new_by (is_new_in a.state.numbers space number) (is_closed a.state.life.state) _ _ (verdict_of a.state space source token number) refl h)
       (λ e. closed_by_row (is_new_in a.state.numbers space number) (is_closed a.state.life.state) _ _ e)
 
-  holds_opening : (m : Meaning t) (time : ℕ) (space : Option SpaceId) (o : Opening) (a : At t) → R a (opening_after m time space o a)
+  holds_opening : (m : Meaning t) (time : ℕ) (mark : Option EcnCodepoint) (space : Option SpaceId) (o : Opening) (a : At t) → R a (opening_after m time mark space o a)
   unfolding MayMove
-  holds_opening m time space Unreadable a = move (Tell (did.Piece space None verdict.Ignored)) tt a refl
-  holds_opening m time space Unopened a =
+  holds_opening m time mark space Unreadable a = move (Tell (did.Piece space None verdict.Ignored)) tt a refl
+  holds_opening m time mark space Unopened a =
       let b : At t = move_to Fail a in
       next a b _ (move Fail tt a tt) (move (Tell (did.Piece space None verdict.Failure)) tt b refl)
-  holds_opening m time space (Reserved number) a =
+  holds_opening m time mark space (Reserved number) a =
       let b : At t = move_to (Tell (did.Piece space (Some number) verdict.BadBits)) a in
       next a b _ (move (Tell (did.Piece space (Some number) verdict.BadBits)) tt a refl) (holds_stopped time (violation_at None) b)
-  holds_opening m time (Some space) (Opened source token number payload) a = holds_received m time space source token number payload a
-  holds_opening m time None (Opened source token number payload) a = move (Tell (did.Piece None None verdict.Ignored)) tt a refl
+  holds_opening m time mark (Some space) (Opened source token spin number payload) a = holds_received m time space (record { mark = mark; spin = spin }) source token number payload a
+  holds_opening m time mark None (Opened source token spin number payload) a = move (Tell (did.Piece None None verdict.Ignored)) tt a refl
 
-  piece_by : (m : Meaning t) (time : ℕ) (p : Piece) (a : At t) (b : Bool) → R a (if b then piece_told (space_of p.header) None verdict.Ignored a else opening_after m time (space_of p.header) (opening_of m a.state p) a)
+  piece_by : (m : Meaning t) (time : ℕ) (mark : Option EcnCodepoint) (p : Piece) (a : At t) (b : Bool) → R a (if b then piece_told (space_of p.header) None verdict.Ignored a else opening_after m time mark (space_of p.header) (opening_of m a.state p) a)
   unfolding MayMove
-  piece_by m time p a true = move (Tell (did.Piece (space_of p.header) None verdict.Ignored)) tt a refl
-  piece_by m time p a false = holds_opening m time (space_of p.header) (opening_of m a.state p) a
+  piece_by m time mark p a true = move (Tell (did.Piece (space_of p.header) None verdict.Ignored)) tt a refl
+  piece_by m time mark p a false = holds_opening m time mark (space_of p.header) (opening_of m a.state p) a
 
-  pub holds_pieces : (m : Meaning t) (time : ℕ) (items : List DatagramItem) (a : At t) → R a (pieces_after m time items a)
+  pub holds_pieces : (m : Meaning t) (time : ℕ) (mark : Option EcnCodepoint) (items : List DatagramItem) (a : At t) → R a (pieces_after m time mark items a)
   unfolding piece_after
-  holds_pieces m time [] a = here a
-  holds_pieces m time (Err fault ∷ items) a = here a
-  holds_pieces m time (Ok p ∷ items) a = next a (piece_after m time p a) _ (piece_by m time p a _) (holds_pieces m time items (piece_after m time p a))
+  holds_pieces m time mark [] a = here a
+  holds_pieces m time mark (Err fault ∷ items) a = here a
+  holds_pieces m time mark (Ok p ∷ items) a = next a (piece_after m time mark p a) _ (piece_by m time mark p a _) (holds_pieces m time mark items (piece_after m time mark p a))
 
 -- what holds of these, and of each move that receiving makes, holds of a datagram
 module _ {t : Types} (R : At t → At t → Type 0) (here : (a : At t) → R a a) (next : (a b c : At t) → R a b → R b c → R a c)
     (move : (x : Move t) → IsReceived x → (a : At t) → MayMove x a.state → R a (move_to x a)) where
-  datagram_by : (m : Meaning t) (time : ℕ) (bytes : List ℕ) (items : List DatagramItem) (a : At t) (b : Bool) (n : ℕ) → R a (if b then move_to (Hear n) (pieces_after m time items a) else a)
+  datagram_by : (m : Meaning t) (time : ℕ) (mark : Option EcnCodepoint) (bytes : List ℕ) (items : List DatagramItem) (a : At t) (b : Bool) (n : ℕ) → R a (if b then move_to (Hear n) (pieces_after m time mark items a) else a)
   unfolding MayMove
-  datagram_by m time bytes items a true n =
-      let b : At t = pieces_after m time items a in
-      next a b _ (holds_pieces R here next (λ x h. move x (in_packet_received x h)) m time items a) (move (Hear n) tt b tt)
-  datagram_by m time bytes items a false n = here a
+  datagram_by m time mark bytes items a true n =
+      let b : At t = pieces_after m time mark items a in
+      next a b _ (holds_pieces R here next (λ x h. move x (in_packet_received x h)) m time mark items a) (move (Hear n) tt b tt)
+  datagram_by m time mark bytes items a false n = here a
 
-  holds_heard : (m : Meaning t) (time : ℕ) (remote : SocketAddr) (bytes : List ℕ) (a : At t) → R a (heard_after m time remote bytes a)
+  holds_heard : (m : Meaning t) (time : ℕ) (mark : Option EcnCodepoint) (remote : SocketAddr) (bytes : List ℕ) (a : At t) → R a (heard_after m time mark remote bytes a)
   unfolding heard_after
-  holds_heard m time remote bytes a = datagram_by m time bytes (cut_of a.state bytes) a _ _
+  holds_heard m time mark remote bytes a = datagram_by m time mark bytes (cut_of a.state bytes) a _ _
 
   -- a datagram that may be a server's first one, or not
-  holds_first : (m : Meaning t) (time : ℕ) (remote : SocketAddr) (bytes : List ℕ) (token : Option (List ℕ)) (a : At t) → R a (first_after m time remote bytes token a)
+  holds_first : (m : Meaning t) (time : ℕ) (mark : Option EcnCodepoint) (remote : SocketAddr) (bytes : List ℕ) (token : Option (List ℕ)) (a : At t) → R a (first_after m time mark remote bytes token a)
   unfolding MayMove
-  holds_first m time remote bytes None a = here a
-  holds_first m time remote bytes (Some token) a = let b : At t = move_to (Expect token) a in next a b _ (move (Expect token) tt a tt) (holds_heard m time remote bytes b)
+  holds_first m time mark remote bytes None a = here a
+  holds_first m time mark remote bytes (Some token) a = let b : At t = move_to (Expect token) a in next a b _ (move (Expect token) tt a tt) (holds_heard m time mark remote bytes b)
 
-  first_by : (m : Meaning t) (time : ℕ) (remote : SocketAddr) (bytes : List ℕ) (token : Option (List ℕ)) (a : At t) (b : Bool) → R a (if b then first_after m time remote bytes token a else heard_after m time remote bytes a)
-  first_by m time remote bytes token a true = holds_first m time remote bytes token a
-  first_by m time remote bytes token a false = holds_heard m time remote bytes a
+  first_by : (m : Meaning t) (time : ℕ) (mark : Option EcnCodepoint) (remote : SocketAddr) (bytes : List ℕ) (token : Option (List ℕ)) (a : At t) (b : Bool) → R a (if b then first_after m time mark remote bytes token a else heard_after m time mark remote bytes a)
+  first_by m time mark remote bytes token a true = holds_first m time mark remote bytes token a
+  first_by m time mark remote bytes token a false = holds_heard m time mark remote bytes a
 
-  pub holds_datagram : (m : Meaning t) (time : ℕ) (remote : SocketAddr) (bytes : List ℕ) (a : At t) → R a (datagram_after m time remote bytes a)
+  pub holds_datagram : (m : Meaning t) (time : ℕ) (mark : Option EcnCodepoint) (remote : SocketAddr) (bytes : List ℕ) (a : At t) → R a (datagram_after m time mark remote bytes a)
   unfolding datagram_after
-  holds_datagram m time remote bytes a = first_by m time remote bytes (first_token m a.state remote bytes) a _
+  holds_datagram m time mark remote bytes a = first_by m time mark remote bytes (first_token m a.state remote bytes) a _

@@ -2,22 +2,26 @@
 use Rattle.std.proofs.Common.{◌≡◌, ℕ, ◌+◌, ◌-◌, ◌≤◌, List, [], ◌∷◌, ◌++◌, length, length-append, replicate, refl, ap, sym, ◌∙◌, subst, Bool, true, false, ◌&&◌, ◌||◌, not, if◌then◌else◌, Option, Some, None, is_some, IsSome, nat_le, ◌<◌, ◌^◌, arith}
 use Rattle.std.specs.Prelude.{unwrap_or}
 use Rattle.std.proofs.lemmas.Bool.Decides.{nat_tests}
+use Rattle.std.proofs.lemmas.List.{length-replicate}
 use Rattle.std.specs.List.{list_any}
 use Rattle.qc_base.specs.declared.side.Side.TheVariants.{Client}
 use Rattle.qc_base.specs.declared.side.SpaceId.{SpaceId}
 use Rattle.qc_base.specs.declared.side.SpaceId.TheVariants.{Initial, Handshake, «Data»}
 use Rattle.qc_frame.specs.Frame.{FrameValue}
-use Rattle.qc_frame.specs.FrameSpelling.{spelling, frames_spelling}
+use Rattle.qc_frame.specs.FrameSpelling.{elicits, spelling, frames_spelling}
 use Rattle.qc_frame.specs.declared.frames.FrameOf.TheVariants.{Padding}
 use Rattle.qc_frame.specs.declared.frames.FrameOf.TheVariants as frames
 use Rattle.qc_frame.specs.Sizes.{IsLongestReason}
+use Rattle.qc_frame.proofs.Padded.{zeros}
 use Rattle.qc_frame.proofs.Lengths.{varint_size_max, length_type, length-connection_close, length-application_close}
 use Rattle.qc_state.specs.Acks.{AckPart, may_acknowledge}
 use Rattle.qc_state.specs.Life.{is_closed}
 use Rattle.qc_state.specs.declared.life.Close.{Close}
 use Rattle.qc_state.specs.declared.life.Close.TheVariants.{Connection, Application}
 use Rattle.qc_header.specs.declared.header.Header.{Header}
-use Rattle.qc_header.specs.HeaderSpelling.{header_spelling, header_number, header_most}
+use Rattle.qc_header.specs.HeaderSpelling.{header_spelling, header_number, header_most, initial_spelling, short_spelling, long_start}
+use Rattle.qc_packet.specs.Building.{dst_cid_of, min_size_of, padded_size}
+use Rattle.qc_packet.specs.PacketSpelling.{padding_len}
 use Rattle.qc_state.specs.declared.transmit.TheConstants.{DATAGRAM_SIZE}
 use Rattle.qc_state.specs.declared.transmit.Transmit.{Transmit}
 use Rattle.qc_state.specs.declared.waiting.SpaceWaiting.{SpaceWaiting}
@@ -25,12 +29,12 @@ use Rattle.qc_state.specs.Keys.{keys_of}
 use Rattle.qc_state.specs.Moves.{Take, Seal, state_move, move_to, numbers_move, keys_move, life_move, paths_move, timers_move, waiting_move, setup_move, lower_move, deeds_move}
 use Rattle.qc_state.specs.Numbers.{next_number, acked_number}
 use Rattle.qc_state.specs.Paths.{is_blocked}
-use Rattle.qc_state.specs.Sending.{close_frame, told_code, told_type, told_application_code, application_close, told_close, closing_frame, IsKeptReason, close_room, Closes, Carries, TakenNow, owes_in, sending_space, owes, is_past_limit, is_used_up, may_be_quiet, header_in, header_of, sealed_with, packet_bytes, initial_left, sealed_in, packet_after, quiet_after, transmit_after, MayTransmit, transmit_bytes, transmit_of, SealsOne, Transmits, is_silent}
+use Rattle.qc_state.specs.Sending.{close_frame, told_code, told_type, told_application_code, application_close, told_close, closing_frame, IsKeptReason, close_room, Closes, Carries, TakenNow, owes_in, sending_space, owes, is_past_limit, is_used_up, may_be_quiet, header_in, header_of, sealed_with, packet_bytes, initial_left, sealed_in, packet_after, quiet_after, transmit_after, MayTransmit, transmit_bytes, transmit_with, transmit_of, SealsOne, Transmits, is_silent, fills, packet_size, least_size, padding_of, padded}
 use Rattle.qc_state.specs.Spaces.{space_of, with_space}
 use Rattle.qc_state.specs.Types.{Types, Meaning}
 use Rattle.qc_state.specs.View.{View, At, at}
-use Rattle.qc_state.specs.Waiting.{waits_in, waits_here, waiting_without, without, without_all, is_told, TakenPart, WaitAll}
-use Rattle.qc_state.proofs.WaitingLemmas.{without_all_append, taken_waits, taken_told, taken_fits, acks_fit, bytes_append, waits_padded, without_padded, told_padded}
+use Rattle.qc_state.specs.Waiting.{waits_in, waits_here, waiting_without, without, without_all, TakenPart}
+use Rattle.qc_state.proofs.WaitingLemmas.{without_all_append, taken_waits, taken_some, taken_fits, acks_fit, bytes_append, without_padded}
 
 -- of two tests that hold the second holds
 and_right : (a b : Bool) → (a && b) ≡ true → b ≡ true
@@ -105,11 +109,20 @@ owed_by : (w : SpaceWaiting) (b c : Bool) → b ≡ false → (if b then c else 
 owed_by w true c e h = cc
 owed_by w false c e h = h
 
+-- a datagram's size or nothing is no more than it
+least_by : (b : Bool) → (if b then DATAGRAM_SIZE else 0) ≤ DATAGRAM_SIZE
+least_by true = omega arith
+least_by false = omega arith
+
+-- PADDING has a byte a frame
+padding_bytes : (n : ℕ) → length (frames_spelling (replicate n Padding)) ≡ n
+padding_bytes n = ap length (zeros n) ∙ length-replicate n 0
+
 module _ {t : Types} where
   -- PADDING changes nothing of what waits
-  take_padded : (id : SpaceId) (fs : List FrameValue) (n : ℕ) (s : View t) → state_move (Take id (fs ++ replicate n Padding)) s ≡ state_move (Take id fs) s
-  unfolding state_move numbers_move keys_move life_move paths_move timers_move waiting_move setup_move lower_move waiting_without
-  take_padded id fs n s = ap (λ (w : SpaceWaiting). record s { waiting = record s.waiting { spaces = with_space s.waiting.spaces id w } }) (without_padded (space_of s.waiting.spaces id) fs n)
+  take_padded : (id : SpaceId) (fs : List FrameValue) (s : View t) → state_move (Take id (padded s id fs)) s ≡ state_move (Take id fs) s
+  unfolding state_move numbers_move keys_move life_move paths_move timers_move waiting_move setup_move lower_move waiting_without padded
+  take_padded id fs s = ap (λ (w : SpaceWaiting). record s { waiting = record s.waiting { spaces = with_space s.waiting.spaces id w } }) (without_padded (space_of s.waiting.spaces id) fs (padding_of s id fs))
 
   -- a close behind an ACK changes nothing more of what waits
   close_behind : (s : View t) (id : SpaceId) (kept : List ℕ) (acks : List FrameValue) → state_move (Take id acks) s ≡ state_move (Take id (acks ++ closing_frame id kept s.life ∷ [])) s
@@ -125,7 +138,7 @@ module _ {t : Types} where
 
   -- the ACK and the close, with the reason that fits behind the ACK, are the frames that this end takes, where a close is owed
   pub takes_close : (time : ℕ) (s : View t) (id : SpaceId) (room : ℕ) (kept : List ℕ) (acks fs : List FrameValue) → s.waiting.close_owed ≡ true →
-      AckPart time (space_of s.waiting.spaces id).acks acks (may_acknowledge (space_of s.waiting.spaces id).acks) → IsKeptReason (close_room s id acks) kept s.life.close →
+      AckPart time (space_of s.waiting.spaces id) acks (may_acknowledge (space_of s.waiting.spaces id).acks) → IsKeptReason (close_room s id acks) kept s.life.close →
       fs ≡ acks ++ closing_frame id kept s.life ∷ [] → TakenNow time s id room fs
   takes_close time s id room kept acks fs owed part reason is = TakenNow.a_close owed (Closes.closing acks part kept reason is)
 
@@ -147,46 +160,111 @@ module _ {t : Types} where
   unfolding owes owes_in waits_in
   owed_waits s e h = owed_by (space_of s.waiting.spaces (sending_space s)) s.waiting.close_owed _ e (and_right _ _ h)
 
-  -- the frames that are taken, with PADDING behind them, are what a packet may carry
-  carries : (time : ℕ) (s : View t) (room n : ℕ) (fs gs : List FrameValue) → owes s ≡ true → 20 ≤ room → TakenNow time s (sending_space s) room fs → gs ≡ fs ++ replicate n Padding → Carries time s (sending_space s) gs
-  carries time s room n fs gs owed wide (TakenNow.a_close e closes) is_gs = Carries.a_close e fs closes n is_gs
-  carries time s room n fs gs owed wide (TakenNow.what_waits e taken) is_gs =
+  -- the frames that are taken, with the PADDING that they need behind them, are what a packet may carry
+  carries : (time : ℕ) (s : View t) (room : ℕ) (fs gs : List FrameValue) → owes s ≡ true → 20 ≤ room → TakenNow time s (sending_space s) room fs → gs ≡ padded s (sending_space s) fs → Carries time s (sending_space s) gs
+  carries time s room fs gs owed wide (TakenNow.a_close e closes) is_gs = Carries.a_close e fs closes is_gs
+  carries time s room fs gs owed wide (TakenNow.what_waits e taken) is_gs =
       let w : SpaceWaiting = space_of s.waiting.spaces (sending_space s) in
-      Carries.what_waits e
-      (subst (λ (x : List FrameValue). WaitAll time w x) (sym is_gs) (waits_padded time w fs n (taken_waits time w room fs taken)))
-      (ap (list_any is_told) is_gs ∙ told_padded fs n (taken_told time w room fs taken (owed_waits s e owed) wide))
+      Carries.what_waits e fs (taken_waits time w room fs taken) (taken_some time w room fs taken (owed_waits s e owed) wide) is_gs
 
-  -- frames are taken, filled up with PADDING, sealed, and counted, and the Initial space is left where this says so
-  pub seals_one : (m : Meaning t) (time room number n : ℕ) (space : SpaceId) (a : At t) (mid : View t) (b c : At t) (buffer : List ℕ) (fs gs : List FrameValue) (h : Header) →
+  -- a header in each space has its destination id
+  dst_within : (s : View t) (id : SpaceId) → length (dst_cid_of (header_in s id)) ≤ length (header_spelling (header_in s id) 0)
+  unfolding header_spelling initial_spelling short_spelling long_start
+  dst_within s Initial = simp length-append (omega arith)
+  dst_within s Handshake = simp length-append (omega arith)
+  dst_within s Data = simp length-append (omega arith)
+
+  -- a packet is asked for no more bytes than a datagram has
+  pub least_low : (s : View t) (id : SpaceId) (fs : List FrameValue) → least_size s id fs ≤ DATAGRAM_SIZE
+  unfolding least_size
+  least_low s id fs = least_by (fills s.setup.fixed.side id (list_any elicits fs))
+
+  -- as many as before frames were taken
+  least_kept : (s mid : View t) (id : SpaceId) (fs : List FrameValue) → mid ≡ state_move (Take id fs) s → least_size mid id fs ≡ least_size s id fs
+  unfolding least_size state_move setup_move
+  least_kept s mid id fs is = ap (λ (x : View t). if fills x.setup.fixed.side id (list_any elicits fs) then DATAGRAM_SIZE else 0) is
+
+  -- so many bytes has a packet with these frames and the PADDING that they need
+  pub padded_size_is : (s : View t) (id : SpaceId) (h : Header) (fs : List FrameValue) → h ≡ header_in s id → padded_size h fs (least_size s id fs) ≡ packet_size s id (padded s id fs)
+  unfolding packet_size padded padding_of
+  padded_size_is s id h fs is =
+      let n : ℕ = padding_len (header_in s id) fs (padded_size (header_in s id) fs (least_size s id fs)) in
+      let whole : length (frames_spelling (fs ++ replicate n Padding)) ≡ length (frames_spelling fs) + n = bytes_append fs (replicate n Padding) ∙ ap (λ (x : ℕ). length (frames_spelling fs) + x) (padding_bytes n) in
+      ap (λ (x : Header). padded_size x fs (least_size s id fs)) is ∙ omega (arith, whole)
+
+  -- which fit into a datagram, where the frames do behind a short header with room for tag and sample
+  pub padded_fits : (s : View t) (id : SpaceId) (h : Header) (fs : List FrameValue) → h ≡ header_in s id → length (header_spelling h 0) ≤ 61 →
+      length (header_spelling h 0) + length (frames_spelling fs) + 20 ≤ DATAGRAM_SIZE → packet_size s id (padded s id fs) ≤ DATAGRAM_SIZE
+  unfolding min_size_of
+  padded_fits s id h fs is short room =
+      let len : length (header_spelling h 0) ≡ length (header_spelling (header_in s id) 0) = ap (λ (x : Header). length (header_spelling x 0)) is in
+      let size : padded_size (header_in s id) fs (least_size s id fs) ≡ packet_size s id (padded s id fs) = padded_size_is s id (header_in s id) fs refl in
+      omega (arith, len, size, dst_within s id, least_low s id fs)
+
+  -- what was filled up to so many bytes at least, once frames were taken, has the PADDING that it needs
+  pub padded_now : (s mid : View t) (id : SpaceId) (h : Header) (least : ℕ) (fs gs : List FrameValue) → h ≡ header_in s id → mid ≡ state_move (Take id fs) s → least ≡ least_size mid id fs →
+      gs ≡ fs ++ replicate (padding_len h fs (padded_size h fs least)) Padding → gs ≡ padded s id fs
+  unfolding padded padding_of
+  padded_now s mid id h least fs gs is_h is_mid is_least is_gs =
+      is_gs ∙ ap (λ (x : Header). fs ++ replicate (padding_len x fs (padded_size x fs least)) Padding) is_h
+      ∙ ap (λ (x : ℕ). fs ++ replicate (padding_len (header_in s id) fs (padded_size (header_in s id) fs x)) Padding) (is_least ∙ least_kept s mid id fs is_mid)
+
+  -- and as many bytes as a packet with it
+  pub padded_size_now : (s mid : View t) (id : SpaceId) (h : Header) (least size : ℕ) (fs gs : List FrameValue) → h ≡ header_in s id → mid ≡ state_move (Take id fs) s → least ≡ least_size mid id fs →
+      gs ≡ padded s id fs → size ≡ padded_size h fs least → size ≡ packet_size s id gs
+  padded_size_now s mid id h least size fs gs is_h is_mid is_least is_gs is_size =
+      is_size ∙ ap (λ (x : ℕ). padded_size h fs x) (is_least ∙ least_kept s mid id fs is_mid) ∙ padded_size_is s id h fs is_h ∙ ap (λ (x : List FrameValue). packet_size s id x) (sym is_gs)
+
+  -- frames are taken, filled up with the PADDING that they need, sealed, and counted, and the Initial space is left where this
+  -- says so
+  pub seals_one : (m : Meaning t) (time room number size : ℕ) (space : SpaceId) (a : At t) (mid : View t) (b c : At t) (buffer : List ℕ) (fs gs : List FrameValue) (h : Header) →
       may_be_quiet a.state ≡ false → space ≡ sending_space a.state → 20 ≤ room →
-      TakenNow time a.state space room fs → gs ≡ fs ++ replicate n Padding →
-      mid ≡ state_move (Take space fs) a.state → number ≡ next_number a.state.numbers space →
-      b ≡ move_to (Seal time space number DATAGRAM_SIZE gs) (at mid a.did) → c ≡ initial_left Client space b →
+      TakenNow time a.state space room fs → gs ≡ padded a.state space fs →
+      mid ≡ state_move (Take space fs) a.state → number ≡ next_number a.state.numbers space → size ≡ packet_size a.state space gs → size ≤ DATAGRAM_SIZE →
+      b ≡ move_to (Seal time space number size gs) (at mid a.did) → c ≡ initial_left Client space b →
       h ≡ header_in a.state space → buffer ≡ sealed_with m (keys_of mid.keys space) h number (frames_spelling gs) →
-      length buffer ≡ DATAGRAM_SIZE → SealsOne m time a c buffer
+      length buffer ≡ size → SealsOne m time a c buffer
   unfolding may_be_quiet packet_after sealed_in packet_bytes header_of move_to deeds_move state_move keys_of keys_move
-  seals_one m time room number n space a mid b c buffer fs gs h loud is_space wide taken is_gs is_mid is_number is_b is_c is_h is_buffer full =
+  seals_one m time room number size space a mid b c buffer fs gs h loud is_space wide taken is_gs is_mid is_number is_size fits is_b is_c is_h is_buffer full =
       let owed : owes a.state ≡ true = not_quiet_2 (is_silent a.state) (owes a.state) (is_blocked a.state.paths) (is_used_up a.state) loud in
-      let same : mid ≡ state_move (Take space gs) a.state = is_mid ∙ sym (ap (λ (x : List FrameValue). state_move (Take space x) a.state) is_gs ∙ take_padded space fs n a.state) in
+      let same : mid ≡ state_move (Take space gs) a.state = is_mid ∙ sym (ap (λ (x : List FrameValue). state_move (Take space x) a.state) is_gs ∙ take_padded space fs a.state) in
       let now : TakenNow time a.state (sending_space a.state) room fs = subst (λ (id : SpaceId). TakenNow time a.state id room fs) is_space taken in
+      let filled : gs ≡ padded a.state (sending_space a.state) fs = is_gs ∙ ap (λ (id : SpaceId). padded a.state id fs) is_space in
+      let whole : size ≡ packet_size a.state (sending_space a.state) gs = is_size ∙ ap (λ (id : SpaceId). packet_size a.state id gs) is_space in
       record {
         frames = gs;
-        may = record { alive = not_quiet_1 (is_silent a.state) (owes a.state) (is_blocked a.state.paths) (is_used_up a.state) loud; owed = owed; free = not_quiet_4 (is_silent a.state) (owes a.state) (is_blocked a.state.paths) (is_used_up a.state) loud; spelled = not_quiet_3 (is_silent a.state) (owes a.state) (is_blocked a.state.paths) (is_used_up a.state) loud; carries = carries time a.state room n fs gs owed wide now is_gs };
+        may = record {
+          alive = not_quiet_1 (is_silent a.state) (owes a.state) (is_blocked a.state.paths) (is_used_up a.state) loud;
+          owed = owed;
+          free = not_quiet_4 (is_silent a.state) (owes a.state) (is_blocked a.state.paths) (is_used_up a.state) loud;
+          spelled = not_quiet_3 (is_silent a.state) (owes a.state) (is_blocked a.state.paths) (is_used_up a.state) loud;
+          carries = carries time a.state room fs gs owed wide now filled;
+          fits = subst (λ (x : ℕ). x ≤ DATAGRAM_SIZE) whole fits;
+        };
         leads = is_c ∙ ap (λ (x : At t). initial_left Client space x) is_b
-            ∙ ap (λ (x : View t). initial_left Client space (move_to (Seal time space number DATAGRAM_SIZE gs) (at x a.did))) same
-            ∙ ap (λ (x : ℕ). initial_left Client space (move_to (Seal time space x DATAGRAM_SIZE gs) (move_to (Take space gs) a))) is_number
+            ∙ ap (λ (x : View t). initial_left Client space (move_to (Seal time space number size gs) (at x a.did))) same
+            ∙ ap (λ (x : ℕ). initial_left Client space (move_to (Seal time space x size gs) (move_to (Take space gs) a))) is_number
+            ∙ ap (λ (x : ℕ). initial_left Client space (move_to (Seal time space (next_number a.state.numbers space) x gs) (move_to (Take space gs) a))) is_size
             ∙ ap (λ (id : SpaceId). sealed_in time id gs a) is_space;
         bytes = is_buffer ∙ ap (λ (x : Header). sealed_with m (keys_of mid.keys space) x number (frames_spelling gs)) is_h
             ∙ ap (λ (x : View t). sealed_with m (keys_of x.keys space) (header_in a.state space) number (frames_spelling gs)) same
             ∙ ap (λ (x : ℕ). sealed_with m (keys_of a.state.keys space) (header_in a.state space) x (frames_spelling gs)) is_number
             ∙ ap (λ (id : SpaceId). sealed_with m (keys_of a.state.keys id) (header_in a.state id) (next_number a.state.numbers id) (frames_spelling gs)) is_space;
-        full = full;
+        full = full ∙ whole;
       }
 
   -- a transmit that seals a packet
-  pub transmits_one : (m : Meaning t) (time : ℕ) (a b : At t) (sent : Transmit) (buffer : List ℕ) → SealsOne m time a b buffer → Some sent ≡ transmit_of ([] ∷ []) a.state → Transmits m time a b (Some sent) buffer
-  unfolding MayTransmit transmit_after transmit_of transmit_bytes
-  transmits_one m time a b sent buffer h e = record { packets = h.frames ∷ []; may = h.may; leads = h.leads; answer = e; bytes = h.bytes; full = h.full }
+  pub transmits_one : (m : Meaning t) (time : ℕ) (a b : At t) (sent : Transmit) (buffer : List ℕ) → SealsOne m time a b buffer → sent ≡ transmit_with a.state (length buffer) → Transmits m time a b (Some sent) buffer
+  unfolding MayTransmit transmit_after transmit_of transmit_bytes transmit_with
+  transmits_one m time a b sent buffer h e =
+      record {
+        packets = h.frames ∷ [];
+        may = h.may;
+        leads = h.leads;
+        answer = ap Some (e ∙ ap (λ (size : ℕ). transmit_with a.state size) h.full);
+        bytes = h.bytes;
+        full = sym (ap (λ (x : Transmit). x.size) e);
+      }
 
   -- a transmit that seals none
   pub transmits_quiet : (m : Meaning t) (time : ℕ) (a b : At t) (buffer : List ℕ) → may_be_quiet a.state ≡ true → b ≡ quiet_after a → buffer ≡ [] → Transmits m time a b None buffer
@@ -262,10 +340,10 @@ closing_fits id room kept true (Some (Application c)) reason r = application_fit
 closing_fits id room kept false c reason r = omega (arith, close_short 0x00 None)
 
 -- an ACK and the close fit into the room
-close_fits : {t : Types} (time : ℕ) (s : View t) (space : SpaceId) (room : ℕ) (fs : List FrameValue) → Closes time s space fs → length (space_of s.waiting.spaces space).acks.ranges ≤ 64 → 1066 ≤ room →
+close_fits : {t : Types} (time : ℕ) (s : View t) (space : SpaceId) (room : ℕ) (fs : List FrameValue) → Closes time s space fs → length (space_of s.waiting.spaces space).acks.ranges ≤ 64 → 1090 ≤ room →
     room ≡ 1180 - length (header_spelling (header_in s space) 0) → length (frames_spelling fs) ≤ room
 close_fits time s space room fs (Closes.closing acks part kept reason is) few r is_room =
-    let acks_short : length (frames_spelling acks) ≤ 1041 = acks_fit time (space_of s.waiting.spaces space).acks acks (may_acknowledge (space_of s.waiting.spaces space).acks) part few in
+    let acks_short : length (frames_spelling acks) ≤ 1065 = acks_fit time (space_of s.waiting.spaces space) acks (may_acknowledge (space_of s.waiting.spaces space).acks) part few in
     let left : close_room s space acks ≡ room - length (frames_spelling acks) = close_room_left s space room acks is_room in
     let whole : length (frames_spelling fs) ≡ length (frames_spelling acks) + length (frames_spelling (closing_frame space kept s.life ∷ [])) =
     ap (λ (x : List FrameValue). length (frames_spelling x)) is ∙ bytes_append acks (closing_frame space kept s.life ∷ []) in
@@ -274,7 +352,7 @@ close_fits time s space room fs (Closes.closing acks part kept reason is) few r 
     omega (arith, acks_short, left, whole, close, r)
 
 -- the frames that are taken fit into the room
-now_fits : {t : Types} (time : ℕ) (s : View t) (space : SpaceId) (room : ℕ) (fs : List FrameValue) → TakenNow time s space room fs → length (space_of s.waiting.spaces space).acks.ranges ≤ 64 → 1066 ≤ room →
+now_fits : {t : Types} (time : ℕ) (s : View t) (space : SpaceId) (room : ℕ) (fs : List FrameValue) → TakenNow time s space room fs → length (space_of s.waiting.spaces space).acks.ranges ≤ 64 → 1090 ≤ room →
     room ≡ 1180 - length (header_spelling (header_in s space) 0) → length (frames_spelling fs) ≤ room
 now_fits time s space room fs (TakenNow.a_close e closes) few r is_room = close_fits time s space room fs closes few r is_room
 now_fits time s space room fs (TakenNow.what_waits e taken) few r is_room = taken_fits time (space_of s.waiting.spaces space) room fs taken few (omega arith)
@@ -285,3 +363,19 @@ pub taken_room : {t : Types} (time : ℕ) (s : View t) (space : SpaceId) (h : He
 taken_room time s space h fs n room is_h is_n most is_room taken few =
     let fits : length (frames_spelling fs) ≤ room = now_fits time s space room fs taken few (omega arith) (room_behind s space h n room is_h is_n is_room) in
     omega arith
+
+-- the same, from what the calls say that take the frames, fill them up to as many bytes as are asked for, seal them, and count
+-- what was sealed
+pub seals_taken : {t : Types} (m : Meaning t) (time n room number least size : ℕ) (space : SpaceId) (a : At t) (mid : View t) (b c : At t) (buffer : List ℕ) (fs gs : List FrameValue) (h : Header) →
+    may_be_quiet a.state ≡ false → space ≡ sending_space a.state → h ≡ header_in a.state space → n ≡ length (header_spelling h 0) → n ≤ 61 → room ≡ 1180 - n →
+    TakenNow time a.state space room fs → length (space_of a.state.waiting.spaces space).acks.ranges ≤ 64 → mid ≡ state_move (Take space fs) a.state → least ≡ least_size mid space fs →
+    gs ≡ fs ++ replicate (padding_len h fs (padded_size h fs least)) Padding → number ≡ next_number a.state.numbers space → size ≡ length buffer →
+    b ≡ move_to (Seal time space number size gs) (at mid a.did) → c ≡ initial_left Client space b →
+    buffer ≡ sealed_with m (keys_of mid.keys space) h number (frames_spelling gs) → length buffer ≡ padded_size h fs least → SealsOne m time a c buffer
+seals_taken m time n room number least size space a mid b c buffer fs gs h loud is_space is_h is_n most is_room taken few is_mid is_least is_gs is_number is_size is_b is_c is_buffer full =
+    let filled : gs ≡ padded a.state space fs = padded_now a.state mid space h least fs gs is_h is_mid is_least is_gs in
+    let whole : size ≡ packet_size a.state space gs = padded_size_now a.state mid space h least size fs gs is_h is_mid is_least filled (is_size ∙ full) in
+    let behind : length (header_spelling h 0) + length (frames_spelling fs) + 20 ≤ DATAGRAM_SIZE = taken_room time a.state space h fs n room is_h is_n most is_room taken few in
+    let fits : packet_size a.state space (padded a.state space fs) ≤ DATAGRAM_SIZE = padded_fits a.state space h fs is_h (omega (arith, is_n, most)) behind in
+    seals_one m time room number size space a mid b c buffer fs gs h loud is_space (omega (arith, most, is_room)) taken filled is_mid is_number whole
+    (omega (arith, whole, fits, ap (λ (x : List FrameValue). packet_size a.state space x) filled)) is_b is_c is_h is_buffer (sym is_size)

@@ -12,6 +12,7 @@ use Rattle.qc_state.specs.declared.life.State.TheVariants.{Drained}
 use Rattle.qc_base.specs.declared.side.Side.TheVariants.{Client}
 use Rattle.qc_base.specs.declared.side.SpaceId.{SpaceId}
 use Rattle.qc_base.specs.declared.side.SpaceId.TheVariants.{Initial}
+use Rattle.qc_state.specs.declared.events.EndpointEvent.{EndpointEvent}
 use Rattle.qc_state.specs.declared.events.Event.{Event}
 use Rattle.qc_state.specs.declared.input.Input.{Input}
 use Rattle.qc_state.specs.declared.input.Input.TheVariants as input
@@ -20,13 +21,13 @@ use Rattle.qc_state.specs.declared.trace.Answer.{Answer}
 use Rattle.qc_state.specs.declared.trace.Answer.TheVariants.{Done, Dropped}
 use Rattle.qc_state.specs.declared.trace.Step.{Step}
 use Rattle.qc_state.specs.declared.transmit.Transmit.{Transmit}
-use Rattle.qc_state.specs.Life.{ready_event, connected_event, lost_event, waiting_events, ready_reported, connected_reported, lost_reported, drained_event}
-use Rattle.qc_state.specs.Moves.{Ask, Clock, Take, Seal, Forget, Calm, Raise, Give, Say, ReportReady, ReportConnected, ReportLost, ReportDrained, state_move, move_to, deeds_move, life_move, calmed}
+use Rattle.qc_state.specs.Life.{ready_event, connected_event, lost_event, waiting_events, ready_reported, connected_reported, lost_reported, token_event, wanted_event, drained_event, token_reported, wanted_reported, endpoint_events}
+use Rattle.qc_state.specs.Moves.{Ask, Clock, Take, Seal, Forget, Calm, Raise, Give, Say, ReportReady, ReportConnected, ReportLost, ReportToken, ReportWanted, ReportDrained, state_move, move_to, deeds_move, life_move, calmed}
 use Rattle.qc_state.specs.Run.{time_of, word_of, packets_of, began, close_after, input_after, called, reported, step_after, IsAllowed, out_of, answer_of, IsStep, Run, Calls, Ran, Adds}
 use Rattle.qc_state.specs.Numbers.{next_number}
 use Rattle.qc_state.specs.Receiving.{is_taken, datagram_after}
 use Rattle.qc_state.specs.Paths.{is_blocked}
-use Rattle.qc_state.specs.Sending.{internal_error, given_after, killed_after, quiet_after, sending_space, drops_initial, initial_left, sealed_in, packet_after, transmit_after, MayTransmit, transmit_bytes, transmit_of, Transmits, owed_quiet_after, is_silent, owes}
+use Rattle.qc_state.specs.Sending.{internal_error, given_after, killed_after, quiet_after, packet_size, sending_space, drops_initial, initial_left, sealed_in, packet_after, transmit_after, MayTransmit, transmit_bytes, transmit_of, Transmits, owed_quiet_after, is_silent, owes}
 use Rattle.qc_state.specs.Timers.{next_timeout}
 use Rattle.qc_state.specs.Types.{Types, Meaning}
 use Rattle.qc_state.specs.View.{View, At, at}
@@ -60,7 +61,7 @@ module _ {t : Types} where
   packet_told : (time : ℕ) (s : View t) (id : SpaceId) (fs : List FrameValue) → packets_of (sealed_in time id fs (at s [])).did ≡ fs ∷ []
   unfolding sealed_in initial_left move_to deeds_move
   packet_told time s id fs =
-      let b : At t = move_to (Seal time id (next_number s.numbers id) 1200 fs) (move_to (Take id fs) (at s [])) in
+      let b : At t = move_to (Seal time id (next_number s.numbers id) (packet_size s id fs) fs) (move_to (Take id fs) (at s [])) in
       ap packets_of (left_did b (drops_initial Client b.state id))
 
   -- a transmit's deeds name the packets that it sealed
@@ -101,10 +102,10 @@ module _ {t : Types} where
   }
 
   pub calls_datagram : (m : Meaning t) (s mid : View t) (time : ℕ) (remote : SocketAddr) (ecn : Option EcnCodepoint) (bytes copy : List ℕ) (ds : List Did) (b : At t) (begins : Bool) (answer : Answer) →
-      mid ≡ state_move (Clock time) s → ds ≡ [] → copy ≡ bytes → b ≡ datagram_after m time remote copy (at mid ds) → begins ≡ is_taken m mid remote copy → answer ≡ (if begins then Done else Dropped) → Calls m s (input.Datagram time remote ecn bytes) b answer
+      mid ≡ state_move (Clock time) s → ds ≡ [] → copy ≡ bytes → b ≡ datagram_after m time ecn remote copy (at mid ds) → begins ≡ is_taken m mid remote copy → answer ≡ (if begins then Done else Dropped) → Calls m s (input.Datagram time remote ecn bytes) b answer
   unfolding began input_after called IsAllowed answer_of
   calls_datagram m s mid time remote ecn bytes copy ds b begins answer is_mid is_ds is_copy is_b is_begins e = record {
-    leads = is_b ∙ ap (λ (x : List ℕ). datagram_after m time remote x (at mid ds)) is_copy ∙ ap (λ (x : List Did). datagram_after m time remote bytes (at mid x)) is_ds ∙ ap (λ (x : View t). datagram_after m time remote bytes (at x [])) is_mid;
+    leads = is_b ∙ ap (λ (x : List ℕ). datagram_after m time ecn remote x (at mid ds)) is_copy ∙ ap (λ (x : List Did). datagram_after m time ecn remote bytes (at mid x)) is_ds ∙ ap (λ (x : View t). datagram_after m time ecn remote bytes (at x [])) is_mid;
     allowed = tt;
     answers = e ∙ ap (λ (x : Bool). if x then Done else Dropped) (is_begins ∙ ap (is_taken m mid remote) is_copy ∙ ap (λ (x : View t). is_taken m x remote bytes) is_mid);
   }
@@ -119,16 +120,26 @@ module _ {t : Types} where
   unfolding lost_event state_move life_move ready_reported connected_reported
   same_lost s = refl
 
-  -- and with the end
-  same_end : (s : View t) → drained_event (state_move ReportLost (state_move ReportConnected (state_move ReportReady s))).life ≡ drained_event s.life
-  unfolding drained_event state_move life_move ready_reported connected_reported lost_reported
+  -- and with all that waits for the endpoint
+  same_end : (s : View t) → endpoint_events (state_move ReportLost (state_move ReportConnected (state_move ReportReady s))).life ≡ endpoint_events s.life
+  unfolding endpoint_events token_event wanted_event drained_event state_move life_move ready_reported connected_reported lost_reported
   same_end s = refl
+
+  -- reporting the peer's token leaves how many identifiers are wanted
+  same_wanted : (s : View t) → wanted_event (state_move ReportToken s).life ≡ wanted_event s.life
+  unfolding wanted_event state_move life_move token_reported
+  same_wanted s = refl
+
+  -- and reporting both leaves the end
+  same_drained : (s : View t) → drained_event (state_move ReportWanted (state_move ReportToken s)).life ≡ drained_event s.life
+  unfolding drained_event state_move life_move token_reported wanted_reported
+  same_drained s = refl
 
   -- a step of a call, whose answer and reports stand in it
   pub is_step : (m : Meaning t) (k : ℕ) (s : View t) (i : Input) (x : Step) (b : At t) (s' : View t) →
       s.timers.greatest ≤ time_of i → Calls m s i b x.answer → x.did ≡ b.did →
       s' ≡ reported b.state →
-      x.events ≡ waiting_events b.state.life → x.endpoint ≡ option_to_list (drained_event b.state.life) →
+      x.events ≡ waiting_events b.state.life → x.endpoint ≡ endpoint_events b.state.life →
       x.timeout ≡ next_timeout s'.timers → x.at ≡ k → x.word ≡ word_of i → x.now ≡ time_of i → IsStep m k s i x s'
   unfolding step_after
   is_step m k s i x b s' forward h is_did is_s' is_events is_endpoint is_timeout is_at is_word is_now =
@@ -148,7 +159,7 @@ module _ {t : Types} where
         allowed = subst (λ (ds : List Did). IsAllowed i ds (began s (time_of i)).state) (sym is_did) h.allowed;
         answer = h.answers ∙ ap (λ (ds : List Did). answer_of m i ds (began s (time_of i)).state) (sym is_did);
         events = is_events ∙ ap (λ (y : At t). waiting_events y.state.life) same;
-        endpoint = is_endpoint ∙ ap (λ (y : At t). option_to_list (drained_event y.state.life)) same;
+        endpoint = is_endpoint ∙ ap (λ (y : At t). endpoint_events y.state.life) same;
         timeout = is_timeout;
         place = is_at;
         word = is_word;
@@ -192,23 +203,34 @@ module _ {t : Types} where
       ap (λ (o : Option Event). option_to_list (ready_event s2.life) ++ (option_to_list o ++ option_to_list (lost_event s4.life))) connected
       ∙ ap (λ (o : Option Event). option_to_list (ready_event s2.life) ++ (option_to_list (connected_event s2.life) ++ option_to_list o)) lost
 
-  -- a step of a call, of all reports to the application, and of the report of the end
+  -- so it is with what is reported to the endpoint
+  pub endpoint_wait : (s5 s6 s7 : View t) → s6 ≡ state_move ReportToken s5 → s7 ≡ state_move ReportWanted s6 →
+      option_to_list (token_event s5.life) ++ (option_to_list (wanted_event s6.life) ++ option_to_list (drained_event s7.life)) ≡ endpoint_events s5.life
+  unfolding endpoint_events
+  endpoint_wait s5 s6 s7 is_s6 is_s7 =
+      let e7 : s7 ≡ state_move ReportWanted (state_move ReportToken s5) = is_s7 ∙ ap (λ (v : View t). state_move ReportWanted v) is_s6 in
+      let wanted : wanted_event s6.life ≡ wanted_event s5.life = ap (λ (v : View t). wanted_event v.life) is_s6 ∙ same_wanted s5 in
+      let drained : drained_event s7.life ≡ drained_event s5.life = ap (λ (v : View t). drained_event v.life) e7 ∙ same_drained s5 in
+      ap (λ (o : Option EndpointEvent). option_to_list (token_event s5.life) ++ (option_to_list o ++ option_to_list (drained_event s7.life))) wanted
+      ∙ ap (λ (o : Option EndpointEvent). option_to_list (token_event s5.life) ++ (option_to_list (wanted_event s5.life) ++ option_to_list o)) drained
+
+  -- a step of a call, of all reports to the application, and of those to the endpoint
   pub is_step_reported : (m : Meaning t) (k : ℕ) (s : View t) (i : Input) (x : Step) (ds : List Did) (s2 s5 s6 : View t) →
       s.timers.greatest ≤ time_of i → Calls m s i (at s2 ds) x.answer → x.did ≡ ds →
-      s5 ≡ state_move ReportLost (state_move ReportConnected (state_move ReportReady s2)) → s6 ≡ state_move ReportDrained s5 →
-      x.events ≡ waiting_events s2.life → x.endpoint ≡ option_to_list (drained_event s5.life) →
+      s5 ≡ state_move ReportLost (state_move ReportConnected (state_move ReportReady s2)) → s6 ≡ state_move ReportDrained (state_move ReportWanted (state_move ReportToken s5)) →
+      x.events ≡ waiting_events s2.life → x.endpoint ≡ endpoint_events s5.life →
       x.timeout ≡ next_timeout s6.timers → x.at ≡ k → x.word ≡ word_of i → x.now ≡ time_of i → IsStep m k s i x s6
   unfolding reported
   is_step_reported m k s i x ds s2 s5 s6 forward h is_did is_s5 is_s6 is_events is_endpoint is_timeout is_at is_word is_now =
-      is_step m k s i x (at s2 ds) s6 forward h is_did (is_s6 ∙ ap (λ (v : View t). state_move ReportDrained v) is_s5) is_events
-      (is_endpoint ∙ ap (λ (v : View t). option_to_list (drained_event v.life)) is_s5 ∙ ap option_to_list (same_end s2)) is_timeout is_at is_word is_now
+      is_step m k s i x (at s2 ds) s6 forward h is_did (is_s6 ∙ ap (λ (v : View t). state_move ReportDrained (state_move ReportWanted (state_move ReportToken v))) is_s5) is_events
+      (is_endpoint ∙ ap (λ (v : View t). endpoint_events v.life) is_s5 ∙ same_end s2) is_timeout is_at is_word is_now
 
   -- a step of a call and of the reports behind it: that the handshake's data is ready, that the handshake is over, the reason of
-  -- the end, and the end
+  -- the end, and what waits for the endpoint
   pub is_step_by : (m : Meaning t) (k : ℕ) (s : View t) (i : Input) (x : Step) (ds : List Did) (s2 s3 s4 s5 s6 : View t) →
       s.timers.greatest ≤ time_of i → Calls m s i (at s2 ds) x.answer → x.did ≡ ds →
-      s3 ≡ state_move ReportReady s2 → s4 ≡ state_move ReportConnected s3 → s5 ≡ state_move ReportLost s4 → s6 ≡ state_move ReportDrained s5 →
-      x.events ≡ waiting_events s2.life → x.endpoint ≡ option_to_list (drained_event s5.life) →
+      s3 ≡ state_move ReportReady s2 → s4 ≡ state_move ReportConnected s3 → s5 ≡ state_move ReportLost s4 → s6 ≡ state_move ReportDrained (state_move ReportWanted (state_move ReportToken s5)) →
+      x.events ≡ waiting_events s2.life → x.endpoint ≡ endpoint_events s5.life →
       x.timeout ≡ next_timeout s6.timers → x.at ≡ k → x.word ≡ word_of i → x.now ≡ time_of i → IsStep m k s i x s6
   is_step_by m k s i x ds s2 s3 s4 s5 s6 forward h is_did is_s3 is_s4 is_s5 is_s6 is_events is_endpoint is_timeout is_at is_word is_now =
       let e4 : s4 ≡ state_move ReportConnected (state_move ReportReady s2) = is_s4 ∙ ap (λ (v : View t). state_move ReportConnected v) is_s3 in

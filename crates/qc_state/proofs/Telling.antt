@@ -13,11 +13,11 @@ use Rattle.qc_state.specs.declared.life.State.TheVariants as state
 use Rattle.qc_path.specs.Arrived.{Window, is_new, arrived}
 use Rattle.qc_state.specs.declared.deeds.Verdict.{Verdict}
 use Rattle.qc_state.specs.Headline.{sealed_in, reasons_in, lives_in, entered_number, entered_in, EachNew, came_with, CloseFrom, RisesFrom, Kernel, kernel_of, kernel_after, Tells}
-use Rattle.qc_state.specs.Life.{rank_of, is_open, is_drained, reason_given, life_raised, life_closed, life_drained, life_established, data_ready, ready_reported, connected_reported, lost_reported, drained_reported}
-use Rattle.qc_state.specs.Moves.{Move, ClosesOnly, Clock, Ask, Take, Seal, Forget, Enter, Expect, Fail, Accept, Fix, Hear, Ack, Calm, Come, Read, Write, Ready, Learn, Confirm, Establish, Tell, Drain, Leave, Owe, IsTold, enters, Shut, Raise, Give, Say, ReportReady, ReportConnected, ReportLost, ReportDrained, state_move, move_to, deeds_move, MayMove, told, numbers_move, life_move, timers_move}
+use Rattle.qc_state.specs.Life.{rank_of, is_open, is_drained, reason_given, life_raised, life_closed, life_drained, life_established, data_ready, token_learned, identifiers_wanted, ready_reported, connected_reported, lost_reported, token_reported, wanted_reported, drained_reported}
+use Rattle.qc_state.specs.Moves.{Move, ClosesOnly, Clock, Ask, Take, Seal, Forget, Enter, Expect, Fail, Accept, Fix, Hear, Ack, Calm, Come, Read, Write, Ready, Token, Learn, Want, Confirm, Establish, Tell, Drain, Leave, Owe, IsTold, enters, Shut, Raise, Give, Say, ReportReady, ReportConnected, ReportLost, ReportToken, ReportWanted, ReportDrained, state_move, move_to, deeds_move, MayMove, told, numbers_move, life_move, timers_move}
 use Rattle.qc_state.specs.Numbers.{next_number, came_in, is_new_in, number_used, used_in, number_entered, number_accepted, number_acked}
 use Rattle.qc_state.specs.Numbers as numbers
-use Rattle.qc_state.specs.Setup.{idle_limit_now}
+use Rattle.qc_state.specs.Setup.{idle_limit_now, probe_timeout_now}
 use Rattle.qc_state.specs.Spaces.{is_space, space_of, with_space}
 use Rattle.qc_state.specs.declared.numbers.SpaceNumbers.{SpaceNumbers}
 use Rattle.qc_state.specs.Timers.{timers_sealed, timers_accepted, timers_settled, timers_stopped, timers_closing}
@@ -149,10 +149,10 @@ no_number id None number v e = refl
 no_number id (Some space) None v e = refl
 no_number id (Some space) (Some n) v e = no_number_by (is_space id space) n (enters v) e
 
-sealed_clock : (timers : Timers) (limit : Option ℕ) (time : ℕ) (b : Bool) → (if b then timers_sealed timers limit time else timers).greatest ≡ timers.greatest
+sealed_clock : (timers : Timers) (limit : Option ℕ) (probe time : ℕ) (b : Bool) → (if b then timers_sealed timers limit probe time else timers).greatest ≡ timers.greatest
 unfolding timers_sealed
-sealed_clock timers limit time true = refl
-sealed_clock timers limit time false = refl
+sealed_clock timers limit probe time true = refl
+sealed_clock timers limit probe time false = refl
 
 module _ {t : Types} where
   abbrev pub kernel : SpaceId → View t → Kernel
@@ -213,7 +213,7 @@ module _ {t : Types} where
   give_tells id s why h = (h, rw h refl)
 
   pub move_tells : (id : SpaceId) (x : Move t) (s : View t) → MayMove x s → Tells id (kernel id s) (deeds_move x s) (kernel id (state_move x s))
-  unfolding Tells MayMove deeds_move state_move numbers_move life_move life_raised life_closed life_drained lost_reported drained_reported life_established data_ready ready_reported connected_reported number_entered number_accepted number_acked numbers.entered_in numbers.accepted_in numbers.acked_in
+  unfolding Tells MayMove deeds_move state_move numbers_move life_move life_raised life_closed life_drained lost_reported token_reported wanted_reported drained_reported life_established data_ready token_learned identifiers_wanted ready_reported connected_reported number_entered number_accepted number_acked numbers.entered_in numbers.accepted_in numbers.acked_in
   move_tells id (Clock time) s h = absurd h
   move_tells id (Ask space) s h = refl
   move_tells id (Take space fs) s h = refl
@@ -221,7 +221,7 @@ module _ {t : Types} where
   move_tells id (Enter space n v) s h = enter_tells id space s n v (λ w. numbers.entered_in n w) h.0 h.1 (λ w. refl) (λ w. refl)
   move_tells id (Expect token) s h = refl
   move_tells id Fail s h = refl
-  move_tells id (Accept time space n e v) s h = enter_tells id space s n v (λ w. numbers.accepted_in n w) h.0 h.1 (λ w. refl) (λ w. refl)
+  move_tells id (Accept time space n e g v) s h = enter_tells id space s n v (λ w. numbers.accepted_in n w) h.0 h.1 (λ w. refl) (λ w. refl)
   move_tells id (Fix cid) s h = refl
   move_tells id (Hear bytes) s h = refl
   move_tells id (Ack space n rs) s h = next_same id space s (λ w. numbers.acked_in n w) refl refl
@@ -230,7 +230,9 @@ module _ {t : Types} where
   move_tells id (Read space count session) s h = refl
   move_tells id (Write bytes keys session) s h = refl
   move_tells id Ready s h = refl
+  move_tells id (Token token) s h = refl
   move_tells id (Learn parameters) s h = refl
+  move_tells id (Want time count) s h = refl
   move_tells id Confirm s h = refl
   move_tells id Establish s h = (h, refl)
   move_tells id (Tell d) s h = told_tells id d s h
@@ -245,6 +247,8 @@ module _ {t : Types} where
   move_tells id ReportReady s h = refl
   move_tells id ReportConnected s h = refl
   move_tells id ReportLost s h = refl
+  move_tells id ReportToken s h = refl
+  move_tells id ReportWanted s h = refl
   move_tells id ReportDrained s h = refl
 
   -- no move but the first of a call sets the clock
@@ -257,7 +261,7 @@ module _ {t : Types} where
   clock_kept (Enter space n v) s h = refl
   clock_kept (Expect token) s h = refl
   clock_kept Fail s h = refl
-  clock_kept (Accept time space n e v) s h = refl
+  clock_kept (Accept time space n e g v) s h = refl
   clock_kept (Fix cid) s h = refl
   clock_kept (Hear bytes) s h = refl
   clock_kept (Ack space n rs) s h = refl
@@ -266,14 +270,16 @@ module _ {t : Types} where
   clock_kept (Read space count session) s h = refl
   clock_kept (Write bytes keys session) s h = refl
   clock_kept Ready s h = refl
+  clock_kept (Token token) s h = refl
   clock_kept (Learn parameters) s h = refl
+  clock_kept (Want time count) s h = refl
   clock_kept Confirm s h = refl
   clock_kept Establish s h = refl
   clock_kept (Tell d) s h = refl
   clock_kept Drain s h = refl
   clock_kept (Leave time) s h = refl
   clock_kept Owe s h = refl
-  clock_kept (Seal time space n size fs) s h = sealed_clock s.timers (idle_limit_now s.setup) time (list_any elicits fs)
+  clock_kept (Seal time space n size fs) s h = sealed_clock s.timers (idle_limit_now s.setup) (probe_timeout_now s.setup space) time (list_any elicits fs)
   clock_kept (Shut time close) s h = refl
   clock_kept (Raise to) s h = refl
   clock_kept (Give why) s h = refl
@@ -281,6 +287,8 @@ module _ {t : Types} where
   clock_kept ReportReady s h = refl
   clock_kept ReportConnected s h = refl
   clock_kept ReportLost s h = refl
+  clock_kept ReportToken s h = refl
+  clock_kept ReportWanted s h = refl
   clock_kept ReportDrained s h = refl
 
   -- from one moment to another, the deeds between come where they may

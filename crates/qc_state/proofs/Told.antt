@@ -20,12 +20,12 @@ use Rattle.qc_state.specs.declared.life.State.TheVariants as state
 use Rattle.qc_state.specs.declared.trace.Step.{Step}
 use Rattle.qc_state.specs.Headline as headline
 use Rattle.qc_state.specs.Headline.{deeds_of, reasons_in, lives_in, entered_in, EachNew, CloseFrom, RisesFrom, Kernel, Tells, EachRises, EachAdmitted, LifeRises, OnlyCloses, LosesOnce}
-use Rattle.qc_state.specs.Life.{rank_of, is_open, is_closed, is_drained, ready_reported, connected_reported, lost_reported, drained_reported}
-use Rattle.qc_state.specs.Moves.{ClosesOnly, is_close, Ask, Take, Seal, Forget, Calm, Shut, Raise, Say, state_move, move_to, MayMove, numbers_move, life_move, timers_move, calmed}
+use Rattle.qc_state.specs.Life.{rank_of, is_open, is_closed, is_drained, ready_reported, connected_reported, lost_reported, token_reported, wanted_reported, drained_reported}
+use Rattle.qc_state.specs.Moves.{Move, ClosesOnly, is_close, Ask, Take, Seal, Forget, Calm, Shut, Raise, Say, state_move, move_to, MayMove, numbers_move, life_move, timers_move, calmed}
 use Rattle.qc_state.specs.Numbers.{next_number, came_in}
 use Rattle.qc_state.specs.Run.{time_of, packets_of, began, close_after, input_after, called, reported, step_after, IsAllowed, IsStep, Run, Ran}
 use Rattle.qc_state.specs.Paths.{is_blocked}
-use Rattle.qc_state.specs.Sending.{close_frame, application_close, told_close, closing_frame, Closes, is_silent, owes, sending_space, internal_error, given_after, killed_after, quiet_after, drops_initial, initial_left, sealed_in, packet_after, transmit_after, Carries, MaySeal, MayTransmit, owed_quiet_after}
+use Rattle.qc_state.specs.Sending.{close_frame, application_close, told_close, closing_frame, Closes, is_silent, owes, sending_space, internal_error, given_after, killed_after, quiet_after, drops_initial, initial_left, sealed_in, packet_after, transmit_after, Carries, MaySeal, MayTransmit, owed_quiet_after, packet_size, padding_of, padded}
 use Rattle.qc_state.specs.Timers.{clock_set}
 use Rattle.qc_state.specs.Types.{Types, Meaning}
 use Rattle.qc_state.specs.View.{View, At}
@@ -91,15 +91,20 @@ module _ {t : Types} where
   closes_close time s id gs (Closes.closing acks part kept reason is) =
       ap (list_any is_close) is ∙ any_behind acks (closing_frame id kept s.life ∷ []) (any_first (closing_frame id kept s.life) [] (closing_closes id kept (is_closed s.life.state) s.life.close))
 
+  -- PADDING behind a close leaves it there
+  padded_closes : (s : View t) (id : SpaceId) (fs gs : List FrameValue) → fs ≡ padded s id gs → list_any is_close gs ≡ true → list_any is_close fs ≡ true
+  unfolding padded
+  padded_closes s id fs gs is holds =
+      ap (list_any is_close) is ∙ list_any-append is_close gs (replicate (padding_of s id gs) Padding) ∙ ap (λ (b : Bool). b || list_any is_close (replicate (padding_of s id gs) Padding)) holds
+
   -- a packet that may be sealed holds a close, once the connection has closed
   pub closes_only : (time : ℕ) (s : View t) (fs : List FrameValue) → MaySeal time s fs → ClosesOnly (rank_of s.life.state) fs
   unfolding is_silent
   closes_only time s fs may = carried_closes may.carries
     where
       carried_closes : Carries time s (sending_space s) fs → ClosesOnly (rank_of s.life.state) fs
-      carried_closes (Carries.a_close owed gs closes n is) = λ r.
-          ap (list_any is_close) is ∙ list_any-append is_close gs (replicate n Padding) ∙ ap (λ (b : Bool). b || list_any is_close (replicate n Padding)) (closes_close time s (sending_space s) gs closes)
-      carried_closes (Carries.what_waits free wait holds) = λ r. cc (loud_owes s.life.state s.waiting.close_owed may.alive r, free)
+      carried_closes (Carries.a_close owed gs holds is) = λ r. padded_closes s (sending_space s) fs gs is (closes_close time s (sending_space s) gs holds)
+      carried_closes (Carries.what_waits free gs wait some is) = λ r. cc (loud_owes s.life.state s.waiting.close_owed may.alive r, free)
 
   -- nothing more may be in flight
   told_calm_by : (id : SpaceId) (a : At t) (b : Bool) → Told id a (if b then move_to Calm a else a)
@@ -119,9 +124,10 @@ module _ {t : Types} where
   told_packet id time fs a may =
       let space : SpaceId = sending_space a.state in
       let b : At t = move_to (Take space fs) a in
-      let c : At t = move_to (Seal time space (next_number a.state.numbers space) 1200 fs) b in
+      let seal : Move t = Seal time space (next_number a.state.numbers space) (packet_size a.state space fs) fs in
+      let c : At t = move_to seal b in
       told_next id a b _ (told_move id (Take space fs) a tt)
-      (told_next id b c _ (told_move id (Seal time space (next_number a.state.numbers space) 1200 fs) b (refl, closes_only time a.state fs may)) (told_left_by id c (drops_initial Client c.state space)))
+      (told_next id b c _ (told_move id seal b (refl, closes_only time a.state fs may)) (told_left_by id c (drops_initial Client c.state space)))
 
   told_transmit : (id : SpaceId) (time : ℕ) (ps : List (List FrameValue)) (a : At t) → MayTransmit time a.state ps → Told id a (transmit_after time ps a)
   unfolding MayTransmit transmit_after quiet_after owed_quiet_after
@@ -136,13 +142,13 @@ module _ {t : Types} where
 
   told_input : (id : SpaceId) (m : Meaning t) (i : Input) (ds : List Did) (a : At t) → IsAllowed i ds a.state → Told id a (input_after m i ds a)
   unfolding IsAllowed input_after close_after MayMove
-  told_input id m (input.Datagram time remote ecn bytes) ds a h = told_datagram id m time remote bytes a
+  told_input id m (input.Datagram time remote ecn bytes) ds a h = told_datagram id m time ecn remote bytes a
   told_input id m (input.Transmit time max) ds a h = told_transmit id time (packets_of ds) a h
   told_input id m (input.Close time code reason) ds a h = closed_by id time _ a _ refl
   told_input id m (input.Ping time) ds a h = told_move id (Ask a.state.keys.highest) a tt
 
   step_tells : (id : SpaceId) (m : Meaning t) (k : ℕ) (s : View t) (i : Input) (x : Step) (s' : View t) → IsStep m k s i x s' → Tells id (kernel id s) x.did (kernel id s')
-  unfolding called began step_after reported state_move numbers_move life_move ready_reported connected_reported lost_reported drained_reported
+  unfolding called began step_after reported state_move numbers_move life_move ready_reported connected_reported lost_reported token_reported wanted_reported drained_reported
   step_tells id m k s i x s' h =
       let a : At t = began s (time_of i) in
       let b : At t = input_after m i x.did a in

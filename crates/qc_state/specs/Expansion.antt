@@ -10,6 +10,7 @@ nearer window near x =
     if nat_lt x near then (if nat_le window (2 * (near - x)) && nat_lt (x + window) 4611686018427387904 then x + window else x)
     else (if nat_lt window (2 * (x - near)) && nat_le window x then x - window else x)
 
+-- the number with these low bytes that is nearest to an expected one: of those a window apart
 abbrev pub nearest_to : (window low near : ℕ) → ℕ
 nearest_to window low near = nearer window near (near - near % window + low)
 

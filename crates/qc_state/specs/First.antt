@@ -33,7 +33,7 @@ fixed_of side version local_cid first_cid local_ip max_idle_timeout crypto_buffe
 
 -- a space in which nothing waits but these CRYPTO bytes
 abbrev pub nothing_waits : List ℕ → SpaceWaiting
-nothing_waits crypto = record { done = false; ping = false; crypto = from_start crypto; acks = record { ranges = []; marks = no_marks }; flight = []; told = false }
+nothing_waits crypto = record { done = false; ping = false; crypto = from_start crypto; acks = record { ranges = []; marks = no_marks }; marks = record { ect0 = 0; ect1 = 0; ce = 0 }; flight = []; told = false }
 
 module _ {t : Types} {R : Type 0} where
   -- a connection that was just made at this time: it has the keys of the Initial space, and nothing waits but what its session
@@ -42,7 +42,7 @@ module _ {t : Types} {R : Type 0} where
   just_made keys session hello random fixed paths time = record {
     numbers = record { spaces = record { initial = no_numbers; handshake = no_numbers; application = no_numbers } };
     keys = record { spaces = record { initial = Some (record { keys = keys; sealed = 0 }); handshake = None; application = None }; highest = space.Initial; failures = 0 };
-    life = record { state = Handshake; reason = None; ready = false; connected = false; lost = None; drained = false; close = None };
+    life = record { state = Handshake; reason = None; ready = false; connected = false; lost = None; reset_token = None; wanted = None; drained = false; close = None };
     paths = paths;
     timers = record { loss_detection = None; idle = None; close = None; sets_idle = true; greatest = time };
     waiting = record {
@@ -62,11 +62,11 @@ module _ {t : Types} {R : Type 0} where
   unfoldable pub first_view : Meaning t → t.S → R → Fixed → SocketAddr → List ℕ → ℕ → Held t R
   first_view m session random fixed remote first_cid time =
       just_made (m.initial session first_cid Client) (m.after_write session) (m.writes session) random fixed
-      (record { remote = remote; remote_cid = first_cid; peer_fixed = false; validated = true; sent = 0; received = 0 }) time
+      (record { remote = remote; remote_cid = first_cid; peer_fixed = false; validated = true; spin = false; sent = 0; received = 0 }) time
 
   -- a server that was just made: its keys are those of the destination id of the client's first packets, it knows the client's
   -- id, and it waits for the first packet
   unfoldable pub server_view : Meaning t → t.S → R → Fixed → SocketAddr → (remote_cid : List ℕ) → (validated : Bool) → ℕ → Held t R
   server_view m session random fixed remote remote_cid validated time =
       just_made (m.initial session fixed.first_cid Server) session [] random fixed
-      (record { remote = remote; remote_cid = remote_cid; peer_fixed = true; validated = validated; sent = 0; received = 0 }) time
+      (record { remote = remote; remote_cid = remote_cid; peer_fixed = true; validated = validated; spin = false; sent = 0; received = 0 }) time

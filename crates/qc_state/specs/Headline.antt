@@ -1,5 +1,6 @@
 -- Laws over whole runs, said of the deeds of a trace.
-use Rattle.std.specs.Prelude.{◌≡◌, ℕ, ◌+◌, ◌<◌, ◌≤◌, ◌⊎◌, true, false, ◌&&◌, IfSome, if◌then◌else◌, List, [], ◌∷◌, ◌++◌, length, Option, Some, None, option_to_list}
+use Rattle.std.specs.Prelude.{◌≡◌, ℕ, ◌+◌, ◌<◌, ◌≤◌, ◌⊎◌, Bool, true, false, ◌&&◌, IfSome, if◌then◌else◌, List, [], ◌∷◌, ◌++◌, length, Option, Some, None, option_to_list}
+use Rattle.std.specs.List.{All}
 use Rattle.qc_base.specs.RangeSet.{Member}
 use Rattle.qc_base.specs.declared.side.SpaceId.{SpaceId}
 use Rattle.qc_frame.specs.AckRanges.{Acknowledges}
@@ -7,6 +8,8 @@ use Rattle.qc_frame.specs.Frame.{FrameValue}
 use Rattle.qc_frame.specs.declared.frames.FrameOf.TheVariants as frames
 use Rattle.qc_state.specs.declared.deeds.Did.{Did}
 use Rattle.qc_state.specs.declared.deeds.Did.TheVariants.{Piece, Gave, Sealed, Rose, Lost, Quiet}
+use Rattle.qc_state.specs.declared.input.Input.{Input}
+use Rattle.qc_state.specs.declared.input.Input.TheVariants as input
 use Rattle.qc_state.specs.declared.life.ConnectionError.{ConnectionError}
 use Rattle.qc_state.specs.declared.life.Life.{Life}
 use Rattle.qc_state.specs.declared.numbers.Numbers.{Numbers}
@@ -15,8 +18,10 @@ use Rattle.qc_state.specs.declared.waiting.Waiting.{Waiting}
 use Rattle.qc_state.specs.Life.{rank_of}
 use Rattle.qc_path.specs.Arrived.{Window, is_among, is_new, arrived}
 use Rattle.qc_state.specs.declared.deeds.Verdict.{Verdict}
+use Rattle.qc_state.specs.declared.deeds.Verdict.TheVariants as verdict
 use Rattle.qc_state.specs.Moves.{ClosesOnly, accepts, enters}
 use Rattle.qc_state.specs.Numbers.{next_number, came_in}
+use Rattle.qc_state.specs.Run.{reported}
 use Rattle.qc_state.specs.Spaces.{is_space, space_of}
 use Rattle.qc_state.specs.Types.{Types}
 use Rattle.qc_state.specs.View.{View}
@@ -176,6 +181,17 @@ unfoldable pub Tells : SpaceId → Kernel → List Did → Kernel → Type 0
 Tells id k [] k' = k' ≡ k
 Tells id k (d ∷ ds) k' = IsRight id k d × Tells id (kernel_after id k d) ds k'
 
+-- a deed that tells of a packet which was ignored, or which its key didn't open
+abbrev pub is_harmless : Did → Bool
+is_harmless (Piece space number verdict.Ignored) = true
+is_harmless (Piece space number verdict.Failure) = true
+is_harmless _ = false
+
+-- an input that brings a datagram
+abbrev pub is_datagram : Input → Bool
+is_datagram (input.Datagram time remote ecn bytes) = true
+is_datagram _ = false
+
 module _ {t : Types} where
   -- in each space, no packet number is used twice: the sealed numbers rise strictly from the space's next number on
   unfoldable pub EachRises : View t → List Step → Type 0
@@ -201,3 +217,19 @@ module _ {t : Types} where
   -- at most one reason for the end is ever given
   unfoldable pub LosesOnce : View t → List Step → Type 0
   LosesOnce s xs = length (option_to_list s.life.reason) + length (reasons_in (deeds_of xs)) ≤ 1
+
+  -- From one view to another only counts changed: that of the packets which didn't open, that of the bytes which came, and the
+  -- greatest time. What waited to be reported may have been reported.
+  pub record OnlyCounts (s s' : View t) : Type 0 where
+    pub numbers : s'.numbers ≡ s.numbers
+    pub keys : s'.keys ≡ record s.keys { failures = s'.keys.failures }
+    pub life : (reported s').life ≡ (reported s).life
+    pub paths : s'.paths ≡ record s.paths { received = s'.paths.received }
+    pub timers : s'.timers ≡ record s.timers { greatest = s'.timers.greatest }
+    pub waiting : s'.waiting ≡ s.waiting
+    pub setup : s'.setup ≡ s.setup
+    pub lower : s'.lower ≡ s.lower
+
+  -- datagrams none of whose packets opened change only counts
+  unfoldable pub Harmless : View t → List Input → List Step → View t → Type 0
+  Harmless s is xs s' = All (λ i. is_datagram i ≡ true) is → All (λ d. is_harmless d ≡ true) (deeds_of xs) → OnlyCounts s s'

@@ -1,4 +1,5 @@
 -- The life of a connection, the reason of its end, and what waits to be reported (RFC 9000, section 10).
+use Rattle.std.specs.declared.net.SocketAddr.{SocketAddr}
 use Rattle.std.specs.Prelude.{ℕ, Bool, true, false, ◌||◌, ◌==◌, if◌then◌else◌, List, ◌++◌, Option, Some, None, is_none, option_map, option_to_list}
 use Rattle.qc_state.specs.declared.life.State.{State}
 use Rattle.qc_state.specs.declared.life.State.TheVariants.{Handshake, Established, Closed, Draining, Drained}
@@ -102,6 +103,30 @@ lost_event v = option_map ConnectionLost v.lost
 unfoldable pub lost_reported : Life → Life
 lost_reported v = record v { lost = None }
 
+-- the peer's token for a stateless reset, which comes from this address, waits to be reported
+unfoldable pub token_learned : Life → SocketAddr → List ℕ → Life
+token_learned v remote token = record v { reset_token = Some (record { remote = remote; token = token }) }
+
+-- the token, while its report waits
+unfoldable pub token_event : Life → Option EndpointEvent
+token_event v = option_map (λ k. endpoint.ResetToken k.remote k.token) v.reset_token
+
+-- the token was reported
+unfoldable pub token_reported : Life → Life
+token_reported v = record v { reset_token = None }
+
+-- so many identifiers are wanted at this time, which waits to be reported
+unfoldable pub identifiers_wanted : Life → (time count : ℕ) → Life
+identifiers_wanted v time count = record v { wanted = Some (record { now = time; count = count }) }
+
+-- how many are wanted, while its report waits
+unfoldable pub wanted_event : Life → Option EndpointEvent
+wanted_event v = option_map (λ k. endpoint.NeedIdentifiers k.now k.count) v.wanted
+
+-- it was reported
+unfoldable pub wanted_reported : Life → Life
+wanted_reported v = record v { wanted = None }
+
 -- the end, while its report waits
 unfoldable pub drained_event : Life → Option EndpointEvent
 drained_event v = if v.drained then Some endpoint.Drained else None
@@ -113,3 +138,7 @@ drained_reported v = record v { drained = false }
 -- the events that wait to be reported, in their order
 unfoldable pub waiting_events : Life → List Event
 waiting_events v = option_to_list (ready_event v) ++ (option_to_list (connected_event v) ++ option_to_list (lost_event v))
+
+-- the events for the endpoint that wait to be reported, in their order
+unfoldable pub endpoint_events : Life → List EndpointEvent
+endpoint_events v = option_to_list (token_event v) ++ (option_to_list (wanted_event v) ++ option_to_list (drained_event v))

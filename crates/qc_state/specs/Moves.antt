@@ -1,6 +1,6 @@
 -- The small moves that every step is made of, and what each makes of each group: one table a group, which says
 -- "everything else stays" in its last line.
-use Rattle.std.specs.Prelude.{◌≡◌, ℕ, ◌<◌, ◌≤◌, Bool, true, false, if◌then◌else◌, List, [], ◌∷◌, ◌++◌, Option, Some, None}
+use Rattle.std.specs.Prelude.{◌≡◌, ℕ, ◌<◌, ◌≤◌, nat_le, Bool, true, false, if◌then◌else◌, List, [], ◌∷◌, ◌++◌, Option, Some, None}
 use Rattle.std.specs.List.{list_any}
 use Rattle.rand_core.specs.Stream.{Stream}
 use Rattle.qc_base.specs.declared.side.SpaceId.{SpaceId}
@@ -21,18 +21,19 @@ use Rattle.qc_path.specs.Arrived.{arrived}
 use Rattle.qc_state.specs.declared.waiting.Waiting.{Waiting}
 use Rattle.qc_state.specs.declared.setup.Setup.{Setup}
 use Rattle.qc_state.specs.declared.lower.Lower.{Lower}
+use Rattle.qc_state.specs.declared.opening.Signs.{Signs}
 use Rattle.qc_state.specs.declared.deeds.Did.{Did}
 use Rattle.qc_state.specs.declared.deeds.Did.TheVariants as did
 use Rattle.qc_state.specs.declared.deeds.Quiet.{Quiet}
 use Rattle.qc_state.specs.declared.deeds.Verdict.{Verdict}
 use Rattle.qc_state.specs.declared.deeds.Verdict.TheVariants as verdict
 use Rattle.qc_base.specs.declared.range_set.NumberRange.{NumberRange}
-use Rattle.qc_state.specs.Life.{rank_of, reason_given, life_raised, life_closed, life_drained, life_established, data_ready, ready_reported, connected_reported, lost_reported, drained_reported}
-use Rattle.qc_state.specs.Numbers.{next_number, number_used, is_new_in, came_in, number_entered, number_accepted, number_acked}
+use Rattle.qc_state.specs.Life.{rank_of, reason_given, life_raised, life_closed, life_drained, life_established, data_ready, token_learned, identifiers_wanted, ready_reported, connected_reported, lost_reported, token_reported, wanted_reported, drained_reported}
+use Rattle.qc_state.specs.Numbers.{next_number, received_number, number_used, is_new_in, came_in, number_entered, number_accepted, number_acked}
 use Rattle.qc_state.specs.Keys.{key_used, failure_counted, keys_given, keys_dropped}
 use Rattle.qc_state.specs.Lower.{bytes_came, session_read, session_wrote}
-use Rattle.qc_state.specs.Paths.{path_sent, path_received, path_accepted, peer_fixed}
-use Rattle.qc_state.specs.Setup.{idle_limit_now, parameters_known, token_expected}
+use Rattle.qc_state.specs.Paths.{path_sent, path_received, path_accepted, path_spun, peer_fixed}
+use Rattle.qc_state.specs.Setup.{idle_limit_now, probe_timeout_now, parameters_known, token_expected}
 use Rattle.qc_state.specs.Spaces.{is_space}
 use Rattle.qc_state.specs.Timers.{timers_sealed, timers_stopped, timers_closing, timers_accepted, timers_settled, clock_set}
 use Rattle.qc_state.specs.Types.{Types}
@@ -87,7 +88,7 @@ pub data Move (t : Types) : Type 0 where
   Expect : (token : List ℕ) → Move t  -- a server's first packet came
   Enter : (id : SpaceId) → (number : ℕ) → (verdict : Verdict) → Move t  -- a packet came whose number counts, and whose frames don't
   Fail : Move t  -- a packet didn't open
-  Accept : (time : ℕ) → (id : SpaceId) → (number : ℕ) → (eliciting : Bool) → (verdict : Verdict) → Move t  -- a packet was accepted
+  Accept : (time : ℕ) → (id : SpaceId) → (number : ℕ) → (eliciting : Bool) → (signs : Signs) → (verdict : Verdict) → Move t  -- a packet was accepted
   Fix : (cid : List ℕ) → Move t  -- the peer has chosen its id
   Hear : (bytes : ℕ) → Move t  -- so many bytes came from the path's address
   Ack : (id : SpaceId) → (largest : ℕ) → (ranges : List NumberRange) → Move t  -- the peer acknowledged packets
@@ -96,7 +97,9 @@ pub data Move (t : Types) : Type 0 where
   Read : (id : SpaceId) → (count : ℕ) → (session : t.S) → Move t  -- the session was given so many of them
   Write : (bytes : List ℕ) → (keys : Option (Keys t.H t.P)) → (session : t.S) → Move t  -- the session wrote bytes, and gave keys
   Ready : Move t  -- what the handshake settles is ready
+  Token : (token : List ℕ) → Move t  -- the peer's token for a stateless reset was read
   Learn : (parameters : TransportParameters) → Move t  -- the peer's parameters were read
+  Want : (time count : ℕ) → Move t  -- so many identifiers are wanted
   Confirm : Move t  -- a server has confirmed the handshake
   Establish : Move t  -- the handshake is over
   Tell : (did : Did) → Move t  -- a packet that enters no number is told of, or a frame is given to a layer
@@ -110,13 +113,15 @@ pub data Move (t : Types) : Type 0 where
   ReportReady : Move t  -- that the handshake's data is ready is reported
   ReportConnected : Move t  -- that the handshake is over is reported
   ReportLost : Move t  -- the reason of the end is reported
+  ReportToken : Move t  -- the peer's token is reported
+  ReportWanted : Move t  -- how many identifiers are wanted is reported
   ReportDrained : Move t  -- the end is reported
 
 module _ {t : Types} where
   unfoldable pub numbers_move : Move t → View t → Numbers
   numbers_move (Seal time id n size fs) s = number_used s.numbers id n
   numbers_move (Enter id n v) s = number_entered s.numbers id n
-  numbers_move (Accept time id n e v) s = number_accepted s.numbers id n
+  numbers_move (Accept time id n e g v) s = number_accepted s.numbers id n
   numbers_move (Ack id n rs) s = number_acked s.numbers id n
   numbers_move _ s = s.numbers
 
@@ -133,28 +138,32 @@ module _ {t : Types} where
   life_move Drain s = life_drained s.life
   life_move Ready s = data_ready s.life
   life_move Establish s = life_established s.life
+  life_move (Token token) s = token_learned s.life s.paths.remote token
+  life_move (Want time count) s = identifiers_wanted s.life time count
   life_move (Raise to) s = life_raised s.life to
   life_move (Give why) s = reason_given s.life why
   life_move ReportReady s = ready_reported s.life
   life_move ReportConnected s = connected_reported s.life
   life_move ReportLost s = lost_reported s.life
+  life_move ReportToken s = token_reported s.life
+  life_move ReportWanted s = wanted_reported s.life
   life_move ReportDrained s = drained_reported s.life
   life_move _ s = s.life
 
   unfoldable pub paths_move : Move t → View t → Paths
   paths_move (Seal time id n size fs) s = path_sent s.paths size
   paths_move (Fix cid) s = peer_fixed s.paths cid
-  paths_move (Accept time id n e v) s = path_accepted s.paths id v
+  paths_move (Accept time id n e g v) s = path_spun (path_accepted s.paths id v) s.setup.fixed.side (nat_le (received_number s.numbers id) n) g.spin
   paths_move (Hear bytes) s = path_received s.paths bytes
   paths_move _ s = s.paths
 
   unfoldable pub timers_move : Move t → View t → Timers
   timers_move (Clock time) s = clock_set s.timers time
-  timers_move (Seal time id n size fs) s = if list_any elicits fs then timers_sealed s.timers (idle_limit_now s.setup) time else s.timers
-  timers_move (Accept time id n e v) s = timers_accepted s.timers (idle_limit_now s.setup) time
+  timers_move (Seal time id n size fs) s = if list_any elicits fs then timers_sealed s.timers (idle_limit_now s.setup) (probe_timeout_now s.setup id) time else s.timers
+  timers_move (Accept time id n e g v) s = timers_accepted s.timers (idle_limit_now s.setup) (probe_timeout_now s.setup id) time
   timers_move Calm s = timers_settled s.timers
-  timers_move (Shut time close) s = timers_closing s.timers time
-  timers_move (Leave time) s = timers_closing s.timers time
+  timers_move (Shut time close) s = timers_closing s.timers (probe_timeout_now s.setup s.keys.highest) time
+  timers_move (Leave time) s = timers_closing s.timers (probe_timeout_now s.setup s.keys.highest) time
   timers_move (Raise to) s = timers_stopped s.timers
   timers_move _ s = s.timers
 
@@ -165,7 +174,7 @@ module _ {t : Types} where
       let told : Waiting = packet_told s.waiting id (is_space id s.keys.highest) in
       if list_any elicits fs then packet_flown told id n else told
   waiting_move (Forget id) s = space_left s.waiting id
-  waiting_move (Accept time id n e v) s = packet_came s.waiting id (arrived n (came_in s.numbers id)) (record { number = n; at = time; ack_eliciting = e; ce = false })
+  waiting_move (Accept time id n e g v) s = packet_came s.waiting id (arrived n (came_in s.numbers id)) (record { number = n; at = time; ack_eliciting = e; ce = false }) g.mark
   waiting_move (Write bytes keys session) s = crypto_written s.waiting s.keys.highest bytes
   waiting_move Confirm s = done_asked s.waiting
   waiting_move (Ack id n rs) s = packets_settled s.waiting id rs
@@ -187,7 +196,7 @@ module _ {t : Types} where
   unfoldable pub deeds_move : Move t → View t → List Did
   deeds_move (Seal time id n size fs) s = did.Sealed id n 0 false fs ∷ []
   deeds_move (Enter id n v) s = did.Piece (Some id) (Some n) v ∷ []
-  deeds_move (Accept time id n e v) s = did.Piece (Some id) (Some n) v ∷ []
+  deeds_move (Accept time id n e g v) s = did.Piece (Some id) (Some n) v ∷ []
   deeds_move Establish s = did.Rose 1 ∷ []
   deeds_move (Tell d) s = d ∷ []
   deeds_move (Shut time close) s = did.Rose 2 ∷ []
@@ -214,7 +223,7 @@ module _ {t : Types} where
   unfoldable pub MayMove : Move t → View t → Type 0
   MayMove (Clock time) s = ⊥
   MayMove (Seal time id n size fs) s = (n ≡ next_number s.numbers id) × ClosesOnly (rank_of s.life.state) fs
-  MayMove (Accept time id n e v) s = (is_new_in s.numbers id n ≡ true) × (enters v ≡ true)
+  MayMove (Accept time id n e g v) s = (is_new_in s.numbers id n ≡ true) × (enters v ≡ true)
   MayMove (Enter id n v) s = (is_new_in s.numbers id n ≡ true) × (enters v ≡ true)
   MayMove Establish s = rank_of s.life.state < 1
   MayMove (Tell d) s = IsTold d

@@ -43,6 +43,14 @@ source_of (header.Retry dst_cid src_cid version) = src_cid
 source_of (header.Short spin key_phase dst_cid number) = []
 source_of (header.VersionNegotiate random src_cid dst_cid) = src_cid
 
+-- the spin bit of a header; only short headers have one (RFC 9000, section 17.4)
+abbrev pub spin_of : Header → Bool
+spin_of (header.Initial h) = false
+spin_of (header.Long ty dst_cid src_cid number version) = false
+spin_of (header.Retry dst_cid src_cid version) = false
+spin_of (header.Short spin key_phase dst_cid number) = spin
+spin_of (header.VersionNegotiate random src_cid dst_cid) = false
+
 -- the token of a header; only Initial headers have one
 abbrev pub token_of : Header → List ℕ
 token_of (header.Initial h) = h.token
@@ -66,7 +74,7 @@ is_other_phase _ = false
 abbrev pub judged : Header → ℕ → List ℕ → Option (List ℕ) → Opening
 judged header number header_data None = Unopened
 judged header number header_data (Some payload) =
-    if reserved_bits header (first_byte header_data) == 0 then Opened (source_of header) (token_of header) number payload else Reserved number
+    if reserved_bits header (first_byte header_data) == 0 then Opened (source_of header) (token_of header) (spin_of header) number payload else Reserved number
 
 module _ {P : Type 0} where
   -- an unmasked packet under the peer's packet key: its header, the header's bytes, and the bytes behind it

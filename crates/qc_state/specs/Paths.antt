@@ -1,11 +1,13 @@
 -- The path to the peer (RFC 9000, section 9).
-use Rattle.std.specs.Prelude.{ℕ, ◌*◌, List, Bool, true, false, ◌&&◌, ◌==◌, not, nat_eq, nat_le}
+use Rattle.std.specs.Prelude.{ℕ, ◌*◌, List, Bool, true, false, ◌&&◌, ◌==◌, not, nat_eq, nat_le, if◌then◌else◌}
 use Rattle.std.specs.Cmp.Lexicographic.{pointwise}
 use Rattle.std.specs.Net.Addr.{ipv4_octets, ipv6_segments}
 use Rattle.std.specs.Net.Socket.{v4_ip, v4_port, v6_ip, v6_port, v6_flowinfo, v6_scope_id}
 use Rattle.std.specs.declared.net.SocketAddr.{SocketAddr}
 use Rattle.std.specs.declared.net.socket_addr.SocketAddr.TheVariants.{V4, V6}
 use Rattle.qc_base.specs.Time.{plus}
+use Rattle.qc_base.specs.declared.side.Side.{Side}
+use Rattle.qc_base.specs.declared.side.Side.TheVariants.{Client, Server}
 use Rattle.qc_base.specs.declared.side.SpaceId.{SpaceId}
 use Rattle.qc_base.specs.declared.side.SpaceId.TheVariants.{Handshake}
 use Rattle.qc_state.specs.declared.deeds.Verdict.{Verdict}
@@ -28,6 +30,15 @@ peer_fixed v cid = record v { remote_cid = cid; peer_fixed = true }
 unfoldable pub path_accepted : Paths → SpaceId → Verdict → Paths
 path_accepted v Handshake Admitted = record v { validated = true }
 path_accepted v _ _ = v
+
+-- the spin bit of this end by that of a packet: a server repeats it, and a client turns it round (RFC 9000, section 17.4)
+abbrev pub spun_by : Side → Bool → Bool
+spun_by Client bit = not bit
+spun_by Server bit = bit
+
+-- a packet with this spin bit was accepted by an end of this side; the greatest one of its space so far sets the bit that is sent
+unfoldable pub path_spun : Paths → Side → (greatest : Bool) → (bit : Bool) → Paths
+path_spun v side greatest bit = if greatest then record v { spin = spun_by side bit } else v
 
 -- no datagram may be begun: the peer's address isn't validated, and three times the bytes that came from it were sent (RFC
 -- 9000, section 8.1); the last datagram may go past that

@@ -1,5 +1,5 @@
 -- How the handshake goes on behind the frames of a packet (RFC 9001, sections 4.1 and 8.2; RFC 9000, section 7.3).
-use Rattle.std.specs.Prelude.{ℕ, zero, suc, ◌==◌, ◌&&◌, not, nat_eq, Bool, true, false, if◌then◌else◌, List, length, Option, None, Some, Result, Ok, Err, is_none}
+use Rattle.std.specs.Prelude.{ℕ, zero, suc, ◌-◌, min, ◌==◌, ◌&&◌, not, nat_eq, Bool, true, false, if◌then◌else◌, List, length, Option, None, Some, Result, Ok, Err, is_none}
 use Rattle.std.specs.Cmp.Lexicographic.{pointwise}
 use Rattle.qc_base.specs.declared.side.Side.{Side}
 use Rattle.qc_base.specs.declared.side.Side.TheVariants.{Client, Server}
@@ -8,7 +8,7 @@ use Rattle.qc_base.specs.declared.side.SpaceId.TheVariants.{Initial, Handshake, 
 use Rattle.qc_base.specs.declared.transport_error.TransportError.{TransportError}
 use Rattle.qc_params.specs.declared.params.TransportParameters.{TransportParameters}
 use Rattle.qc_state.specs.Life.{is_handshake}
-use Rattle.qc_state.specs.Moves.{Write, Learn, Confirm, Forget, Establish, calmed, move_to}
+use Rattle.qc_state.specs.Moves.{Write, Token, Learn, Want, Confirm, Forget, Establish, calmed, move_to}
 use Rattle.qc_state.specs.Stopping.{missing_parameters, parameter_error, stopped_after}
 use Rattle.qc_state.specs.Types.{Types, Meaning}
 use Rattle.qc_state.specs.View.{View, At}
@@ -59,11 +59,26 @@ module _ {t : Types} where
   unfoldable pub ids_fit : View t → TransportParameters → Bool
   ids_fit s p = ids_fit_for s.setup.fixed.side s p
 
-  -- the peer's parameters, as the session gives them; `others` comes behind where they can be read and their ids fit
+  -- a client is told a server's token for a stateless reset, where its parameters have one (RFC 9000, section 10.3)
+  abbrev pub token_after : Side → Option (List ℕ) → At t → At t
+  token_after Client (Some token) a = move_to (Token token) a
+  token_after _ _ a = a
+
+  -- the peer's parameters count from now on, and identifiers are wanted: as many as the peer takes, 8 at most, less the one that
+  -- stands already, where this end's ids aren't empty (RFC 9000, section 5.1.1)
+  unfoldable pub learned_with : (time : ℕ) → TransportParameters → At t → At t
+  learned_with time p a =
+      let b : At t = move_to (Learn p) a in
+      if length a.state.setup.fixed.local_cid == 0 then b else move_to (Want time (min p.active_connection_id_limit 8 - 1)) b
+
+  -- The peer's parameters, as the session gives them; `others` comes behind where they can be read and their ids fit. A server's
+  -- token counts also where the ids don't fit.
   abbrev pub parameters_and : (time : ℕ) → Result (Option TransportParameters) TransportError → (At t → At t) → At t → At t
   parameters_and time (Err error) others a = stopped_after time error a
   parameters_and time (Ok None) others a = stopped_after time missing_parameters a
-  parameters_and time (Ok (Some p)) others a = if ids_fit a.state p then others (move_to (Learn p) a) else stopped_after time parameter_error a
+  parameters_and time (Ok (Some p)) others a =
+      let b : At t = token_after a.state.setup.fixed.side p.stateless_reset_token a in
+      if ids_fit a.state p then others (learned_with time p b) else stopped_after time parameter_error b
 
   -- a server reads the client's parameters as it leaves the Initial space; its highest space was this one before the session wrote
   unfoldable pub learned_after : Meaning t → (time : ℕ) → (before : SpaceId) → At t → At t

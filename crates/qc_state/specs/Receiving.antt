@@ -5,6 +5,7 @@ use Rattle.std.specs.List.{list_any}
 use Rattle.std.specs.Cmp.Lexicographic.{pointwise}
 use Rattle.std.specs.declared.net.SocketAddr.{SocketAddr}
 use Rattle.qc_assembler.specs.Assembly.{Assembly, inserted, part_count}
+use Rattle.qc_base.specs.declared.ecn.EcnCodepoint.{EcnCodepoint}
 use Rattle.qc_base.specs.declared.transport_error.TransportError.{TransportError}
 use Rattle.qc_base.specs.declared.side.Side.{Side}
 use Rattle.qc_base.specs.declared.side.Side.TheVariants.{Client, Server}
@@ -28,6 +29,7 @@ use Rattle.qc_state.specs.declared.deeds.Verdict.TheVariants as verdict
 use Rattle.qc_state.specs.declared.life.ConnectionError.{ConnectionError}
 use Rattle.qc_state.specs.declared.life.ConnectionError.TheVariants as lost
 use Rattle.qc_state.specs.declared.opening.Opening.{Opening}
+use Rattle.qc_state.specs.declared.opening.Signs.{Signs}
 use Rattle.qc_state.specs.declared.transmit.TheConstants.{DATAGRAM_SIZE}
 use Rattle.qc_state.specs.declared.opening.Opening.TheVariants.{Unreadable, Unopened, Reserved, Opened}
 use Rattle.qc_state.specs.Life.{is_open, is_over, is_handshake, is_established}
@@ -124,7 +126,7 @@ abbrev pub opened_token : Opening → Option (List ℕ)
 opened_token Unreadable = None
 opened_token Unopened = None
 opened_token (Reserved number) = None
-opened_token (Opened source token number payload) = Some token
+opened_token (Opened source token spin number payload) = Some token
 
 module _ {t : Types} where
   -- the peer closed, for this reason: the connection drains, if it was open
@@ -256,47 +258,47 @@ module _ {t : Types} where
 
   -- a packet is accepted: its number counts, it is to be acknowledged, a Handshake packet that is admitted validates the path (RFC
   -- 9000, section 8.1), and with a Handshake packet a server leaves the Initial space
-  unfoldable pub accepted_after : (time : ℕ) → SpaceId → (number : ℕ) → (eliciting : Bool) → Verdict → At t → At t
-  accepted_after time id number eliciting v a = initial_left Server id (move_to (Accept time id number eliciting v) a)
+  unfoldable pub accepted_after : (time : ℕ) → SpaceId → (number : ℕ) → (eliciting : Bool) → Signs → Verdict → At t → At t
+  accepted_after time id number eliciting signs v a = initial_left Server id (move_to (Accept time id number eliciting signs v) a)
 
   -- a packet that is admitted
-  unfoldable pub admitted_after : Meaning t → (time : ℕ) → SpaceId → (source : List ℕ) → (number : ℕ) → (payload : List ℕ) → At t → At t
-  admitted_after m time id source number payload a =
+  unfoldable pub admitted_after : Meaning t → (time : ℕ) → SpaceId → Signs → (source : List ℕ) → (number : ℕ) → (payload : List ℕ) → At t → At t
+  admitted_after m time id signs source number payload a =
       payload_after m time id payload
-      (fixed_after id source (accepted_after time id number (list_any is_eliciting_item (items_of payload)) verdict.Admitted a))
+      (fixed_after id source (accepted_after time id number (list_any is_eliciting_item (items_of payload)) signs verdict.Admitted a))
 
   -- what a packet does that opened, by its verdict; it has no other one
-  abbrev pub verdict_after : Meaning t → (time : ℕ) → SpaceId → (source : List ℕ) → (number : ℕ) → (payload : List ℕ) → Verdict → At t → At t
-  verdict_after m time id source number payload verdict.Seen a = piece_told (Some id) (Some number) verdict.Seen a
-  verdict_after m time id source number payload verdict.ReadForClose a = read_for_close id number payload a
-  verdict_after m time id source number payload verdict.NumberOnly a = move_to (Enter id number verdict.NumberOnly) a
-  verdict_after m time id source number payload verdict.AckOnly a = accepted_after time id number false verdict.AckOnly a
-  verdict_after m time id source number payload verdict.Admitted a = admitted_after m time id source number payload a
-  verdict_after m time id source number payload _ a = a
+  abbrev pub verdict_after : Meaning t → (time : ℕ) → SpaceId → Signs → (source : List ℕ) → (number : ℕ) → (payload : List ℕ) → Verdict → At t → At t
+  verdict_after m time id signs source number payload verdict.Seen a = piece_told (Some id) (Some number) verdict.Seen a
+  verdict_after m time id signs source number payload verdict.ReadForClose a = read_for_close id number payload a
+  verdict_after m time id signs source number payload verdict.NumberOnly a = move_to (Enter id number verdict.NumberOnly) a
+  verdict_after m time id signs source number payload verdict.AckOnly a = accepted_after time id number false signs verdict.AckOnly a
+  verdict_after m time id signs source number payload verdict.Admitted a = admitted_after m time id signs source number payload a
+  verdict_after m time id signs source number payload _ a = a
 
   -- a packet that opened in this space
-  unfoldable pub received_after : Meaning t → (time : ℕ) → SpaceId → (source token : List ℕ) → (number : ℕ) → (payload : List ℕ) → At t → At t
-  received_after m time id source token number payload a = verdict_after m time id source number payload (verdict_of a.state id source token number) a
+  unfoldable pub received_after : Meaning t → (time : ℕ) → SpaceId → Signs → (source token : List ℕ) → (number : ℕ) → (payload : List ℕ) → At t → At t
+  received_after m time id signs source token number payload a = verdict_after m time id signs source number payload (verdict_of a.state id source token number) a
 
   -- a packet of a form with this space, by what came of taking its protection off
-  abbrev pub opening_after : Meaning t → (time : ℕ) → Option SpaceId → Opening → At t → At t
-  opening_after m time space Unreadable a = piece_told space None verdict.Ignored a
-  opening_after m time space Unopened a = piece_told space None verdict.Failure (move_to Fail a)
-  opening_after m time space (Reserved number) a = stopped_after time (violation_at None) (piece_told space (Some number) verdict.BadBits a)
-  opening_after m time (Some id) (Opened source token number payload) a = received_after m time id source token number payload a
-  opening_after m time None (Opened source token number payload) a = piece_told None None verdict.Ignored a
+  abbrev pub opening_after : Meaning t → (time : ℕ) → (mark : Option EcnCodepoint) → Option SpaceId → Opening → At t → At t
+  opening_after m time mark space Unreadable a = piece_told space None verdict.Ignored a
+  opening_after m time mark space Unopened a = piece_told space None verdict.Failure (move_to Fail a)
+  opening_after m time mark space (Reserved number) a = stopped_after time (violation_at None) (piece_told space (Some number) verdict.BadBits a)
+  opening_after m time mark (Some id) (Opened source token spin number payload) a = received_after m time id (record { mark = mark; spin = spin }) source token number payload a
+  opening_after m time mark None (Opened source token spin number payload) a = piece_told None None verdict.Ignored a
 
   -- one packet; behind one that ended the connection, or made it drain, it is ignored
-  unfoldable pub piece_after : Meaning t → (time : ℕ) → Piece → At t → At t
-  piece_after m time p a =
+  unfoldable pub piece_after : Meaning t → (time : ℕ) → (mark : Option EcnCodepoint) → Piece → At t → At t
+  piece_after m time mark p a =
       if is_over a.state.life.state then piece_told (space_of p.header) None verdict.Ignored a
-      else opening_after m time (space_of p.header) (opening_of m a.state p) a
+      else opening_after m time mark (space_of p.header) (opening_of m a.state p) a
 
   -- the packets of a datagram, up to the first bytes that begin with none
-  abbrev pub pieces_after : Meaning t → (time : ℕ) → List DatagramItem → At t → At t
-  pieces_after m time [] a = a
-  pieces_after m time (Err fault ∷ items) a = a
-  pieces_after m time (Ok p ∷ items) a = pieces_after m time items (piece_after m time p a)
+  abbrev pub pieces_after : Meaning t → (time : ℕ) → (mark : Option EcnCodepoint) → List DatagramItem → At t → At t
+  pieces_after m time mark [] a = a
+  pieces_after m time mark (Err fault ∷ items) a = a
+  pieces_after m time mark (Ok p ∷ items) a = pieces_after m time mark items (piece_after m time mark p a)
 
   -- a datagram counts that comes from the path's address, until the connection drains
   unfoldable pub lets_in : View t → SocketAddr → Bool
@@ -312,10 +314,10 @@ module _ {t : Types} where
 
   -- a datagram comes from this address: its packets count, and its whole length counts as received on the path
   -- (RFC 9000, section 8.1); one that begins with no packet is dropped, and changes nothing
-  unfoldable pub heard_after : Meaning t → (time : ℕ) → SocketAddr → List ℕ → At t → At t
-  heard_after m time remote bytes a =
+  unfoldable pub heard_after : Meaning t → (time : ℕ) → (mark : Option EcnCodepoint) → SocketAddr → List ℕ → At t → At t
+  heard_after m time mark remote bytes a =
       if is_readable a.state bytes && lets_in a.state remote
-      then move_to (Hear (length bytes)) (pieces_after m time (cut_of a.state bytes) a)
+      then move_to (Hear (length bytes)) (pieces_after m time mark (cut_of a.state bytes) a)
       else a
 
   -- a packet has the form and the ids of a server's first one: an Initial packet with the destination id that the server was made
@@ -343,15 +345,34 @@ module _ {t : Types} where
       else None
 
   -- a datagram that may be a server's first one is heard as any other from then on; all others are dropped
-  abbrev pub first_after : Meaning t → (time : ℕ) → SocketAddr → List ℕ → Option (List ℕ) → At t → At t
-  first_after m time remote bytes None a = a
-  first_after m time remote bytes (Some token) a = heard_after m time remote bytes (move_to (Expect token) a)
+  abbrev pub first_after : Meaning t → (time : ℕ) → (mark : Option EcnCodepoint) → SocketAddr → List ℕ → Option (List ℕ) → At t → At t
+  first_after m time mark remote bytes None a = a
+  first_after m time mark remote bytes (Some token) a = heard_after m time mark remote bytes (move_to (Expect token) a)
 
-  -- a datagram comes from this address
-  unfoldable pub datagram_after : Meaning t → (time : ℕ) → SocketAddr → List ℕ → At t → At t
-  datagram_after m time remote bytes a =
-      if is_first_awaited a.state.setup then first_after m time remote bytes (first_token m a.state remote bytes) a else heard_after m time remote bytes a
+  -- a datagram comes from this address, with this mark of ECN
+  unfoldable pub datagram_after : Meaning t → (time : ℕ) → (mark : Option EcnCodepoint) → SocketAddr → List ℕ → At t → At t
+  datagram_after m time mark remote bytes a =
+      if is_first_awaited a.state.setup then first_after m time mark remote bytes (first_token m a.state remote bytes) a else heard_after m time mark remote bytes a
 
   -- a datagram is taken: it begins with a packet, and where a server waits for its first one, it may be that
   unfoldable pub is_taken : Meaning t → View t → SocketAddr → List ℕ → Bool
   is_taken m s remote bytes = if is_first_awaited s.setup then is_some (first_token m s remote bytes) else is_readable s bytes
+
+  -- A datagram that was cut already comes from this address, with this mark of ECN: its first packet, and the bytes behind it. Its
+  -- packets count, and all of its bytes count as received on the path.
+  unfoldable pub event_after : Meaning t → (time : ℕ) → (mark : Option EcnCodepoint) → SocketAddr → Piece → (behind : List ℕ) → At t → At t
+  event_after m time mark remote p behind a =
+      if lets_in a.state remote
+      then move_to (Hear (length p.bytes + length behind)) (pieces_after m time mark (cut_of a.state behind) (piece_after m time mark p a))
+      else a
+
+  -- a server's first packet, which opened with this number and payload: its token is expected from now on, and it does what a
+  -- packet does that opened in the Initial space
+  unfoldable pub opened_first : Meaning t → (time : ℕ) → (mark : Option EcnCodepoint) → (source token : List ℕ) → (number : ℕ) → (payload : List ℕ) → At t → At t
+  opened_first m time mark source token number payload a =
+      received_after m time Initial (record { mark = mark; spin = false }) source token number payload (move_to (Expect token) a)
+
+  -- a server's first packet, with the bytes behind it, of a datagram that has so many bytes
+  unfoldable pub first_packet_after : Meaning t → (time : ℕ) → (mark : Option EcnCodepoint) → (source token : List ℕ) → (number : ℕ) → (payload behind : List ℕ) → (size : ℕ) → At t → At t
+  first_packet_after m time mark source token number payload behind size a =
+      move_to (Hear size) (pieces_after m time mark (cut_of a.state behind) (opened_first m time mark source token number payload a))

@@ -1,5 +1,5 @@
 -- The steps of a driven connection, and its runs: lists of steps, each beginning where the one before ended.
-use Rattle.std.specs.Prelude.{◌≡◌, ℕ, ◌+◌, ◌≤◌, List, [], ◌∷◌, ◌++◌, length, take, if◌then◌else◌, Option, Some, None, option_to_list}
+use Rattle.std.specs.Prelude.{◌≡◌, ℕ, ◌+◌, ◌≤◌, List, [], ◌∷◌, ◌++◌, length, take, if◌then◌else◌, Option, Some, None}
 use Rattle.qc_frame.specs.Frame.{FrameValue}
 use Rattle.qc_state.specs.declared.deeds.Did.{Did}
 use Rattle.qc_state.specs.declared.deeds.Did.TheVariants as did
@@ -12,8 +12,8 @@ use Rattle.qc_state.specs.declared.trace.Answer.{Answer}
 use Rattle.qc_state.specs.declared.trace.Answer.TheVariants.{Done, Dropped, Nothing, Out}
 use Rattle.qc_state.specs.declared.trace.Step.{Step}
 use Rattle.qc_state.specs.declared.transmit.Transmit as transmit
-use Rattle.qc_state.specs.Life.{is_open, waiting_events, drained_event}
-use Rattle.qc_state.specs.Moves.{Clock, Ask, Shut, ReportReady, ReportConnected, ReportLost, ReportDrained, move_to, state_move}
+use Rattle.qc_state.specs.Life.{is_open, waiting_events, endpoint_events}
+use Rattle.qc_state.specs.Moves.{Clock, Ask, Shut, ReportReady, ReportConnected, ReportLost, ReportToken, ReportWanted, ReportDrained, move_to, state_move}
 use Rattle.qc_state.specs.Receiving.{is_taken, datagram_after}
 use Rattle.qc_state.specs.Sending.{MayTransmit, transmit_after, transmit_bytes, transmit_of}
 use Rattle.qc_state.specs.Timers.{next_timeout}
@@ -57,7 +57,7 @@ module _ {t : Types} where
   -- what an input leaves before anything is reported: a function of the view and, for a transmit, of the packets that
   -- the deeds name
   unfoldable pub input_after : Meaning t → Input → List Did → At t → At t
-  input_after m (Datagram time remote ecn bytes) ds a = datagram_after m time remote bytes a
+  input_after m (Datagram time remote ecn bytes) ds a = datagram_after m time ecn remote bytes a
   input_after m (Transmit time max) ds a = transmit_after time (packets_of ds) a
   input_after m (Close time code reason) ds a = close_after time code reason a
   input_after m (Ping time) ds a = move_to (Ask a.state.keys.highest) a
@@ -67,7 +67,7 @@ module _ {t : Types} where
 
   -- whatever waited to be reported was reported
   unfoldable pub reported : View t → View t
-  reported s = state_move ReportDrained (state_move ReportLost (state_move ReportConnected (state_move ReportReady s)))
+  reported s = state_move ReportDrained (state_move ReportWanted (state_move ReportToken (state_move ReportLost (state_move ReportConnected (state_move ReportReady s)))))
 
   -- the view after a step
   unfoldable pub step_after : Meaning t → View t → Input → List Did → View t
@@ -102,7 +102,7 @@ module _ {t : Types} where
     pub allowed : IsAllowed i x.did (began s (time_of i)).state
     pub answer : x.answer ≡ answer_of m i x.did (began s (time_of i)).state
     pub events : x.events ≡ waiting_events (called m s i x.did).state.life
-    pub endpoint : x.endpoint ≡ option_to_list (drained_event (called m s i x.did).state.life)
+    pub endpoint : x.endpoint ≡ endpoint_events (called m s i x.did).state.life
     pub timeout : x.timeout ≡ next_timeout s'.timers
     pub place : x.at ≡ k
     pub word : x.word ≡ word_of i

@@ -1,6 +1,6 @@
 -- What a transmit may send, and what it leaves. Which of the waiting frames a packet carries is free, where no close is
 -- owed; all else is a function of that choice. So far a transmit seals at most one packet, in a datagram of its own.
-use Rattle.std.specs.Prelude.{◌≡◌, ℕ, ◌-◌, ◌^◌, ◌==◌, Bool, true, false, ◌||◌, ◌&&◌, not, nat_lt, nat_le, if◌then◌else◌, List, [], ◌∷◌, ◌++◌, length, replicate, Option, Some, None, is_some, is_none}
+use Rattle.std.specs.Prelude.{◌≡◌, ℕ, ◌+◌, ◌-◌, ◌<◌, ◌≤◌, ◌^◌, ◌==◌, Bool, true, false, ◌||◌, ◌&&◌, not, nat_lt, nat_le, if◌then◌else◌, List, [], ◌∷◌, ◌++◌, length, replicate, Option, Some, None, is_some, is_none}
 use Rattle.std.specs.List.{list_any}
 use Rattle.qc_base.specs.declared.ecn.EcnCodepoint.TheVariants.{Ect0}
 use Rattle.qc_base.specs.declared.side.LongType.TheVariants as long
@@ -10,13 +10,14 @@ use Rattle.qc_base.specs.declared.side.SpaceId.TheVariants.{Initial, Handshake, 
 use Rattle.qc_base.specs.declared.side.Side.{Side}
 use Rattle.qc_base.specs.PacketNumber.{number_of}
 use Rattle.qc_frame.specs.Frame.{FrameValue}
-use Rattle.qc_frame.specs.FrameSpelling.{frames_spelling}
+use Rattle.qc_frame.specs.FrameSpelling.{elicits, frames_spelling}
 use Rattle.qc_frame.specs.declared.frames.FrameOf.TheVariants as frames
 use Rattle.qc_frame.specs.Sizes.{IsLongestReason}
 use Rattle.qc_header.specs.HeaderSpelling.{header_spelling}
 use Rattle.qc_header.specs.declared.header.Header.{Header}
 use Rattle.qc_header.specs.declared.header.Header.TheVariants as header
-use Rattle.qc_packet.specs.PacketSpelling.{packet_spelling}
+use Rattle.qc_packet.specs.Building.{padded_size}
+use Rattle.qc_packet.specs.PacketSpelling.{packet_spelling, padding_len}
 use Rattle.qc_state.specs.declared.deeds.Quiet.TheVariants.{NothingOwed, Silent, Amplification, Killed}
 use Rattle.qc_state.specs.declared.life.Close.{Close}
 use Rattle.qc_state.specs.declared.life.Close.TheVariants.{Connection, Application}
@@ -36,7 +37,7 @@ use Rattle.qc_state.specs.Paths.{is_blocked}
 use Rattle.qc_state.specs.Spaces.{space_of}
 use Rattle.qc_state.specs.Types.{Types, Meaning}
 use Rattle.qc_state.specs.View.{View, At}
-use Rattle.qc_state.specs.Waiting.{waits_in, WaitAll, TakenPart, is_told}
+use Rattle.qc_state.specs.Waiting.{waits_in, WaitAll, TakenPart}
 
 -- INTERNAL_ERROR (RFC 9000, section 20.1), without the type of a frame
 abbrev pub internal_error : ConnectionError
@@ -81,6 +82,11 @@ abbrev pub IsKeptReason : ℕ → (kept : List ℕ) → Option Close → Type 0
 IsKeptReason room kept (Some (Application c)) = IsLongestReason (frames.ApplicationClose (told_application_code c.error_code)) c.reason room kept
 IsKeptReason room kept _ = kept ≡ []
 
+-- how many bytes a transmit gives
+abbrev pub sent_size : Option Transmit → ℕ
+sent_size None = 0
+sent_size (Some sent) = sent.size
+
 -- A packet number lies so far above the greatest acknowledged one that no packet can spell it, or is the greatest of all
 -- (RFC 9000, sections 12.3 and 17.1): the connection ends.
 abbrev pub is_past_limit : (number acked : ℕ) → Bool
@@ -92,6 +98,13 @@ abbrev pub leaves_initial : (side : Side) → (end : Side) → SpaceId → Bool
 leaves_initial Client Client Handshake = true
 leaves_initial Server Server Handshake = true
 leaves_initial _ _ _ = false
+
+-- whether a packet fills a datagram: a client's Initial packet does, and a server's that elicits an acknowledgement (RFC 9000,
+-- section 14.1)
+abbrev pub fills : Side → SpaceId → (eliciting : Bool) → Bool
+fills Client Initial eliciting = true
+fills Server Initial eliciting = eliciting
+fills _ _ eliciting = false
 
 module _ {t : Types} where
   -- nothing is sent: the connection has ended, or has closed and owes no close
@@ -120,7 +133,7 @@ module _ {t : Types} where
   may_be_quiet s = is_silent s || not (owes s) || is_blocked s.paths || is_used_up s
 
   -- the header of the next packet in a space (RFC 9000, sections 17.2.2, 17.2.4 and 17.3.1); a 1-RTT packet has the first key
-  -- phase, and no spin, so far
+  -- phase so far
   abbrev pub header_in : View t → SpaceId → Header
   header_in s Initial = header.Initial (record {
     dst_cid = s.paths.remote_cid;
@@ -130,11 +143,28 @@ module _ {t : Types} where
     version = s.setup.fixed.version;
   })
   header_in s Handshake = header.Long long.Handshake s.paths.remote_cid s.setup.fixed.local_cid (number_of (next_number s.numbers Handshake) (acked_number s.numbers Handshake)) s.setup.fixed.version
-  header_in s Data = header.Short false false s.paths.remote_cid (number_of (next_number s.numbers Data) (acked_number s.numbers Data))
+  header_in s Data = header.Short s.paths.spin false s.paths.remote_cid (number_of (next_number s.numbers Data) (acked_number s.numbers Data))
 
   -- the header of the next packet
   unfoldable pub header_of : View t → Header
   header_of s = header_in s (sending_space s)
+
+  -- how many bytes a packet of this space with these frames has
+  unfoldable pub packet_size : View t → SpaceId → List FrameValue → ℕ
+  packet_size s id fs = length (header_spelling (header_in s id) 0) + length (frames_spelling fs) + 16
+
+  -- how many bytes such a packet is to have at least
+  unfoldable pub least_size : View t → SpaceId → List FrameValue → ℕ
+  least_size s id fs = if fills s.setup.fixed.side id (list_any elicits fs) then DATAGRAM_SIZE else 0
+
+  -- how much PADDING such a packet needs: up to a datagram's size where it fills one, and up to what each packet has to have
+  -- (RFC 9001, section 5.4.2; RFC 9000, section 10.3)
+  unfoldable pub padding_of : View t → SpaceId → List FrameValue → ℕ
+  padding_of s id fs = padding_len (header_in s id) fs (padded_size (header_in s id) fs (least_size s id fs))
+
+  -- the frames with that PADDING behind them
+  unfoldable pub padded : View t → SpaceId → List FrameValue → List FrameValue
+  padded s id fs = fs ++ replicate (padding_of s id fs) frames.Padding
 
   -- a packet under the local keys; none without keys
   abbrev pub sealed_with : Meaning t → Option (SpaceKeys t.H t.P) → Header → ℕ → List ℕ → List ℕ
@@ -152,7 +182,7 @@ module _ {t : Types} where
 
   -- an ACK, if there is something to acknowledge, and the close with the reason that fits behind it
   pub data Closes (time : ℕ) (s : View t) (id : SpaceId) (fs : List FrameValue) : Type 0 where
-    closing : (acks : List FrameValue) → AckPart time (space_of s.waiting.spaces id).acks acks (may_acknowledge (space_of s.waiting.spaces id).acks) →
+    closing : (acks : List FrameValue) → AckPart time (space_of s.waiting.spaces id) acks (may_acknowledge (space_of s.waiting.spaces id).acks) →
         (kept : List ℕ) → IsKeptReason (close_room s id acks) kept s.life.close → fs ≡ acks ++ closing_frame id kept s.life ∷ [] → Closes time s id fs
 
   -- the frames that this end takes at a time for a packet of this space with so much room: where a close is owed, it alone, else
@@ -161,11 +191,11 @@ module _ {t : Types} where
     a_close : s.waiting.close_owed ≡ true → Closes time s id fs → TakenNow time s id room fs
     what_waits : s.waiting.close_owed ≡ false → TakenPart time (space_of s.waiting.spaces id) room fs → TakenNow time s id room fs
 
-  -- the frames of a packet of this space at a time: where a close is owed, it alone with PADDING behind it; else each waits as
-  -- its turn comes or is PADDING, and not all are PADDING
+  -- the frames of a packet of this space at a time, with the PADDING that it needs and no more: where a close is owed, it alone;
+  -- else each waits as its turn comes, and there is one
   pub data Carries (time : ℕ) (s : View t) (id : SpaceId) (fs : List FrameValue) : Type 0 where
-    a_close : s.waiting.close_owed ≡ true → (gs : List FrameValue) → Closes time s id gs → (padding : ℕ) → fs ≡ gs ++ replicate padding frames.Padding → Carries time s id fs
-    what_waits : s.waiting.close_owed ≡ false → WaitAll time (space_of s.waiting.spaces id) fs → list_any is_told fs ≡ true → Carries time s id fs
+    a_close : s.waiting.close_owed ≡ true → (gs : List FrameValue) → Closes time s id gs → fs ≡ padded s id gs → Carries time s id fs
+    what_waits : s.waiting.close_owed ≡ false → (gs : List FrameValue) → WaitAll time (space_of s.waiting.spaces id) gs → 0 < length gs → fs ≡ padded s id gs → Carries time s id fs
 
   -- a packet with these frames may be sealed at a time: something is owed, the path isn't blocked, and it carries what it may
   pub record MaySeal (time : ℕ) (s : View t) (fs : List FrameValue) : Type 0 where
@@ -174,6 +204,7 @@ module _ {t : Types} where
     pub free : is_blocked s.paths ≡ false
     pub spelled : is_used_up s ≡ false
     pub carries : Carries time s (sending_space s) fs
+    pub fits : packet_size s (sending_space s) fs ≤ DATAGRAM_SIZE
 
   -- such an end drops the keys of its Initial space, if it has them still
   unfoldable pub drops_initial : Side → View t → SpaceId → Bool
@@ -185,7 +216,7 @@ module _ {t : Types} where
 
   -- a packet of this space is sealed: its frames wait no longer, and its number is used
   unfoldable pub sealed_in : ℕ → SpaceId → List FrameValue → At t → At t
-  sealed_in time id fs a = initial_left Client id (move_to (Seal time id (next_number a.state.numbers id) DATAGRAM_SIZE fs) (move_to (Take id fs) a))
+  sealed_in time id fs a = initial_left Client id (move_to (Seal time id (next_number a.state.numbers id) (packet_size a.state id fs) fs) (move_to (Take id fs) a))
 
   -- the next packet is sealed
   unfoldable pub packet_after : ℕ → List FrameValue → At t → At t
@@ -228,24 +259,28 @@ module _ {t : Types} where
   transmit_bytes m [] s = []
   transmit_bytes m (fs ∷ _) s = packet_bytes m s fs
 
+  -- where a datagram of this size goes, and how
+  unfoldable pub transmit_with : View t → ℕ → Transmit
+  transmit_with s size = record {
+    destination = s.paths.remote;
+    ecn = Some Ect0;
+    size = size;
+    segment_size = None;
+    src_ip = s.setup.fixed.local_ip;
+  }
+
   -- where the datagrams go, and how; none where nothing was sealed
   unfoldable pub transmit_of : List (List FrameValue) → View t → Option Transmit
   transmit_of [] s = None
-  transmit_of (fs ∷ _) s = Some (record {
-    destination = s.paths.remote;
-    ecn = Some Ect0;
-    size = DATAGRAM_SIZE;
-    segment_size = None;
-    src_ip = s.setup.fixed.local_ip;
-  })
+  transmit_of (fs ∷ _) s = Some (transmit_with s (packet_size s (sending_space s) fs))
 
-  -- a packet was sealed into an empty buffer, with frames of its choice, and fills a datagram
+  -- a packet was sealed into an empty buffer, with frames of its choice, and has a datagram of its own
   pub record SealsOne (m : Meaning t) (time : ℕ) (a b : At t) (buffer : List ℕ) : Type 0 where
     pub frames : List FrameValue
     pub may : MaySeal time a.state frames
     pub leads : b ≡ packet_after time frames a
     pub bytes : buffer ≡ packet_bytes m a.state frames
-    pub full : length buffer ≡ DATAGRAM_SIZE
+    pub full : length buffer ≡ packet_size a.state (sending_space a.state) frames
 
   -- a transmit into an empty buffer
   pub record Transmits (m : Meaning t) (time : ℕ) (a b : At t) (sent : Option Transmit) (buffer : List ℕ) : Type 0 where
@@ -254,4 +289,4 @@ module _ {t : Types} where
     pub leads : b ≡ transmit_after time packets a
     pub answer : sent ≡ transmit_of packets a.state
     pub bytes : buffer ≡ transmit_bytes m packets a.state
-    pub full : length buffer ≡ (if is_some sent then DATAGRAM_SIZE else 0)
+    pub full : length buffer ≡ sent_size sent

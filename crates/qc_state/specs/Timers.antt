@@ -1,6 +1,6 @@
 -- The timers of a connection (RFC 9000, section 10.1; RFC 9002, section 6.2). Times are nanoseconds.
-use Rattle.std.specs.Prelude.{ℕ, ◌*◌, max, true, false, nat_le, if◌then◌else◌, Option, Some, None}
-use Rattle.qc_base.specs.Time.{plus}
+use Rattle.std.specs.Prelude.{ℕ, max, true, false, nat_le, if◌then◌else◌, Option, Some, None}
+use Rattle.qc_base.specs.Time.{plus, times}
 use Rattle.qc_state.specs.declared.timers.TheConstants.{PROBE_TIMEOUT}
 use Rattle.qc_state.specs.declared.timers.Timers.{Timers}
 
@@ -12,22 +12,22 @@ least (Some a) (Some b) = if nat_le a b then Some a else Some b
 
 -- when a connection ends that is idle from now on: its own limit or three probe timeouts, the longer one; without a
 -- limit nothing changes
-abbrev pub idle_from : Option ℕ → Option ℕ → ℕ → Option ℕ
-idle_from None before time = before
-idle_from (Some limit) before time = Some (plus time (max limit (3 * PROBE_TIMEOUT)))
+abbrev pub idle_from : (limit before : Option ℕ) → (probe time : ℕ) → Option ℕ
+idle_from None before probe time = before
+idle_from (Some limit) before probe time = Some (plus time (max limit (times probe 3)))
 
--- a packet that elicits an acknowledgement was sealed at this time
-unfoldable pub timers_sealed : Timers → Option ℕ → ℕ → Timers
-timers_sealed v limit time = record v {
+-- a packet that elicits an acknowledgement was sealed at this time, in a space with this probe timeout
+unfoldable pub timers_sealed : Timers → (limit : Option ℕ) → (probe time : ℕ) → Timers
+timers_sealed v limit probe time = record v {
   loss_detection = Some (plus time PROBE_TIMEOUT);
-  idle = if v.sets_idle then idle_from limit v.idle time else v.idle;
+  idle = if v.sets_idle then idle_from limit v.idle probe time else v.idle;
   sets_idle = false;
 }
 
--- a packet of the peer was accepted at this time: the connection isn't idle, and the next packet that is sealed and
--- elicits an acknowledgement sets the timer anew (RFC 9000, section 10.1)
-unfoldable pub timers_accepted : Timers → Option ℕ → ℕ → Timers
-timers_accepted v limit time = record v { idle = idle_from limit v.idle time; sets_idle = true }
+-- a packet of the peer was accepted at this time, in a space with this probe timeout: the connection isn't idle, and the next
+-- packet that is sealed and elicits an acknowledgement sets the timer anew (RFC 9000, section 10.1)
+unfoldable pub timers_accepted : Timers → (limit : Option ℕ) → (probe time : ℕ) → Timers
+timers_accepted v limit probe time = record v { idle = idle_from limit v.idle probe time; sets_idle = true }
 
 -- nothing that elicits an acknowledgement is in flight
 unfoldable pub timers_settled : Timers → Timers
@@ -39,8 +39,8 @@ timers_stopped v = record v { loss_detection = None; idle = None; close = None }
 
 -- the connection closes at this time: every timer is stopped, and the close lasts for three probe timeouts (RFC 9000,
 -- section 10.2)
-unfoldable pub timers_closing : Timers → ℕ → Timers
-timers_closing v time = record v { loss_detection = None; idle = None; close = Some (plus time (3 * PROBE_TIMEOUT)) }
+unfoldable pub timers_closing : Timers → (probe time : ℕ) → Timers
+timers_closing v probe time = record v { loss_detection = None; idle = None; close = Some (plus time (times probe 3)) }
 
 -- the connection is told a time
 unfoldable pub clock_set : Timers → ℕ → Timers

@@ -1,5 +1,6 @@
 -- The frames that wait to be sealed, and what becomes of them.
-use Rattle.std.specs.Prelude.{◌≡◌, ℕ, ◌-◌, ◌≤◌, nat_le, min, Bool, true, false, ◌||◌, ◌&&◌, not, ◌==◌, if◌then◌else◌, List, [], ◌∷◌, ◌++◌, length, take}
+use Rattle.std.specs.Prelude.{◌≡◌, ℕ, ◌-◌, ◌≤◌, nat_le, min, Bool, true, false, ◌||◌, ◌&&◌, not, ◌==◌, if◌then◌else◌, List, [], ◌∷◌, ◌++◌, length, take, Option}
+use Rattle.qc_base.specs.declared.ecn.EcnCodepoint.{EcnCodepoint}
 use Rattle.qc_base.specs.declared.side.SpaceId.{SpaceId}
 use Rattle.qc_base.specs.declared.side.SpaceId.TheVariants.{«Data»}
 use Rattle.qc_frame.specs.Frame.{FrameValue}
@@ -8,6 +9,7 @@ use Rattle.qc_frame.specs.declared.frames.FrameOf.TheVariants as frames
 use Rattle.qc_path.specs.Acks.{acks_received}
 use Rattle.qc_path.specs.Arrived.{Window}
 use Rattle.qc_path.specs.declared.pending_acks.Arrival.{Arrival}
+use Rattle.qc_space.specs.Spaces.{marked}
 use Rattle.qc_state.specs.declared.waiting.TheConstants.{CRYPTO_HEAD}
 use Rattle.qc_state.specs.declared.waiting.Waiting.{Waiting}
 use Rattle.qc_state.specs.declared.waiting.SpaceWaiting.{SpaceWaiting}
@@ -53,13 +55,13 @@ packets_settled v id rs = record v { spaces = with_space v.spaces id (settled_in
 unfoldable pub is_calm : Waiting → Bool
 is_calm v = (length v.spaces.initial.flight == 0) && (length v.spaces.handshake.flight == 0) && (length v.spaces.application.flight == 0)
 
--- a packet came in the space and was accepted, which `seen` has already
-unfoldable pub came_in : Window → Arrival → SpaceWaiting → SpaceWaiting
-came_in seen arrival w = record w { acks = acks_received false seen arrival w.acks }
+-- a packet came in the space and was accepted, which `seen` has already; its mark of ECN is counted (RFC 9000, section 13.4.1)
+unfoldable pub came_in : Window → Arrival → Option EcnCodepoint → SpaceWaiting → SpaceWaiting
+came_in seen arrival mark w = record w { acks = acks_received false seen arrival w.acks; marks = marked w.marks mark }
 
 -- such a packet came; in each space one that elicits an ACK makes it owed at once so far
-unfoldable pub packet_came : Waiting → SpaceId → Window → Arrival → Waiting
-packet_came v id seen arrival = record v { spaces = with_space v.spaces id (came_in seen arrival (space_of v.spaces id)) }
+unfoldable pub packet_came : Waiting → SpaceId → Window → Arrival → Option EcnCodepoint → Waiting
+packet_came v id seen arrival mark = record v { spaces = with_space v.spaces id (came_in seen arrival mark (space_of v.spaces id)) }
 
 -- no packet of the space was sealed since a close began to be owed
 abbrev pub untold : SpaceWaiting → SpaceWaiting
@@ -95,13 +97,11 @@ without w (frames.Ack ack) = record w { acks = ack_sent w.acks }
 without w (frames.Crypto offset body) = record w { crypto = unsent_after w.crypto (length body) }
 without w _ = w
 
--- a frame waits at a time: the HANDSHAKE_DONE or the PING that was asked for, the ACK that is owed, or the first CRYPTO bytes;
--- PADDING may always stand
+-- a frame waits at a time: the HANDSHAKE_DONE or the PING that was asked for, the ACK that is owed, or the first CRYPTO bytes
 unfoldable pub Waits : ℕ → SpaceWaiting → FrameValue → Type 0
-Waits time w frames.Padding = Unit {0}
 Waits time w frames.HandshakeDone = w.done ≡ true
 Waits time w frames.Ping = w.ping ≡ true
-Waits time w (frames.Ack ack) = (is_ack_owed w.acks ≡ true) × SaysAck time w.acks ack
+Waits time w (frames.Ack ack) = (is_ack_owed w.acks ≡ true) × SaysAck time w ack
 Waits time w (frames.Crypto offset body) = (offset ≡ w.crypto.offset) × (length body ≤ length w.crypto.bytes) × (body ≡ take (length body) w.crypto.bytes)
 Waits time w _ = ⊥
 
@@ -114,11 +114,6 @@ without_all w (f ∷ fs) = without_all (without w f) fs
 unfoldable pub WaitAll : ℕ → SpaceWaiting → List FrameValue → Type 0
 WaitAll time w [] = Unit {0}
 WaitAll time w (f ∷ fs) = Waits time w f × WaitAll time (without w f) fs
-
--- a frame that isn't PADDING
-abbrev pub is_told : FrameValue → Bool
-is_told frames.Padding = false
-is_told _ = true
 
 -- the HANDSHAKE_DONE that waits
 unfoldable pub done_part : SpaceWaiting → List FrameValue
@@ -142,13 +137,13 @@ crypto_part w room =
 -- bytes that fit behind them
 pub record TakenPart (time : ℕ) (w : SpaceWaiting) (room : ℕ) (fs : List FrameValue) : Type 0 where
   pub acks : List FrameValue
-  pub ack : AckPart time w.acks acks (is_ack_owed w.acks)
+  pub ack : AckPart time w acks (is_ack_owed w.acks)
   pub all : fs ≡ marks_part w ++ (acks ++ crypto_part w (room - 2 - length (frames_spelling acks)))
 
 -- the ACK was taken where it was due, and put behind other frames; it has so many bytes
 pub record TakesAck (time : ℕ) (due : Bool) (w w' : SpaceWaiting) (fs gs : List FrameValue) (len : ℕ) : Type 0 where
   pub acks : List FrameValue
-  pub part : AckPart time w.acks acks due
+  pub part : AckPart time w acks due
   pub list : gs ≡ fs ++ acks
   pub rest : w' ≡ without_all w acks
   pub size : len ≡ length (frames_spelling acks)

@@ -1,10 +1,12 @@
 //! What a connection reports to the application and to its endpoint.
 
-ghost use Rattle.std.specs.Prelude.{◌≡◌, [], ◌∷◌, ◌++◌, OnOk, OnErr};
+ghost use Rattle.std.specs.Prelude.{◌≡◌, [], ◌∷◌, ◌++◌, OnOk, OnErr, option_to_list};
 
 use crate::life::ConnectionError;
+use qc_base::{Instant, ResetToken};
 use std::alloc::{AllocError, Global};
 use std::marker::Model;
+use std::net::SocketAddr;
 
 /// What a connection reports to the application.
 #[derive(Drop)]
@@ -23,6 +25,10 @@ pub enum Event {
 /// What a connection reports to its endpoint.
 #[derive(Clone, Copy)]
 pub enum EndpointEvent {
+    /// The peer can reset the connection with this token, from this address (RFC 9000, 10.3).
+    ResetToken(SocketAddr, ResetToken),
+    /// At this time so many identifiers were wanted, for the peer to use (RFC 9000, 5.1.1).
+    NeedIdentifiers(Instant, u64),
     /// The connection is drained: its state can be dropped. It is given once.
     Drained,
 }
@@ -115,12 +121,14 @@ impl EndpointEvents {
         }
     }
 
-    /// One event more. Want of memory is the only refusal, and then the list is as before.
-    pub fn push(&mut self, event: EndpointEvent) -> Result<(), AllocError>
-        ensures ok { OnOk result (self.new ≡ self.old ++ event ∷ []) }
+    /// The event after the others, if there is one. Want of memory is the only refusal, and then the list is as before.
+    pub fn push(&mut self, event: Option<EndpointEvent>) -> Result<(), AllocError>
+        ensures ok { OnOk result (self.new ≡ self.old ++ option_to_list event) }
         ensures err { OnErr result (self.new ≡ self.old) }
     {
-        self.events.push(event)?;
+        if let Some(event) = event {
+            self.events.push(event)?;
+        }
         Ok(())
     }
 

@@ -13,7 +13,7 @@ pub enum Input {
         now: Instant,
         /// The address that it came from.
         remote: SocketAddr,
-        /// Its mark of explicit congestion notification (RFC 9000, 13.4). So far it isn't counted.
+        /// Its mark of explicit congestion notification (RFC 9000, 13.4).
         ecn: Option<EcnCodepoint>,
         /// Its bytes.
         bytes: Body,

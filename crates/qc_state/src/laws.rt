@@ -4,7 +4,7 @@ ghost use Rattle.std.specs.Prelude.{◌≡◌, ◌⊎◌, ◌∷◌, ◌++◌, �
 ghost use Rattle.qc_base.specs.declared.side.SpaceId.{SpaceId};
 ghost use Rattle.qc_frame.specs.Frame.{FrameValue};
 ghost use Rattle.qc_path.specs.Arrived.{Remembers, Window, is_among};
-ghost use Rattle.qc_state.specs.Headline.{deeds_of, accepted_in, AcksOnly, EachAcksKnown, EachNew, IsKept, NoneTwice};
+ghost use Rattle.qc_state.specs.Headline.{deeds_of, accepted_in, AcksOnly, EachAcksKnown, EachNew, Harmless, IsKept, NoneTwice};
 ghost use Rattle.qc_state.specs.PathLaws.{PathHolds, all_from};
 ghost use Rattle.qc_state.specs.Run.{Run, placed_behind};
 ghost use Rattle.qc_state.specs.Types.{meaning};
@@ -42,4 +42,12 @@ pub fn acks_were_accepted<U: Suite>()
 /// it, and one datagram (RFC 9000, 8.1).
 pub fn paths_hold<U: Suite>()
     ensures { (s last : View (record { S = U.Session; H = U.Session.HeaderKey; P = U.Session.PacketKey; D = U.Session.HandshakeData; I = U.Session.PeerIdentity })) (k : ℕ) (is : List Input) (xs : List Step) → Run (meaning U.Session.Session U.Session.HeaderKey.HeaderMask U.Session.PacketKey.PacketKey) k s is xs last → PathHolds (all_from s.paths.remote is) (deeds_of xs) s.paths last.paths }
+{}
+
+/// A law, which runs no code. Where all inputs of a run are datagrams, and each of its deeds tells of a packet that was ignored
+/// or that its key didn't open, only counts change: that of the packets which didn't open, that of the bytes which came from the
+/// path's address, and the greatest time. What waited to be reported is reported, and all else stays as it was. So bytes that
+/// don't open do no harm.
+pub fn harmless_bytes<U: Suite>()
+    ensures { (s last : View (record { S = U.Session; H = U.Session.HeaderKey; P = U.Session.PacketKey; D = U.Session.HandshakeData; I = U.Session.PeerIdentity })) (k : ℕ) (is : List Input) (xs : List Step) → Run (meaning U.Session.Session U.Session.HeaderKey.HeaderMask U.Session.PacketKey.PacketKey) k s is xs last → Harmless s is xs last }
 {}

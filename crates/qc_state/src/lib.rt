@@ -32,11 +32,13 @@ pub use events::{EndpointEvent, EndpointEvents, Event, Events};
 pub use flight::Flight;
 pub use input::{Input, Word};
 pub use keys::{KeyGroup, SpaceKeys};
-pub use laws::{acks_were_accepted, numbers_count_once, paths_hold, runs_join};
-pub use life::{ApplicationClose, Close, ConnectionClose, ConnectionError, Life, State};
+pub use laws::{acks_were_accepted, harmless_bytes, numbers_count_once, paths_hold, runs_join};
+pub use life::{
+    ApplicationClose, Close, ConnectionClose, ConnectionError, Life, PeerToken, State, Wanted,
+};
 pub use lower::Lower;
 pub use numbers::{Numbers, SpaceNumbers};
-pub use opening::Opening;
+pub use opening::{Opening, Signs};
 pub use paths::Paths;
 pub use session::SoundSession;
 pub use setup::{Fixed, Setup, negotiate_max_idle_timeout};

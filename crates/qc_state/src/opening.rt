@@ -1,7 +1,16 @@
 //! What comes of taking the protection off a packet.
 
 use bytes::Bytes;
-use qc_base::ConnectionId;
+use qc_base::{ConnectionId, EcnCodepoint};
+
+/// What a packet shows to the network, and the network to it.
+#[derive(Clone, Copy)]
+pub struct Signs {
+    /// The mark of explicit congestion notification that its datagram came with (RFC 9000, 13.4).
+    pub mark: Option<EcnCodepoint>,
+    /// Its spin bit (RFC 9000, 17.4).
+    pub spin: bool,
+}
 
 /// What comes of taking the protection off a packet (RFC 9001, 5.3 and 5.4).
 #[derive(Drop)]
@@ -21,6 +30,8 @@ pub enum Opening {
         source: ConnectionId,
         /// The token of its header; empty where its form has none.
         token: Bytes,
+        /// The spin bit of its header; false where its form has none.
+        spin: bool,
         /// Its whole number.
         number: u64,
         /// Its payload.

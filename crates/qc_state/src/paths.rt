@@ -1,11 +1,11 @@
 //! The path to the peer.
 
 ghost use Rattle.std.specs.Prelude.{◌≡◌};
-ghost use Rattle.qc_state.specs.Paths.{path_sent, path_received, path_accepted, peer_fixed, is_blocked, same_address};
+ghost use Rattle.qc_state.specs.Paths.{path_sent, path_received, path_accepted, path_spun, spun_by, peer_fixed, is_blocked, same_address};
 ghost use Rattle.std.specs.Net.Addr.{ipv4_octets, ipv6_segments};
 
 use crate::deeds::Verdict;
-use qc_base::{ConnectionId, SpaceId};
+use qc_base::{ConnectionId, Side, SpaceId};
 use std::net::SocketAddr;
 
 /// The path to the peer (RFC 9000, 9).
@@ -19,13 +19,25 @@ pub struct Paths {
     pub peer_fixed: bool,
     /// Whether it is known that the peer gets what is sent to its address (RFC 9000, 8.1). A client takes it for known.
     pub validated: bool,
+    /// The spin bit of 1-RTT packets to the peer (RFC 9000, 17.4).
+    pub spin: bool,
     /// Bytes sent to the peer's address. They stand still at 2^64 - 1.
     pub sent: u64,
     /// Bytes received from the peer's address, as far as they count (RFC 9000, 8.1). They stand still at 2^64 - 1.
     pub received: u64,
 }
 
-#[tactic(auto, unfolding(crate::specs::Paths::path_sent, crate::specs::Paths::path_received, crate::specs::Paths::peer_fixed, crate::specs::Paths::path_accepted, crate::specs::Paths::is_blocked))]
+/// The spin bit of an end of this side by that of a packet: a server repeats it, and a client turns it round.
+fn spun_by(side: Side, bit: bool) -> bool
+    ensures { result ≡ spun_by side bit }
+{
+    match side {
+        Side::Client => !bit,
+        Side::Server => bit,
+    }
+}
+
+#[tactic(auto, unfolding(crate::specs::Paths::path_sent, crate::specs::Paths::path_received, crate::specs::Paths::peer_fixed, crate::specs::Paths::path_accepted, crate::specs::Paths::path_spun, crate::specs::Paths::is_blocked))]
 impl Paths {
     /// So many bytes came from the path's address.
     pub fn received(&mut self, bytes: u64)
@@ -42,6 +54,16 @@ impl Paths {
         match (space, verdict) {
             (SpaceId::Handshake, Verdict::Admitted) => self.validated = true,
             _ => {}
+        }
+    }
+
+    /// A packet with this spin bit was accepted by an end of this side: where it is the greatest one of its space so far, it
+    /// sets the bit that is sent (RFC 9000, 17.4).
+    pub fn spun(&mut self, side: Side, greatest: bool, bit: bool)
+        ensures { self.new ≡ path_spun self.old side greatest bit }
+    {
+        if greatest {
+            self.spin = spun_by(side, bit);
         }
     }
 

@@ -2,11 +2,12 @@
 
 ghost use Rattle.std.specs.Prelude.{◌≡◌, ℕ, Option, None, Some};
 ghost use Rattle.std.specs.Option.{option_map};
-ghost use Rattle.qc_state.specs.Setup.{idle_limit_of, idle_limit_with, idle_limit_now, parameters_known, token_expected, is_first_awaited, awaits_first};
+ghost use Rattle.qc_state.specs.Setup.{idle_limit_of, idle_limit_with, idle_limit_now, peer_delay, probe_timeout_now, parameters_known, token_expected, is_first_awaited, awaits_first};
 ghost use Rattle.qc_state.specs.Timers.{least};
 
+use crate::timers::PROBE_TIMEOUT;
 use bytes::Bytes;
-use qc_base::{ConnectionId, Duration, Side, VarInt};
+use qc_base::{ConnectionId, Duration, Side, SpaceId, VarInt};
 use qc_params::TransportParameters;
 use std::net::IpAddr;
 
@@ -90,6 +91,16 @@ fn lesser(a: Option<Duration>, b: Option<Duration>) -> Option<Duration>
     }
 }
 
+/// How long the peer holds an acknowledgement back at most: 25 ms until its parameters were read (RFC 9000, 18.2).
+fn peer_delay(peer: &Option<TransportParameters>) -> Duration
+    ensures { result ≡ peer_delay peer.now }
+{
+    match peer {
+        None => Duration::from_millis(25),
+        Some(peer) => Duration::from_millis(peer.max_ack_delay.into_inner()),
+    }
+}
+
 /// Whether an end of this side, with this token of a first packet, waits for its first packet: a server does.
 fn awaits_first(side: Side, token: &Option<Bytes>) -> bool
     ensures { result ≡ awaits_first side token.now }
@@ -100,7 +111,7 @@ fn awaits_first(side: Side, token: &Option<Bytes>) -> bool
     }
 }
 
-#[tactic(auto, unfolding(crate::specs::Setup::idle_limit_now, crate::specs::Setup::parameters_known, crate::specs::Setup::token_expected, crate::specs::Setup::is_first_awaited))]
+#[tactic(auto, unfolding(crate::specs::Setup::idle_limit_now, crate::specs::Setup::probe_timeout_now, crate::specs::Setup::parameters_known, crate::specs::Setup::token_expected, crate::specs::Setup::is_first_awaited))]
 impl<R> Setup<R> {
     /// The limit on idle time: this end's own one, and once the peer's parameters were read the lesser of the two ends'.
     pub fn idle_limit(&self) -> Option<Duration>
@@ -112,6 +123,19 @@ impl<R> Setup<R> {
                 self.fixed.idle_limit,
                 limit_of_millis(peer.max_idle_timeout.into_inner()),
             ),
+        }
+    }
+
+    /// The probe timeout of a space: in 1-RTT packets the peer's delay of acknowledgements stands in it (RFC 9002, 6.2.1).
+    pub fn probe_timeout(&self, space: SpaceId) -> Duration
+        ensures { result ≡ probe_timeout_now self.now space }
+    {
+        match space {
+            SpaceId::Initial | SpaceId::Handshake => Duration::from_nanos(PROBE_TIMEOUT),
+            SpaceId::Data => {
+                let delay = peer_delay(&self.peer);
+                Duration::from_nanos(PROBE_TIMEOUT.saturating_add(delay.nanos()))
+            }
         }
     }
 

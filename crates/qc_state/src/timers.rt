@@ -42,13 +42,18 @@ fn earlier(a: Option<Instant>, b: Option<Instant>) -> Option<Instant>
 }
 
 /// When a connection that is idle from `now` on ends: after its own limit, and not before three probe timeouts.
-fn idle_at(limit: Option<Duration>, before: Option<Instant>, now: Instant) -> Option<Instant>
-    ensures { result ≡ idle_from limit before now }
+fn idle_at(
+    limit: Option<Duration>,
+    before: Option<Instant>,
+    probe: Duration,
+    now: Instant,
+) -> Option<Instant>
+    ensures { result ≡ idle_from limit before probe now }
 {
     match limit {
         None => before,
         Some(limit) => {
-            let length = limit.nanos().max(3 * PROBE_TIMEOUT);
+            let length = limit.nanos().max(probe.nanos().saturating_mul(3));
             Some(now.plus(Duration::from_nanos(length)))
         }
     }
@@ -56,22 +61,22 @@ fn idle_at(limit: Option<Duration>, before: Option<Instant>, now: Instant) -> Op
 
 #[tactic(auto, unfolding(crate::specs::Timers::timers_sealed, crate::specs::Timers::timers_stopped, crate::specs::Timers::timers_closing, crate::specs::Timers::timers_accepted, crate::specs::Timers::timers_settled, crate::specs::Timers::clock_set, crate::specs::Timers::next_timeout))]
 impl Timers {
-    /// A packet that elicits an acknowledgement was sealed at `now`.
-    pub fn sealed(&mut self, limit: Option<Duration>, now: Instant)
-        ensures { self.new ≡ timers_sealed self.old limit now }
+    /// A packet that elicits an acknowledgement was sealed at `now`, in a space with this probe timeout.
+    pub fn sealed(&mut self, limit: Option<Duration>, probe: Duration, now: Instant)
+        ensures { self.new ≡ timers_sealed self.old limit probe now }
     {
         self.loss_detection = Some(now.plus(Duration::from_nanos(PROBE_TIMEOUT)));
         if self.sets_idle {
-            self.idle = idle_at(limit, self.idle, now);
+            self.idle = idle_at(limit, self.idle, probe, now);
         }
         self.sets_idle = false;
     }
 
-    /// A packet of the peer was accepted at `now`: the connection isn't idle.
-    pub fn accepted(&mut self, limit: Option<Duration>, now: Instant)
-        ensures { self.new ≡ timers_accepted self.old limit now }
+    /// A packet of the peer was accepted at `now`, in a space with this probe timeout: the connection isn't idle.
+    pub fn accepted(&mut self, limit: Option<Duration>, probe: Duration, now: Instant)
+        ensures { self.new ≡ timers_accepted self.old limit probe now }
     {
-        self.idle = idle_at(limit, self.idle, now);
+        self.idle = idle_at(limit, self.idle, probe, now);
         self.sets_idle = true;
     }
 
@@ -92,12 +97,12 @@ impl Timers {
     }
 
     /// The connection closes at `now`: every timer is stopped, and the close lasts for three probe timeouts.
-    pub fn closing(&mut self, now: Instant)
-        ensures { self.new ≡ timers_closing self.old now }
+    pub fn closing(&mut self, probe: Duration, now: Instant)
+        ensures { self.new ≡ timers_closing self.old probe now }
     {
         self.loss_detection = None;
         self.idle = None;
-        self.close = Some(now.plus(Duration::from_nanos(3 * PROBE_TIMEOUT)));
+        self.close = Some(now.plus(Duration::from_nanos(probe.nanos().saturating_mul(3))));
     }
 
     /// The connection is told a time.

@@ -1,10 +1,10 @@
 //! The frames that wait to be sealed.
 
-ghost use Rattle.std.specs.Prelude.{◌≡◌, ◌≤◌, ◌++◌, ◌∷◌, [], true, List, length, OnOk, IfOk};
+ghost use Rattle.std.specs.Prelude.{◌≡◌, ◌<◌, ◌≤◌, ◌^◌, ◌++◌, ◌∷◌, [], true, List, length, OnOk, IfOk};
 ghost use Rattle.qc_frame.specs.AckRanges.{ArePackets};
 ghost use Rattle.qc_frame.specs.Frame.{FrameValue};
 ghost use Rattle.qc_frame.specs.FrameSpelling.{frames_spelling};
-ghost use Rattle.qc_state.specs.Acks.{AckPart, SaysAck, ack_sent, is_ack_owed, may_acknowledge};
+ghost use Rattle.qc_state.specs.Acks.{AckPart, SaysAck, ack_sent, is_ack_owed, may_acknowledge, told_count, told_counts};
 ghost use Rattle.qc_frame.specs.declared.frames.FrameOf.TheVariants as frames;
 ghost use Rattle.qc_state.specs.Waiting.{TakenPart, TakesAck, waits_in, ping_asked, done_asked, came_in, packet_came, close_begun, packet_told, crypto_written, nothing_left, space_left, untold, flown_in, settled_in, packet_flown, packets_settled, is_calm};
 ghost use Rattle.qc_frame.specs.AckRanges.{ranges_of};
@@ -13,9 +13,10 @@ ghost use Rattle.qc_frame.specs.Frame.{ack_map};
 use crate::crypto_queue::CryptoQueue;
 use crate::flight::Flight;
 use crate::spaces::Spaces;
-use qc_base::{Instant, SpaceId};
-use qc_frame::{Ack, FrameList, FrameOf, OwnedAck, put_frame};
+use qc_base::{EcnCodepoint, Instant, SpaceId};
+use qc_frame::{Ack, EcnCounts, FrameList, FrameOf, OwnedAck, put_frame};
 use qc_path::{Arrival, Dedup, PendingAcks};
+use qc_space::with_mark;
 use std::alloc::{AllocError, Global};
 
 /// The greatest size of a CRYPTO frame's type, offset and length together, in bytes.
@@ -32,6 +33,8 @@ pub struct SpaceWaiting {
     pub crypto: CryptoQueue,
     /// The numbers of packets that came and are to be acknowledged, and whether an ACK is owed (RFC 9000, 13.2).
     pub acks: PendingAcks,
+    /// How many packets were accepted with each mark of ECN (RFC 9000, 13.4.1).
+    pub marks: EcnCounts,
     /// The packets that were sealed, elicit an acknowledgement and aren't acknowledged.
     pub flight: Flight,
     /// Whether a packet of the space was sealed since a close began to be owed (RFC 9000, 10.2).
@@ -95,14 +98,38 @@ fn is_ack_owed(acks: &PendingAcks) -> bool
     acks.owes() && may
 }
 
-/// The ACK of the numbers to acknowledge at a time. Want of memory is the only refusal.
-#[tactic(auto, using(crate::proofs::AckLemmas::says, crate::proofs::AckLemmas::small_delay))]
-fn ack_of(alloc: Global, now: Instant, acks: &PendingAcks) -> Result<OwnedAck, AllocError>
-    requires { ArePackets acks.now.ranges }
-    ensures { IfOk result (λ ack. SaysAck now acks.now (ack_map (λ bytes. bytes.items) ack)) }
+/// A count as an ACK tells it.
+fn told_count(count: u64) -> u64
+    ensures value { result ≡ told_count count }
+    ensures most { result < 2 ^ 62 }
 {
-    let delay = acks.delay(now);
-    match OwnedAck::of_numbers(alloc, acks.ranges(), delay, None)? {
+    count.min((1 << 62) - 1)
+}
+
+/// The counts of marks as an ACK tells them: none before the first packet that came with a mark.
+#[tactic(auto, unfolding(crate::specs::Acks::told_counts))]
+fn told_counts(counts: EcnCounts) -> Option<EcnCounts>
+    ensures { result ≡ told_counts counts }
+{
+    if counts.ect0 == 0 && (counts.ect1 == 0 && counts.ce == 0) {
+        return None;
+    }
+    Some(EcnCounts {
+        ect0: told_count(counts.ect0),
+        ect1: told_count(counts.ect1),
+        ce: told_count(counts.ce),
+    })
+}
+
+/// The ACK of the numbers to acknowledge in a space at a time. Want of memory is the only refusal.
+#[tactic(auto, using(crate::proofs::AckLemmas::says, crate::proofs::AckLemmas::small_delay))]
+fn ack_of(alloc: Global, now: Instant, space: &SpaceWaiting) -> Result<OwnedAck, AllocError>
+    requires { ArePackets space.now.acks.ranges }
+    ensures { IfOk result (λ ack. SaysAck now space.now (ack_map (λ bytes. bytes.items) ack)) }
+{
+    let delay = space.acks.delay(now);
+    let counts = told_counts(space.marks);
+    match OwnedAck::of_numbers(alloc, space.acks.ranges(), delay, counts)? {
         Some(ack) => Ok(ack),
         None => unreachable!(),
     }
@@ -138,7 +165,7 @@ fn take_ack(
     if !due {
         return Ok(0);
     }
-    let ack = ack_of(alloc, now, &space.acks)?;
+    let ack = ack_of(alloc, now, space)?;
     let len = ack_len(alloc, &ack)?;
     frames.push(FrameOf::Ack(ack))?;
     space.acks.sent();
@@ -208,7 +235,7 @@ fn take(
 
 /// Takes the ACK at a time, where there is something to acknowledge. Want of memory is the only refusal.
 fn ack_alone(space: &mut SpaceWaiting, alloc: Global, now: Instant) -> Result<FrameList, AllocError>
-    ensures frames { IfOk result (λ frames. AckPart now space.old.acks frames (may_acknowledge space.old.acks)) }
+    ensures frames { IfOk result (λ frames. AckPart now space.old frames (may_acknowledge space.old.acks)) }
     ensures rest { IfOk result (λ frames. space.new ≡ without_all space.old frames) }
     ensures most { OnOk result (length space.old.acks.ranges ≤ 64) }
 {
@@ -220,10 +247,11 @@ fn ack_alone(space: &mut SpaceWaiting, alloc: Global, now: Instant) -> Result<Fr
 
 /// A packet came and was accepted.
 #[tactic(auto, unfolding(crate::specs::Waiting::came_in))]
-fn came(space: &mut SpaceWaiting, seen: &Dedup, packet: &Arrival)
-    ensures { space.new ≡ came_in seen.now packet.now space.old }
+fn came(space: &mut SpaceWaiting, seen: &Dedup, packet: &Arrival, mark: Option<EcnCodepoint>)
+    ensures { space.new ≡ came_in seen.now packet.now mark space.old }
 {
     let _ = space.acks.received(false, seen, packet);
+    space.marks = with_mark(space.marks, mark);
 }
 
 /// Nothing waits any more, and nothing is in flight.
@@ -307,14 +335,20 @@ impl Waiting {
         }
     }
 
-    /// A packet of the space came and was accepted, whose number `seen` has already.
-    pub fn came(&mut self, space: SpaceId, seen: &Dedup, packet: &Arrival)
-        ensures { self.new ≡ packet_came self.old space seen.now packet.now }
+    /// A packet of the space came with this mark and was accepted, whose number `seen` has already.
+    pub fn came(
+        &mut self,
+        space: SpaceId,
+        seen: &Dedup,
+        packet: &Arrival,
+        mark: Option<EcnCodepoint>,
+    )
+        ensures { self.new ≡ packet_came self.old space seen.now packet.now mark }
     {
         match space {
-            SpaceId::Initial => came(&mut self.spaces.initial, seen, packet),
-            SpaceId::Handshake => came(&mut self.spaces.handshake, seen, packet),
-            SpaceId::Data => came(&mut self.spaces.application, seen, packet),
+            SpaceId::Initial => came(&mut self.spaces.initial, seen, packet, mark),
+            SpaceId::Handshake => came(&mut self.spaces.handshake, seen, packet, mark),
+            SpaceId::Data => came(&mut self.spaces.application, seen, packet, mark),
         }
     }
 
@@ -385,7 +419,7 @@ impl Waiting {
         now: Instant,
         space: SpaceId,
     ) -> Result<FrameList, AllocError>
-        ensures frames { IfOk result (λ frames. AckPart now (space_of self.old.spaces space).acks frames (may_acknowledge (space_of self.old.spaces space).acks)) }
+        ensures frames { IfOk result (λ frames. AckPart now (space_of self.old.spaces space) frames (may_acknowledge (space_of self.old.spaces space).acks)) }
         ensures rest { IfOk result (λ frames. self.new ≡ waiting_without self.old space frames) }
         ensures most { OnOk result (length (space_of self.old.spaces space).acks.ranges ≤ 64) }
     {

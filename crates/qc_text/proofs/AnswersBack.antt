@@ -64,7 +64,7 @@ address_injective (V6 a) (V6 b) p q k l o n =
     let scope : a.scope_id ≡ b.scope_id = k.1 ∙ sym l.1 in
     λ i. V6 (record { ip = record { segments = segments i }; port = n i; flowinfo = flow i; scope_id = scope i })
 
-address_back : (a b : SocketAddr) (r s : List ℕ) → IsAddressInRange a → IsAddressInRange b → IsPlainAddress a → IsPlainAddress b
+pub address_back : (a b : SocketAddr) (r s : List ℕ) → IsAddressInRange a → IsAddressInRange b → IsPlainAddress a → IsPlainAddress b
     → address_text a ++ 32 ∷ r ≡ address_text b ++ 32 ∷ s → (a ≡ b) × (r ≡ s)
 address_back a b r s p q k l e =
     let parts = sym (address_parts a r) ∙ e ∙ address_parts b s in

@@ -3,10 +3,11 @@ use Rattle.std.proofs.Common.{◌≡◌, ℕ, ◌<◌, ◌^◌, Bool, true, fals
 use Rattle.std.specs.Prelude.{decimal, codes, ◌||◌}
 use Rattle.std.specs.List.{All, flat_map}
 use Rattle.std.proofs.lemmas.Bool.Decides.{nat_tests}
+use Rattle.std.specs.declared.net.socket_addr.SocketAddr.{SocketAddr}
 use Rattle.qc_state.specs.declared.deeds.Did.{Did}
 use Rattle.qc_state.specs.declared.deeds.Did.TheVariants as deed
 use Rattle.qc_state.specs.declared.events.EndpointEvent.{EndpointEvent}
-use Rattle.qc_state.specs.declared.events.EndpointEvent.TheVariants.{Drained}
+use Rattle.qc_state.specs.declared.events.EndpointEvent.TheVariants.{ResetToken, NeedIdentifiers, Drained}
 use Rattle.qc_state.specs.declared.events.Event.{Event}
 use Rattle.qc_state.specs.declared.events.Event.TheVariants.{HandshakeDataReady, Connected, ConnectionLost}
 use Rattle.qc_state.specs.declared.input.Word.{Word}
@@ -14,13 +15,13 @@ use Rattle.qc_state.specs.declared.input.Word.TheVariants as word
 use Rattle.qc_state.specs.declared.trace.Answer.{Answer}
 use Rattle.qc_state.specs.declared.trace.Answer.TheVariants as answer
 use Rattle.qc_state.specs.declared.trace.Step.{Step}
-use Rattle.qc_text.specs.TraceText.{sealed_text, piece_text, gave_text, did_text, target_text, out_text, answer_text, event_text, endpoint_text, timer_text, word_name, step_head, step_text, trace_text}
-use Rattle.qc_text.specs.OneText.{IsOptionInRange, IsDeedInRange, IsDeedPlain, IsEventInRange, IsInRange, IsPlain}
+use Rattle.qc_text.specs.TraceText.{sealed_text, piece_text, gave_text, did_text, bytes_or_dash, address_text, target_text, out_text, answer_text, event_text, reset_token_text, need_text, endpoint_text, timer_text, word_name, step_head, step_text, trace_text}
+use Rattle.qc_text.specs.OneText.{IsOptionInRange, IsDeedInRange, IsDeedPlain, IsEventInRange, IsEndpointInRange, IsEndpointPlain, IsInRange, IsPlain}
 use Rattle.qc_text.proofs.Tokens.{is_token, token_back, number_back, lines_back, lines_begin}
 use Rattle.qc_text.proofs.DeedsBack.{did_back}
-use Rattle.qc_text.proofs.FieldsBack.{option_back}
+use Rattle.qc_text.proofs.FieldsBack.{option_back, body_back}
 use Rattle.qc_text.proofs.ReasonsBack.{reason_back}
-use Rattle.qc_text.proofs.AnswersBack.{is_after_answer, answer_back}
+use Rattle.qc_text.proofs.AnswersBack.{address_back, is_after_answer, answer_back}
 
 -- ---- the head
 
@@ -64,9 +65,46 @@ event_back (ConnectionLost a) (ConnectionLost b) r s p q e =
     (ap ConnectionLost reason.0, reason.1)
 event_back _ _ r s p q e = absurd (omega (arith, ap (λ (a : List ℕ). get_or a 6 0) e))
 
-endpoint_back : (a b : EndpointEvent) (r s : List ℕ) → Unit {0} → Unit {0} → endpoint_text a ++ r ≡ endpoint_text b ++ s → (a ≡ b) × (r ≡ s)
-unfolding endpoint_text
+-- a report to the endpoint that its text tells
+abbrev IsEndpointTold : EndpointEvent → Type 0
+IsEndpointTold a = IsEndpointInRange a × IsEndpointPlain a
+
+reset_token_parts : (a : SocketAddr) (token r : List ℕ) → reset_token_text a token ++ r ≡ codes "endpoint reset-token " ++ (address_text a ++ 32 ∷ (bytes_or_dash token ++ 10 ∷ r))
+unfolding reset_token_text
+reset_token_parts a token r = simp append_assoc
+
+reset_token_back : (a b : SocketAddr) (j k r s : List ℕ) → IsEndpointTold (ResetToken a j) → IsEndpointTold (ResetToken b k)
+    → reset_token_text a j ++ r ≡ reset_token_text b k ++ s → (ResetToken a j ≡ ResetToken b k) × (r ≡ s)
+reset_token_back a b j k r s p q e =
+    let parts = sym (reset_token_parts a j r) ∙ e ∙ reset_token_parts b k s in
+    let address = address_back a b _ _ p.0.0 q.0.0 p.1 q.1 (ap (drop 21) parts) in
+    let token = body_back j k 10 10 r s p.0.1 q.0.1 refl refl address.1 in
+    (same address.0 token.0, ap (drop 1) token.1)
+  where
+    same : a ≡ b → j ≡ k → ResetToken a j ≡ ResetToken b k
+    same x y = cc
+
+need_parts : (time count : ℕ) (r : List ℕ) → need_text time count ++ r ≡ codes "endpoint need " ++ (decimal time ++ 32 ∷ (decimal count ++ 10 ∷ r))
+unfolding need_text
+need_parts time count r = simp append_assoc
+
+need_back : (m n x y : ℕ) (r s : List ℕ) → IsEndpointTold (NeedIdentifiers m x) → IsEndpointTold (NeedIdentifiers n y)
+    → need_text m x ++ r ≡ need_text n y ++ s → (NeedIdentifiers m x ≡ NeedIdentifiers n y) × (r ≡ s)
+need_back m n x y r s p q e =
+    let parts = sym (need_parts m x r) ∙ e ∙ need_parts n y s in
+    let time = number_back m n 32 32 _ _ (omega arith) (omega arith) refl refl (ap (drop 14) parts) in
+    let count = number_back x y 10 10 r s (omega arith) (omega arith) refl refl (ap (drop 1) time.1) in
+    (same time.0 count.0, ap (drop 1) count.1)
+  where
+    same : m ≡ n → x ≡ y → NeedIdentifiers m x ≡ NeedIdentifiers n y
+    same u v = cc
+
+endpoint_back : (a b : EndpointEvent) (r s : List ℕ) → IsEndpointTold a → IsEndpointTold b → endpoint_text a ++ r ≡ endpoint_text b ++ s → (a ≡ b) × (r ≡ s)
+unfolding endpoint_text reset_token_text need_text
+endpoint_back (ResetToken a j) (ResetToken b k) r s p q e = reset_token_back a b j k r s p q e
+endpoint_back (NeedIdentifiers m x) (NeedIdentifiers n y) r s p q e = need_back m n x y r s p q e
 endpoint_back Drained Drained r s p q e = (refl, ap (drop 17) e)
+endpoint_back _ _ r s p q e = absurd (omega (arith, ap (λ (a : List ℕ). get_or a 9 0) e))
 
 timer_back : (a b : Option ℕ) (r s : List ℕ) → IsOptionInRange a → IsOptionInRange b → timer_text a ++ r ≡ timer_text b ++ s → (a ≡ b) × (r ≡ s)
 unfolding timer_text
@@ -117,7 +155,9 @@ event_begins Connected r = (refl, refl)
 event_begins (ConnectionLost reason) r = (refl, refl)
 
 endpoint_begins : (a : EndpointEvent) (r : List ℕ) → (is_event (endpoint_text a ++ r) ≡ false) × (is_endpoint (endpoint_text a ++ r) ≡ true) × (is_after_answer (endpoint_text a ++ r) ≡ true)
-unfolding is_event is_endpoint endpoint_text
+unfolding is_event is_endpoint endpoint_text reset_token_text need_text
+endpoint_begins (ResetToken remote token) r = (refl, refl, refl)
+endpoint_begins (NeedIdentifiers time count) r = (refl, refl, refl)
 endpoint_begins Drained r = (refl, refl, refl)
 
 timer_begins : (a : Option ℕ) (r : List ℕ) → (is_event (timer_text a ++ r) ≡ false) × (is_endpoint (timer_text a ++ r) ≡ false) × (is_after_answer (timer_text a ++ r) ≡ true)
@@ -143,20 +183,21 @@ unfolding reports
 reports_begin x r = lines_begin event_text is_after_answer true (λ a r. (event_begins a r).1) x.events _
     (lines_begin endpoint_text is_after_answer true (λ a r. (endpoint_begins a r).2) x.endpoint _ (timer_begins x.timeout r).2)
 
-reports_back : (x y : Step) (r s : List ℕ) → IsInRange x → IsInRange y → reports x r ≡ reports y s → (x.events ≡ y.events) × (x.endpoint ≡ y.endpoint) × (x.timeout ≡ y.timeout) × (r ≡ s)
+-- a step that its text tells
+abbrev IsTold : Step → Type 0
+IsTold x = IsInRange x × IsPlain x
+
+reports_back : (x y : Step) (r s : List ℕ) → IsTold x → IsTold y → reports x r ≡ reports y s → (x.events ≡ y.events) × (x.endpoint ≡ y.endpoint) × (x.timeout ≡ y.timeout) × (r ≡ s)
 unfolding reports
 reports_back x y r s p q e =
     let quiet : (z : Step) (r : List ℕ) → is_event (flat_map endpoint_text z.endpoint ++ (timer_text z.timeout ++ r)) ≡ false
     = λ z r. lines_begin endpoint_text is_event false (λ a r. (endpoint_begins a r).0) z.endpoint _ (timer_begins z.timeout r).0 in
-    let events = lines_back event_text IsEventInRange is_event (λ a r. (event_begins a r).0) event_back x.events y.events _ _ p.events q.events (quiet x r) (quiet y s) e in
-    let ends = lines_back endpoint_text (λ _. Unit {0}) is_endpoint (λ a r. (endpoint_begins a r).1) endpoint_back x.endpoint y.endpoint _ _ (λ k d h. tt) (λ k d h. tt)
+    let events = lines_back event_text IsEventInRange is_event (λ a r. (event_begins a r).0) event_back x.events y.events _ _ p.0.events q.0.events (quiet x r) (quiet y s) e in
+    let ends = lines_back endpoint_text IsEndpointTold is_endpoint (λ a r. (endpoint_begins a r).1) endpoint_back x.endpoint y.endpoint _ _
+    (λ k d h. (p.0.endpoint k d h, p.1.endpoint k d h)) (λ k d h. (q.0.endpoint k d h, q.1.endpoint k d h))
     (timer_begins x.timeout r).1 (timer_begins y.timeout s).1 events.1 in
-    let timer = timer_back x.timeout y.timeout r s p.timeout q.timeout ends.1 in
+    let timer = timer_back x.timeout y.timeout r s p.0.timeout q.0.timeout ends.1 in
     (events.0, ends.0, timer.0, timer.1)
-
--- a step that its text tells
-abbrev IsTold : Step → Type 0
-IsTold x = IsInRange x × IsPlain x
 
 step_back : (x y : Step) (r s : List ℕ) → IsTold x → IsTold y → step_text x ++ r ≡ step_text y ++ s → (x ≡ y) × (r ≡ s)
 step_back x y r s p q e =
@@ -166,7 +207,7 @@ step_back x y r s p q e =
     (answer_is_no_deed x.word x.answer (reports x r) (reports_begin x r)) (answer_is_no_deed y.word y.answer (reports y s) (reports_begin y s)) head.3 in
     let same_word : answer_text x.word y.answer ++ reports y s ≡ answer_text y.word y.answer ++ reports y s = ap (λ (w : Word). answer_text w y.answer ++ reports y s) head.1 in
     let answer = answer_back x.word x.answer y.answer (reports x r) (reports y s) p.0.answer q.0.answer p.1.answer q.1.answer (reports_begin x r) (reports_begin y s) (deeds.1 ∙ sym same_word) in
-    let rest = reports_back x y r s p.0 q.0 answer.1 in
+    let rest = reports_back x y r s p q answer.1 in
     (same x y head.0 head.1 head.2 deeds.0 answer.0 rest.0 rest.1 rest.2, rest.3)
   where
     same : (x y : Step) → x.at ≡ y.at → x.word ≡ y.word → x.now ≡ y.now → x.did ≡ y.did → x.answer ≡ y.answer → x.events ≡ y.events → x.endpoint ≡ y.endpoint → x.timeout ≡ y.timeout → x ≡ y

@@ -14,10 +14,13 @@ use Rattle.qc_frame.specs.FrameFits.{Fits, shortest}
 use Rattle.qc_frame.specs.FrameSpelling.{spelling}
 use Rattle.qc_state.specs.declared.deeds.Did.{Did}
 use Rattle.qc_state.specs.declared.deeds.Did.TheVariants as deed
+use Rattle.qc_state.specs.declared.events.EndpointEvent.{EndpointEvent}
+use Rattle.qc_state.specs.declared.events.EndpointEvent.TheVariants.{ResetToken, NeedIdentifiers, Drained}
 use Rattle.qc_state.specs.declared.events.Event.{Event}
 use Rattle.qc_state.specs.declared.events.Event.TheVariants.{HandshakeDataReady, Connected, ConnectionLost}
 use Rattle.qc_state.specs.declared.life.ConnectionError.{ConnectionError}
 use Rattle.qc_state.specs.declared.life.ConnectionError.TheVariants.{TransportError, ConnectionClosed, ApplicationClosed}
+use Rattle.qc_state.specs.declared.life.Life.{Life}
 use Rattle.qc_state.specs.declared.trace.Answer.{Answer}
 use Rattle.qc_state.specs.declared.trace.Answer.TheVariants as answer
 use Rattle.qc_state.specs.declared.trace.Step.{Step}
@@ -84,6 +87,13 @@ IsEventInRange HandshakeDataReady = Unit {0}
 IsEventInRange Connected = Unit {0}
 IsEventInRange (ConnectionLost reason) = IsReasonInRange reason
 
+-- a token is bytes, and holds for an address in range; the time at which identifiers are wanted and how many they are have
+-- 64 bits; that the connection's state can be dropped holds nothing
+abbrev pub IsEndpointInRange : EndpointEvent → Type 0
+IsEndpointInRange (ResetToken remote token) = IsAddressInRange remote × IsBytes token
+IsEndpointInRange (NeedIdentifiers time count) = (time < 2 ^ 64) × (count < 2 ^ 64)
+IsEndpointInRange Drained = Unit {0}
+
 -- each number of a step is one of 64 bits, each byte is a byte, and an address has its octets and a port of 16 bits
 pub record IsInRange (step : Step) : Type 0 where
   pub at : step.at < 2 ^ 64
@@ -91,6 +101,7 @@ pub record IsInRange (step : Step) : Type 0 where
   pub did : All IsDeedInRange step.did
   pub answer : IsAnswerInRange step.answer
   pub events : All IsEventInRange step.events
+  pub endpoint : All IsEndpointInRange step.endpoint
   pub timeout : IsOptionInRange step.timeout
 
 -- ---- nothing that a text leaves out
@@ -113,10 +124,17 @@ abbrev pub IsAnswerPlain : Answer → Type 0
 IsAnswerPlain (answer.Out destination segment ecn bytes) = IsPlainAddress destination
 IsAnswerPlain _ = Unit {0}
 
--- a step of which the text leaves nothing out: neither of its packets nor of where its datagrams go
+-- a token holds for such an address
+abbrev pub IsEndpointPlain : EndpointEvent → Type 0
+IsEndpointPlain (ResetToken remote token) = IsPlainAddress remote
+IsEndpointPlain _ = Unit {0}
+
+-- a step of which the text leaves nothing out: neither of its packets, nor of where its datagrams go, nor of what tokens
+-- hold for
 pub record IsPlain (step : Step) : Type 0 where
   pub did : All IsDeedPlain step.did
   pub answer : IsAnswerPlain step.answer
+  pub endpoint : All IsEndpointPlain step.endpoint
 
 -- ---- where such traces come from
 
@@ -128,10 +146,12 @@ IsSpaceBelowLimit space = space.crypto.offset + length space.crypto.bytes < 2 ^ 
 abbrev pub IsBelowLimit : Waiting → Type 0
 IsBelowLimit waiting = IsSpaceBelowLimit waiting.spaces.initial × IsSpaceBelowLimit waiting.spaces.handshake × IsSpaceBelowLimit waiting.spaces.application
 
--- a state whose traces leave nothing out of their text
-pub record IsPlainStart (waiting : Waiting) (paths : Paths) : Type 0 where
+-- a state whose traces leave nothing out of their text: a token that waits to be reported holds for an address such as the
+-- path's
+pub record IsPlainStart (waiting : Waiting) (paths : Paths) (life : Life) : Type 0 where
   pub crypto : IsBelowLimit waiting
   pub address : IsPlainAddress paths.remote
+  pub token : IfSome life.reset_token (λ peer. IsPlainAddress peer.remote)
 
 module _ {t : Types} where
   -- the steps of a run, with values that their types hold and with addresses that have neither flow label nor scope
@@ -144,3 +164,4 @@ module _ {t : Types} where
     pub crypto : IsBelowLimit first.waiting
     pub in_range : All IsInRange steps
     pub addresses : All (λ step. IsAnswerPlain step.answer) steps
+    pub tokens : All (λ step. All IsEndpointPlain step.endpoint) steps

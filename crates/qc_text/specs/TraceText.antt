@@ -24,7 +24,7 @@ use Rattle.qc_state.specs.declared.deeds.Quiet.TheVariants.{NothingOwed, Silent,
 use Rattle.qc_state.specs.declared.deeds.Verdict.{Verdict}
 use Rattle.qc_state.specs.declared.deeds.Verdict.TheVariants.{Ignored, Failure, BadBits, Seen, ReadForClose, NumberOnly, AckOnly, Admitted}
 use Rattle.qc_state.specs.declared.events.EndpointEvent.{EndpointEvent}
-use Rattle.qc_state.specs.declared.events.EndpointEvent.TheVariants.{Drained}
+use Rattle.qc_state.specs.declared.events.EndpointEvent.TheVariants.{ResetToken, NeedIdentifiers, Drained}
 use Rattle.qc_state.specs.declared.events.Event.{Event}
 use Rattle.qc_state.specs.declared.events.Event.TheVariants.{HandshakeDataReady, Connected, ConnectionLost}
 use Rattle.qc_state.specs.declared.input.Word.{Word}
@@ -252,8 +252,19 @@ event_text HandshakeDataReady = codes "event handshake-data\n"
 event_text Connected = codes "event connected\n"
 event_text (ConnectionLost reason) = codes "event lost " ++ reason_text reason ++ codes "\n"
 
--- the line of what the endpoint is told: that the connection's state can be dropped
+-- the line of the peer's token for a stateless reset: the address that it holds for, and the token (RFC 9000, section 10.3)
+unfoldable pub reset_token_text : SocketAddr → (token : List ℕ) → List ℕ
+reset_token_text remote token = codes "endpoint reset-token " ++ address_text remote ++ codes " " ++ bytes_or_dash token ++ codes "\n"
+
+-- the line of identifiers that are wanted: at what time, and how many (RFC 9000, section 5.1.1)
+unfoldable pub need_text : (time count : ℕ) → List ℕ
+need_text time count = codes "endpoint need " ++ decimal time ++ codes " " ++ decimal count ++ codes "\n"
+
+-- the line of what the endpoint is told: the peer's token, that identifiers are wanted, or that the connection's state can
+-- be dropped
 unfoldable pub endpoint_text : EndpointEvent → List ℕ
+endpoint_text (ResetToken remote token) = reset_token_text remote token
+endpoint_text (NeedIdentifiers time count) = need_text time count
 endpoint_text Drained = codes "endpoint drained\n"
 
 -- the line of the time at which the connection wants to be called again if no input comes before

@@ -226,7 +226,7 @@ fn put_connection_close(
     out.extend_from_slice(b" ")?;
     put_optional(out, frame_type)?;
     out.extend_from_slice(b" ")?;
-    put_bytes(out, reason)
+    put_bytes(out, reason.as_slice())
 }
 
 /// Appends the values of a close of the peer's application.
@@ -241,7 +241,7 @@ fn put_application_close(
 {
     put_number(out, error_code.into_inner())?;
     out.extend_from_slice(b" ")?;
-    put_bytes(out, reason)
+    put_bytes(out, reason.as_slice())
 }
 
 fn put_quiet(out: &mut Vec<u8>, quiet: Quiet) -> Result<(), AllocError>

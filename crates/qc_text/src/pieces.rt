@@ -6,7 +6,6 @@ ghost use Rattle.qc_text.specs.OneText.{IsAddressInRange, IsIpInRange, IsOptionI
 ghost use Rattle.qc_text.specs.TraceText.{address_text, bytes_or_dash, ip_text, number_or_dash};
 
 use crate::digits::put_hex;
-use bytes::Bytes;
 use itoa::Buffer;
 use std::alloc::AllocError;
 use std::net::{IpAddr, SocketAddr};
@@ -33,11 +32,10 @@ pub fn put_optional(out: &mut Vec<u8>, number: Option<u64>) -> Result<(), AllocE
 
 /// Appends bytes in lower-case hex, or `-` where there are none.
 #[tactic(auto, unfolding(crate::specs::TraceText::bytes_or_dash))]
-pub fn put_bytes(out: &mut Vec<u8>, bytes: &Bytes) -> Result<(), AllocError>
+pub fn put_bytes(out: &mut Vec<u8>, bytes: &[u8]) -> Result<(), AllocError>
     ensures text { OnOk result (out.new.items ≡ out.old.items ++ bytes_or_dash bytes.now) }
     ensures in_range { OnOk result (IsBytes bytes.now) }
 {
-    let bytes = bytes.as_slice();
     if bytes.is_empty() {
         return out.extend_from_slice(b"-");
     }

@@ -2,14 +2,15 @@
 
 ghost use Rattle.std.specs.Prelude.{◌≡◌, ◌<◌, ◌^◌, ◌++◌, OnOk};
 ghost use Rattle.std.specs.List.{All, flat_map};
-ghost use Rattle.qc_text.specs.OneText.{IsAddressInRange, IsAnswerInRange, IsEventInRange, IsInRange, IsOptionInRange};
-ghost use Rattle.qc_text.specs.TraceText.{answer_text, ecn_text, endpoint_text, event_text, marks_text, nothing_text, out_text, step_head, step_text, target_text, timer_text};
+ghost use Rattle.qc_base.specs.Grammar.{IsBytes};
+ghost use Rattle.qc_text.specs.OneText.{IsAddressInRange, IsAnswerInRange, IsEndpointInRange, IsEventInRange, IsInRange, IsOptionInRange};
+ghost use Rattle.qc_text.specs.TraceText.{answer_text, ecn_text, endpoint_text, event_text, marks_text, need_text, nothing_text, out_text, reset_token_text, step_head, step_text, target_text, timer_text};
 
 use crate::deeds::{put_dids, put_reason};
 use crate::digits::put_hex;
 use crate::names::word_of;
-use crate::pieces::{put_address, put_number, put_optional};
-use qc_base::{EcnCodepoint, Instant};
+use crate::pieces::{put_address, put_bytes, put_number, put_optional};
+use qc_base::{EcnCodepoint, Instant, ResetToken};
 use qc_state::{Answer, EndpointEvent, Event, Step, Word};
 use std::alloc::AllocError;
 use std::net::SocketAddr;
@@ -147,7 +148,8 @@ fn put_event(out: &mut Vec<u8>, event: &Event) -> Result<(), AllocError>
 }
 
 fn put_endpoint_events(out: &mut Vec<u8>, events: &[EndpointEvent]) -> Result<(), AllocError>
-    ensures { OnOk result (out.new.items ≡ out.old.items ++ flat_map endpoint_text events.now) }
+    ensures text { OnOk result (out.new.items ≡ out.old.items ++ flat_map endpoint_text events.now) }
+    ensures in_range { OnOk result (All IsEndpointInRange events.now) }
 {
     for event in events {
         put_endpoint_event(out, *event)?;
@@ -157,11 +159,42 @@ fn put_endpoint_events(out: &mut Vec<u8>, events: &[EndpointEvent]) -> Result<()
 
 #[tactic(auto, unfolding(crate::specs::TraceText::endpoint_text))]
 fn put_endpoint_event(out: &mut Vec<u8>, event: EndpointEvent) -> Result<(), AllocError>
-    ensures { OnOk result (out.new.items ≡ out.old.items ++ endpoint_text event) }
+    ensures text { OnOk result (out.new.items ≡ out.old.items ++ endpoint_text event) }
+    ensures in_range { OnOk result (IsEndpointInRange event) }
 {
     match event {
+        EndpointEvent::ResetToken(remote, token) => put_reset_token(out, remote, token),
+        EndpointEvent::NeedIdentifiers(now, count) => put_need(out, now, count),
         EndpointEvent::Drained => out.extend_from_slice(b"endpoint drained\n"),
     }
+}
+
+#[tactic(auto, unfolding(crate::specs::TraceText::reset_token_text))]
+fn put_reset_token(
+    out: &mut Vec<u8>,
+    remote: SocketAddr,
+    token: ResetToken,
+) -> Result<(), AllocError>
+    ensures text { OnOk result (out.new.items ≡ out.old.items ++ reset_token_text remote token) }
+    ensures in_range { OnOk result (IsAddressInRange remote × IsBytes token) }
+{
+    out.extend_from_slice(b"endpoint reset-token ")?;
+    put_address(out, remote)?;
+    out.extend_from_slice(b" ")?;
+    put_bytes(out, &*token)?;
+    out.extend_from_slice(b"\n")
+}
+
+#[tactic(auto, unfolding(crate::specs::TraceText::need_text))]
+fn put_need(out: &mut Vec<u8>, now: Instant, count: u64) -> Result<(), AllocError>
+    ensures text { OnOk result (out.new.items ≡ out.old.items ++ need_text now count) }
+    ensures in_range { OnOk result ((now < 2 ^ 64) × (count < 2 ^ 64)) }
+{
+    out.extend_from_slice(b"endpoint need ")?;
+    put_number(out, now.nanos())?;
+    out.extend_from_slice(b" ")?;
+    put_number(out, count)?;
+    out.extend_from_slice(b"\n")
 }
 
 #[tactic(auto, unfolding(crate::specs::TraceText::timer_text))]

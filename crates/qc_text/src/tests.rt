@@ -4,14 +4,14 @@
 use crate::laws::given_frames_have_their_names;
 use crate::trace::{steps_text, trace_text};
 use bytes::Bytes;
-use qc_base::{EcnCodepoint, Instant, SpaceId, TransportErrorCode, VarInt};
+use qc_base::{EcnCodepoint, Instant, ResetToken, SpaceId, TransportErrorCode, VarInt};
 use qc_frame::{FrameList, FrameOf};
 use qc_state::{
     Answer, ApplicationClose, Body, ConnectionClose, ConnectionError, Dids, EndpointEvent,
     EndpointEvents, Events, Layer, Quiet, Step, Trace, Verdict, Word,
 };
 use std::alloc::{AllocError, Global};
-use std::net::{IpAddr, Ipv4Addr, SocketAddr};
+use std::net::{IpAddr, Ipv4Addr, Ipv6Addr, SocketAddr};
 use std::test::Fail;
 
 /// A step at time 5 with these deeds and this answer, which reports nothing.
@@ -252,6 +252,32 @@ fn a_close_of_this_application(rt: HostRuntime) -> Result<(), Fail> {
     Ok(())
 }
 
+// The token is the bytes from 240 to 255, and holds for the port 4433 of 2001:db8::1.
+#[test]
+fn reports_to_the_endpoint(rt: HostRuntime) -> Result<(), Fail> {
+    let mut step = step(
+        rt.alloc(),
+        Word::Datagram,
+        Dids::new(rt.alloc()),
+        Answer::Done,
+    );
+    let ip = Ipv6Addr::new(0x2001, 0xdb8, 0, 0, 0, 0, 0, 1);
+    let token = ResetToken::from([
+        240, 241, 242, 243, 244, 245, 246, 247, 248, 249, 250, 251, 252, 253, 254, 255,
+    ]);
+    let mut endpoint = EndpointEvents::new(rt.alloc());
+    endpoint.push(Some(EndpointEvent::ResetToken(SocketAddr::new(IpAddr::V6(ip), 4433), token)))?;
+    endpoint.push(None)?;
+    endpoint.push(Some(EndpointEvent::NeedIdentifiers(Instant::from_nanos(5), 7)))?;
+    step.endpoint = endpoint;
+    let text = text(rt.alloc(), step)?;
+    assert_eq!(rt;
+        text.as_str(),
+        "qconn 1\nstep 0 datagram 5\nanswer done\nendpoint reset-token 20010db8000000000000000000000001/4433 f0f1f2f3f4f5f6f7f8f9fafbfcfdfeff\nendpoint need 5 7\ntimer -\nend\n"
+    );
+    Ok(())
+}
+
 #[test]
 fn the_end(rt: HostRuntime) -> Result<(), Fail> {
     let mut did = Dids::new(rt.alloc());
@@ -259,7 +285,7 @@ fn the_end(rt: HostRuntime) -> Result<(), Fail> {
     did.push_quiet(Quiet::Killed)?;
     let mut step = step(rt.alloc(), Word::Transmit, did, Answer::Nothing);
     let mut endpoint = EndpointEvents::new(rt.alloc());
-    endpoint.push(EndpointEvent::Drained)?;
+    endpoint.push(Some(EndpointEvent::Drained))?;
     step.endpoint = endpoint;
     let text = text(rt.alloc(), step)?;
     assert_eq!(rt;

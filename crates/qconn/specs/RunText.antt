@@ -95,10 +95,11 @@ reset_token_of s = take 16 (toy_signature (replicate 16 0) (local_of s))
 abbrev pub server_parameters_of : Settings → TransportParameters
 server_parameters_of s = record (parameters_of s) { original_dst_cid = Some (first_of s); stateless_reset_token = Some (reset_token_of s) }
 
--- the session of a script's client, and of its server
+-- the session of a script's client
 abbrev pub client_session : Settings → ToySession
 client_session s = session_of (settings_of s.secret) Client (parameters_of s)
 
+-- the session of a script's server
 abbrev pub server_session : Settings → ToySession
 server_session s = session_of (settings_of s.secret) Server (server_parameters_of s)
 

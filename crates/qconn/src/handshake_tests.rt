@@ -12,11 +12,11 @@ const CUT: &str =
     "c40000000108010101010101010108040404040404040400401577020405007bf269de55ca42b82fa61d940b82f970";
 
 /// An Initial packet, number 10, with an ACK of number 0 alone and a server's reply, `02000100`.
-const REPLY: &str =
+pub(crate) const REPLY: &str =
     "c60000000108010101010101010108040404040404040400401d0c06040402020601040200010077ea5dce41b226980b7ef164d74abd30";
 
 /// A Handshake packet, number 0, with a server's end: its parameters name the ids of eight bytes 02 and 04.
-const END: &str =
+pub(crate) const END: &str =
     "e300000001080101010101010101080404040404040404402c0006001803001401000802020202020202020f080404050504040404ad5a07b4610fbc6815c26f1cc97623d0";
 
 /// A Handshake packet, number 1, with the first ten bytes of the same.
@@ -52,14 +52,14 @@ const AGAIN: &str =
     "c4000000010801010101010101010804040404040404040040180802040000020101ecd4bca28a7059402810f8e0c8b09880";
 
 /// A 1-RTT packet, number 0, with a HANDSHAKE_DONE.
-const DONE: &str = "5601010101010101016c1e0000b66c22d88e46fbb0661cd2883ef4aa60";
+pub(crate) const DONE: &str = "5601010101010101016c1e0000b66c22d88e46fbb0661cd2883ef4aa60";
 
 /// A 1-RTT packet, number 1, with a PING.
-const DATA_PING: &str = "42010101010101010105010000820486088a0e8f10921496189a1c9e20";
+pub(crate) const DATA_PING: &str = "42010101010101010105010000820486088a0e8f10921496189a1c9e20";
 
 /// A 1-RTT packet, number 2, with a CONNECTION_CLOSE, code 5, an application close, code 7 and reason `bye`, and a
 /// PING.
-const TWO_CLOSES: &str =
+pub(crate) const TWO_CLOSES: &str =
     "4001010101010101011f1c0500001d05026279650120406080a0c2e10020406080a0c0e000";
 
 /// A 1-RTT packet, number 3, with a STREAM frame, `hi` on stream 0.
@@ -72,11 +72,11 @@ const OTHER_PHASE: &str = "4301010101010101014a010000a74ef59c43ec9238df862dd47b2
 const DATA_RESERVED: &str = "5e010101010101010169010000b66c22d88e46fbb0661cd2883ef4aa60";
 
 /// A Handshake packet, number 5, with a PING.
-const LATE: &str =
+pub(crate) const LATE: &str =
     "e7000000010801010101010101010804040404040404044014cb010000e7ceb59c836b52381f06edd4bba28970";
 
 /// The text of a client's run over these lines.
-fn text_of(alloc: Global, lines: &str) -> Result<String, Fail> {
+pub(crate) fn text_of(alloc: Global, lines: &str) -> Result<String, Fail> {
     let script = format!(in alloc; "set side client\n{lines}")?;
     let (status, text) = outcome(alloc, &["run"], script.as_str(), &none())?;
     if status != Status::Done {
@@ -85,9 +85,13 @@ fn text_of(alloc: Global, lines: &str) -> Result<String, Fail> {
     Ok(text)
 }
 
-// A server's reply gives the Handshake keys, and its end the 1-RTT keys: the connection is established. The Initial packet is
-// acknowledged in an Initial packet and the Handshake packet in a Handshake packet, in which the client's end goes, and each
-// once. 1200 bytes less a header of 27 or 26, a tag of 16 and frames of 5 or 11 bytes are PADDING.
+// A server's reply gives the Handshake keys, and its end the 1-RTT keys: the connection is established, and the server, whose
+// parameters name no limit, takes 2 ids, 1 more than it has. The Initial packet is acknowledged in an Initial packet and the
+// Handshake packet in a Handshake packet, in which the client's end goes, and each once. The Initial packet fills 1200 bytes: less
+// a header of 27, a tag of 16 and an ACK of 5 they are PADDING. A Handshake packet, with a header of 26 bytes, is filled up to 29
+// bytes before its tag, which its frames reach alone: 26 + 11 + 16 = 53 bytes, and for the close 26 + 5 + 4 + 16 = 51. A 1-RTT
+// packet, with a header of 10 bytes, needs 14 before its tag: the application's close is one byte shorter. A close ends after
+// 3 times 999 + 25 ms, the round trip's time and the delay of the server's ACKs.
 #[test]
 fn a_client_comes_to_its_end(rt: HostRuntime) -> Result<(), Fail> {
     let alloc = rt.alloc();
@@ -98,12 +102,15 @@ fn a_client_comes_to_its_end(rt: HostRuntime) -> Result<(), Fail> {
     for part in [
         "step 1 datagram 1\npiece initial 10 Admitted\ngave recovery ACK/0200000000\ngave session 02000100\n\
             piece handshake 0 Admitted\ngave session 03001500000802020202020202020f080404040404040404\nlife 1\n\
-            answer done\nevent handshake-data\nevent connected\ntimer 30000000001\n",
+            answer done\nevent handshake-data\nevent connected\nendpoint need 1 1\ntimer 30000000001\n",
         "step 2 transmit 2\nseal initial 1 0 ACK/020a000000 PADDING*1152\nout ",
-        "timer 30000000001\nstep 3 transmit 3\nseal handshake 0 0 ACK/0200000000 CRYPTO/060003040000 PADDING*1147\nout ",
+        "timer 30000000001\nstep 3 transmit 3\nseal handshake 0 0 ACK/0200000000 CRYPTO/060003040000\n\
+            out 00000000000000000000000000000001/4433 53 - 2 ",
         "timer 999000003\nstep 4 transmit 4\nquiet NothingOwed\ntimer 999000003\n",
-        "step 6 transmit 6\nseal handshake 1 0 ACK/0200000000 CONNECTION_CLOSE/1c0c0000 PADDING*",
-        "step 7 transmit 7\nseal data 0 0 APPLICATION_CLOSE/1d0700 PADDING*",
+        "step 5 close 5\nlife 2\nanswer done\ntimer 3072000005\n",
+        "step 6 transmit 6\nseal handshake 1 0 ACK/0200000000 CONNECTION_CLOSE/1c0c0000\n\
+            out 00000000000000000000000000000001/4433 51 - 2 ",
+        "step 7 transmit 7\nseal data 0 0 APPLICATION_CLOSE/1d0700 PADDING*1\nout 00000000000000000000000000000001/4433 30 - 2 ",
         "step 8 transmit 8\nquiet Silent\n",
     ] {
         assert!(rt; text.as_str().contains(part), "{part} {text}");
@@ -112,7 +119,7 @@ fn a_client_comes_to_its_end(rt: HostRuntime) -> Result<(), Fail> {
 }
 
 // A packet with a PING is acknowledged once; a client that closes before it has sealed a Handshake packet closes in each space
-// with keys, in order.
+// with keys, in order. The close fills up an Initial packet, and not a Handshake packet: 26 + 4 + 16 = 46 bytes.
 #[test]
 fn packets_are_acknowledged_once(rt: HostRuntime) -> Result<(), Fail> {
     let alloc = rt.alloc();
@@ -124,7 +131,7 @@ fn packets_are_acknowledged_once(rt: HostRuntime) -> Result<(), Fail> {
         "step 2 transmit 80001\nseal initial 1 0 ACK/02000a0000 PADDING*",
         "step 3 transmit 80002\nquiet NothingOwed\n",
         "step 6 transmit 80005\nseal initial 2 0 ACK/020a0001000800 CONNECTION_CLOSE/1c0c0000 PADDING*",
-        "step 7 transmit 80006\nseal handshake 0 0 CONNECTION_CLOSE/1c0c0000 PADDING*",
+        "step 7 transmit 80006\nseal handshake 0 0 CONNECTION_CLOSE/1c0c0000\nout 00000000000000000000000000000001/4433 46 - 2 ",
         "step 8 transmit 80007\nquiet Silent\n",
     ] {
         assert!(rt; text.as_str().contains(part), "{part} {text}");
@@ -196,9 +203,10 @@ fn established(alloc: Global) -> Result<String, Fail> {
     )?)
 }
 
-// Once the handshake is over, 1-RTT packets are opened and acknowledged in 1-RTT packets, whose PADDING leaves a header of 10
-// bytes and a tag of 16; a HANDSHAKE_DONE drops the Handshake keys. A PING goes in the 1-RTT space, and a close of the
-// application tells its code and its reason there alone.
+// Once the handshake is over, 1-RTT packets are opened and acknowledged in 1-RTT packets; a HANDSHAKE_DONE drops the Handshake
+// keys. A PING goes in the 1-RTT space, and a close of the application tells its code and its reason there alone. Behind a header
+// of 10 bytes a PING needs 3 of PADDING to end at 14; an ACK of 5 bytes needs none, nor does one with a close of 6: 10 + 5 + 16 =
+// 31 bytes, and 10 + 5 + 6 + 16 = 37.
 #[test]
 fn packets_go_in_the_1_rtt_space(rt: HostRuntime) -> Result<(), Fail> {
     let alloc = rt.alloc();
@@ -209,10 +217,11 @@ fn packets_go_in_the_1_rtt_space(rt: HostRuntime) -> Result<(), Fail> {
     let text = text_of(alloc, lines.as_str())?;
     for part in [
         "step 4 datagram 4\npiece data 0 Admitted\ngave life HANDSHAKE_DONE/1e\nanswer done\ntimer 30000000004\n",
-        "step 5 transmit 5\nseal data 0 0 ACK/0200000000 PADDING*1169\nout ",
-        "step 7 transmit 7\nseal data 1 0 PING/01 PADDING*1173\nout ",
+        "step 5 transmit 5\nseal data 0 0 ACK/0200000000\nout 00000000000000000000000000000001/4433 31 - 2 ",
+        "step 7 transmit 7\nseal data 1 0 PING/01 PADDING*3\nout 00000000000000000000000000000001/4433 30 - 2 ",
         "step 8 datagram 8\npiece handshake - Ignored\nanswer done\n",
-        "step 10 transmit 10\nseal data 2 0 ACK/0200000000 APPLICATION_CLOSE/1d0703627965 PADDING*",
+        "step 10 transmit 10\nseal data 2 0 ACK/0200000000 APPLICATION_CLOSE/1d0703627965\n\
+            out 00000000000000000000000000000001/4433 37 - 2 ",
         "step 11 transmit 11\nquiet Silent\n",
     ] {
         assert!(rt; text.as_str().contains(part), "{part} {text}");
@@ -261,7 +270,7 @@ fn packets_of_the_1_rtt_space_have_their_verdicts(rt: HostRuntime) -> Result<(),
         };
         assert!(rt; text.as_str().contains(deeds), "{deeds} {text}");
         let closes = text.as_str().contains(
-            "seal data 0 0 ACK/0202000000 CONNECTION_CLOSE/1c000000 PADDING*",
+            "seal data 0 0 ACK/0202000000 CONNECTION_CLOSE/1c000000\nout ",
         );
         assert_eq!(rt; closes, packet == TWO_CLOSES, "{text}");
     }

@@ -4,6 +4,8 @@
 
 #[cfg(test)]
 mod handshake_tests;
+#[cfg(test)]
+mod peer_tests;
 mod perform;
 #[cfg(test)]
 mod receiving_tests;
@@ -12,6 +14,8 @@ mod ring_tests;
 mod run;
 #[cfg(test)]
 mod server_tests;
+#[cfg(test)]
+mod sign_tests;
 mod sink;
 mod source;
 mod standard;

@@ -234,7 +234,7 @@ fn script_client(alloc: Global, set: &Settings) -> Result<Connection<Toy>, Alloc
     requires side { set.now.side ≡ Side.Client }
     requires address { IfSome set.now.addr IsAddress }
     ensures client { IfOk result (IsScriptEnd ⟦<ToySession as Session>⟧ ⟦<ToyHeaderKey as HeaderMask>⟧ ⟦<ToyPacketKey as PacketKey>⟧ set.now) }
-    ensures plain { IfOk result (λ client. IsPlainStart client.core.waiting client.core.paths) }
+    ensures plain { IfOk result (λ client. IsPlainStart client.core.waiting client.core.paths client.core.life) }
 {
     let setup = client_setup(alloc, set)?;
     let client = Connection::new_client(alloc, setup, &mut NoneTokenStore, time_or(set.time))?;
@@ -246,7 +246,7 @@ fn script_server(alloc: Global, set: &Settings) -> Result<Connection<Toy>, Alloc
     requires side { set.now.side ≡ Side.Server }
     requires address { IfSome set.now.addr IsAddress }
     ensures server { IfOk result (IsScriptEnd ⟦<ToySession as Session>⟧ ⟦<ToyHeaderKey as HeaderMask>⟧ ⟦<ToyPacketKey as PacketKey>⟧ set.now) }
-    ensures plain { IfOk result (λ server. IsPlainStart server.core.waiting server.core.paths) }
+    ensures plain { IfOk result (λ server. IsPlainStart server.core.waiting server.core.paths server.core.life) }
 {
     let setup = server_setup(alloc, set)?;
     let server = Connection::new_server(alloc, setup, time_or(set.time))?;
@@ -257,7 +257,7 @@ fn script_server(alloc: Global, set: &Settings) -> Result<Connection<Toy>, Alloc
 fn script_end(alloc: Global, set: &Settings) -> Result<Connection<Toy>, AllocError>
     requires address { IfSome set.now.addr IsAddress }
     ensures end { IfOk result (IsScriptEnd ⟦<ToySession as Session>⟧ ⟦<ToyHeaderKey as HeaderMask>⟧ ⟦<ToyPacketKey as PacketKey>⟧ set.now) }
-    ensures plain { IfOk result (λ end. IsPlainStart end.core.waiting end.core.paths) }
+    ensures plain { IfOk result (λ end. IsPlainStart end.core.waiting end.core.paths end.core.life) }
 {
     match set.side {
         Side::Client => script_client(alloc, set),

@@ -1,7 +1,7 @@
 use Rattle.std.proofs.Common.{◌<◌, ◌-◌, ◌^◌, arith, refl}
 use Rattle.qc_state.specs.Numbers.{next_number}
 use Rattle.qc_state.specs.View.{held, ideal}
-use Rattle.qc_state.proofs.Seals.{loud_low, loud_near, loud_keyed, header_is_short, header_has_number, room_behind, taken_room, seals_one}
+use Rattle.qc_state.proofs.Seals.{loud_low, loud_near, loud_keyed, header_is_short, header_has_number, room_behind, taken_room, seals_taken}
 use Rattle.qc_send.proofs.sending.seal_one.Goals as goal
 
 -- the number is near enough to the greatest acknowledged one
@@ -33,7 +33,6 @@ sealed-requires g c =
 -- what was taken, sealed and counted is one packet
 pub returns : goal.returns
 returns g c =
-    seals_one _ c.args.now _ _ _ c.sending_space-space.result (held g.U.Random.Rng.stream c.args.core.now c.args.did.now) _ _ _ _ _ _ _ c.requires.loud c.sending_space-space.ensures
-    (omega (arith, header_is_short (ideal g.U.Random.Rng.stream c.args.core.now) c.sending_space-space.result _ _ c.header-header.ensures c.encoded_len.ensures.most))
-    c.in_ok-frames.ensures.frames c.in_ok-seal.ensures.frames c.in_ok-frames.ensures.leads c.next_number-number.ensures
-    c.in_ok-sealed.ensures c.leave_initial.ensures c.header-header.ensures c.in_ok-seal.ensures.bytes c.in_ok-seal.ensures.full
+    seals_taken _ c.args.now _ _ _ _ _ c.sending_space-space.result (held g.U.Random.Rng.stream c.args.core.now c.args.did.now) _ _ _ _ _ _ _ c.requires.loud c.sending_space-space.ensures c.header-header.ensures (c.encoded_len.ensures.len 0)
+    (header_is_short (ideal g.U.Random.Rng.stream c.args.core.now) c.sending_space-space.result _ _ c.header-header.ensures c.encoded_len.ensures.most) refl c.in_ok-frames.ensures.frames c.in_ok-frames.ensures.most c.in_ok-frames.ensures.leads
+    c.least_size-least.ensures.value c.in_ok-seal.ensures.frames c.next_number-number.ensures (omega (arith, c.len.ensures)) c.in_ok-sealed.ensures c.leave_initial.ensures c.in_ok-seal.ensures.bytes c.in_ok-seal.ensures.full

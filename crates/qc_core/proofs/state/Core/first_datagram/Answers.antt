@@ -9,7 +9,7 @@ returns-then-not-may_begin-clause-answer g c =
 
 pub returns-then-not-may_begin-clause-leads : goal.returns-then-not-may_begin-clause-leads
 returns-then-not-may_begin-clause-leads g c =
-    left_alone _ c.args.now c.args.remote c.args.bytes.items _ (awaits_ideal _ _ c.requires) (may_not _ _ c.args.remote c.args.bytes.items c.len-len.result c.may_begin.result c.may_begin.ensures c.len-len.ensures.value c.if-not-may_begin.true)
+    left_alone _ c.args.now c.args.mark c.args.remote c.args.bytes.items _ (awaits_ideal _ _ c.requires) (may_not _ _ c.args.remote c.args.bytes.items c.len-len.result c.may_begin.result c.may_begin.ensures c.len-len.ensures.value c.if-not-may_begin.true)
 
 -- no packet
 pub returns-in-None-clause-answer : goal.returns-in-None-clause-answer
@@ -18,7 +18,7 @@ returns-in-None-clause-answer g c =
 
 pub returns-in-None-clause-leads : goal.returns-in-None-clause-leads
 returns-in-None-clause-leads g c =
-    left_alone _ c.args.now c.args.remote c.args.bytes.items _ (awaits_ideal _ _ c.requires) (no_packet _ c.cutting-cutting.result _ c.args.remote c.args.bytes.items c.cutting-cutting.ensures.cuts (cut_none c.cutting-cutting.result c.args.bytes _ c.in-None.is c.in_ok-cut.ensures.none))
+    left_alone _ c.args.now c.args.mark c.args.remote c.args.bytes.items _ (awaits_ideal _ _ c.requires) (no_packet _ c.cutting-cutting.result _ c.args.remote c.args.bytes.items c.cutting-cutting.ensures.cuts (cut_none c.cutting-cutting.result c.args.bytes _ c.in-None.is c.in_ok-cut.ensures.none))
 
 -- no packet that may be a server's first one
 pub returns-in-None-2-clause-answer : goal.returns-in-None-2-clause-answer
@@ -30,7 +30,7 @@ returns-in-None-2-clause-answer g c =
 pub returns-in-None-2-clause-leads : goal.returns-in-None-2-clause-leads
 returns-in-None-2-clause-leads g c =
     let cut = cut_some c.cutting-cutting.result c.args.bytes c.in_ok-cut.field-0 c.in-Some.cut.0 c.in-Some.cut.1 c.in-Some.is c.in_ok-cut.ensures.some in
-    left_alone _ c.args.now c.args.remote c.args.bytes.items _ (awaits_ideal _ _ c.requires)
+    left_alone _ c.args.now c.args.mark c.args.remote c.args.bytes.items _ (awaits_ideal _ _ c.requires)
     (no_first _ c.cutting-cutting.result _ c.args.remote c.args.bytes.items c.in-Some.cut.0 c.in-Some.cut.1 c.cutting-cutting.ensures.cuts cut.0 (opened_none _ _ c.in-None-2.is c.in_ok-first_opened.ensures.none))
 
 -- one that may be
@@ -38,13 +38,13 @@ pub returns-in_ok-others-in-Some-2-clause-answer : goal.returns-in_ok-others-in-
 returns-in_ok-others-in-Some-2-clause-answer g c =
     let cut = cut_some c.cutting-cutting.result c.args.bytes c.in_ok-cut.field-0 c.in-Some.cut.0 c.in-Some.cut.1 c.in-Some.is c.in_ok-cut.ensures.some in
     let opened = opened_some _ _ c.in-Some-2.first c.in-Some-2.is c.in_ok-first_opened.ensures.some in
-    first_taken _ c.cutting-cutting.result _ c.args.remote c.args.bytes.items c.len-len.result c.may_begin.result c.in-Some.cut.0 c.in-Some.cut.1 _ _ _ _ (awaits_ideal _ _ c.requires) c.cutting-cutting.ensures.cuts cut.0 c.may_begin.ensures c.len-len.ensures.value
+    first_taken _ c.cutting-cutting.result _ c.args.remote c.args.bytes.items c.len-len.result c.may_begin.result c.in-Some.cut.0 c.in-Some.cut.1 _ _ _ _ _ (awaits_ideal _ _ c.requires) c.cutting-cutting.ensures.cuts cut.0 c.may_begin.ensures c.len-len.ensures.value
     c.if-not-may_begin.false opened.0 opened.1
 
 pub returns-in_ok-others-in-Some-2-clause-leads : goal.returns-in_ok-others-in-Some-2-clause-leads
 returns-in_ok-others-in-Some-2-clause-leads g c =
     let cut = cut_some c.cutting-cutting.result c.args.bytes c.in_ok-cut.field-0 c.in-Some.cut.0 c.in-Some.cut.1 c.in-Some.is c.in_ok-cut.ensures.some in
     let opened = opened_some _ _ c.in-Some-2.first c.in-Some-2.is c.in_ok-first_opened.ensures.some in
-    first_heard _ c.args.now c.cutting-cutting.result c.args.remote c.args.bytes.items c.len-len.result c.may_begin.result c.in-Some.cut.0 c.in-Some.cut.1 _ _ _ _ _ _ _ _ _ _ _ (awaits_ideal _ _ c.requires) c.cutting-cutting.ensures.cuts cut.0 c.may_begin.ensures c.len-len.ensures.value
+    first_heard _ c.args.now c.args.mark c.cutting-cutting.result c.args.remote c.args.bytes.items c.len-len.result c.may_begin.result c.in-Some.cut.0 c.in-Some.cut.1 _ _ _ _ _ _ _ _ _ _ _ _ (awaits_ideal _ _ c.requires) c.cutting-cutting.ensures.cuts cut.0 c.may_begin.ensures c.len-len.ensures.value
     c.if-not-may_begin.false opened.0 opened.1 c.in_ok-token-in-Some-2.ensures.cases c.do_expect.ensures c.in_ok-received-in-Some-2.ensures c.in_ok-others-in-Some-2.ensures
     (hear_moved _ _ _ _ _ c.len-len.ensures.value c.do_hear.ensures)

@@ -7,7 +7,7 @@ use Rattle.qc_core.proofs.state.Core.heard.Goals as goal
 pub returns-in_ok-pieces-in-Some-clause-leads : goal.returns-in_ok-pieces-in-Some-clause-leads
 returns-in_ok-pieces-in-Some-clause-leads g c =
     let cut = cut_some c.cutting-cutting.result c.args.bytes c.in_ok-cut.field-0 c.in-Some.first c.in-Some.behind c.in-Some.is c.in_ok-cut.ensures.some in
-    heard_is _ c.args.now c.cutting-cutting.result c.args.remote c.args.bytes.items c.in-Some.first c.in-Some.behind _ _ _ c.cutting-cutting.ensures.cuts cut.0 (sym c.if-lets_in.true ∙ c.lets_in.ensures) c.in_ok-pieces-in-Some.ensures
+    heard_is _ c.args.now c.args.mark c.cutting-cutting.result c.args.remote c.args.bytes.items c.in-Some.first c.in-Some.behind _ _ _ c.cutting-cutting.ensures.cuts cut.0 (sym c.if-lets_in.true ∙ c.lets_in.ensures) c.in_ok-pieces-in-Some.ensures
     (hear_moved _ _ _ _ _ c.len-len.ensures.value c.do_hear.ensures)
 
 -- one that doesn't count begins with a packet as well

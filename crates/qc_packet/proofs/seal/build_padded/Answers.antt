@@ -7,57 +7,55 @@ use Rattle.qc_header.specs.HeaderSpelling.{header_spelling}
 use Rattle.qc_packet.specs.declared.builder.PacketBuilder.{PacketBuilder}
 use Rattle.qc_packet.specs.Building.{IsReady, IsOf, builder_for}
 use Rattle.qc_packet.proofs.Full.{full_builder, full_size, full_ready, full_is_of, full_bytes}
-use Rattle.qc_packet.proofs.seal.build_full.Goals as goal
+use Rattle.qc_packet.proofs.seal.build_padded.Goals as goal
 
 -- the builder fills the datagram
 pub finish-requires : goal.finish-requires
 finish-requires g c =
     let start : length c.args.buf.now.items ≡ 0 = ap (λ (x : List ℕ). length x) c.requires.empty in
-    let b : c.pad_to.new.self ≡ full_builder Initial c.args.number c.args.header.now c.args.size =
-    c.pad_to.ensures.size ∙ ap (λ (x : PacketBuilder). record x { min_size = max x.min_size (plus x.datagram_start (c.args.size - 16)) })
-    (c.in_ok-builder.ensures.builder ∙ ap (λ (n : ℕ). builder_for Initial c.args.number c.args.header.now n c.args.size 0 true) start) in
+    let b : c.pad_to.new.self ≡ full_builder Initial c.args.number c.args.header.now c.args.least =
+    c.pad_to.ensures.size ∙ ap (λ (x : PacketBuilder). record x { min_size = max x.min_size (plus x.datagram_start (c.args.least - 16)) })
+    (c.in_ok-builder.ensures.builder ∙ ap (λ (n : ℕ). builder_for Initial c.args.number c.args.header.now n 16383 0 true) start) in
     let len : length c.put.new.out.items ≡ length (header_spelling c.args.header.now 0) + length (frames_spelling c.args.frames.now) =
     ap (λ (x : List ℕ). length x) (c.in_ok-put.ensures.ok ∙ ap (λ (x : List ℕ). x ++ frames_spelling c.args.frames.now) (c.in_ok-builder.ensures.header ∙ ap (λ (x : List ℕ). x ++ header_spelling c.args.header.now 0) c.requires.empty))
     ∙ length-append (header_spelling c.args.header.now 0) (frames_spelling c.args.frames.now) in
     subst (λ (x : PacketBuilder). IsReady x (length c.put.new.out.items)) (sym b)
-    (full_ready Initial c.args.number c.args.header.now c.args.size (length (frames_spelling c.args.frames.now)) (length c.put.new.out.items) c.requires.numbered (c.in_ok-builder.ensures.longer c.requires.numbered) c.requires.room c.requires.small len)
+    (full_ready Initial c.args.number c.args.header.now c.args.least (length (frames_spelling c.args.frames.now)) (length c.put.new.out.items) c.requires.numbered (c.in_ok-builder.ensures.longer c.requires.numbered) c.requires.room c.requires.small len)
 
 pub returns-clause-bytes : goal.returns-clause-bytes
 returns-clause-bytes g c =
     let start : length c.args.buf.now.items ≡ 0 = ap (λ (x : List ℕ). length x) c.requires.empty in
-    let b : c.pad_to.new.self ≡ full_builder Initial c.args.number c.args.header.now c.args.size =
-    c.pad_to.ensures.size ∙ ap (λ (x : PacketBuilder). record x { min_size = max x.min_size (plus x.datagram_start (c.args.size - 16)) })
-    (c.in_ok-builder.ensures.builder ∙ ap (λ (n : ℕ). builder_for Initial c.args.number c.args.header.now n c.args.size 0 true) start) in
+    let b : c.pad_to.new.self ≡ full_builder Initial c.args.number c.args.header.now c.args.least =
+    c.pad_to.ensures.size ∙ ap (λ (x : PacketBuilder). record x { min_size = max x.min_size (plus x.datagram_start (c.args.least - 16)) })
+    (c.in_ok-builder.ensures.builder ∙ ap (λ (n : ℕ). builder_for Initial c.args.number c.args.header.now n 16383 0 true) start) in
     let bytes : c.put.new.out.items ≡ header_spelling c.args.header.now 0 ++ frames_spelling c.args.frames.now =
     c.in_ok-put.ensures.ok ∙ ap (λ (x : List ℕ). x ++ frames_spelling c.args.frames.now) (c.in_ok-builder.ensures.header ∙ ap (λ (x : List ℕ). x ++ header_spelling c.args.header.now 0) c.requires.empty) in
     let len : length c.put.new.out.items ≡ length (header_spelling c.args.header.now 0) + length (frames_spelling c.args.frames.now) =
     ap (λ (x : List ℕ). length x) bytes ∙ length-append (header_spelling c.args.header.now 0) (frames_spelling c.args.frames.now) in
-    full_bytes (g.H.HeaderMask.mask_of c.args.header_key.now) (g.P.PacketKey.seal c.args.packet_key.now) Initial c.args.number c.args.header.now c.args.frames.now c.args.size c.pad_to.new.self c.put.new.out.items c.finish.new.buf.items
-    c.requires.room c.requires.small b len
+    full_bytes (g.H.HeaderMask.mask_of c.args.header_key.now) (g.P.PacketKey.seal c.args.packet_key.now) Initial c.args.number c.args.header.now c.args.frames.now c.args.least c.pad_to.new.self c.put.new.out.items c.finish.new.buf.items
+    c.requires.small b len
     (c.in_ok-finish.ensures.packet [] false c.args.header.now (frames_spelling c.args.frames.now) (ap (λ (x : PacketBuilder). x.start) b)
-    (subst (λ (x : PacketBuilder). IsOf x c.args.header.now) (sym b) (full_is_of Initial c.args.number c.args.header.now c.args.size c.requires.numbered)) bytes)
+    (subst (λ (x : PacketBuilder). IsOf x c.args.header.now) (sym b) (full_is_of Initial c.args.number c.args.header.now c.args.least c.requires.numbered)) bytes)
 
 -- and the datagram has its size
 pub returns-clause-full : goal.returns-clause-full
 returns-clause-full g c =
     let start : length c.args.buf.now.items ≡ 0 = ap (λ (x : List ℕ). length x) c.requires.empty in
-    let b : c.pad_to.new.self ≡ full_builder Initial c.args.number c.args.header.now c.args.size =
-    c.pad_to.ensures.size ∙ ap (λ (x : PacketBuilder). record x { min_size = max x.min_size (plus x.datagram_start (c.args.size - 16)) })
-    (c.in_ok-builder.ensures.builder ∙ ap (λ (n : ℕ). builder_for Initial c.args.number c.args.header.now n c.args.size 0 true) start) in
+    let b : c.pad_to.new.self ≡ full_builder Initial c.args.number c.args.header.now c.args.least =
+    c.pad_to.ensures.size ∙ ap (λ (x : PacketBuilder). record x { min_size = max x.min_size (plus x.datagram_start (c.args.least - 16)) })
+    (c.in_ok-builder.ensures.builder ∙ ap (λ (n : ℕ). builder_for Initial c.args.number c.args.header.now n 16383 0 true) start) in
     let len : length c.put.new.out.items ≡ length (header_spelling c.args.header.now 0) + length (frames_spelling c.args.frames.now) =
     ap (λ (x : List ℕ). length x) (c.in_ok-put.ensures.ok ∙ ap (λ (x : List ℕ). x ++ frames_spelling c.args.frames.now) (c.in_ok-builder.ensures.header ∙ ap (λ (x : List ℕ). x ++ header_spelling c.args.header.now 0) c.requires.empty))
     ∙ length-append (header_spelling c.args.header.now 0) (frames_spelling c.args.frames.now) in
-    let size : c.pad_to.new.self.min_size ≡ c.args.size - 16 = ap (λ (x : PacketBuilder). x.min_size) b ∙ full_size c.args.header.now c.args.size (length (frames_spelling c.args.frames.now)) c.requires.room c.requires.small in
-    omega (arith, c.in_ok-finish.ensures.end, size, len, c.requires.room)
+    omega (arith, c.in_ok-finish.ensures.end, ap (λ (x : PacketBuilder). x.min_size) b, len, full_size c.args.header.now c.args.least (length (frames_spelling c.args.frames.now)) c.requires.small)
 
 pub returns-clause-padding : goal.returns-clause-padding
 returns-clause-padding g c =
     let start : length c.args.buf.now.items ≡ 0 = ap (λ (x : List ℕ). length x) c.requires.empty in
-    let b : c.pad_to.new.self ≡ full_builder Initial c.args.number c.args.header.now c.args.size =
-    c.pad_to.ensures.size ∙ ap (λ (x : PacketBuilder). record x { min_size = max x.min_size (plus x.datagram_start (c.args.size - 16)) })
-    (c.in_ok-builder.ensures.builder ∙ ap (λ (n : ℕ). builder_for Initial c.args.number c.args.header.now n c.args.size 0 true) start) in
+    let b : c.pad_to.new.self ≡ full_builder Initial c.args.number c.args.header.now c.args.least =
+    c.pad_to.ensures.size ∙ ap (λ (x : PacketBuilder). record x { min_size = max x.min_size (plus x.datagram_start (c.args.least - 16)) })
+    (c.in_ok-builder.ensures.builder ∙ ap (λ (n : ℕ). builder_for Initial c.args.number c.args.header.now n 16383 0 true) start) in
     let len : length c.put.new.out.items ≡ length (header_spelling c.args.header.now 0) + length (frames_spelling c.args.frames.now) =
     ap (λ (x : List ℕ). length x) (c.in_ok-put.ensures.ok ∙ ap (λ (x : List ℕ). x ++ frames_spelling c.args.frames.now) (c.in_ok-builder.ensures.header ∙ ap (λ (x : List ℕ). x ++ header_spelling c.args.header.now 0) c.requires.empty))
     ∙ length-append (header_spelling c.args.header.now 0) (frames_spelling c.args.frames.now) in
-    let size : c.pad_to.new.self.min_size ≡ c.args.size - 16 = ap (λ (x : PacketBuilder). x.min_size) b ∙ full_size c.args.header.now c.args.size (length (frames_spelling c.args.frames.now)) c.requires.room c.requires.small in
-    omega (arith, c.saturating_sub-padding.ensures, c.len.ensures, size, len)
+    omega (arith, c.saturating_sub-padding.ensures, c.len.ensures, ap (λ (x : PacketBuilder). x.min_size) b, len, full_size c.args.header.now c.args.least (length (frames_spelling c.args.frames.now)) c.requires.small)
