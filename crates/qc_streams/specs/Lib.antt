@@ -1,0 +1,12 @@
+pub mod Counts
+pub mod Credit
+pub mod Lending
+pub mod Records
+pub mod Events
+pub mod Stream
+pub mod Refusals
+pub mod Lent
+pub mod Streams
+pub mod Frames
+pub mod Calls
+pub mod Owed

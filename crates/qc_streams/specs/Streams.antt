@@ -1,0 +1,184 @@
+-- The state over all streams of a connection (RFC 9000, sections 2 to 4)
+use Rattle.std.specs.Prelude.{ℕ, zero, suc, ◌+◌, ◌-◌, ◌*◌, ◌/◌, ◌%◌, ◌==◌, Bool, true, false, not, ◌&&◌, ◌||◌, nat_lt, nat_le, if◌then◌else◌, List, [], ◌∷◌, ◌++◌, Option, None, Some}
+use Rattle.qc_base.specs.declared.side.Dir.{Dir}
+use Rattle.qc_base.specs.declared.side.Dir.TheVariants.{Bi, Uni}
+use Rattle.qc_base.specs.declared.side.Side.{Side}
+use Rattle.qc_base.specs.declared.side.Side.TheVariants.{Client, Server}
+use Rattle.qc_base.specs.StreamId.{initiator_bit, stream_id}
+use Rattle.qc_recv.specs.Receiving.{new_receiving}
+use Rattle.qc_send_stream.specs.Sending.{new_sending}
+use Rattle.qc_streams.specs.declared.stream.Stream.{Stream}
+use Rattle.qc_streams.specs.declared.stream.Totals.{Totals}
+use Rattle.qc_streams.specs.declared.events.StreamEvent.{StreamEvent}
+use Rattle.qc_streams.specs.declared.state.StreamsState.{StreamsState}
+use Rattle.qc_streams.specs.declared.state.PeerLimits.{PeerLimits}
+use Rattle.qc_streams.specs.declared.counts.OwnStreams.{OwnStreams}
+use Rattle.qc_streams.specs.declared.counts.PeerStreams.{PeerStreams}
+use Rattle.qc_streams.specs.Counts.{at_most, by_dir, dir_put, own_opened, own_raised, peer_opened, place_freed, accepted, has_accepted}
+use Rattle.qc_streams.specs.Credit.{new_incoming, tallied, new_outgoing, outgoing_raised}
+use Rattle.qc_streams.specs.Lending.{AllRecords}
+use Rattle.qc_streams.specs.Records.{record_of, with_new, without, changed}
+use Rattle.qc_streams.specs.Stream.{totals_at, has_ended}
+
+-- the other end
+abbrev pub other : Side → Side
+other Client = Server
+other Server = Client
+
+-- whether this end opens the stream with an id
+unfoldable pub is_own : Side → ℕ → Bool
+is_own side id = id % 2 == initiator_bit side
+
+-- whether only one end sends on the stream with an id
+unfoldable pub is_uni : ℕ → Bool
+is_uni id = not (id / 2 % 2 == 0)
+
+-- the direction of the stream with an id
+unfoldable pub dir_of : ℕ → Dir
+dir_of id = if id / 2 % 2 == 0 then Bi else Uni
+
+-- so many streams may be opened, and none was
+unfoldable pub no_own : ℕ → OwnStreams
+no_own limit = record { limit = at_most limit; opened = 0 }
+
+-- the peer may have so many streams open, and opened none
+unfoldable pub no_peer : ℕ → PeerStreams
+no_peer limit = record {
+  concurrent = at_most limit;
+  limit = at_most limit;
+  announced = at_most limit;
+  opened = 0;
+  ended = 0;
+  accepted = 0;
+  tells = false;
+  waits = false;
+}
+
+-- before the peer's limits are known, they are all 0
+unfoldable pub no_limits : PeerLimits
+no_limits = record { all_data = 0; bidi_streams = 0; uni_streams = 0; peer_bidi_data = 0; own_bidi_data = 0; own_uni_data = 0 }
+
+-- no stream is open: an end that lets its peer have so many open, with its windows for all of them and for one stream
+unfoldable pub new_streams : Side → ℕ → ℕ → ℕ → ℕ → StreamsState
+new_streams side uni bi window stream_window = record {
+  side = side;
+  closed = false;
+  records = [];
+  own = record { bi = no_own 0; uni = no_own 0 };
+  peer = record { bi = no_peer bi; uni = no_peer uni };
+  limits = no_limits;
+  stream_window = stream_window;
+  incoming = new_incoming window;
+  outgoing = new_outgoing;
+  events = [];
+}
+
+-- the peer's limits are known: those on what is open already only rise
+unfoldable pub limits_set : PeerLimits → StreamsState → StreamsState
+limits_set p s = record s {
+  limits = p;
+  outgoing = outgoing_raised p.all_data s.outgoing;
+  own = record { bi = own_raised p.bidi_streams s.own.bi; uni = own_raised p.uni_streams s.own.uni };
+}
+
+-- the connection is closed
+abbrev pub closed : StreamsState → StreamsState
+closed s = record s { closed = true }
+
+-- a stream that this end opens
+abbrev pub fresh_own : Dir → StreamsState → Stream
+fresh_own Bi s = record { receiving = Some (new_receiving s.stream_window); sending = Some (new_sending s.limits.own_bidi_data) }
+fresh_own Uni s = record { receiving = None; sending = Some (new_sending s.limits.own_uni_data) }
+
+-- a stream that the peer opens
+abbrev pub fresh_peer : Dir → StreamsState → Stream
+fresh_peer Bi s = record { receiving = Some (new_receiving s.stream_window); sending = Some (new_sending s.limits.peer_bidi_data) }
+fresh_peer Uni s = record { receiving = Some (new_receiving s.stream_window); sending = None }
+
+-- whether the application may open a stream: the connection isn't closed, and the peer's limit isn't reached
+unfoldable pub may_open : Dir → StreamsState → Bool
+may_open dir s = not s.closed && nat_lt (by_dir dir s.own).opened (by_dir dir s.own).limit
+
+-- the next stream that this end opens
+unfoldable pub next_own : Dir → StreamsState → ℕ
+next_own dir s = stream_id s.side dir (by_dir dir s.own).opened
+
+-- the application opens a stream
+unfoldable pub opened_own : Dir → StreamsState → StreamsState
+opened_own dir s = record s {
+  records = with_new (next_own dir s) (fresh_own dir s) s.records;
+  own = dir_put dir (own_opened (by_dir dir s.own)) s.own;
+}
+
+-- the next stream that the application accepts
+unfoldable pub next_accepted : Dir → StreamsState → ℕ
+next_accepted dir s = stream_id (other s.side) dir (by_dir dir s.peer).accepted
+
+-- the application accepts a stream
+unfoldable pub accepted_one : Dir → StreamsState → StreamsState
+accepted_one dir s = record s { peer = dir_put dir (accepted (by_dir dir s.peer)) s.peer }
+
+-- whether this end hasn't opened its stream with an id yet
+unfoldable pub is_own_unopened : ℕ → StreamsState → Bool
+is_own_unopened id s = nat_le (by_dir (dir_of id) s.own).opened (id / 4)
+
+-- whether the peer hasn't opened its stream with an id yet
+unfoldable pub is_peer_unopened : ℕ → StreamsState → Bool
+is_peer_unopened id s = not (is_own s.side id) && nat_le (by_dir (dir_of id) s.peer).opened (id / 4)
+
+-- whether the peer may not open its stream with an id
+unfoldable pub is_past_limit : ℕ → StreamsState → Bool
+is_past_limit id s = not (is_own s.side id) && nat_le (by_dir (dir_of id) s.peer).limit (id / 4)
+
+-- so many streams of an id's kind, from an index on, are added
+unfoldable pub made : ℕ → ℕ → ℕ → Stream → AllRecords → AllRecords
+made id from zero st all = all
+made id from (suc k) st all = with_new (4 * (from + k) + id % 4) st (made id from k st all)
+
+-- how many of the peer's streams of an id's kind lie below it and aren't open
+unfoldable pub lower_unopened : ℕ → StreamsState → ℕ
+lower_unopened id s = id / 4 - (by_dir (dir_of id) s.peer).opened
+
+-- the peer opens all its streams of a kind below an id
+unfoldable pub lower_opened : ℕ → StreamsState → AllRecords
+lower_opened id s = made id (by_dir (dir_of id) s.peer).opened (lower_unopened id s) (fresh_peer (dir_of id) s) s.records
+
+-- the peer opens them
+abbrev pub with_lower : ℕ → StreamsState → StreamsState
+with_lower id s = record s { records = lower_opened id s }
+
+-- the peer opens the stream with an id, and with it all lower ones of its kind
+unfoldable pub opened_with : ℕ → Stream → StreamsState → StreamsState
+opened_with id st s = record s {
+  records = with_new id st (lower_opened id s);
+  peer = dir_put (dir_of id) (peer_opened (id / 4) (by_dir (dir_of id) s.peer)) s.peer;
+}
+
+-- a frame changes the stream that it names; where the peer hasn't opened it, it is opened, and is a fresh one so changed
+unfoldable pub met : (Stream → Stream) → ℕ → StreamsState → StreamsState
+met f id s =
+    if is_peer_unopened id s then opened_with id (f (fresh_peer (dir_of id) s)) s
+    else record s { records = changed f id s.records }
+
+-- the stream that a frame meets; None where it has ended
+unfoldable pub target : ℕ → StreamsState → Option Stream
+target id s = if is_peer_unopened id s then Some (fresh_peer (dir_of id) s) else record_of id s.records
+
+-- what came on a stream, and what it gives back, counts for the connection
+unfoldable pub counted : Totals → ℕ → StreamsState → StreamsState
+counted before id s = record s { incoming = tallied before (totals_at id s.records) s.incoming }
+
+-- a stream leaves; where it is one of the peer's, it frees a place
+unfoldable pub released : ℕ → StreamsState → StreamsState
+released id s = record s {
+  records = without id s.records;
+  peer = if is_own s.side id then s.peer else dir_put (dir_of id) (place_freed (by_dir (dir_of id) s.peer)) s.peer;
+}
+
+-- a stream that has ended leaves
+unfoldable pub settled : ℕ → StreamsState → StreamsState
+settled id s = if has_ended (record_of id s.records) then released id s else s
+
+-- an event waits, if it is to be told
+unfoldable pub told_if : Bool → StreamEvent → StreamsState → StreamsState
+told_if tells e s = record s { events = if tells then s.events ++ (e ∷ []) else s.events }

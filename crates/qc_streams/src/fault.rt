@@ -1,0 +1,62 @@
+//! Why a frame is refused.
+
+ghost use Rattle.std.specs.Prelude.{◌≡◌};
+ghost use Rattle.qc_streams.specs.Refusals.{code_of};
+
+use qc_base::{TransportErrorCode, VarInt};
+use qc_recv::Refusal as SideRefusal;
+
+/// Why a frame is refused.
+#[derive(Clone, Copy, Debug, PartialEq, Eq)]
+pub enum Refusal {
+    /// The stream has no such side, or this end hasn't opened it (RFC 9000, sections 19.4 to 19.13).
+    State,
+    /// The peer may not open the stream (RFC 9000, section 4.6).
+    Limit,
+    /// A number of streams exceeds 2^60 (RFC 9000, sections 19.11 and 19.14).
+    Encoding,
+    /// The stream's receiving side refuses it.
+    Side(SideRefusal),
+}
+
+impl Refusal {
+    /// The code that the connection closes with (RFC 9000, section 20.1).
+    pub fn code(self) -> TransportErrorCode
+        ensures { result ≡ code_of self }
+    {
+        match self {
+            Refusal::State => TransportErrorCode::STREAM_STATE_ERROR,
+            Refusal::Limit => TransportErrorCode::STREAM_LIMIT_ERROR,
+            Refusal::Encoding => TransportErrorCode::FRAME_ENCODING_ERROR,
+            Refusal::Side(refusal) => refusal.code(),
+        }
+    }
+}
+
+/// Why a frame wasn't taken.
+#[derive(Clone, Copy, Debug, PartialEq, Eq)]
+pub enum StreamFault {
+    /// The frame is refused.
+    Refused(Refusal),
+    /// Memory ran out.
+    OutOfMemory,
+}
+
+/// The stream is unknown or closed to the application.
+#[derive(Clone, Copy, Debug, PartialEq, Eq)]
+pub struct ClosedStream;
+
+/// Why a read gives no chunk and no end.
+#[derive(Clone, Copy, Debug, PartialEq, Eq)]
+pub enum ReadFault {
+    /// The stream is unknown, stopped, or its end or its reset was told.
+    ClosedStream,
+    /// The stream was read out of order before.
+    IllegalOrderedRead,
+    /// The peer reset the stream, with this code.
+    Reset(VarInt),
+    /// No byte that can be read has come.
+    Blocked,
+    /// Memory ran out.
+    OutOfMemory,
+}

@@ -1,0 +1,186 @@
+//! The application's calls on one side of a stream.
+
+ghost use Rattle.std.specs.Prelude.{◌≡◌, length, take, drop, IfErr, IfOk, OnErr, OnOk, None, Some, is_err};
+ghost use Rattle.qc_recv.specs.Receiving.{IsNext, reset_asked, stop_asked};
+ghost use Rattle.qc_send_stream.specs.Sending.{IsWriteRefusal, after_refusal, finished, part_written, was_reset};
+ghost use Rattle.qc_streams.specs.Calls.{IsRead, IsReadOf, after_read, bars_reset, closed_to, count_taken, fault_of_open, fault_of_read, finish_refusal, if_known, known, reset_of, write_fault};
+ghost use Rattle.qc_streams.specs.Stream.{with_receiving, with_sending};
+
+use crate::fault::{ClosedStream, ReadFault};
+use crate::stream::Stream;
+use bytes::Bytes;
+use qc_base::VarInt;
+use qc_recv::{Chunk, ReadError, ReadableError, Recv};
+use qc_send_stream::{FinishError, SendPart, WriteError};
+
+/// Why a read gives nothing.
+fn read_fault(error: ReadError) -> ReadFault
+    ensures { result ≡ fault_of_read error }
+{
+    match error {
+        ReadError::Reset(code) => ReadFault::Reset(code),
+        ReadError::Blocked => ReadFault::Blocked,
+        ReadError::OutOfMemory => ReadFault::OutOfMemory,
+    }
+}
+
+/// Why a stream can't be read.
+fn closed_fault(error: ReadableError) -> ReadFault
+    ensures { result ≡ fault_of_open error }
+{
+    match error {
+        ReadableError::ClosedStream => ReadFault::ClosedStream,
+        ReadableError::IllegalOrderedRead => ReadFault::IllegalOrderedRead,
+    }
+}
+
+/// Writes on a sending side, unless all of it is acknowledged.
+#[tactic(auto, unfolding(qc_send_stream::specs::Sending::IsWriteRefusal))]
+fn write(sending: &mut SendPart, chunk: &mut Bytes, most: u64) -> Result<usize, WriteError>
+    ensures count { IfOk result (λ n. n ≡ count_taken (length chunk.old) most (known (Some sending.old))) }
+    ensures written { IfOk result (λ n. sending.new ≡ if_known (part_written (take n chunk.old)) sending.old) }
+    ensures rest { IfOk result (λ n. chunk.new ≡ drop n chunk.old) }
+    ensures fits { OnOk result (write_fault most (known (Some sending.old)) ≡ None) }
+    ensures refused { IfErr result (λ e. IsWriteRefusal e (write_fault most (known (Some sending.old)))) }
+    ensures err { IfErr result (λ e. sending.new ≡ if_known (after_refusal e) sending.old) }
+    ensures kept { OnErr result (chunk.new ≡ chunk.old) }
+{
+    if sending.is_done() {
+        return Err(WriteError::ClosedStream);
+    }
+    sending.write(chunk, most)
+}
+
+/// Finishes a sending side, unless all of it is acknowledged.
+fn finish(sending: &mut SendPart) -> Result<(), FinishError>
+    ensures finished { OnOk result (sending.new ≡ if_known finished sending.old) }
+    ensures fits { OnOk result (finish_refusal (known (Some sending.old)) ≡ None) }
+    ensures refused { IfErr result (λ e. finish_refusal (known (Some sending.old)) ≡ Some e) }
+    ensures err { OnErr result (sending.new ≡ sending.old) }
+{
+    if sending.is_done() {
+        return Err(FinishError::ClosedStream);
+    }
+    sending.finish()
+}
+
+/// Resets a sending side, unless all of it is acknowledged.
+fn reset(sending: &mut SendPart, code: VarInt) -> Result<(), ClosedStream>
+    ensures reset { OnOk result (sending.new ≡ if_known (was_reset code) sending.old) }
+    ensures refused { is_err result ≡ bars_reset (known (Some sending.old)) }
+    ensures err { OnErr result (sending.new ≡ sending.old) }
+{
+    if sending.is_done() {
+        return Err(ClosedStream);
+    }
+    match sending.reset(code) {
+        Ok(()) => Ok(()),
+        Err(_) => Err(ClosedStream),
+    }
+}
+
+/// The next bytes of a receiving side.
+#[tactic(auto, unfolding(crate::specs::Calls::IsRead, qc_recv::specs::Receiving::IsNext))]
+fn read(receiving: &mut Recv, ordered: bool, most: usize) -> Result<Option<Chunk>, ReadFault>
+    ensures answer { IsRead most ordered receiving.old result }
+    ensures leads { receiving.new ≡ after_read ordered result receiving.old }
+{
+    if let Err(error) = receiving.open(ordered) {
+        return Err(closed_fault(error));
+    }
+    match receiving.next(most) {
+        Ok(chunk) => Ok(chunk),
+        Err(error) => Err(read_fault(error)),
+    }
+}
+
+impl Stream {
+    /// Writes as many bytes of the chunk's front as fit, no more than `most`.
+    #[tactic(auto, unfolding(crate::specs::Stream::with_sending, qc_send_stream::specs::Sending::IsWriteRefusal))]
+    pub(crate) fn write(&mut self, chunk: &mut Bytes, most: u64) -> Result<usize, WriteError>
+        ensures count { IfOk result (λ n. n ≡ count_taken (length chunk.old) most (known self.old.sending)) }
+        ensures written { IfOk result (λ n. self.new ≡ with_sending (if_known (part_written (take n chunk.old))) self.old) }
+        ensures rest { IfOk result (λ n. chunk.new ≡ drop n chunk.old) }
+        ensures fits { OnOk result (write_fault most (known self.old.sending) ≡ None) }
+        ensures refused { IfErr result (λ e. IsWriteRefusal e (write_fault most (known self.old.sending))) }
+        ensures err { IfErr result (λ e. self.new ≡ with_sending (if_known (after_refusal e)) self.old) }
+        ensures kept { OnErr result (chunk.new ≡ chunk.old) }
+    {
+        match &mut self.sending {
+            Some(sending) => write(sending, chunk, most),
+            None => Err(WriteError::ClosedStream),
+        }
+    }
+
+    /// Finishes the stream.
+    #[tactic(auto, unfolding(crate::specs::Stream::with_sending))]
+    pub(crate) fn finish(&mut self) -> Result<(), FinishError>
+        ensures finished { OnOk result (self.new ≡ with_sending (if_known finished) self.old) }
+        ensures fits { OnOk result (finish_refusal (known self.old.sending) ≡ None) }
+        ensures refused { IfErr result (λ e. finish_refusal (known self.old.sending) ≡ Some e) }
+        ensures err { OnErr result (self.new ≡ self.old) }
+    {
+        match &mut self.sending {
+            Some(sending) => finish(sending),
+            None => Err(FinishError::ClosedStream),
+        }
+    }
+
+    /// Resets the stream.
+    #[tactic(auto, unfolding(crate::specs::Stream::with_sending))]
+    pub(crate) fn reset(&mut self, code: VarInt) -> Result<(), ClosedStream>
+        ensures reset { OnOk result (self.new ≡ with_sending (if_known (was_reset code)) self.old) }
+        ensures refused { is_err result ≡ bars_reset (known self.old.sending) }
+        ensures err { OnErr result (self.new ≡ self.old) }
+    {
+        match &mut self.sending {
+            Some(sending) => reset(sending, code),
+            None => Err(ClosedStream),
+        }
+    }
+
+    /// The next bytes that came.
+    #[tactic(auto, unfolding(crate::specs::Stream::with_receiving, crate::specs::Calls::IsReadOf))]
+    pub(crate) fn read(&mut self, ordered: bool, most: usize) -> Result<Option<Chunk>, ReadFault>
+        ensures answer { IsReadOf most ordered self.old.receiving result }
+        ensures leads { self.new ≡ with_receiving (after_read ordered result) self.old }
+    {
+        match &mut self.receiving {
+            Some(receiving) => read(receiving, ordered, most),
+            None => Err(ReadFault::ClosedStream),
+        }
+    }
+
+    /// Stops the stream.
+    #[tactic(auto, unfolding(crate::specs::Stream::with_receiving))]
+    pub(crate) fn stop(&mut self, code: VarInt) -> Result<(), ClosedStream>
+        ensures stopped { OnOk result (self.new ≡ with_receiving (stop_asked code) self.old) }
+        ensures refused { is_err result ≡ closed_to self.old.receiving }
+        ensures err { OnErr result (self.new ≡ self.old) }
+    {
+        let Some(receiving) = &mut self.receiving else {
+            return Err(ClosedStream);
+        };
+        match receiving.stop(code) {
+            Ok(()) => Ok(()),
+            Err(_) => Err(ClosedStream),
+        }
+    }
+
+    /// The code of the reset that came.
+    #[tactic(auto, unfolding(crate::specs::Stream::with_receiving))]
+    pub(crate) fn received_reset(&mut self) -> Result<Option<VarInt>, ClosedStream>
+        ensures code { IfOk result (λ code. code ≡ reset_of self.old.receiving) }
+        ensures told { OnOk result (self.new ≡ with_receiving reset_asked self.old) }
+        ensures refused { is_err result ≡ closed_to self.old.receiving }
+        ensures err { OnErr result (self.new ≡ self.old) }
+    {
+        let Some(receiving) = &mut self.receiving else {
+            return Err(ClosedStream);
+        };
+        match receiving.received_reset() {
+            Ok(code) => Ok(code),
+            Err(_) => Err(ClosedStream),
+        }
+    }
+}
