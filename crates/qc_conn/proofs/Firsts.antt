@@ -1,11 +1,18 @@
 -- The first datagram of a server, by a call of its own.
-use Rattle.std.proofs.Common.{◌≡◌, ℕ, List, [], ap, ◌∙◌, Bool, true, Option}
+use Rattle.std.proofs.Common.{◌≡◌, ℕ, List, [], ap, sym, ◌∙◌, Bool, true, Option}
+use Rattle.std.specs.Global.{Global}
 use Rattle.std.specs.declared.net.SocketAddr.{SocketAddr}
+use Rattle.bytes.specs.declared.unique.BytesMut.{BytesMut}
 use Rattle.rand_core.specs.Stream.{Stream}
 use Rattle.qc_base.specs.declared.ecn.EcnCodepoint.{EcnCodepoint}
+use Rattle.qc_core.specs.Cutting.{rest_of}
+use Rattle.qc_core.specs.Events.{handed_after, time_of_event}
+use Rattle.qc_core.specs.declared.events.ConnectionEvent.{ConnectionEvent}
+use Rattle.qc_core.specs.declared.events.ConnectionEvent.TheVariants.{Datagram}
+use Rattle.qc_header.specs.Piece.{Piece}
 use Rattle.qc_state.specs.declared.deeds.Did.{Did}
 use Rattle.qc_state.specs.Moves.{Clock, state_move, setup_move}
-use Rattle.qc_state.specs.Receiving.{datagram_after, is_taken}
+use Rattle.qc_state.specs.Receiving.{datagram_after, event_after, is_taken}
 use Rattle.qc_state.specs.Run.{began}
 use Rattle.qc_state.specs.Setup.{is_first_awaited, ideal_setup}
 use Rattle.qc_state.specs.Types.{Types, Meaning}
@@ -27,3 +34,21 @@ module _ {t : Types} (m : Meaning t) where
   unfolding began
   first_leads s mid last now mark remote bytes ds es told none is =
       ap (λ (a : At t). a.state) is ∙ ap (λ (x : List Did). (datagram_after m now mark remote bytes (at mid x)).state) none ∙ ap (λ (v : View t). (datagram_after m now mark remote bytes (at v [])).state) told
+
+-- what a call leads to that is told the time first, and whose deeds no one keeps
+pub told_leads : {t : Types} (f : At t → At t) (s mid last : View t) (now : ℕ) (ds es : List Did) → mid ≡ state_move (Clock now) s → ds ≡ [] → at last es ≡ f (at mid ds) → last ≡ (f (began s now)).state
+unfolding began
+told_leads {t} f s mid last now ds es told none is =
+    ap (λ (a : At t). a.state) is ∙ ap (λ (x : List Did). (f (at mid x)).state) none ∙ ap (λ (v : View t). (f (at v [])).state) told
+
+-- what such a call answers
+pub told_answer : {t : Types} {A : Type 0} (f : At t → A) (s mid : View t) (now : ℕ) (ds : List Did) (answer : A) → mid ≡ state_move (Clock now) s → ds ≡ [] → answer ≡ f (at mid ds) → answer ≡ f (began s now)
+unfolding began
+told_answer {t} f s mid now ds answer told none is = is ∙ ap (λ (x : List Did). f (at mid x)) none ∙ ap (λ (v : View t). f (at v [])) told
+
+-- what an endpoint hands over
+pub event_leads : {t : Types} (m : Meaning t) (event : ConnectionEvent) (now : ℕ) (remote : SocketAddr) (mark : Option EcnCodepoint) (first : Piece) (behind : Option (BytesMut Global)) (s mid last : View t) (ds es : List Did) → event ≡ Datagram now remote mark first behind → mid ≡ state_move (Clock now) s → ds ≡ [] →
+    at last es ≡ event_after m now mark remote first (rest_of behind) (at mid ds) → last ≡ (handed_after m event (began s (time_of_event event))).state
+event_leads {t} m event now remote mark first behind s mid last ds es case told none is =
+    told_leads (event_after m now mark remote first (rest_of behind)) s mid last now ds es told none is
+    ∙ sym (ap (λ (e : ConnectionEvent). (handed_after m e (began s (time_of_event e))).state) case)

@@ -1,11 +1,18 @@
 -- The events that are reported behind a call, one after the other.
-use Rattle.std.proofs.Common.{◌≡◌, List, [], ◌++◌, ap, sym, ◌∙◌, Option}
+use Rattle.std.proofs.Common.{◌≡◌, List, [], ◌++◌, refl, ap, sym, ◌∙◌, Bool, true, false, Option, Some, None, if◌then◌else◌}
 use Rattle.std.proofs.lemmas.List.{append_assoc}
-use Rattle.std.specs.Prelude.{option_to_list}
+use Rattle.std.specs.Prelude.{is_some, option_map, option_to_list}
 use Rattle.qc_state.specs.declared.events.Event.{Event}
+use Rattle.qc_state.specs.declared.events.Event.TheVariants as event
 use Rattle.qc_state.specs.declared.events.EndpointEvent.{EndpointEvent}
-use Rattle.qc_state.specs.Life.{connected_event, drained_event, endpoint_events, lost_event, ready_event, token_event, waiting_events, wanted_event}
-use Rattle.qc_state.specs.Moves.{ReportReady, ReportConnected, ReportLost, ReportToken, ReportWanted, ReportDrained, state_move}
+use Rattle.qc_state.specs.declared.events.EndpointEvent.TheVariants as endpoint
+use Rattle.qc_state.specs.declared.life.ConnectionError.{ConnectionError}
+use Rattle.qc_state.specs.declared.life.Life.{Life}
+use Rattle.qc_state.specs.declared.life.PeerToken.{PeerToken}
+use Rattle.qc_state.specs.declared.life.Wanted.{Wanted}
+use Rattle.qc_state.specs.Life.{connected_event, connected_reported, drained_event, drained_reported, endpoint_events, event_if, lost_event, lost_reported, ready_event, ready_reported, token_event, token_reported, waiting_events, wanted_event, wanted_reported}
+use Rattle.qc_state.specs.Moves.{ReportReady, ReportConnected, ReportLost, ReportToken, ReportWanted, ReportDrained, keys_move, life_move, lower_move, numbers_move, paths_move, setup_move, state_move, timers_move, waiting_move}
+use Rattle.qc_state.specs.Polls.{first_endpoint_event, first_event}
 use Rattle.qc_state.specs.Types.{Types}
 use Rattle.qc_state.specs.View.{View}
 use Rattle.qc_state.proofs.Steps.{endpoint_wait, events_wait}
@@ -42,3 +49,58 @@ module _ {t : Types} where
 
   pub endpoint_leads : (s5 s6 s7 s8 : View t) → s6 ≡ state_move ReportToken s5 → s7 ≡ state_move ReportWanted s6 → s8 ≡ state_move ReportDrained s7 → s8 ≡ state_move ReportDrained (state_move ReportWanted (state_move ReportToken s5))
   endpoint_leads s5 s6 s7 s8 is_s6 is_s7 is_s8 = is_s8 ∙ ap (λ (v : View t). state_move ReportDrained v) (is_s7 ∙ ap (λ (v : View t). state_move ReportWanted v) is_s6)
+
+-- where no event waits first, none of the three does
+none_first : (a b : Bool) (o : Option ConnectionError) → is_some (if a then event_if a event.HandshakeDataReady else if b then event_if b event.Connected else option_map event.ConnectionLost o) ≡ false → (a ≡ false) × (b ≡ false) × (o ≡ None)
+none_first true b o h = cc
+none_first false true o h = cc
+none_first false false (Some why) h = cc
+none_first false false None h = (refl, refl, refl)
+
+-- so it is with the endpoint's
+none_told_first : (o : Option PeerToken) (w : Option Wanted) (d : Bool) →
+    is_some (if is_some o then option_map (λ k. endpoint.ResetToken k.remote k.token) o else if is_some w then option_map (λ k. endpoint.NeedIdentifiers k.now k.count) w else if d then Some endpoint.Drained else None) ≡ false → (o ≡ None) × (w ≡ None) × (d ≡ false)
+none_told_first (Some k) w d h = cc
+none_told_first None (Some k) d h = cc
+none_told_first None None true h = cc
+none_told_first None None false h = (refl, refl, refl)
+
+-- no event waits
+no_events : (v : Life) → is_some (first_event v) ≡ false → (v.ready ≡ false) × (v.connected ≡ false) × (v.lost ≡ None)
+unfolding first_event ready_event connected_event lost_event
+no_events v h = none_first v.ready v.connected v.lost h
+
+no_endpoint_events : (v : Life) → is_some (first_endpoint_event v) ≡ false → (v.reset_token ≡ None) × (v.wanted ≡ None) × (v.drained ≡ false)
+unfolding first_endpoint_event token_event wanted_event drained_event
+no_endpoint_events v h = none_told_first v.reset_token v.wanted v.drained h
+
+pub none_waits : (v : Life) (has : Bool) (es : List Event) → has ≡ is_some (first_event v) → has ≡ false → es ≡ [] → es ≡ waiting_events v
+unfolding waiting_events ready_event connected_event lost_event
+none_waits v has es is none empty = let none = no_events v (sym is ∙ none) in rw (none.0, none.1, none.2) empty
+
+pub none_waits_endpoint : (v : Life) (has : Bool) (es : List EndpointEvent) → has ≡ is_some (first_endpoint_event v) → has ≡ false → es ≡ [] → es ≡ endpoint_events v
+unfolding endpoint_events token_event wanted_event drained_event
+none_waits_endpoint v has es is none empty = let none = no_endpoint_events v (sym is ∙ none) in rw (none.0, none.1, none.2) empty
+
+-- what was reported of a life for which nothing waits is that life
+life_kept : (v : Life) → (v.ready ≡ false) × (v.connected ≡ false) × (v.lost ≡ None) → v ≡ lost_reported (connected_reported (ready_reported v))
+unfolding lost_reported connected_reported ready_reported
+life_kept v none =
+    ap (λ (b : Bool). record v { ready = b }) none.0 ∙ ap (λ (b : Bool). record v { ready = false; connected = b }) none.1
+    ∙ ap (λ (o : Option ConnectionError). record v { ready = false; connected = false; lost = o }) none.2
+
+life_kept_endpoint : (v : Life) → (v.reset_token ≡ None) × (v.wanted ≡ None) × (v.drained ≡ false) → v ≡ drained_reported (wanted_reported (token_reported v))
+unfolding drained_reported wanted_reported token_reported
+life_kept_endpoint v none =
+    ap (λ (o : Option PeerToken). record v { reset_token = o }) none.0 ∙ ap (λ (o : Option Wanted). record v { reset_token = None; wanted = o }) none.1
+    ∙ ap (λ (b : Bool). record v { reset_token = None; wanted = None; drained = b }) none.2
+
+module _ {t : Types} where
+  -- where no event waits, the reports change nothing
+  pub none_leads : (s : View t) (has : Bool) → has ≡ is_some (first_event s.life) → has ≡ false → s ≡ state_move ReportLost (state_move ReportConnected (state_move ReportReady s))
+  unfolding state_move numbers_move keys_move life_move paths_move timers_move waiting_move setup_move lower_move
+  none_leads s has is none = ap (λ (v : Life). record s { life = v }) (life_kept s.life (no_events s.life (sym is ∙ none)))
+
+  pub none_leads_endpoint : (s : View t) (has : Bool) → has ≡ is_some (first_endpoint_event s.life) → has ≡ false → s ≡ state_move ReportDrained (state_move ReportWanted (state_move ReportToken s))
+  unfolding state_move numbers_move keys_move life_move paths_move timers_move waiting_move setup_move lower_move
+  none_leads_endpoint s has is none = ap (λ (v : Life). record s { life = v }) (life_kept_endpoint s.life (no_endpoint_events s.life (sym is ∙ none)))

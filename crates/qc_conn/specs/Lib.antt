@@ -1,3 +1,4 @@
 pub mod Refusal
 pub mod RefusedText
 pub mod Seen
+pub mod Opened

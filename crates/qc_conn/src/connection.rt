@@ -1,9 +1,13 @@
 //! A connection and its calls.
 
-ghost use Rattle.std.specs.Prelude.{◌≡◌, ◌≤◌, [], true, false, Err, OnOk, OnErr, IfOk};
+ghost use Rattle.std.specs.Prelude.{◌≡◌, ◌<◌, ◌≤◌, [], true, false, length, Err, OnOk, OnErr, IfOk, IfSome};
 ghost use Rattle.qc_text.specs.OneText.{IsPlainAddress, IsPlainStart};
+ghost use Rattle.qc_conn.specs.Opened.{OnDone, lost_of};
 ghost use Rattle.qc_conn.specs.Seen.{Sends};
-ghost use Rattle.qc_state.specs.Receiving.{datagram_after, is_taken};
+ghost use Rattle.qc_core.specs.Cutting.{rest_of};
+ghost use Rattle.qc_core.specs.Events.{LeavesBytes, handed_after, time_of_event};
+ghost use Rattle.qc_core.specs.FirstPacket.{IsFirstPacket, first_reason, size_of};
+ghost use Rattle.qc_state.specs.Receiving.{datagram_after, first_packet_after, is_taken};
 ghost use Rattle.qc_state.specs.Setup.{is_first_awaited};
 ghost use Rattle.qc_state.specs.First.{first_view, server_view, fixed_of};
 ghost use Rattle.qc_state.specs.Moves.{Ask, state_move};
@@ -13,12 +17,13 @@ ghost use Rattle.qc_state.specs.Timers.{next_timeout};
 ghost use Rattle.qc_state.specs.Types.{meaning};
 ghost use Rattle.qc_state.specs.View.{at, ideal};
 
-use crate::steps::{core_first, core_send, core_step};
+use crate::steps::{core_event, core_first, core_first_packet, core_send, core_step};
 use bytes::{Bytes, BytesMut};
 use qc_base::{EcnCodepoint, Fault, Instant, Side, SpaceId, VarInt};
 use qc_config::TokenStore;
-use qc_core::{ClientSetup, Core, ServerSetup};
-use qc_state::{EndpointEvent, Event, Input, Step, Suite, Transmit};
+use qc_core::{ClientSetup, ConnectionEvent, Core, ServerSetup};
+use qc_header::InitialPacket;
+use qc_state::{ConnectionError, EndpointEvent, Event, Input, Step, Suite, Transmit};
 use std::alloc::{AllocError, Global};
 use std::marker::Model;
 use std::net::SocketAddr;
@@ -31,6 +36,15 @@ use std::net::SocketAddr;
 pub struct Connection<U: Suite> {
     core: Core<U>,
     failed: bool,
+}
+
+/// Why a server that was handed its first packet doesn't go on.
+#[derive(Drop)]
+pub enum FirstError {
+    /// The packet gave this reason for the connection's end. The connection reports it as well, once.
+    Lost(ConnectionError),
+    /// The call gave up.
+    Fault(Fault),
 }
 
 impl<U: Suite> Model for Connection<U> {
@@ -127,6 +141,93 @@ impl<U: Suite> Connection<U> {
             Err(_) => {
                 self.failed = true;
                 Err(Fault::OutOfMemory)
+            }
+        }
+    }
+
+    /// An endpoint hands over what came: a datagram that it cut with this connection's version, the length of its ids and its
+    /// word on the fixed bit, as `PartialDecode::new` gave its first packet and what is behind it. The datagram does what it does
+    /// whole at an end that doesn't wait for its first packet. So far nothing goes into the store.
+    ///
+    /// # Errors
+    ///
+    /// `OutOfMemory` for want of memory; the connection is then marked as failed. `Failed` exactly where it was marked
+    /// before; then nothing changes.
+    pub fn handle_event<G: TokenStore>(
+        &mut self,
+        alloc: Global,
+        event: ConnectionEvent,
+        store: &mut G,
+    ) -> Result<(), Fault>
+        requires heard { is_first_awaited self.old.core.setup ≡ false }
+        requires some { LeavesBytes event }
+        ensures leads { OnOk result ((ideal U.Random.stream self.new.core) ≡ (handed_after (meaning U.Session.Session U.Session.HeaderKey.HeaderMask U.Session.PacketKey.PacketKey) event (began (ideal U.Random.stream self.old.core) (time_of_event event))).state) }
+        ensures alive { OnOk result (self.new.failed ≡ false) }
+        ensures failed { self.old.failed ≡ true → (result ≡ Err Fault.Failed) × (self.new ≡ self.old) }
+        ensures cause { result ≡ Err Fault.Failed → self.old.failed ≡ true }
+        ensures memory { result ≡ Err Fault.OutOfMemory → self.new.failed ≡ true }
+        ensures store { store.new ≡ store.old }
+    {
+        let _store = store;
+        if self.failed {
+            return Err(Fault::Failed);
+        }
+        match core_event(&mut self.core, alloc, event) {
+            Ok(()) => Ok(()),
+            Err(_) => {
+                self.failed = true;
+                Err(Fault::OutOfMemory)
+            }
+        }
+    }
+
+    /// An endpoint hands a server its first packet, which it opened itself: the packet came from `remote` at `now` in front of
+    /// `remaining`. The endpoint has seen that it opens under the Initial keys of the packet's destination id, with this whole number,
+    /// and that its reserved bits are 0: of an opened packet this can't be seen any more. Its token is then expected of the
+    /// client's other Initial packets, it does what a packet does that opened, and so do the packets behind it.
+    ///
+    /// # Errors
+    ///
+    /// `Lost` exactly where this packet gave a reason for the connection's end; all is done then as well, and the reason is
+    /// reported by `poll` too. `OutOfMemory` for want of memory; the connection is then marked as failed. `Failed` exactly
+    /// where it was marked before; then nothing changes.
+    pub fn handle_first_packet(
+        &mut self,
+        alloc: Global,
+        now: Instant,
+        remote: SocketAddr,
+        ecn: Option<EcnCodepoint>,
+        packet_number: u64,
+        packet: InitialPacket,
+        remaining: Option<BytesMut>,
+    ) -> Result<(), FirstError>
+        requires first { IsFirstPacket self.old.core remote packet_number packet (rest_of remaining) }
+        requires some { IfSome remaining (λ b. 0 < length b.items) }
+        ensures answer { OnDone result (lost_of result ≡ first_reason (meaning U.Session.Session U.Session.HeaderKey.HeaderMask U.Session.PacketKey.PacketKey) now ecn packet.header.src_cid packet.header.token packet_number packet.payload.items (began (ideal U.Random.stream self.old.core) now)) }
+        ensures leads { OnDone result ((ideal U.Random.stream self.new.core) ≡ (first_packet_after (meaning U.Session.Session U.Session.HeaderKey.HeaderMask U.Session.PacketKey.PacketKey) now ecn packet.header.src_cid packet.header.token packet_number packet.payload.items (rest_of remaining) (size_of packet (rest_of remaining)) (began (ideal U.Random.stream self.old.core) now)).state) }
+        ensures alive { OnDone result (self.new.failed ≡ false) }
+        ensures failed { self.old.failed ≡ true → (result ≡ Err (FirstError.Fault Fault.Failed)) × (self.new ≡ self.old) }
+        ensures cause { result ≡ Err (FirstError.Fault Fault.Failed) → self.old.failed ≡ true }
+        ensures memory { result ≡ Err (FirstError.Fault Fault.OutOfMemory) → self.new.failed ≡ true }
+    {
+        let _path = remote;
+        if self.failed {
+            return Err(FirstError::Fault(Fault::Failed));
+        }
+        match core_first_packet(
+            &mut self.core,
+            alloc,
+            now,
+            ecn,
+            packet_number,
+            packet,
+            remaining,
+        ) {
+            Ok(None) => Ok(()),
+            Ok(Some(why)) => Err(FirstError::Lost(why)),
+            Err(_) => {
+                self.failed = true;
+                Err(FirstError::Fault(Fault::OutOfMemory))
             }
         }
     }

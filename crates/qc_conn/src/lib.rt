@@ -3,14 +3,16 @@
 
 mod connection;
 mod driving;
+#[cfg(test)]
+mod event_tests;
 mod laws;
 mod steps;
 #[cfg(test)]
 mod tests;
 pub mod text;
 
-pub use connection::Connection;
+pub use connection::{Connection, FirstError};
 pub use driving::{BadWhy, DriveError, DriveKind, drive};
 pub use laws::text_tells_run;
-pub use qc_core::{ClientSetup, ServerSetup};
+pub use qc_core::{ClientSetup, ConnectionEvent, ServerSetup};
 pub use qc_state::negotiate_max_idle_timeout;

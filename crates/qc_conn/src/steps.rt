@@ -1,10 +1,13 @@
 //! One input of a driven connection: its call, and the reports after it.
 
-ghost use Rattle.std.specs.Prelude.{◌≡◌, ◌≤◌, ◌++◌, [], true, OnOk, IfOk, option_to_list};
+ghost use Rattle.std.specs.Prelude.{◌≡◌, ◌<◌, ◌≤◌, ◌++◌, [], true, length, OnOk, IfOk, IfSome, option_to_list};
 ghost use Rattle.qc_conn.specs.Seen.{Sends};
+ghost use Rattle.qc_core.specs.Cutting.{rest_of};
+ghost use Rattle.qc_core.specs.Events.{LeavesBytes, handed_after, time_of_event};
+ghost use Rattle.qc_core.specs.FirstPacket.{first_reason, size_of};
 ghost use Rattle.qc_state.specs.Life.{waiting_events, endpoint_events};
 ghost use Rattle.qc_state.specs.Moves.{ReportReady, ReportConnected, ReportLost, ReportToken, ReportWanted, ReportDrained, state_move};
-ghost use Rattle.qc_state.specs.Receiving.{datagram_after, is_taken};
+ghost use Rattle.qc_state.specs.Receiving.{datagram_after, first_packet_after, is_taken};
 ghost use Rattle.qc_state.specs.Setup.{is_first_awaited};
 ghost use Rattle.qc_state.specs.Run.{began, time_of, word_of, out_of, close_after, Calls, IsStep};
 ghost use Rattle.qc_state.specs.Types.{meaning};
@@ -12,10 +15,12 @@ ghost use Rattle.qc_state.specs.View.{ideal, held};
 
 use bytes::{Bytes, BytesMut};
 use qc_base::{EcnCodepoint, Instant, VarInt};
-use qc_core::Core;
+use qc_core::{ConnectionEvent, Core};
+use qc_header::InitialPacket;
 use qc_send::transmit;
 use qc_state::{
-    Answer, Body, Dids, EndpointEvents, Event, Events, Input, Step, Suite, Transmit, Word,
+    Answer, Body, ConnectionError, Dids, EndpointEvents, Event, Events, Input, Step, Suite,
+    Transmit, Word,
 };
 use std::alloc::{AllocError, Global};
 use std::net::SocketAddr;
@@ -69,6 +74,52 @@ pub(crate) fn core_first<U: Suite>(
     core.clock(now);
     let taken = core.first_datagram(alloc, &mut did, now, mark, remote, bytes)?;
     Ok(taken)
+}
+
+/// An endpoint hands over what came, whose deeds no one keeps.
+pub(crate) fn core_event<U: Suite>(
+    core: &mut Core<U>,
+    alloc: Global,
+    event: ConnectionEvent,
+) -> Result<(), AllocError>
+    requires { LeavesBytes event }
+    ensures { OnOk result ((ideal U.Random.stream core.new) ≡ (handed_after (meaning U.Session.Session U.Session.HeaderKey.HeaderMask U.Session.PacketKey.PacketKey) event (began (ideal U.Random.stream core.old) (time_of_event event))).state) }
+{
+    let mut did = Dids::new(alloc);
+    match event {
+        ConnectionEvent::Datagram {
+            now,
+            remote,
+            ecn,
+            first_decode,
+            remaining,
+        } => {
+            core.clock(now);
+            core.event(alloc, &mut did, now, ecn, remote, first_decode, remaining)?;
+            Ok(())
+        }
+    }
+}
+
+/// A server's first packet came at `now`, which opened with this number, and what is behind it; no one keeps the deeds.
+/// Answers the reason for the end that the packet gave.
+pub(crate) fn core_first_packet<U: Suite>(
+    core: &mut Core<U>,
+    alloc: Global,
+    now: Instant,
+    mark: Option<EcnCodepoint>,
+    number: u64,
+    packet: InitialPacket,
+    behind: Option<BytesMut>,
+) -> Result<Option<ConnectionError>, AllocError>
+    requires { IfSome behind (λ b. 0 < length b.items) }
+    ensures answer { IfOk result (λ why. why ≡ first_reason (meaning U.Session.Session U.Session.HeaderKey.HeaderMask U.Session.PacketKey.PacketKey) now mark packet.header.src_cid packet.header.token number packet.payload.items (began (ideal U.Random.stream core.old) now)) }
+    ensures leads { OnOk result ((ideal U.Random.stream core.new) ≡ (first_packet_after (meaning U.Session.Session U.Session.HeaderKey.HeaderMask U.Session.PacketKey.PacketKey) now mark packet.header.src_cid packet.header.token number packet.payload.items (rest_of behind) (size_of packet (rest_of behind)) (began (ideal U.Random.stream core.old) now)).state) }
+{
+    let mut did = Dids::new(alloc);
+    core.clock(now);
+    let why = core.first_packet(alloc, &mut did, now, mark, number, packet, behind)?;
+    Ok(why)
 }
 
 /// A transmit at `now`.
@@ -200,8 +251,8 @@ fn report_next(event: Option<Event>, events: &mut Events) -> Result<(), AllocErr
     }
 }
 
-/// What waits to be reported to the application.
-fn report_events<U: Suite>(core: &mut Core<U>, alloc: Global) -> Result<Events, AllocError>
+/// What waits to be reported to the application, one after the other.
+fn take_events<U: Suite>(core: &mut Core<U>, alloc: Global) -> Result<Events, AllocError>
     ensures events { IfOk result (λ events. events ≡ waiting_events core.old.life) }
     ensures leads { OnOk result ((ideal U.Random.stream core.new) ≡ state_move ReportLost (state_move ReportConnected (state_move ReportReady (ideal U.Random.stream core.old)))) }
 {
@@ -212,8 +263,20 @@ fn report_events<U: Suite>(core: &mut Core<U>, alloc: Global) -> Result<Events, 
     Ok(events)
 }
 
-/// What waits to be reported to the endpoint.
-fn report_endpoint<U: Suite>(
+/// What waits to be reported to the application; mostly nothing does.
+#[tactic(auto, using(crate::proofs::Reports::none_waits, crate::proofs::Reports::none_leads))]
+fn report_events<U: Suite>(core: &mut Core<U>, alloc: Global) -> Result<Events, AllocError>
+    ensures events { IfOk result (λ events. events ≡ waiting_events core.old.life) }
+    ensures leads { OnOk result ((ideal U.Random.stream core.new) ≡ state_move ReportLost (state_move ReportConnected (state_move ReportReady (ideal U.Random.stream core.old)))) }
+{
+    if core.has_events() {
+        return take_events(core, alloc);
+    }
+    Ok(Events::new(alloc))
+}
+
+/// What waits to be reported to the endpoint, one after the other.
+fn take_endpoint_events<U: Suite>(
     core: &mut Core<U>,
     alloc: Global,
 ) -> Result<EndpointEvents, AllocError>
@@ -225,6 +288,21 @@ fn report_endpoint<U: Suite>(
     events.push(core.poll_wanted())?;
     events.push(core.poll_drained())?;
     Ok(events)
+}
+
+/// What waits to be reported to the endpoint; mostly nothing does.
+#[tactic(auto, using(crate::proofs::Reports::none_waits_endpoint, crate::proofs::Reports::none_leads_endpoint))]
+fn report_endpoint<U: Suite>(
+    core: &mut Core<U>,
+    alloc: Global,
+) -> Result<EndpointEvents, AllocError>
+    ensures events { IfOk result (λ events. events ≡ endpoint_events core.old.life) }
+    ensures leads { OnOk result ((ideal U.Random.stream core.new) ≡ state_move ReportDrained (state_move ReportWanted (state_move ReportToken (ideal U.Random.stream core.old)))) }
+{
+    if core.has_endpoint_events() {
+        return take_endpoint_events(core, alloc);
+    }
+    Ok(EndpointEvents::new(alloc))
 }
 
 /// The kind of an input.

@@ -1,6 +1,7 @@
 //! Clients of toy sessions, at the start and near the limit of packet numbers.
 
-ghost use Rattle.std.specs.Prelude.{◌≡◌, IfOk, IfSome};
+ghost use Rattle.std.specs.Prelude.{◌≡◌, false, IfOk, IfSome};
+ghost use Rattle.qc_state.specs.Setup.{is_first_awaited};
 
 use crate::connection::Connection;
 use crate::driving::{DriveKind, drive};
@@ -18,7 +19,7 @@ use std::default::Default;
 use std::net::{IpAddr, Ipv4Addr, SocketAddr};
 use std::test::Fail;
 
-struct Toy;
+pub(crate) struct Toy;
 
 impl Suite for Toy {
     type Session = ToySession;
@@ -63,19 +64,28 @@ fn setup(alloc: Global) -> Option<ClientSetup<Toy>>
 }
 
 /// A client made at time 0.
-#[tactic(auto, unfolding(qc_state::specs::First::first_view))]
+#[tactic(auto, unfolding(qc_state::specs::First::first_view, qc_state::specs::Setup::is_first_awaited))]
 fn fresh(alloc: Global, setup: ClientSetup<Toy>) -> Result<Connection<Toy>, AllocError>
     requires fresh { ⟦<ToySession as Session>⟧.is_fresh setup.session }
     requires client { setup.session.side ≡ Side.Client }
-    ensures { IfOk result (λ client. client.core.timers.greatest ≡ 0) }
+    ensures greatest { IfOk result (λ client. client.core.timers.greatest ≡ 0) }
+    ensures heard { IfOk result (λ client. is_first_awaited client.core.setup ≡ false) }
 {
     let start = Instant::from_nanos(0);
     let client = Connection::new_client(alloc, setup, &mut NoneTokenStore, start)?;
     Ok(client)
 }
 
+/// A client made at time 0, which waits for no first packet.
+pub(crate) fn fresh_client(alloc: Global) -> Option<Connection<Toy>>
+    ensures { IfSome result (λ client. is_first_awaited client.core.setup ≡ false) }
+{
+    let setup = setup(alloc)?;
+    fresh(alloc, setup).ok()
+}
+
 /// A client made at time 0 whose next Initial packet has this number.
-fn client_at(alloc: Global, number: u64) -> Option<Connection<Toy>>
+pub(crate) fn client_at(alloc: Global, number: u64) -> Option<Connection<Toy>>
     ensures { IfSome result (λ client. client.core.timers.greatest ≡ 0) }
 {
     let setup = setup(alloc)?;

@@ -1,5 +1,5 @@
 -- The peer's parameters are read.
-use Rattle.std.proofs.Common.{◌≡◌, ℕ, List, ap, sym, ◌∙◌, Bool, true, false, Option, Some, None, Result, Ok, Err}
+use Rattle.std.proofs.Common.{◌≡◌, ℕ, List, ap, sym, ◌∙◌, Bool, true, false, Option, Some, None, Result, Ok}
 use Rattle.std.specs.Prelude.{if◌then◌else◌}
 use Rattle.qc_base.specs.declared.transport_error.TransportError.{TransportError}
 use Rattle.qc_params.specs.declared.params.TransportParameters.{TransportParameters}

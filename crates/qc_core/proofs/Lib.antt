@@ -13,3 +13,4 @@ mod Established
 mod FirstDatagrams
 mod Elicits
 mod Accepts
+mod Handed

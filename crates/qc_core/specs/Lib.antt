@@ -1,3 +1,5 @@
 pub mod Behind
 pub mod Cutting
 pub mod Reading
+pub mod Events
+pub mod FirstPacket

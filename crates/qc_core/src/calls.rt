@@ -1,6 +1,6 @@
 //! The calls of a connection.
 
-ghost use Rattle.std.specs.Prelude.{◌≡◌, ◌<◌, ◌^◌, ◌≤◌, [], length, OnOk, IfOk};
+ghost use Rattle.std.specs.Prelude.{◌≡◌, ◌<◌, ◌^◌, ◌≤◌, [], length, is_some, OnOk, IfOk};
 ghost use Rattle.qc_state.specs.Life.{is_open, ready_event, connected_event, lost_event, token_event, wanted_event, drained_event};
 ghost use Rattle.qc_state.specs.Moves.{Clock, Ask, ReportReady, ReportConnected, ReportLost, ReportToken, ReportWanted, ReportDrained, move_to, state_move};
 ghost use Rattle.qc_state.specs.Polls.{first_endpoint_event, first_event, polled, polled_endpoint};
@@ -69,6 +69,14 @@ impl<U: Suite> Core<U> {
         self.do_report_lost()
     }
 
+    /// Whether an event for the application waits.
+    #[tactic(auto, unfolding(qc_state::specs::Polls::first_event, qc_state::specs::Life::ready_event, qc_state::specs::Life::connected_event, qc_state::specs::Life::lost_event))]
+    pub fn has_events(&self) -> bool
+        ensures { result ≡ is_some (first_event self.now.life) }
+    {
+        self.life.ready || (self.life.connected || self.life.lost.is_some())
+    }
+
     /// The next event for the application. None exactly where none waits.
     #[tactic(auto, unfolding(qc_state::specs::Polls::first_event, qc_state::specs::Polls::polled))]
     pub fn poll(&mut self) -> Option<Event>
@@ -106,6 +114,14 @@ impl<U: Suite> Core<U> {
         ensures leads { (ideal U.Random.stream self.new) ≡ state_move ReportDrained (ideal U.Random.stream self.old) }
     {
         self.do_report_drained()
+    }
+
+    /// Whether an event for the endpoint waits.
+    #[tactic(auto, unfolding(qc_state::specs::Polls::first_endpoint_event, qc_state::specs::Life::token_event, qc_state::specs::Life::wanted_event, qc_state::specs::Life::drained_event))]
+    pub fn has_endpoint_events(&self) -> bool
+        ensures { result ≡ is_some (first_endpoint_event self.now.life) }
+    {
+        self.life.reset_token.is_some() || (self.life.wanted.is_some() || self.life.drained)
     }
 
     /// The next event for the endpoint. None exactly where none waits.

@@ -4,6 +4,7 @@
 mod admitting;
 mod calls;
 mod client;
+mod events;
 mod handshake;
 mod making;
 mod moves;
@@ -14,5 +15,6 @@ mod server;
 pub mod state;
 
 pub use client::ClientSetup;
+pub use events::ConnectionEvent;
 pub use server::ServerSetup;
 pub use state::Core;

@@ -72,7 +72,7 @@ ghost use Rattle.qc_state.specs.Setup.{is_first_awaited};
 impl<U: Suite> Core<U> {
     /// How datagrams are cut into packets.
     #[tactic(auto, unfolding(qc_state::specs::Setup::ideal_setup), using(crate::proofs::Cuts::cuts_is))]
-    fn cutting(&self) -> Cutting
+    pub(crate) fn cutting(&self) -> Cutting
         ensures cuts { Cuts (ideal U.Random.stream self.now) result }
         ensures fits { result.local_cid_len ≤ 20 }
     {
@@ -145,7 +145,7 @@ impl<U: Suite> Core<U> {
     }
 
     /// The packets of a datagram behind its first one. Want of memory is the only refusal.
-    fn others(
+    pub(crate) fn others(
         &mut self,
         alloc: Global,
         did: &mut Dids,
@@ -172,7 +172,7 @@ impl<U: Suite> Core<U> {
     }
 
     /// The packets of a datagram: the first one, and those behind it. Want of memory is the only refusal.
-    fn pieces(
+    pub(crate) fn pieces(
         &mut self,
         alloc: Global,
         did: &mut Dids,
@@ -349,7 +349,7 @@ impl<U: Suite> Core<U> {
 
     /// Whether datagrams from this address count.
     #[tactic(auto, unfolding(qc_state::specs::Receiving::lets_in))]
-    fn lets_in(&self, remote: SocketAddr) -> bool
+    pub(crate) fn lets_in(&self, remote: SocketAddr) -> bool
         ensures { result ≡ lets_in (ideal U.Random.stream self.now) remote }
     {
         !self.life.is_over() && same_address(self.paths.remote, remote)

@@ -66,7 +66,7 @@ both true b h k = k
 both false b h k = h
 
 -- what the tests of a server's first datagram say
-tests_hold : (going long same : Bool) (o : Option (List ℕ)) (token : List ℕ) → (if going && (long && same) then o else None) ≡ Some token → (going ≡ true) × (same ≡ true) × (o ≡ Some token)
+pub tests_hold : (going long same : Bool) (o : Option (List ℕ)) (token : List ℕ) → (if going && (long && same) then o else None) ≡ Some token → (going ≡ true) × (same ≡ true) × (o ≡ Some token)
 tests_hold true true true o token h = (refl, refl, h)
 tests_hold true true false o token h = cc
 tests_hold true false same o token h = cc
@@ -82,7 +82,7 @@ second_fails true b h = h
 second_fails false b h = refl
 
 -- each deed of a list is harmless
-all_harmless : (ds : List Did) → All (λ d. is_harmless d ≡ true) ds → list_all is_harmless ds ≡ true
+pub all_harmless : (ds : List Did) → All (λ d. is_harmless d ≡ true) ds → list_all is_harmless ds ≡ true
 all_harmless [] h = refl
 all_harmless (d ∷ ds) h =
     let first : is_harmless d ≡ true = All-head (λ d. is_harmless d ≡ true) d ds h in
@@ -110,7 +110,7 @@ opened_by_row true false false false = refl
 opened_by_row false closed early other = refl
 
 -- the handshake goes on, so the connection isn't over
-not_over : (s : State) → is_handshake s ≡ true → is_over s ≡ false
+pub not_over : (s : State) → is_handshake s ≡ true → is_over s ≡ false
 not_over state.Handshake h = refl
 not_over state.Established h = cc
 not_over state.Closed h = cc
@@ -143,7 +143,7 @@ reported_again v = refl
 
 module _ {t : Types} where
   -- only counts changed, and nothing was reported
-  record Same (s s' : View t) : Type 0 where
+  pub record Same (s s' : View t) : Type 0 where
     pub numbers : s'.numbers ≡ s.numbers
     pub keys : s'.keys ≡ record s.keys { failures = s'.keys.failures }
     pub life : s'.life ≡ s.life
@@ -171,6 +171,10 @@ module _ {t : Types} where
   -- the same where what waited to be reported was reported
   counts_here : (s : View t) → OnlyCounts s s
   counts_here s = record { numbers = refl; keys = refl; life = refl; paths = refl; timers = refl; waiting = refl; setup = refl; lower = refl }
+
+  pub same_counts : (s s' : View t) → Same s s' → OnlyCounts s s'
+  unfolding reported state_move numbers_move keys_move life_move paths_move timers_move waiting_move setup_move lower_move
+  same_counts s s' h = record { numbers = h.numbers; keys = h.keys; life = ap life_reported h.life; paths = h.paths; timers = h.timers; waiting = h.waiting; setup = h.setup; lower = h.lower }
 
   counts_next : (r s u : View t) → OnlyCounts r s → OnlyCounts s u → OnlyCounts r u
   counts_next r s u g h = record {
@@ -226,7 +230,7 @@ module _ {t : Types} where
   harmed_move x a harm = record { since = deeds_move x a.state; appended = told_appends a.did (deeds_move x a.state); harmful = harm }
 
   -- deeds were added, and where all of them are harmless, only counts changed
-  record Tame (a b : At t) : Type 0 where
+  pub record Tame (a b : At t) : Type 0 where
     pub since : List Did
     pub appended : b.did ≡ a.did ++ since
     pub same : list_all is_harmless since ≡ true → Same a.state b.state
@@ -381,12 +385,12 @@ module _ {t : Types} where
   harmed_piece m time mark p token a over is_initial opened = rw over (harmed_opening m time mark (space_of p.header) space.Initial (opening_of m a.state p) token a is_initial opened)
 
   -- that a token is expected leaves what opens
-  same_opening : (m : Meaning t) (s : View t) (token : List ℕ) (p : Piece) → opening_of m (state_move (Expect token) s) p ≡ opening_of m s p
+  pub same_opening : (m : Meaning t) (s : View t) (token : List ℕ) (p : Piece) → opening_of m (state_move (Expect token) s) p ≡ opening_of m s p
   unfolding opening_of state_move numbers_move keys_move
   same_opening m s token p = refl
 
   -- a packet with a token has the form of a first one, and opened
-  first_ids : (m : Meaning t) (s : View t) (p : Piece) (token : List ℕ) (b : Bool) → (if b then opened_token (opening_of m s p) else None) ≡ Some token → b ≡ true
+  pub first_ids : (m : Meaning t) (s : View t) (p : Piece) (token : List ℕ) (b : Bool) → (if b then opened_token (opening_of m s p) else None) ≡ Some token → b ≡ true
   first_ids m s p token true h = refl
   first_ids m s p token false h = cc
 
@@ -394,7 +398,7 @@ module _ {t : Types} where
   first_opened m s p token true h = h
   first_opened m s p token false h = cc
 
-  first_space : (s : View t) (p : Piece) → has_first_ids s p.header ≡ true → space_of p.header ≡ Some space.Initial
+  pub first_space : (s : View t) (p : Piece) → has_first_ids s p.header ≡ true → space_of p.header ≡ Some space.Initial
   unfolding has_first_ids
   first_space s p h = initial_space s.setup.fixed.first_cid s.paths.remote_cid p.header h
 
@@ -423,7 +427,7 @@ module _ {t : Types} where
   items_read m s bytes token (Err fault ∷ items) e h = cc
   items_read m s bytes token (Ok p ∷ items) e h = within_read (length bytes) (length s.setup.fixed.local_cid) (s.setup.fixed.version ∷ []) s.setup.fixed.grease_quic_bit bytes p items e
 
-  let_in : (s : View t) (remote : SocketAddr) → is_handshake s.life.state ≡ true → same_address s.paths.remote remote ≡ true → lets_in s remote ≡ true
+  pub let_in : (s : View t) (remote : SocketAddr) → is_handshake s.life.state ≡ true → same_address s.paths.remote remote ≡ true → lets_in s remote ≡ true
   unfolding lets_in
   let_in s remote going same = let on : is_over s.life.state ≡ false = not_over s.life.state going in rw (on, same) refl
 
@@ -432,7 +436,7 @@ module _ {t : Types} where
   unfolding is_readable state_move setup_move token_expected
   expected_readable s token bytes = refl
 
-  expected_lets : (s : View t) (token : List ℕ) (remote : SocketAddr) → lets_in (state_move (Expect token) s) remote ≡ lets_in s remote
+  pub expected_lets : (s : View t) (token : List ℕ) (remote : SocketAddr) → lets_in (state_move (Expect token) s) remote ≡ lets_in s remote
   unfolding lets_in state_move life_move paths_move
   expected_lets s token remote = refl
 
@@ -469,7 +473,7 @@ module _ {t : Types} where
   datagram_by m time mark remote bytes a true = tame_first m time mark remote bytes (first_token m a.state remote bytes) a refl
   datagram_by m time mark remote bytes a false = tame_heard m time mark remote bytes a
 
-  tame_datagram : (m : Meaning t) (time : ℕ) (mark : Option EcnCodepoint) (remote : SocketAddr) (bytes : List ℕ) (a : At t) → Tame a (datagram_after m time mark remote bytes a)
+  pub tame_datagram : (m : Meaning t) (time : ℕ) (mark : Option EcnCodepoint) (remote : SocketAddr) (bytes : List ℕ) (a : At t) → Tame a (datagram_after m time mark remote bytes a)
   unfolding datagram_after
   tame_datagram m time mark remote bytes a = datagram_by m time mark remote bytes a (is_first_awaited a.state.setup)
 

@@ -1,8 +1,10 @@
+pub mod Addresses
 pub mod Arrivals
 pub mod AckLemmas
 pub mod AcksAccepted
 pub mod AcksBefore
 mod AcksKnown
+pub mod DatagramLaws
 pub mod Expansions
 pub mod HarmlessBytes
 pub mod Joins
@@ -17,3 +19,4 @@ mod ToldReceiving
 pub mod WaitingLemmas
 pub mod Taking
 pub mod Ready
+pub mod WholeDatagrams

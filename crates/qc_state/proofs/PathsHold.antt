@@ -279,7 +279,7 @@ module _ {t : Types} where
   datagram_by m time mark from bytes token s true = holds_first m time mark from bytes token s
   datagram_by m time mark from bytes token s false = holds_heard m time mark from bytes s
 
-  path_datagram : (m : Meaning t) (time : ℕ) (mark : Option EcnCodepoint) (from : SocketAddr) (bytes : List ℕ) (s : View t) →
+  pub path_datagram : (m : Meaning t) (time : ℕ) (mark : Option EcnCodepoint) (from : SocketAddr) (bytes : List ℕ) (s : View t) →
       let r : At t = datagram_after m time mark from bytes (at s []) in PathHolds (if same_address s.paths.remote from then length bytes else 0) r.did s.paths r.state.paths
   unfolding datagram_after
   path_datagram m time mark from bytes s = datagram_by m time mark from bytes (first_token m s from bytes) s (is_first_awaited s.setup)

@@ -1,4 +1,5 @@
 pub mod Acks
+pub mod DatagramLaws
 pub mod Expansion
 pub mod First
 pub mod Flight

@@ -1,17 +1,27 @@
 //! What follows from the laws of runs.
 
-ghost use Rattle.std.specs.Prelude.{◌≡◌, ◌⊎◌, ◌∷◌, ◌++◌, ℕ, length, Bool, true, false, List};
+ghost use Rattle.std.specs.Prelude.{◌≡◌, ◌⊎◌, ◌∷◌, ◌++◌, ℕ, length, Bool, true, false, if◌then◌else◌, List, [], Option, Some, Ok};
+ghost use Rattle.std.specs.declared.net.SocketAddr.{SocketAddr};
+ghost use Rattle.qc_base.specs.declared.ecn.EcnCodepoint.{EcnCodepoint};
 ghost use Rattle.qc_base.specs.declared.side.SpaceId.{SpaceId};
 ghost use Rattle.qc_frame.specs.Frame.{FrameValue};
+ghost use Rattle.qc_header.specs.HeaderReading.{piece_at};
+ghost use Rattle.qc_header.specs.Piece.{Piece};
 ghost use Rattle.qc_path.specs.Arrived.{Remembers, Window, is_among};
+ghost use Rattle.qc_state.specs.DatagramLaws.{DatagramHolds};
 ghost use Rattle.qc_state.specs.Headline.{deeds_of, accepted_in, AcksOnly, EachAcksKnown, EachNew, Harmless, IsKept, NoneTwice};
+ghost use Rattle.qc_state.specs.Opening.{opening_of};
 ghost use Rattle.qc_state.specs.PathLaws.{PathHolds, all_from};
+ghost use Rattle.qc_state.specs.Paths.{same_address};
+ghost use Rattle.qc_state.specs.Receiving.{datagram_after, event_after, first_packet_after, first_token};
 ghost use Rattle.qc_state.specs.Run.{Run, placed_behind};
+ghost use Rattle.qc_state.specs.Setup.{is_first_awaited};
 ghost use Rattle.qc_state.specs.Types.{meaning};
-ghost use Rattle.qc_state.specs.View.{View};
+ghost use Rattle.qc_state.specs.View.{View, At, at};
 ghost use Rattle.qc_state.specs.declared.deeds.Did.{Did};
 ghost use Rattle.qc_state.specs.declared.deeds.Did.TheVariants as did;
 ghost use Rattle.qc_state.specs.declared.input.Input.{Input};
+ghost use Rattle.qc_state.specs.declared.opening.Opening.TheVariants.{Opened};
 ghost use Rattle.qc_state.specs.declared.trace.Step.{Step};
 
 use crate::suite::Suite;
@@ -50,4 +60,23 @@ pub fn paths_hold<U: Suite>()
 /// don't open do no harm.
 pub fn harmless_bytes<U: Suite>()
     ensures { (s last : View (record { S = U.Session; H = U.Session.HeaderKey; P = U.Session.PacketKey; D = U.Session.HandshakeData; I = U.Session.PeerIdentity })) (k : ℕ) (is : List Input) (xs : List Step) → Run (meaning U.Session.Session U.Session.HeaderKey.HeaderMask U.Session.PacketKey.PacketKey) k s is xs last → Harmless s is xs last }
+{}
+
+/// A law, which runs no code. What one datagram does keeps the laws of runs, whichever call it is handed to: no packet number counts
+/// twice, the life doesn't fall, at most one reason for the end is given, the path holds, and where no packet opens only counts
+/// change.
+pub fn datagrams_keep<U: Suite>()
+    ensures { (s : View (record { S = U.Session; H = U.Session.HeaderKey; P = U.Session.PacketKey; D = U.Session.HandshakeData; I = U.Session.PeerIdentity })) (time : ℕ) (mark : Option EcnCodepoint) (from : SocketAddr) (bytes : List ℕ) → let r : At (record { S = U.Session; H = U.Session.HeaderKey; P = U.Session.PacketKey; D = U.Session.HandshakeData; I = U.Session.PeerIdentity }) = datagram_after (meaning U.Session.Session U.Session.HeaderKey.HeaderMask U.Session.PacketKey.PacketKey) time mark from bytes (at s []) in DatagramHolds (if same_address s.paths.remote from then length bytes else 0) r.did s r.state }
+{}
+
+/// A law, which runs no code. A datagram whose first packet was cut from it, as the connection cuts it, does what it does as a
+/// whole, unless a server's first packet is awaited.
+pub fn events_are_datagrams<U: Suite>()
+    ensures { (a : At (record { S = U.Session; H = U.Session.HeaderKey; P = U.Session.PacketKey; D = U.Session.HandshakeData; I = U.Session.PeerIdentity })) (time : ℕ) (mark : Option EcnCodepoint) (remote : SocketAddr) (p : Piece) (behind bytes : List ℕ) → piece_at (length a.state.setup.fixed.local_cid) (a.state.setup.fixed.version ∷ []) a.state.setup.fixed.grease_quic_bit bytes ≡ Ok (p, behind) → is_first_awaited a.state.setup ≡ false → event_after (meaning U.Session.Session U.Session.HeaderKey.HeaderMask U.Session.PacketKey.PacketKey) time mark remote p behind a ≡ datagram_after (meaning U.Session.Session U.Session.HeaderKey.HeaderMask U.Session.PacketKey.PacketKey) time mark remote bytes a }
+{}
+
+/// A law, which runs no code. Where a server's first packet is awaited, and a datagram may hold it: once that packet was cut from
+/// the datagram and opened, it does what the datagram does as a whole.
+pub fn first_packets_are_datagrams<U: Suite>()
+    ensures { (a : At (record { S = U.Session; H = U.Session.HeaderKey; P = U.Session.PacketKey; D = U.Session.HandshakeData; I = U.Session.PeerIdentity })) (time : ℕ) (mark : Option EcnCodepoint) (remote : SocketAddr) (p : Piece) (source token : List ℕ) (spin : Bool) (number : ℕ) (payload behind bytes : List ℕ) → piece_at (length a.state.setup.fixed.local_cid) (a.state.setup.fixed.version ∷ []) a.state.setup.fixed.grease_quic_bit bytes ≡ Ok (p, behind) → is_first_awaited a.state.setup ≡ true → first_token (meaning U.Session.Session U.Session.HeaderKey.HeaderMask U.Session.PacketKey.PacketKey) a.state remote bytes ≡ Some token → opening_of (meaning U.Session.Session U.Session.HeaderKey.HeaderMask U.Session.PacketKey.PacketKey) a.state p ≡ Opened source token spin number payload → first_packet_after (meaning U.Session.Session U.Session.HeaderKey.HeaderMask U.Session.PacketKey.PacketKey) time mark source token number payload behind (length bytes) a ≡ datagram_after (meaning U.Session.Session U.Session.HeaderKey.HeaderMask U.Session.PacketKey.PacketKey) time mark remote bytes a }
 {}

@@ -1,6 +1,6 @@
 //! The path to the peer.
 
-ghost use Rattle.std.specs.Prelude.{◌≡◌};
+ghost use Rattle.std.specs.Prelude.{◌≡◌, ◌≢◌, true, false};
 ghost use Rattle.qc_state.specs.Paths.{path_sent, path_received, path_accepted, path_spun, spun_by, peer_fixed, is_blocked, same_address};
 ghost use Rattle.std.specs.Net.Addr.{ipv4_octets, ipv6_segments};
 
@@ -94,7 +94,9 @@ impl Paths {
 /// Whether two addresses are one, flow label and scope included.
 #[tactic(auto, unfolding(crate::specs::Paths::same_address))]
 pub fn same_address(a: SocketAddr, b: SocketAddr) -> bool
-    ensures { result ≡ same_address a b }
+    ensures meaning { result ≡ same_address a b }
+    ensures same { result ≡ true → a ≡ b }
+    ensures other { result ≡ false → a ≢ b }
 {
     match (a, b) {
         (SocketAddr::V4(a), SocketAddr::V4(b)) => {

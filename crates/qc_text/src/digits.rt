@@ -6,10 +6,21 @@ ghost use Rattle.qc_base.specs.Grammar.{IsBytes};
 
 use std::alloc::AllocError;
 
-/// Appends bytes in lower-case hex.
+/// Appends bytes in lower-case hex, in parts of 512 bytes, so that the memory for a part's digits is still at hand when they are
+/// written.
 pub fn put_hex(out: &mut Vec<u8>, bytes: &[u8]) -> Result<(), AllocError>
     ensures text { OnOk result (out.new.items ≡ out.old.items ++ encode_lower bytes.now) }
     ensures in_range { IsBytes bytes.now }
+{
+    'parts: for part in bytes.chunks(512) {
+        put_part(out, part)?;
+    }
+    Ok(())
+}
+
+/// Appends a part of some bytes in lower-case hex.
+fn put_part(out: &mut Vec<u8>, bytes: &[u8]) -> Result<(), AllocError>
+    ensures { OnOk result (out.new.items ≡ out.old.items ++ encode_lower bytes.now) }
 {
     let start = out.len();
     let Some(end) = bytes

@@ -210,3 +210,21 @@ fn a_server_sends_three_times_what_came(rt: HostRuntime) -> Result<(), Fail> {
     }
     Ok(())
 }
+
+// A server that closed before its first packet came takes none.
+#[test]
+fn a_server_that_closed_takes_no_first_datagram(rt: HostRuntime) -> Result<(), Fail> {
+    let alloc = rt.alloc();
+    let mut lines = String::from_str(alloc, "close 0 5 -\ndatagram 1 ")?;
+    lines.push_str(PATH)?;
+    lines.push_str(" - ")?;
+    lines.push_str(HELLO)?;
+    lines.push_str("\n")?;
+    let text = text_of(alloc, &[], lines.as_str())?;
+    assert!(rt;
+        text.as_str()
+            .contains("\nstep 1 datagram 1\nanswer dropped\n"),
+        "{text}"
+    );
+    Ok(())
+}

@@ -1,5 +1,5 @@
 use Rattle.qc_conn.proofs.Reports.{endpoint_told, endpoint_leads}
-use Rattle.qc_conn.proofs.steps.report_endpoint.Goals as goal
+use Rattle.qc_conn.proofs.steps.take_endpoint_events.Goals as goal
 
 -- the events that waited
 pub returns-clause-events : goal.returns-clause-events

@@ -1,5 +1,5 @@
 use Rattle.qc_conn.proofs.Reports.{events_told, reports_lead}
-use Rattle.qc_conn.proofs.steps.report_events.Goals as goal
+use Rattle.qc_conn.proofs.steps.take_events.Goals as goal
 
 -- the events that waited
 pub returns-clause-events : goal.returns-clause-events

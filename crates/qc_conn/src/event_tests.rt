@@ -1,0 +1,248 @@
+//! What an endpoint read already: a datagram that it cut, and a server's first packet that it opened.
+
+ghost use Rattle.std.specs.Prelude.{◌≡◌, ◌<◌, true, length, IfSome};
+ghost use Rattle.qc_core.specs.Cutting.{rest_of};
+ghost use Rattle.qc_core.specs.Events.{LeavesBytes};
+ghost use Rattle.qc_core.specs.FirstPacket.{IsFirstPacket};
+ghost use Rattle.qc_state.specs.Life.{is_handshake};
+ghost use Rattle.qc_state.specs.Setup.{is_first_awaited};
+
+use crate::connection::Connection;
+use crate::tests::{Toy, client_at, fresh_client};
+use bytes::BytesMut;
+use qc_base::{ConnectionId, Instant};
+use qc_config::{NoneTokenStore, announced};
+use qc_core::{ConnectionEvent, ServerSetup};
+use qc_crypto::{ServerConfig, Session};
+use qc_header::{InitialPacket, PartialDecode};
+use qc_packet::{OpenKeys, decrypt_packet_body, unprotect_header};
+use qc_recovery::TransportConfig;
+use qc_state::paths::same_address;
+use qc_state::{ConnectionError, Event};
+use qc_toy::{ToyServer, ToySession, ToySettings, ZeroRandom};
+use std::alloc::Global;
+use std::default::Default;
+use std::net::{IpAddr, Ipv4Addr, SocketAddr};
+use std::test::Fail;
+
+/// Two Initial packets of a server, sealed by a program of its own in another language under the toy's keys of a first id of eight
+/// bytes 02: number 0 with a PING, and number 3 with a CONNECTION_CLOSE, code 5.
+const PING_AND_CLOSE: [u8; 93] =
+    *b"\xcd\x00\x00\x00\x01\x08\x01\x01\x01\x01\x01\x01\x01\x01\x08\x04\x04\x04\x04\x04\x04\x04\x04\x00\x40\x14\x2a\x05\x04\x04\x99\x2e\xc3\x56\xeb\x7e\x14\xa8\x3d\xd2\x67\xfc\x91\x26\xbb\x50\xc6\x00\x00\x00\x01\x08\x01\x01\x01\x01\x01\x01\x01\x01\x08\x04\x04\x04\x04\x04\x04\x04\x04\x00\x40\x15\x8b\x18\x01\x04\x02\x8c\x14\x9c\x22\xaa\x30\xb9\x40\xc8\x50\xd8\x60\xe8\x70\xf8\x80";
+
+/// The address of both ends.
+fn address() -> SocketAddr {
+    SocketAddr::new(IpAddr::V4(Ipv4Addr::new(192, 0, 2, 1)), 4433)
+}
+
+/// A datagram's first packet, and what is behind it.
+fn cut(alloc: Global, bytes: &[u8]) -> Option<(PartialDecode, Option<BytesMut>)>
+    ensures { IfSome result (λ r. IfSome r.1 (λ b. 0 < length b.items)) }
+{
+    let bytes = BytesMut::copy_from_slice(alloc, bytes).ok()?;
+    PartialDecode::new(bytes, 8, &[1], true).ok()
+}
+
+/// The same as an event at 1.
+fn event(alloc: Global, bytes: &[u8]) -> Option<ConnectionEvent>
+    ensures { IfSome result LeavesBytes }
+{
+    match cut(alloc, bytes) {
+        None => None,
+        Some((first_decode, remaining)) => Some(ConnectionEvent::Datagram {
+            now: Instant::from_nanos(1),
+            remote: address(),
+            ecn: None,
+            first_decode,
+            remaining,
+        }),
+    }
+}
+
+/// The code with which the peer closed; None where no such event waits.
+fn closed_code(client: &mut Connection<Toy>) -> Option<u64> {
+    let event = client.poll();
+    match &event {
+        Some(
+            Event::ConnectionLost {
+                reason: ConnectionError::ConnectionClosed(close),
+            },
+        ) => Some(close.error_code.into_inner()),
+        _ => None,
+    }
+}
+
+// The close is in the second packet.
+#[test]
+fn a_datagram_that_was_cut_is_heard(rt: HostRuntime) -> Result<(), Fail> {
+    let mut client = fresh_client(rt.alloc()).ok_or("no client")?;
+    let event = event(rt.alloc(), &PING_AND_CLOSE).ok_or("no event")?;
+    let heard = client.handle_event(rt.alloc(), event, &mut NoneTokenStore);
+    assert!(rt; heard.is_ok());
+    assert_eq!(rt; closed_code(&mut client), Some(5));
+    Ok(())
+}
+
+#[tactic(auto, using(qc_toy::specs::Start::start_fresh))]
+fn server_session(alloc: Global) -> Option<ToySession>
+    ensures { IfSome result ⟦<ToySession as Session>⟧.is_fresh }
+{
+    let server = ToyServer {
+        settings: ToySettings::default(),
+    };
+    let transport = TransportConfig::default();
+    let params = announced(&transport, 1472, ConnectionId::new(&[3; 8]), true);
+    server.start_session(alloc, 1, &params).ok()
+}
+
+/// A server made at 0 for a client whose first packet has these ids.
+#[tactic(auto, unfolding(qc_state::specs::First::server_view, qc_state::specs::Setup::is_first_awaited))]
+fn server(
+    alloc: Global,
+    remote: SocketAddr,
+    first_cid: ConnectionId,
+    remote_cid: ConnectionId,
+) -> Option<Connection<Toy>>
+    ensures awaited { IfSome result (λ s. is_first_awaited s.core.setup ≡ true) }
+    ensures shakes { IfSome result (λ s. is_handshake s.core.life.state ≡ true) }
+    ensures remote { IfSome result (λ s. s.core.paths.remote ≡ remote) }
+    ensures version { IfSome result (λ s. s.core.setup.fixed.version ≡ 1) }
+    ensures first { IfSome result (λ s. s.core.setup.fixed.first_cid ≡ first_cid) }
+    ensures source { IfSome result (λ s. s.core.paths.remote_cid ≡ remote_cid) }
+{
+    let session = server_session(alloc)?;
+    let setup = ServerSetup {
+        session,
+        random: ZeroRandom,
+        transport: TransportConfig::default(),
+        grease_quic_bit: true,
+        local_cid: ConnectionId::new(&[3; 8]),
+        first_cid,
+        cid_len: 8,
+        cid_lifetime: None,
+        remote,
+        local_ip: None,
+        version: 1,
+        allow_mtud: true,
+        remote_cid,
+        migration: true,
+        preferred: false,
+        validated: false,
+    };
+    let server = Connection::new_server(alloc, setup, Instant::from_nanos(0)).ok()?;
+    Some(server)
+}
+
+/// What a transmit at 2 seals.
+fn sealed(alloc: Global, end: &mut Connection<Toy>) -> Option<Vec<u8>> {
+    let mut buf = Vec::new(alloc);
+    match end.poll_transmit(alloc, Instant::from_nanos(2), 1, &mut buf) {
+        Ok(Some(_)) => Some(buf),
+        _ => None,
+    }
+}
+
+/// A packet opened under the Initial keys of the id of eight bytes 02, and its number.
+fn opened(first: PartialDecode) -> Option<(u64, InitialPacket)> {
+    let server = ToyServer {
+        settings: ToySettings::default(),
+    };
+    let keys = server.initial_keys(1, &ConnectionId::new(&[2; 8])).ok()?;
+    let told = unprotect_header(first, Some(&keys.header.remote), None).ok()?;
+    let mut packet = told?.packet?;
+    let open = OpenKeys {
+        plain: Some(&keys.packet.remote),
+        early: None,
+        ring: None,
+    };
+    let told = decrypt_packet_body(&mut packet, &open, 0).ok()?;
+    let number = told?.number;
+    let packet = InitialPacket::from_packet(packet)?;
+    Some((number, packet))
+}
+
+/// What a server answers to a datagram that it is handed whole.
+fn answer_to_whole(alloc: Global, bytes: &[u8]) -> Option<Vec<u8>> {
+    let mut server = server(
+        alloc,
+        address(),
+        ConnectionId::new(&[2; 8]),
+        ConnectionId::new(&[1; 8]),
+    )?;
+    let bytes = BytesMut::copy_from_slice(alloc, bytes).ok()?;
+    match server.first_datagram(alloc, Instant::from_nanos(1), address(), None, bytes) {
+        Ok(true) => sealed(alloc, &mut server),
+        _ => None,
+    }
+}
+
+/// What a server answers that is handed its first packet in front of these bytes.
+fn answer_of(
+    alloc: Global,
+    server: Connection<Toy>,
+    remote: SocketAddr,
+    number: u64,
+    packet: InitialPacket,
+    remaining: Option<BytesMut>,
+) -> Option<Vec<u8>>
+    requires first { IsFirstPacket server.core remote number packet (rest_of remaining) }
+    requires some { IfSome remaining (λ b. 0 < length b.items) }
+{
+    let mut server = server;
+    let now = Instant::from_nanos(1);
+    match server.handle_first_packet(alloc, now, remote, None, number, packet, remaining) {
+        Ok(()) => sealed(alloc, &mut server),
+        Err(_) => None,
+    }
+}
+
+/// What a server answers that is made for this opened packet, and handed it in front of these bytes.
+fn answer_to_packet(
+    alloc: Global,
+    number: u64,
+    packet: InitialPacket,
+    remaining: Option<BytesMut>,
+) -> Option<Vec<u8>>
+    requires some { IfSome remaining (λ b. 0 < length b.items) }
+{
+    let InitialPacket {
+        header,
+        header_data,
+        payload,
+    } = packet;
+    let opened = header_data.len() as u64 + payload.len() as u64;
+    let remote = address();
+    if header.version != 1 || number >= 1 << 62 || opened < 1184 || !same_address(remote, remote) {
+        return None;
+    }
+    let server = server(alloc, remote, header.dst_cid, header.src_cid)?;
+    let packet = InitialPacket {
+        header,
+        header_data,
+        payload,
+    };
+    answer_of(alloc, server, remote, number, packet, remaining)
+}
+
+/// What it answers to a datagram whose first packet its endpoint cut and opened.
+fn answer_to_opened(alloc: Global, bytes: &[u8]) -> Option<Vec<u8>> {
+    match cut(alloc, bytes) {
+        None => None,
+        Some((first, remaining)) => match opened(first) {
+            None => None,
+            Some((number, packet)) => answer_to_packet(alloc, number, packet, remaining),
+        },
+    }
+}
+
+// The client's hello, once whole and once opened.
+#[test]
+fn a_first_packet_that_was_opened_is_heard(rt: HostRuntime) -> Result<(), Fail> {
+    let mut client = client_at(rt.alloc(), 0).ok_or("no client")?;
+    let hello = sealed(rt.alloc(), &mut client).ok_or("no hello")?;
+    let whole = answer_to_whole(rt.alloc(), hello.as_slice()).ok_or("no answer to the whole")?;
+    let opened = answer_to_opened(rt.alloc(), hello.as_slice()).ok_or("no answer to the opened")?;
+    assert_eq!(rt; whole.len(), 1200);
+    assert!(rt; opened.as_slice() == whole.as_slice());
+    Ok(())
+}

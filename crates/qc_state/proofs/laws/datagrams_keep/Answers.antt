@@ -1,0 +1,5 @@
+use Rattle.qc_state.proofs.DatagramLaws.{datagram_holds}
+use Rattle.qc_state.proofs.laws.datagrams_keep.Goals as goal
+
+pub returns : goal.returns
+returns g c s time mark from bytes = datagram_holds _ time mark from bytes s
