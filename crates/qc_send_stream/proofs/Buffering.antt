@@ -6,20 +6,20 @@ use Rattle.std.specs.BTreeMap.{insert_entry}
 use Rattle.std.specs.Ordering.{nat_cmp}
 use Rattle.qc_send_stream.specs.declared.segments.Segment.{Segment}
 use Rattle.qc_send_stream.specs.Buffer.{Kept, Buffer, row, lies_in, marked, without, has_bytes, bytes_written, range_acked, range_lost, range_sealed, sent_with}
-use Rattle.qc_send_stream.specs.Segments.{begin, flat, Apart, EndBy, CutAt, Listed, among, buffered, stood, outside, IsSound}
+use Rattle.qc_send_stream.specs.Segments.{begin, flat, Apart, EndBy, CutAt, Listed, among, buffered, stood, outside}
 use Rattle.qc_send_stream.proofs.Cutting.{insert_more}
 use Rattle.qc_send_stream.proofs.Ranges.{stood_flat, out_flat}
 
 -- ---- bytes behind all others
 
-insert_last : (w n : ℕ) (s : Segment) (es : List (ℕ × Segment)) → EndBy w es → 0 < n → insert_entry nat_cmp es (w + n) s ≡ es ++ (w + n, s) ∷ []
+pub insert_last : (w n : ℕ) (s : Segment) (es : List (ℕ × Segment)) → EndBy w es → 0 < n → insert_entry nat_cmp es (w + n) s ≡ es ++ (w + n, s) ∷ []
 unfolding EndBy
 insert_last w n s [] by some = refl
 insert_last w n s (e ∷ es) by some =
     let low : e.0 ≤ w = by.0 in
     insert_more (w + n) s e es (omega arith) ∙ ap (λ (l : List (ℕ × Segment)). e ∷ l) (insert_last w n s es by.1 some)
 
-flat_append : (es fs : List (ℕ × Segment)) → flat (es ++ fs) ≡ flat es ++ flat fs
+pub flat_append : (es fs : List (ℕ × Segment)) → flat (es ++ fs) ≡ flat es ++ flat fs
 unfolding flat
 flat_append [] fs = refl
 flat_append (e ∷ es) fs =
@@ -29,31 +29,20 @@ append_none : (v : List Kept) → v ++ [] ≡ v
 append_none [] = refl
 append_none (k ∷ v) = ap (λ (l : List Kept). k ∷ l) (append_none v)
 
-apart_last : (lo w n : ℕ) (s : Segment) (es : List (ℕ × Segment)) → Apart lo es → EndBy w es → lo ≤ w → 0 < n → length s.bytes ≡ n → Apart lo (es ++ (w + n, s) ∷ [])
+pub apart_last : (lo w n : ℕ) (s : Segment) (es : List (ℕ × Segment)) → Apart lo es → EndBy w es → lo ≤ w → 0 < n → length s.bytes ≡ n → Apart lo (es ++ (w + n, s) ∷ [])
 unfolding Apart EndBy
 apart_last lo w n s [] apart by low some long = (omega arith, omega arith, tt)
 apart_last lo w n s (e ∷ es) apart by low some long = (apart.0, apart.1, apart_last e.0 w n s es apart.2 by.1 by.0 some long)
 
-end_last : (w n : ℕ) (s : Segment) (es : List (ℕ × Segment)) → EndBy w es → EndBy (w + n) (es ++ (w + n, s) ∷ [])
+pub end_last : (w n : ℕ) (s : Segment) (es : List (ℕ × Segment)) → EndBy w es → EndBy (w + n) (es ++ (w + n, s) ∷ [])
 unfolding EndBy
 end_last w n s [] by = (omega arith, tt)
 end_last w n s (e ∷ es) by = (omega (arith, by.0), end_last w n s es by.1)
 
-listed_last : (k : ℕ) (s : Segment) (es : List (ℕ × Segment)) (ends : List ℕ) → Listed es ends → s.lost ≡ false → Listed (es ++ (k, s) ∷ []) ends
+pub listed_last : (k : ℕ) (s : Segment) (es : List (ℕ × Segment)) (ends : List ℕ) → Listed es ends → s.lost ≡ false → Listed (es ++ (k, s) ∷ []) ends
 unfolding Listed
 listed_last k s [] ends listed fresh = ((λ q. absurd (false≢true (sym fresh ∙ q))), tt)
 listed_last k s (e ∷ es) ends listed fresh = (listed.0, listed_last k s es ends listed.1 fresh)
-
-pub written_sound : (w sent : ℕ) (bs : List ℕ) (es : List (ℕ × Segment)) (ends : List ℕ) → IsSound w sent es ends → 0 < length bs
-    → IsSound (w + length bs) sent (insert_entry nat_cmp es (w + length bs) (record { bytes = bs; lost = false })) ends
-written_sound w sent bs es ends sound some =
-    let s : Segment = record { bytes = bs; lost = false } in
-    subst (λ (l : List (ℕ × Segment)). IsSound (w + length bs) sent l ends) (sym (insert_last w (length bs) s es sound.below some))
-    (record {
-      apart = apart_last 0 w (length bs) s es sound.apart sound.below (omega arith) some refl;
-      below = end_last w (length bs) s es sound.below;
-      listed = listed_last (w + length bs) s es ends sound.listed refl;
-    })
 
 pub written_bytes : (w sent : ℕ) (bs : List ℕ) (es : List (ℕ × Segment)) → EndBy w es → 0 < length bs
     → buffered (w + length bs) sent (insert_entry nat_cmp es (w + length bs) (record { bytes = bs; lost = false })) ≡ bytes_written bs (buffered w sent es)

@@ -5,4 +5,5 @@ pub mod LostEnds
 pub mod Next
 pub mod Outcomes
 pub mod Buffering
+pub mod Counting
 pub mod WrittenLaw

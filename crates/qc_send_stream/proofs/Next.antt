@@ -2,7 +2,7 @@
 use Rattle.std.proofs.Common.{◌≡◌, ◌∙◌, ap, sym, ℕ, ◌+◌, ◌-◌, ◌<◌, ◌≤◌, suc, inl, inr, List, [], ◌∷◌, ◌++◌, Bool, true, false, cond, length, take, drop, arith, refl, subst, Option, None, Some, length-drop}
 use Rattle.std.proofs.lemmas.Bool.{cases_lt, le-leb, lt-leb, false≢true}
 use Rattle.std.proofs.lemmas.List.{length-take}
-use Rattle.std.specs.Prelude.{min}
+use Rattle.std.specs.Prelude.{min, is_some}
 use Rattle.std.specs.Map.{lookup}
 use Rattle.std.specs.BTreeMap.{is_at}
 use Rattle.std.specs.Ordering.{nat_cmp}
@@ -290,3 +290,30 @@ fresh_fits w o most es apart all = by (first_behind o es) refl
         let long : length (take most (drop (o - begin e) e.1.bytes)) ≡ min most (length (drop (o - begin e) e.1.bytes)) = length-take most (drop (o - begin e) e.1.bytes) in
         let short : length (drop (o - begin e) e.1.bytes) ≡ length e.1.bytes - (o - begin e) = length-drop (o - begin e) e.1.bytes in
         omega (arith, bounds)
+
+lost_is_some : (most : ℕ) (es : List (ℕ × Segment)) → is_some (lost_front most es) ≡ is_some (first_lost es)
+unfolding lost_front first_lost
+lost_is_some most [] = refl
+lost_is_some most (e ∷ es) = by (lost_is_some most es) e.1.lost
+  where
+    by : is_some (lost_front most es) ≡ is_some (first_lost es) → (t : Bool)
+        → is_some (cond t (Some (begin e, take most e.1.bytes)) (lost_front most es)) ≡ is_some (cond t (Some e.0) (first_lost es))
+    by rest true = refl
+    by rest false = rest
+
+-- where a segment is lost, a byte waits
+pub lost_waits : (written sent end : ℕ) (es : List (ℕ × Segment)) → Apart 0 es → first_lost es ≡ Some end
+    → true ≡ has_bytes (waiting (buffered written sent es))
+lost_waits written sent end es apart first =
+    ap (λ (o : Option ℕ). is_some o) (sym first) ∙ sym (lost_is_some 0 es) ∙ (next_lost written sent 0 end es apart first).given
+
+from_is_some : (o most : ℕ) (found : Option (ℕ × Segment)) → is_some (part_from o most found) ≡ is_some found
+unfolding part_from
+from_is_some o most None = refl
+from_is_some o most (Some e) = refl
+
+-- where none is, one waits where a segment lies behind what was sent
+pub fresh_waits : (written sent : ℕ) (es : List (ℕ × Segment)) → Apart 0 es → first_lost es ≡ None
+    → is_some (first_behind sent es) ≡ has_bytes (waiting (buffered written sent es))
+fresh_waits written sent es apart none =
+    sym (from_is_some sent 0 (first_behind sent es)) ∙ (next_fresh written sent 0 es apart none).given

@@ -146,10 +146,12 @@ unfoldable pub buffered : ℕ → ℕ → List (ℕ × Segment) → Buffer
 buffered written sent segments = record { written = written; sent = sent; kept = flat segments }
 
 -- What holds of all that is kept
-pub record IsSound (written : ℕ) (sent : ℕ) (segments : List (ℕ × Segment)) (ends : List ℕ) : Type 0 where
+pub record IsSound (written : ℕ) (sent : ℕ) (gone : ℕ) (segments : List (ℕ × Segment)) (ends : List ℕ) : Type 0 where
   -- the segments
   pub apart : Apart 0 segments
   -- no byte lies behind those that were written
   pub below : EndBy written segments
   -- lost ones are found by their ends
   pub listed : Listed segments ends
+  -- each byte that was written is kept or gone
+  pub counted : gone + length (flat segments) ≡ written

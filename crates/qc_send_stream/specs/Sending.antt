@@ -1,7 +1,7 @@
 -- The sending side of a stream (RFC 9000, sections 2.2, 3.1, 4.1 and 19.8)
 use Rattle.std.specs.Prelude.{◌≡◌, ℕ, ◌+◌, ◌-◌, Bool, true, false, not, ◌&&◌, ◌||◌, ◌==◌, nat_le, min, max, if◌then◌else◌, List, [], length, Option, None, Some, is_some}
 use Rattle.qc_base.specs.declared.varint.VarInt.{VarInt}
-use Rattle.qc_send_stream.specs.Buffer.{nothing, bytes_written, range_sealed, range_acked, range_lost, discarded, has_bytes, IsNext}
+use Rattle.qc_send_stream.specs.Buffer.{nothing, bytes_written, range_sealed, range_acked, range_lost, discarded, has_bytes, waiting, IsNext}
 use Rattle.qc_send_stream.specs.declared.send.SendPart.{SendPart}
 use Rattle.qc_send_stream.specs.declared.send.Part.{Part}
 use Rattle.qc_send_stream.specs.declared.send.Reset.{Reset}
@@ -19,6 +19,10 @@ new_sending limit = record { buffer = nothing; limit = limit; end = None; reset 
 -- whether the application can't write any more: it finished or reset the stream
 unfoldable pub is_closed : SendPart → Bool
 is_closed s = is_some s.end || is_some s.reset
+
+-- how many bytes are kept until they are acknowledged
+abbrev pub kept_count : SendPart → ℕ
+kept_count s = length s.buffer.kept
 
 -- how many bytes a write takes: all that are wanted, as far as the stream's credit and the budget reach
 unfoldable pub takes : ℕ → ℕ → SendPart → ℕ
@@ -154,6 +158,10 @@ is_acked Acknowledged = true
 abbrev pub end_waits : Option Standing → Bool
 end_waits None = false
 end_waits (Some x) = is_waiting x
+
+-- whether a STREAM frame is to be sent: a byte is lost or fresh, or the end waits; none of a stream that was reset
+unfoldable pub has_more : SendPart → Bool
+has_more s = not (is_some s.reset) && (has_bytes (waiting s.buffer) || end_waits s.end)
 
 -- whether the end is acknowledged
 abbrev pub end_acked : Option Standing → Bool

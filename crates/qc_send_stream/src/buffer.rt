@@ -1,10 +1,10 @@
 //! Bytes that were written, until they are acknowledged.
 
 ghost use Rattle.std.specs.Prelude.{◌≡◌, ◌+◌, ◌^◌, ◌<◌, ◌≤◌, not, take, drop, length, IfOk, OnOk, OnErr};
-ghost use Rattle.qc_send_stream.specs.Buffer.{bytes_written, discarded, has_bytes, nothing, part_bytes, part_offset, range_acked, range_lost, range_sealed, sent_with, IsNext};
+ghost use Rattle.qc_send_stream.specs.Buffer.{bytes_written, discarded, has_bytes, nothing, part_bytes, part_offset, range_acked, range_lost, range_sealed, sent_with, waiting, IsNext};
 
 use crate::ends::{first_lost, note_range};
-use crate::parts::{fresh_part, lost_part};
+use crate::parts::{fresh_part, has_fresh, lost_part};
 use crate::segments::{Segment, cut_range, keep, mark, remove, unmark};
 use bytes::{Buf, Bytes};
 use std::alloc::{AllocError, Global};
@@ -18,6 +18,8 @@ pub struct SendBuffer {
     written: u64,
     // how many were sent at least once
     sent: u64,
+    // how many aren't kept any more
+    let_go: u64,
     // what isn't acknowledged: each segment under its end
     segments: BTreeMap<u64, Segment>,
     // the ends of all lost segments, and of some that aren't lost any more
@@ -33,7 +35,7 @@ impl Model for SendBuffer {
 
     ghost view = { λ b. buffered b.written b.sent b.segments.entries };
 
-    ghost invariant = { λ b. IsSound b.written b.sent b.segments.entries b.lost.keys };
+    ghost invariant = { λ b. IsSound b.written b.sent b.let_go b.segments.entries b.lost.keys };
 }
 
 impl SendBuffer {
@@ -44,6 +46,7 @@ impl SendBuffer {
         SendBuffer {
             written: 0,
             sent: 0,
+            let_go: 0,
             segments: BTreeMap::new(alloc),
             lost: BTreeSet::new(alloc),
         }
@@ -61,6 +64,14 @@ impl SendBuffer {
         ensures { result ≡ self.now.sent }
     {
         self.sent
+    }
+
+    /// How many bytes are kept: of those that were written all but those that are acknowledged, or
+    /// were let go.
+    pub fn kept(&self) -> u64
+        ensures { result ≡ length self.now.kept }
+    {
+        self.written - self.let_go
     }
 
     /// Whether all bytes that were written are acknowledged, or were let go.
@@ -109,6 +120,17 @@ impl SendBuffer {
         Ok(())
     }
 
+    /// Whether a byte waits to be sent: one is lost or fresh.
+    pub fn waits(&mut self) -> bool
+        ensures waits { result ≡ has_bytes (waiting self.old) }
+        ensures same { self.new ≡ self.old }
+    {
+        match first_lost(&self.segments, &mut self.lost) {
+            Some(_) => true,
+            None => has_fresh(&self.segments, self.sent),
+        }
+    }
+
     /// What is to be sent next, at most so many bytes: lost ones before fresh ones, the lowest of
     /// them first, with the offset of the first. None exactly where no byte is lost or fresh.
     ///
@@ -143,19 +165,21 @@ impl SendBuffer {
     }
 
     /// A frame with the bytes from `start` up to `end` is acknowledged: those that were sent are
-    /// kept no more.
+    /// kept no more. Answers how many those are.
     ///
     /// # Errors
     ///
     /// Want of memory; everything is then as before.
-    pub fn acknowledge(&mut self, start: u64, end: u64) -> Result<(), AllocError>
+    pub fn acknowledge(&mut self, start: u64, end: u64) -> Result<u64, AllocError>
         ensures acked { OnOk result (self.new ≡ range_acked start end self.old) }
+        ensures count { IfOk result (λ n. n + length self.new.kept ≡ length self.old.kept) }
         ensures err { OnErr result (self.new ≡ self.old) }
     {
         let end = end.min(self.sent);
         cut_range(&mut self.segments, &mut self.lost, start, end)?;
-        remove(&mut self.segments, start, end);
-        Ok(())
+        let count = remove(&mut self.segments, start, end);
+        self.let_go += count;
+        Ok(count)
     }
 
     /// A frame with the bytes from `start` up to `end` is lost: those that were sent and aren't
@@ -181,6 +205,7 @@ impl SendBuffer {
     {
         self.segments.clear();
         self.lost.clear();
+        self.let_go = self.written;
     }
 }
 

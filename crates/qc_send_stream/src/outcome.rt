@@ -2,7 +2,7 @@
 
 ghost use Rattle.std.specs.Prelude.{◌≡◌, ◌+◌, ◌≤◌, ◌==◌, ◌&&◌, length, is_some, IfOk, OnOk, OnErr};
 ghost use Rattle.qc_send_stream.specs.Buffer.{part_bytes, part_offset};
-ghost use Rattle.qc_send_stream.specs.Sending.{IsOffer, part_of, part_sealed, part_acked, part_lost, reset_sealed, reset_acked, reset_lost, is_done, reset_owed, end_with, sealed_standing, acked_standing, lost_standing, is_waiting, is_acked, end_waits, end_acked};
+ghost use Rattle.qc_send_stream.specs.Sending.{IsOffer, kept_count, part_of, part_sealed, part_acked, part_lost, reset_sealed, reset_acked, reset_lost, has_more, is_done, reset_owed, end_with, sealed_standing, acked_standing, lost_standing, is_waiting, is_acked, end_waits, end_acked};
 
 use crate::send::{Part, SendPart, Standing};
 use bytes::Bytes;
@@ -142,21 +142,21 @@ impl SendPart {
         Ok(())
     }
 
-    /// Such a frame is acknowledged: what of its bytes was sent is kept no more. Answers whether
-    /// the stream is done.
+    /// Such a frame is acknowledged: what of its bytes was sent is kept no more. Answers how many
+    /// bytes those are.
     ///
     /// # Errors
     ///
     /// Want of memory; everything is then as before.
     #[tactic(auto, unfolding(crate::specs::Sending::part_acked))]
-    pub fn acknowledge(&mut self, start: u64, end: u64, last: bool) -> Result<bool, AllocError>
+    pub fn acknowledge(&mut self, start: u64, end: u64, last: bool) -> Result<u64, AllocError>
         ensures acked { OnOk result (self.new ≡ part_acked start end last self.old) }
-        ensures done { IfOk result (λ done. done ≡ is_done (part_acked start end last self.old)) }
+        ensures count { IfOk result (λ n. n + kept_count self.new ≡ kept_count self.old) }
         ensures err { OnErr result (self.new ≡ self.old) }
     {
-        self.buffer.acknowledge(start, end)?;
+        let count = self.buffer.acknowledge(start, end)?;
         self.end = end_acknowledged(self.end, last);
-        Ok(self.is_done())
+        Ok(count)
     }
 
     /// Such a frame is lost: what of its bytes was sent and isn't acknowledged waits again, and so
@@ -236,6 +236,16 @@ impl SendPart {
             }),
             None => None,
         }
+    }
+
+    /// Whether a STREAM frame is to be sent.
+    #[tactic(auto, unfolding(crate::specs::Sending::has_more))]
+    pub fn has_more(&mut self) -> bool
+        ensures more { result ≡ has_more self.old }
+        ensures same { self.new ≡ self.old }
+    {
+        let waits = self.buffer.waits();
+        self.reset.is_none() && (waits || self.end_waits())
     }
 
     /// What is to be sent next, with at most so many bytes: lost ones before fresh ones, the lowest

@@ -1,6 +1,6 @@
 //! The bytes that are to be sent next.
 
-ghost use Rattle.std.specs.Prelude.{◌≡◌, IfOk, Some};
+ghost use Rattle.std.specs.Prelude.{◌≡◌, IfOk, Some, is_some};
 ghost use Rattle.qc_send_stream.specs.Segments.{Apart, first_behind, first_lost, lost_front, part_from};
 
 use crate::segments::Segment;
@@ -51,4 +51,17 @@ pub(crate) fn fresh_part(
         .bytes
         .slice(passed as usize..passed as usize + count)?;
     Ok(Some((start + passed, bytes)))
+}
+
+/// Whether a segment ends behind an offset.
+pub(crate) fn has_fresh(segments: &BTreeMap<u64, Segment>, sent: u64) -> bool
+    ensures { result ≡ is_some (first_behind sent segments.now.entries) }
+{
+    let Some((_end, _)) = segments
+        .range((Bound::Excluded(sent), Bound::Unbounded))
+        .next()
+    else {
+        return false;
+    };
+    true
 }

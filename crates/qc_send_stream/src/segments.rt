@@ -1,6 +1,6 @@
 //! Segments of bytes that were written, each under the offset where it ends, and how they are cut and marked.
 
-ghost use Rattle.std.specs.Prelude.{◌≡◌, ℕ, ◌<◌, false, IfOk, OnOk, OnErr};
+ghost use Rattle.std.specs.Prelude.{◌≡◌, ℕ, ◌+◌, ◌^◌, ◌<◌, false, length, IfOk, OnOk, OnErr};
 ghost use Rattle.std.specs.BTreeMap.{is_at, insert_entry};
 ghost use Rattle.std.specs.Map.{lookup, remove_entry};
 ghost use Rattle.std.specs.Ordering.{nat_cmp};
@@ -152,6 +152,7 @@ pub(crate) fn unmark(
     requires apart { Apart 0 segments.old.entries }
     requires listed { Listed segments.old.entries lost.old.keys }
     ensures marked { OnOk result (flat segments.new.entries ≡ marked false start end (flat segments.old.entries)) }
+    ensures count { length (flat segments.new.entries) ≡ length (flat segments.old.entries) }
     ensures err { OnErr result (flat segments.new.entries ≡ flat segments.old.entries) }
     ensures apart { Apart 0 segments.new.entries }
     ensures below { (n : ℕ) → EndBy n segments.old.entries → EndBy n segments.new.entries }
@@ -165,20 +166,29 @@ pub(crate) fn unmark(
     Ok(())
 }
 
-/// Takes out the segments that end behind `start` and at `end` or before.
-pub(crate) fn remove(segments: &mut BTreeMap<u64, Segment>, mut start: u64, end: u64)
-    requires { Apart 0 segments.old.entries }
-    ensures { segments.new.entries ≡ outside start end segments.old.entries }
+/// Takes out the segments that end behind `start` and at `end` or before; answers how many bytes
+/// those have.
+pub(crate) fn remove(segments: &mut BTreeMap<u64, Segment>, mut start: u64, end: u64) -> u64
+    requires apart { Apart 0 segments.old.entries }
+    requires fits { length (flat segments.old.entries) < 2 ^ 64 }
+    ensures removed { segments.new.entries ≡ outside start end segments.old.entries }
+    ensures count { result + length (flat segments.new.entries) ≡ length (flat segments.old.entries) }
 {
+    let mut count = 0;
     while let Some(at) = next_within(segments, start, end) {
-        take_out(segments, at);
+        count += take_out(segments, at);
         start = at;
     }
+    count
 }
 
-/// Takes out the segment that ends there.
-fn take_out(segments: &mut BTreeMap<u64, Segment>, end: u64)
-    ensures { segments.new.entries ≡ remove_entry (is_at (nat_cmp end)) segments.old.entries }
+/// Takes out the segment that ends there; answers how many bytes it has.
+fn take_out(segments: &mut BTreeMap<u64, Segment>, end: u64) -> u64
+    ensures removed { segments.new.entries ≡ remove_entry (is_at (nat_cmp end)) segments.old.entries }
+    ensures count { result + length (flat segments.new.entries) ≡ length (flat segments.old.entries) }
 {
-    segments.remove(&end);
+    match segments.remove(&end) {
+        Some(segment) => segment.bytes.len() as u64,
+        None => 0,
+    }
 }

@@ -1,7 +1,7 @@
 //! What was written on a stream, what the peer allows and asks, and what is to be sent.
 
 ghost use Rattle.std.specs.Prelude.{◌≡◌, ◌+◌, ◌^◌, ◌<◌, ◌≤◌, not, take, drop, length, IfOk, IfErr, OnOk, OnErr, None, Some, is_some, is_err};
-ghost use Rattle.qc_send_stream.specs.Sending.{new_sending, is_closed, takes, write_refusal, IsWriteRefusal, part_written, after_refusal, unblocked, finish_refusal, finished, was_reset, was_stopped, limit_raised};
+ghost use Rattle.qc_send_stream.specs.Sending.{new_sending, is_closed, takes, write_refusal, IsWriteRefusal, part_written, after_refusal, unblocked, kept_count, finish_refusal, finished, was_reset, was_stopped, limit_raised};
 
 use crate::buffer::SendBuffer;
 use crate::fault::{ClosedStream, FinishError, WriteError};
@@ -73,6 +73,13 @@ impl SendPart {
         }
     }
 
+    /// How many bytes are kept until they are acknowledged.
+    pub fn kept(&self) -> u64
+        ensures { result ≡ kept_count self.now }
+    {
+        self.buffer.kept()
+    }
+
     /// Whether the application can't write any more: it finished or reset the stream.
     #[tactic(auto, unfolding(crate::specs::Sending::is_closed))]
     pub fn is_closed(&self) -> bool
@@ -106,6 +113,7 @@ impl SendPart {
     fn takes(&self, wanted: usize, budget: u64) -> usize
         ensures count { result ≡ takes wanted budget self.now }
         ensures within { result ≤ wanted }
+        ensures spared { result ≤ budget }
         ensures fits { self.now.buffer.written + result < 2 ^ 64 }
     {
         let credit = self.limit.saturating_sub(self.buffer.written());
@@ -127,6 +135,8 @@ impl SendPart {
         ensures count { IfOk result (λ n. n ≡ takes (length chunk.old) budget self.old) }
         ensures written { IfOk result (λ n. self.new ≡ part_written (take n chunk.old) self.old) }
         ensures rest { IfOk result (λ n. chunk.new ≡ drop n chunk.old) }
+        ensures within { IfOk result (λ n. n ≤ budget) }
+        ensures more { IfOk result (λ n. kept_count self.new ≡ kept_count self.old + n) }
         ensures fits { OnOk result (write_refusal budget self.old ≡ None) }
         ensures refused { IfErr result (λ e. IsWriteRefusal e (write_refusal budget self.old)) }
         ensures err { IfErr result (λ e. self.new ≡ after_refusal e self.old) }

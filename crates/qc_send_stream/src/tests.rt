@@ -26,7 +26,9 @@ fn keep(buffer: &mut SendBuffer, bytes: Bytes) -> Result<(), Fail> {
 fn apply(buffer: &mut SendBuffer, deed: &Deed) -> Result<(), Fail> {
     match deed {
         Deed::Seal(start, end) => buffer.seal(u64::from(*start), u64::from(*end))?,
-        Deed::Acknowledge(start, end) => buffer.acknowledge(u64::from(*start), u64::from(*end))?,
+        Deed::Acknowledge(start, end) => {
+            let _count = buffer.acknowledge(u64::from(*start), u64::from(*end))?;
+        }
         Deed::Lose(start, end) => buffer.lose(u64::from(*start), u64::from(*end))?,
     }
     Ok(())
@@ -159,12 +161,14 @@ fn an_end_that_is_lost_waits_again(rt: HostRuntime) -> Result<(), Fail> {
     stream.lose(0, 2, true)?;
     assert!(rt; is_part(&stream.offer(10)?, 0, 2, true));
     stream.seal(0, 2, true)?;
-    assert!(rt; !stream.acknowledge(0, 2, false)?);
+    assert_eq!(rt; stream.acknowledge(0, 2, false)?, 2);
+    assert!(rt; !stream.is_done());
     stream.lose(0, 2, true)?;
     assert!(rt; is_part(&stream.offer(10)?, 2, 0, true));
     stream.seal(2, 2, true)?;
     assert!(rt; !stream.is_done());
-    assert!(rt; stream.acknowledge(2, 2, true)?);
+    assert_eq!(rt; stream.acknowledge(2, 2, true)?, 0);
+    assert!(rt; stream.is_done());
     stream.lose(0, 2, true)?;
     assert!(rt; stream.offer(10)?.is_none());
     assert!(rt; stream.is_done());
@@ -185,7 +189,9 @@ fn a_reset_leaves_only_itself(rt: HostRuntime) -> Result<(), Fail> {
     stream.reset_lost();
     assert!(rt; stream.reset_owed() == Some((VarInt::from_u32(7), 2)));
     stream.reset_sealed();
-    assert!(rt; !stream.acknowledge(0, 2, true)?);
+    assert_eq!(rt; stream.kept(), 0);
+    assert_eq!(rt; stream.acknowledge(0, 2, true)?, 0);
+    assert!(rt; !stream.is_done());
     stream.reset_acknowledged();
     assert!(rt; stream.is_done());
     let mut chunk = Bytes::copy_from_slice(rt.alloc(), b"c")?;

@@ -1,5 +1,5 @@
 -- The application's calls on one stream (RFC 9000, sections 2.2, 2.4, 3.1 and 3.2)
-use Rattle.std.specs.Prelude.{◌≡◌, ℕ, Bool, true, false, ◌||◌, if◌then◌else◌, List, length, take, Option, None, Some, is_some, Result, Ok, Err}
+use Rattle.std.specs.Prelude.{◌≡◌, ℕ, ◌-◌, Bool, true, false, ◌||◌, if◌then◌else◌, List, length, take, Option, None, Some, is_some, Result, Ok, Err}
 use Rattle.qc_base.specs.declared.varint.VarInt.{VarInt}
 use Rattle.qc_recv.specs.declared.recv.Recv.{Recv}
 use Rattle.qc_recv.specs.declared.recv.Chunk.{Chunk}
@@ -19,9 +19,11 @@ use Rattle.qc_streams.specs.declared.fault.ReadFault.{ReadFault}
 use Rattle.qc_streams.specs.declared.fault.ReadFault.TheVariants.{ClosedStream, IllegalOrderedRead, Reset, Blocked, OutOfMemory}
 use Rattle.qc_streams.specs.declared.state.StreamsState.{StreamsState}
 use Rattle.qc_streams.specs.Credit.{budget, outgoing_written}
+use Rattle.qc_streams.specs.Kept.{kept_in}
 use Rattle.qc_streams.specs.Records.{record_of, changed}
 use Rattle.qc_streams.specs.Stream.{totals_at, with_receiving, with_sending}
 use Rattle.qc_streams.specs.Streams.{counted, settled}
+use Rattle.qc_streams.specs.Waiting.{touched}
 
 -- a sending side that the application knows: not one of which all is acknowledged
 abbrev pub known : Option SendPart → Option SendPart
@@ -41,19 +43,22 @@ known_at id s = known_of (record_of id s.records)
 abbrev pub if_known : (SendPart → SendPart) → SendPart → SendPart
 if_known f p = if is_done p then p else f p
 
--- the same of the stream with an id
+-- the same of the stream with an id; it is looked at what it owes now
 unfoldable pub sends : (SendPart → SendPart) → ℕ → StreamsState → StreamsState
-sends f id s = record s { records = changed (with_sending (if_known f)) id s.records }
+sends f id s = touched id (record s { records = changed (with_sending (if_known f)) id s.records })
 
 -- why a write is refused: the stream is unknown, or its sending side refuses
 abbrev pub write_fault : ℕ → Option SendPart → Option WriteError
 write_fault most None = Some WriteClosed
 write_fault most (Some p) = part_write_refusal most p
 
--- why a write is refused, the first that holds: the connection is closed, the stream is unknown, or its side refuses; so many
--- more bytes may be kept until they are acknowledged
-unfoldable pub write_refusal : ℕ → ℕ → StreamsState → Option WriteError
-write_refusal id room s = if s.closed then Some WriteBlocked else write_fault (budget room s.outgoing) (known_at id s)
+-- how many more bytes may be kept until they are acknowledged: what the send window leaves beside those that all streams keep
+unfoldable pub send_room : StreamsState → ℕ
+send_room s = s.send_window - kept_in s.records
+
+-- why a write is refused, the first that holds: the connection is closed, the stream is unknown, or its side refuses
+unfoldable pub write_refusal : ℕ → StreamsState → Option WriteError
+write_refusal id s = if s.closed then Some WriteBlocked else write_fault (budget (send_room s) s.outgoing) (known_at id s)
 
 -- how many bytes a write takes
 abbrev pub count_taken : ℕ → ℕ → Option SendPart → ℕ
@@ -62,14 +67,14 @@ count_taken wanted most (Some p) = takes wanted most p
 
 -- the application writes so many bytes of a chunk's front
 unfoldable pub wrote : ℕ → ℕ → List ℕ → StreamsState → StreamsState
-wrote id n chunk s = record s {
+wrote id n chunk s = touched id (record s {
   records = changed (with_sending (if_known (part_written (take n chunk)))) id s.records;
   outgoing = outgoing_written n s.outgoing;
-}
+})
 
 -- a write that is refused leaves everything as it was, but that it was blocked
 unfoldable pub write_refused : WriteError → ℕ → StreamsState → StreamsState
-write_refused e id s = if s.closed then s else sends (after_refusal e) id s
+write_refused e id s = if s.closed then s else record s { records = changed (with_sending (if_known (after_refusal e))) id s.records }
 
 -- why a stream can't be finished: it is unknown, or its sending side refuses
 abbrev pub finish_refusal : Option SendPart → Option FinishError

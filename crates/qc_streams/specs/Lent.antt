@@ -2,7 +2,7 @@
 use Rattle.std.specs.Prelude.{ℕ, Option}
 use Rattle.std.specs.Borrow.{LendsIf, MutBor, Fml}
 use Rattle.qc_streams.specs.declared.stream.Stream.{Stream}
-use Rattle.qc_streams.specs.contracts.records.Records.{the_row}
+use Rattle.qc_streams.specs.contracts.map.StreamMap.{the_row}
 use Rattle.qc_streams.specs.contracts.stream.Stream as stream_contract
 use Rattle.qc_streams.specs.Lending.{AllRecords}
 use Rattle.qc_streams.specs.Records.{with_record}

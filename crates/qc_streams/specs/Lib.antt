@@ -2,11 +2,16 @@ pub mod Counts
 pub mod Credit
 pub mod Lending
 pub mod Records
+pub mod Kept
 pub mod Events
 pub mod Stream
 pub mod Refusals
 pub mod Lent
+pub mod Waiting
 pub mod Streams
 pub mod Frames
 pub mod Calls
 pub mod Owed
+pub mod Control
+pub mod Parts
+pub mod Settings

@@ -1,5 +1,5 @@
 -- One stream of a connection, and what a frame makes of it (RFC 9000, section 3)
-use Rattle.std.specs.Prelude.{ℕ, Bool, true, false, not, ◌&&◌, if◌then◌else◌, Option, None, Some, is_some}
+use Rattle.std.specs.Prelude.{ℕ, pos, Bool, true, false, not, ◌&&◌, if◌then◌else◌, Option, None, Some, is_some}
 use Rattle.std.specs.Option.{option_map}
 use Rattle.qc_recv.specs.declared.recv.Recv.{Recv}
 use Rattle.qc_recv.specs.declared.fault.Refusal.{Refusal as SideRefusal}
@@ -40,6 +40,10 @@ is_reading (Some r) = keeps r && not (is_ended r)
 abbrev pub side_refusal : (Recv → Option SideRefusal) → Option Recv → Option SideRefusal
 side_refusal f None = None
 side_refusal f (Some r) = f r
+
+-- a stream of which nothing came and nothing was sent
+unfoldable pub fresh_stream : Option Recv → Option SendPart → Stream
+fresh_stream r p = record { receiving = r; sending = p; priority = pos 0; turn = None; marked = false }
 
 -- the receiving side changes, where there is one
 unfoldable pub with_receiving : (Recv → Recv) → Stream → Stream

@@ -18,7 +18,8 @@ use Rattle.qc_streams.specs.Counts.{at_most, by_dir, dir_put, own_opened, own_ra
 use Rattle.qc_streams.specs.Credit.{new_incoming, tallied, new_outgoing, outgoing_raised}
 use Rattle.qc_streams.specs.Lending.{AllRecords}
 use Rattle.qc_streams.specs.Records.{record_of, with_new, without, changed}
-use Rattle.qc_streams.specs.Stream.{totals_at, has_ended}
+use Rattle.qc_streams.specs.Stream.{fresh_stream, totals_at, has_ended}
+use Rattle.qc_streams.specs.Waiting.{new_waiting, place_made, places_made, place_left, left, touched, is_idle}
 
 -- the other end
 abbrev pub other : Side → Side
@@ -58,9 +59,10 @@ no_peer limit = record {
 unfoldable pub no_limits : PeerLimits
 no_limits = record { all_data = 0; bidi_streams = 0; uni_streams = 0; peer_bidi_data = 0; own_bidi_data = 0; own_uni_data = 0 }
 
--- no stream is open: an end that lets its peer have so many open, with its windows for all of them and for one stream
-unfoldable pub new_streams : Side → ℕ → ℕ → ℕ → ℕ → StreamsState
-new_streams side uni bi window stream_window = record {
+-- no stream is open: an end that lets its peer have so many open, with its windows for what comes on all of them and on one, and
+-- for the bytes that are kept
+unfoldable pub new_streams : Side → ℕ → ℕ → ℕ → ℕ → ℕ → Bool → StreamsState
+new_streams side uni bi window stream_window send_window fair = record {
   side = side;
   closed = false;
   records = [];
@@ -68,9 +70,12 @@ new_streams side uni bi window stream_window = record {
   peer = record { bi = no_peer bi; uni = no_peer uni };
   limits = no_limits;
   stream_window = stream_window;
+  send_window = send_window;
   incoming = new_incoming window;
   outgoing = new_outgoing;
   events = [];
+  waiting = new_waiting;
+  fair = fair;
 }
 
 -- the peer's limits are known: those on what is open already only rise
@@ -87,13 +92,13 @@ closed s = record s { closed = true }
 
 -- a stream that this end opens
 abbrev pub fresh_own : Dir → StreamsState → Stream
-fresh_own Bi s = record { receiving = Some (new_receiving s.stream_window); sending = Some (new_sending s.limits.own_bidi_data) }
-fresh_own Uni s = record { receiving = None; sending = Some (new_sending s.limits.own_uni_data) }
+fresh_own Bi s = fresh_stream (Some (new_receiving s.stream_window)) (Some (new_sending s.limits.own_bidi_data))
+fresh_own Uni s = fresh_stream None (Some (new_sending s.limits.own_uni_data))
 
 -- a stream that the peer opens
 abbrev pub fresh_peer : Dir → StreamsState → Stream
-fresh_peer Bi s = record { receiving = Some (new_receiving s.stream_window); sending = Some (new_sending s.limits.peer_bidi_data) }
-fresh_peer Uni s = record { receiving = Some (new_receiving s.stream_window); sending = None }
+fresh_peer Bi s = fresh_stream (Some (new_receiving s.stream_window)) (Some (new_sending s.limits.peer_bidi_data))
+fresh_peer Uni s = fresh_stream (Some (new_receiving s.stream_window)) None
 
 -- whether the application may open a stream: the connection isn't closed, and the peer's limit isn't reached
 unfoldable pub may_open : Dir → StreamsState → Bool
@@ -108,6 +113,7 @@ unfoldable pub opened_own : Dir → StreamsState → StreamsState
 opened_own dir s = record s {
   records = with_new (next_own dir s) (fresh_own dir s) s.records;
   own = dir_put dir (own_opened (by_dir dir s.own)) s.own;
+  waiting = place_made s.waiting;
 }
 
 -- the next stream that the application accepts
@@ -145,13 +151,14 @@ lower_opened id s = made id (by_dir (dir_of id) s.peer).opened (lower_unopened i
 
 -- the peer opens them
 abbrev pub with_lower : ℕ → StreamsState → StreamsState
-with_lower id s = record s { records = lower_opened id s }
+with_lower id s = record s { records = lower_opened id s; waiting = places_made (lower_unopened id s) s.waiting }
 
 -- the peer opens the stream with an id, and with it all lower ones of its kind
 unfoldable pub opened_with : ℕ → Stream → StreamsState → StreamsState
 opened_with id st s = record s {
   records = with_new id st (lower_opened id s);
   peer = dir_put (dir_of id) (peer_opened (id / 4) (by_dir (dir_of id) s.peer)) s.peer;
+  waiting = place_made (places_made (lower_unopened id s) s.waiting);
 }
 
 -- a frame changes the stream that it names; where the peer hasn't opened it, it is opened, and is a fresh one so changed
@@ -169,15 +176,20 @@ unfoldable pub counted : Totals → ℕ → StreamsState → StreamsState
 counted before id s = record s { incoming = tallied before (totals_at id s.records) s.incoming }
 
 -- a stream leaves; where it is one of the peer's, it frees a place
-unfoldable pub released : ℕ → StreamsState → StreamsState
-released id s = record s {
+unfoldable pub removed : ℕ → StreamsState → StreamsState
+removed id s = record s {
   records = without id s.records;
   peer = if is_own s.side id then s.peer else dir_put (dir_of id) (place_freed (by_dir (dir_of id) s.peer)) s.peer;
+  waiting = if is_idle (record_of id s.records) then place_left s.waiting else s.waiting;
 }
 
--- a stream that has ended leaves
+-- the same, with its turn
+unfoldable pub released : ℕ → StreamsState → StreamsState
+released id s = removed id (left id s)
+
+-- a stream that has ended leaves; of another it is looked at what it owes now
 unfoldable pub settled : ℕ → StreamsState → StreamsState
-settled id s = if has_ended (record_of id s.records) then released id s else s
+settled id s = if has_ended (record_of id s.records) then released id s else touched id s
 
 -- an event waits, if it is to be told
 unfoldable pub told_if : Bool → StreamEvent → StreamsState → StreamsState

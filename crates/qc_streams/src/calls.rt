@@ -1,10 +1,11 @@
 //! The application's calls on the stream with an id.
 
-ghost use Rattle.std.specs.Prelude.{◌≡◌, length, take, drop, IfErr, IfOk, OnErr, OnOk, None, Some, is_err};
+ghost use Rattle.std.specs.Prelude.{◌≡◌, ◌+◌, ◌^◌, ◌<◌, length, take, drop, IfErr, IfOk, OnErr, OnOk, None, Some, is_err};
 ghost use Rattle.qc_recv.specs.Receiving.{reset_asked, stop_asked};
 ghost use Rattle.qc_send_stream.specs.Sending.{IsWriteRefusal, after_refusal, finished, part_written, was_reset};
-ghost use Rattle.qc_streams.specs.Calls.{IsReadOf, after_read, bars_reset, closed_to, count_taken, finish_refusal, gives, if_known, known_at, known_of, receiving_at, receiving_of, reset_of, sends, write_fault, write_refusal, write_refused, wrote};
+ghost use Rattle.qc_streams.specs.Calls.{IsReadOf, after_read, bars_reset, closed_to, count_taken, finish_refusal, gives, if_known, known_at, known_of, receiving_at, receiving_of, reset_of, send_room, sends, write_fault, write_refusal, write_refused, wrote};
 ghost use Rattle.qc_streams.specs.Credit.{budget};
+ghost use Rattle.qc_streams.specs.Kept.{kept_in};
 ghost use Rattle.qc_streams.specs.Records.{changed, record_of};
 ghost use Rattle.qc_streams.specs.Stream.{with_receiving, with_sending};
 
@@ -18,8 +19,9 @@ use qc_send_stream::{FinishError, WriteError};
 
 impl Records {
     /// Writes on the stream with an id.
-    #[tactic(auto, unfolding(qc_send_stream::specs::Sending::IsWriteRefusal))]
+    #[tactic(auto, using(crate::proofs::Keeping::same), unfolding(qc_send_stream::specs::Sending::IsWriteRefusal))]
     fn write(&mut self, id: u64, chunk: &mut Bytes, most: u64) -> Result<usize, WriteError>
+        requires { kept_in self.old + most < 2 ^ 64 }
         ensures count { IfOk result (λ n. n ≡ count_taken (length chunk.old) most (known_of (record_of id self.old))) }
         ensures written { IfOk result (λ n. self.new ≡ changed (with_sending (if_known (part_written (take n chunk.old)))) id self.old) }
         ensures rest { IfOk result (λ n. chunk.new ≡ drop n chunk.old) }
@@ -28,73 +30,82 @@ impl Records {
         ensures err { IfErr result (λ e. self.new ≡ changed (with_sending (if_known (after_refusal e))) id self.old) }
         ensures kept { OnErr result (chunk.new ≡ chunk.old) }
     {
-        match self.get_mut(id) {
-            Some(stream) => stream.write(chunk, most),
+        match self.streams.get_mut(id) {
+            Some(stream) => {
+                let count = stream.write(chunk, most)?;
+                self.kept += count as u64;
+                Ok(count)
+            }
             None => Err(WriteError::ClosedStream),
         }
     }
 
     /// Finishes the stream with an id.
-    #[tactic(auto, using(crate::proofs::Back::record_back))]
+    #[tactic(auto, using(crate::proofs::Back::record_back, crate::proofs::Keeping::same))]
     fn finish(&mut self, id: u64) -> Result<(), FinishError>
         ensures finished { OnOk result (self.new ≡ changed (with_sending (if_known finished)) id self.old) }
         ensures fits { OnOk result (finish_refusal (known_of (record_of id self.old)) ≡ None) }
         ensures refused { IfErr result (λ e. finish_refusal (known_of (record_of id self.old)) ≡ Some e) }
         ensures err { OnErr result (self.new ≡ self.old) }
     {
-        match self.get_mut(id) {
+        match self.streams.get_mut(id) {
             Some(stream) => stream.finish(),
             None => Err(FinishError::ClosedStream),
         }
     }
 
     /// Resets the stream with an id.
-    #[tactic(auto, using(crate::proofs::Back::record_back))]
+    #[tactic(auto, using(crate::proofs::Back::record_back, crate::proofs::Keeping::same, crate::proofs::Keeping::less, crate::proofs::Keeping::at_most))]
     fn reset(&mut self, id: u64, code: VarInt) -> Result<(), ClosedStream>
         ensures reset { OnOk result (self.new ≡ changed (with_sending (if_known (was_reset code))) id self.old) }
         ensures refused { is_err result ≡ bars_reset (known_of (record_of id self.old)) }
         ensures err { OnErr result (self.new ≡ self.old) }
     {
-        match self.get_mut(id) {
-            Some(stream) => stream.reset(code),
+        match self.streams.get_mut(id) {
+            Some(stream) => {
+                let before = stream.kept();
+                stream.reset(code)?;
+                self.kept -= before;
+                Ok(())
+            }
             None => Err(ClosedStream),
         }
     }
 
     /// The next bytes of the stream with an id.
-    #[tactic(auto, unfolding(crate::specs::Calls::IsReadOf))]
+    #[tactic(auto, using(crate::proofs::Keeping::same), unfolding(crate::specs::Calls::IsReadOf))]
     fn read(&mut self, id: u64, ordered: bool, most: usize) -> Result<Option<Chunk>, ReadFault>
         ensures answer { IsReadOf most ordered (receiving_of (record_of id self.old)) result }
         ensures leads { self.new ≡ changed (with_receiving (after_read ordered result)) id self.old }
     {
-        match self.get_mut(id) {
+        match self.streams.get_mut(id) {
             Some(stream) => stream.read(ordered, most),
             None => Err(ReadFault::ClosedStream),
         }
     }
 
     /// Stops the stream with an id.
-    #[tactic(auto, using(crate::proofs::Back::record_back))]
+    #[tactic(auto, using(crate::proofs::Back::record_back, crate::proofs::Keeping::same))]
     fn stop(&mut self, id: u64, code: VarInt) -> Result<(), ClosedStream>
         ensures stopped { OnOk result (self.new ≡ changed (with_receiving (stop_asked code)) id self.old) }
         ensures refused { is_err result ≡ closed_to (receiving_of (record_of id self.old)) }
         ensures err { OnErr result (self.new ≡ self.old) }
     {
-        match self.get_mut(id) {
+        match self.streams.get_mut(id) {
             Some(stream) => stream.stop(code),
             None => Err(ClosedStream),
         }
     }
 
     /// The code of the reset that came on the stream with an id.
-    #[tactic(auto, using(crate::proofs::Back::record_back))]
+    #[tactic(auto, using(crate::proofs::Back::record_back, crate::proofs::Keeping::same))]
     fn received_reset(&mut self, id: u64) -> Result<Option<VarInt>, ClosedStream>
         ensures code { IfOk result (λ code. code ≡ reset_of (receiving_of (record_of id self.old))) }
         ensures told { OnOk result (self.new ≡ changed (with_receiving reset_asked) id self.old) }
         ensures refused { is_err result ≡ closed_to (receiving_of (record_of id self.old)) }
         ensures err { OnErr result (self.new ≡ self.old) }
     {
-        match self.get_mut(id) {
+        match self.streams.get_mut(id) {
             Some(stream) => stream.received_reset(),
             None => Err(ClosedStream),
         }
@@ -102,35 +113,45 @@ impl Records {
 }
 
 impl StreamsState {
+    /// How many more bytes may be kept until they are acknowledged.
+    #[tactic(auto, unfolding(crate::specs::Calls::send_room))]
+    pub fn send_room(&self) -> u64
+        ensures room { result ≡ send_room self.now }
+        ensures fits { kept_in self.now.records + result < 2 ^ 64 }
+    {
+        self.send_window.saturating_sub(self.records.kept())
+    }
+
     /// Writes as many bytes of the chunk's front as fit, which are cut off it: no more than the peer
-    /// takes of the stream and of all streams together (RFC 9000, section 4.1), nor than `room`, how
-    /// many more may be kept until they are acknowledged. Answers how many.
+    /// takes of the stream and of all streams together (RFC 9000, section 4.1), nor than the send window
+    /// leaves beside the bytes that all streams keep. Answers how many.
     ///
     /// # Errors
     ///
     /// Exactly, in this order: [`WriteError::Blocked`] where the connection is closed,
     /// [`WriteError::ClosedStream`] where the stream is unknown, [`WriteError::Blocked`] where the
-    /// connection's credit or the room is used up, [`WriteError::ClosedStream`] where the stream is
+    /// connection's credit or the send window is used up, [`WriteError::ClosedStream`] where the stream is
     /// finished or reset, [`WriteError::Stopped`] where the peer stopped it,
     /// [`WriteError::Blocked`] where its credit is used up; or want of memory. The chunk is as
     /// before then, and so is all else, but that a write was blocked is noted on a connection that
     /// isn't closed.
     #[tactic(auto, unfolding(crate::specs::Calls::wrote, crate::specs::Calls::sends, crate::specs::Calls::write_refusal, crate::specs::Calls::write_refused, crate::specs::Calls::known_at, qc_send_stream::specs::Sending::IsWriteRefusal))]
-    pub fn write(&mut self, id: StreamId, chunk: &mut Bytes, room: u64) -> Result<usize, WriteError>
-        ensures count { IfOk result (λ n. n ≡ count_taken (length chunk.old) (budget room self.old.outgoing) (known_at id self.old)) }
+    pub fn write(&mut self, id: StreamId, chunk: &mut Bytes) -> Result<usize, WriteError>
+        ensures count { IfOk result (λ n. n ≡ count_taken (length chunk.old) (budget (send_room self.old) self.old.outgoing) (known_at id self.old)) }
         ensures written { IfOk result (λ n. self.new ≡ wrote id n chunk.old self.old) }
         ensures rest { IfOk result (λ n. chunk.new ≡ drop n chunk.old) }
-        ensures fits { OnOk result (write_refusal id room self.old ≡ None) }
-        ensures refused { IfErr result (λ e. IsWriteRefusal e (write_refusal id room self.old)) }
+        ensures fits { OnOk result (write_refusal id self.old ≡ None) }
+        ensures refused { IfErr result (λ e. IsWriteRefusal e (write_refusal id self.old)) }
         ensures err { IfErr result (λ e. self.new ≡ write_refused e id self.old) }
         ensures kept { OnErr result (chunk.new ≡ chunk.old) }
     {
         if self.closed {
             return Err(WriteError::Blocked);
         }
-        let most = self.outgoing.budget(room);
+        let most = self.outgoing.budget(self.send_room());
         let count = self.records.write(id.value(), chunk, most)?;
         self.outgoing.write(count as u64);
+        self.touch(id.value());
         Ok(count)
     }
 
@@ -148,7 +169,9 @@ impl StreamsState {
         ensures refused { IfErr result (λ e. finish_refusal (known_at id self.old) ≡ Some e) }
         ensures err { OnErr result (self.new ≡ self.old) }
     {
-        self.records.finish(id.value())
+        self.records.finish(id.value())?;
+        self.touch(id.value());
+        Ok(())
     }
 
     /// Resets a stream: its bytes are let go (RFC 9000, section 3.1).
@@ -162,7 +185,9 @@ impl StreamsState {
         ensures refused { is_err result ≡ bars_reset (known_at id self.old) }
         ensures err { OnErr result (self.new ≡ self.old) }
     {
-        self.records.reset(id.value(), error_code)
+        self.records.reset(id.value(), error_code)?;
+        self.touch(id.value());
+        Ok(())
     }
 
     /// The next bytes of a stream, at most so many, in order or, from then on, out of order. None

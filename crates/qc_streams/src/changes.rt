@@ -13,7 +13,7 @@ use qc_recv::{FrameFault, Refusal as SideRefusal};
 
 impl Records {
     /// A STREAM frame on the stream with an id, where one is open.
-    #[tactic(auto, using(crate::proofs::Back::record_back))]
+    #[tactic(auto, using(crate::proofs::Back::record_back, crate::proofs::Keeping::same))]
     pub(crate) fn take_stream(
         &mut self,
         id: u64,
@@ -28,14 +28,14 @@ impl Records {
         ensures refused { IfErr result (λ e. IsSideRefusal e (refusal_at (stream_refusal offset bytes last room) (record_of id self.old))) }
         ensures err { OnErr result (self.new ≡ self.old) }
     {
-        match self.get_mut(id) {
+        match self.streams.get_mut(id) {
             Some(stream) => stream.take_stream(offset, bytes, last, room),
             None => Ok(()),
         }
     }
 
     /// A RESET_STREAM frame on the stream with an id, where one is open.
-    #[tactic(auto, using(crate::proofs::Back::record_back))]
+    #[tactic(auto, using(crate::proofs::Back::record_back, crate::proofs::Keeping::same))]
     pub(crate) fn take_reset(
         &mut self,
         id: u64,
@@ -48,28 +48,30 @@ impl Records {
         ensures refused { IfErr result (λ e. refusal_at (reset_refusal size room) (record_of id self.old) ≡ Some e) }
         ensures err { OnErr result (self.new ≡ self.old) }
     {
-        match self.get_mut(id) {
+        match self.streams.get_mut(id) {
             Some(stream) => stream.take_reset(code, size, room),
             None => Ok(()),
         }
     }
 
     /// A STOP_SENDING frame on the stream with an id, where one is open: whether it is to be told.
+    #[tactic(auto, using(crate::proofs::Keeping::same))]
     pub(crate) fn stop_sending(&mut self, id: u64, code: VarInt) -> bool
         ensures first { result ≡ stops_at (record_of id self.old) }
         ensures stopped { self.new ≡ changed (with_sending (stop_taken code)) id self.old }
     {
-        match self.get_mut(id) {
+        match self.streams.get_mut(id) {
             Some(stream) => stream.stop_sending(code),
             None => false,
         }
     }
 
     /// A MAX_STREAM_DATA frame on the stream with an id, where one is open.
+    #[tactic(auto, using(crate::proofs::Keeping::same))]
     pub(crate) fn raise_limit(&mut self, id: u64, limit: VarInt)
         ensures { self.new ≡ changed (with_sending (limit_taken limit)) id self.old }
     {
-        if let Some(stream) = self.get_mut(id) {
+        if let Some(stream) = self.streams.get_mut(id) {
             stream.raise_limit(limit);
         }
     }
@@ -79,7 +81,7 @@ impl Records {
     pub(crate) fn totals(&self, id: u64) -> Totals
         ensures { result ≡ totals_at id self.now }
     {
-        match self.get(id) {
+        match self.streams.get(id) {
             Some(stream) => stream.totals(),
             None => Totals {
                 received: 0,
@@ -92,7 +94,7 @@ impl Records {
     pub(crate) fn is_reading(&self, id: u64) -> bool
         ensures { result ≡ reads_if (record_of id self.now) }
     {
-        match self.get(id) {
+        match self.streams.get(id) {
             Some(stream) => stream.is_reading(),
             None => false,
         }
@@ -102,7 +104,7 @@ impl Records {
     pub(crate) fn has_ended(&self, id: u64) -> bool
         ensures { result ≡ has_ended (record_of id self.now) }
     {
-        match self.get(id) {
+        match self.streams.get(id) {
             Some(stream) => stream.is_over(),
             None => false,
         }

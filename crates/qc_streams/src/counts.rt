@@ -1,6 +1,7 @@
 //! How many streams of a kind may be opened, and how many were.
 
 ghost use Rattle.std.specs.Prelude.{◌≡◌, ◌+◌, ◌^◌, ◌<◌, ◌≤◌};
+ghost use Rattle.qc_streams.specs.Settings.{concurrent_set};
 ghost use Rattle.qc_streams.specs.Counts.{at_most, by_dir, dir_put, own_opened, own_raised, peer_opened, opening_told, owes_places, place_freed, places_lost, places_sealed, has_accepted, accepted};
 
 use qc_base::Dir;
@@ -157,6 +158,20 @@ impl PeerStreams {
         let mut next = self;
         next.ended = ended;
         let places = ended.saturating_add(self.concurrent.value());
+        next.limit = StreamLimit::new(self.limit.value().max(places));
+        next.waits = next.waits || next.owes_places();
+        next
+    }
+
+    /// So many of them may be open at a time.
+    #[tactic(auto, unfolding(crate::specs::Settings::concurrent_set, crate::specs::Settings::with_concurrent, crate::specs::Counts::held, crate::specs::Counts::at_most))]
+    pub fn with_concurrent(self, count: u64) -> PeerStreams
+        ensures { result ≡ concurrent_set count self }
+    {
+        let concurrent = StreamLimit::new(count);
+        let mut next = self;
+        next.concurrent = concurrent;
+        let places = self.ended.saturating_add(concurrent.value());
         next.limit = StreamLimit::new(self.limit.value().max(places));
         next.waits = next.waits || next.owes_places();
         next

@@ -1,6 +1,6 @@
 //! The connection's credit for what comes, and for what is sent.
 
-ghost use Rattle.std.specs.Prelude.{◌≡◌};
+ghost use Rattle.std.specs.Prelude.{◌≡◌, ◌≤◌};
 ghost use Rattle.qc_streams.specs.Credit.{new_incoming, incoming_credit, room, incoming_owes, tallied, credit_value, credit_sealed, credit_lost, new_outgoing, outgoing_raised, outgoing_written, budget};
 
 use crate::stream::Totals;
@@ -132,7 +132,8 @@ impl Outgoing {
     /// How many bytes may be written, where so many more may be kept until they are acknowledged.
     #[tactic(auto, unfolding(crate::specs::Credit::budget))]
     pub fn budget(&self, room: u64) -> u64
-        ensures { result ≡ budget room self.now }
+        ensures budget { result ≡ budget room self.now }
+        ensures within { result ≤ room }
     {
         self.limit.saturating_sub(self.written).min(room)
     }

@@ -17,6 +17,8 @@ pub enum StreamEvent {
     Readable { id: StreamId },
     /// The peer stopped a stream (RFC 9000, section 3.5).
     Stopped { id: StreamId, error_code: VarInt },
+    /// All bytes of a stream and its end are acknowledged.
+    Finished { id: StreamId },
     /// More streams may be opened.
     Available { dir: Dir },
 }

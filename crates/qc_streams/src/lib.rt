@@ -3,27 +3,39 @@
 
 mod calls;
 mod changes;
+mod control;
 mod controls;
 mod counts;
 mod credit;
 mod events;
+mod fates;
 mod fault;
+mod filing;
 mod kinds;
+mod map;
 mod opening;
 mod owed;
+mod parts;
 mod received;
 mod records;
+mod settings;
 mod sides;
 mod state;
 mod stream;
+mod waiting;
 
+pub use control::Control;
 pub use counts::{ByDir, OwnStreams, PeerStreams, StreamLimit};
 pub use credit::{Incoming, Outgoing};
 pub use events::{Events, StreamEvent};
 pub use fault::{ClosedStream, ReadFault, Refusal, StreamFault};
+pub use parts::StreamPart;
 pub use records::Records;
 pub use state::{PeerLimits, StreamsState};
 pub use stream::{Stream, Totals};
+pub use waiting::{Dues, Waiting};
 
+#[cfg(test)]
+mod sending_tests;
 #[cfg(test)]
 mod tests;

@@ -1,7 +1,10 @@
 //! Which streams are open, and how they come and go.
 
-ghost use Rattle.std.specs.Prelude.{◌≡◌, ◌<◌, ◌^◌, OnOk};
-ghost use Rattle.qc_streams.specs.Streams.{counted, is_own, is_own_unopened, is_past_limit, is_peer_unopened, opened_with, released, settled, told_if, with_lower};
+ghost use Rattle.std.specs.Prelude.{◌≡◌, ◌<◌, ◌^◌, OnOk, OnErr};
+ghost use Rattle.qc_streams.specs.Kept.{kept_of};
+ghost use Rattle.qc_streams.specs.Streams.{counted, is_own, is_own_unopened, is_past_limit, is_peer_unopened, opened_with, released, settled, told_if, removed, with_lower};
+ghost use Rattle.qc_streams.specs.Waiting.{place_made};
+ghost use Rattle.qc_streams.specs.Records.{with_new};
 
 use crate::events::StreamEvent;
 use crate::kinds::{dir_of, of_kind};
@@ -50,8 +53,25 @@ impl StreamsState {
         !self.is_own(id) && peer.limit.value() <= id / 4
     }
 
+    /// Adds a stream, with a place for its mark.
+    #[tactic(auto, unfolding(crate::specs::Waiting::place_made))]
+    pub(crate) fn add(&mut self, id: u64, stream: Stream) -> Result<(), AllocError>
+        requires { kept_of stream ≡ 0 }
+        ensures added { OnOk result (self.new ≡ record self.old { records = with_new id stream self.old.records; waiting = place_made self.old.waiting }) }
+        ensures err { OnErr result (self.new ≡ self.old) }
+    {
+        self.waiting.marks.add_place()?;
+        match self.records.insert(id, stream) {
+            Ok(()) => Ok(()),
+            Err(error) => {
+                self.waiting.marks.drop_place();
+                Err(error)
+            }
+        }
+    }
+
     /// Adds all streams of the peer that lie below an id of their kind and aren't open.
-    #[tactic(auto, unfolding(crate::specs::Streams::lower_opened, crate::specs::Streams::lower_unopened, crate::specs::Streams::made))]
+    #[tactic(auto, unfolding(crate::specs::Streams::lower_opened, crate::specs::Streams::lower_unopened, crate::specs::Streams::made, crate::specs::Waiting::places_made))]
     fn open_lower(&mut self, id: u64) -> Result<(), AllocError>
         requires { id < 2 ^ 62 }
         ensures { OnOk result (self.new ≡ with_lower id self.old) }
@@ -62,7 +82,7 @@ impl StreamsState {
         let mut count = 0;
         while count < missing {
             let stream = self.fresh_peer(dir);
-            self.records.insert(of_kind(id, first + count), stream)?;
+            self.add(of_kind(id, first + count), stream)?;
             count += 1;
         }
         Ok(())
@@ -71,11 +91,12 @@ impl StreamsState {
     /// The peer opens the stream with an id, and all lower ones of its kind.
     #[tactic(auto, unfolding(crate::specs::Streams::opened_with, crate::specs::Streams::lower_opened))]
     pub(crate) fn open_with(&mut self, id: u64, stream: Stream) -> Result<(), AllocError>
-        requires { id < 2 ^ 62 }
+        requires id { id < 2 ^ 62 }
+        requires none { kept_of stream ≡ 0 }
         ensures { OnOk result (self.new ≡ opened_with id stream self.old) }
     {
         self.open_lower(id)?;
-        self.records.insert(id, stream)?;
+        self.add(id, stream)?;
         let dir = dir_of(id);
         let peer = self.peer.get(dir).with_opened(id / 4);
         self.peer.put(dir, peer);
@@ -83,10 +104,13 @@ impl StreamsState {
     }
 
     /// A stream leaves.
-    #[tactic(auto, unfolding(crate::specs::Streams::released))]
-    fn release(&mut self, id: u64)
-        ensures { self.new ≡ released id self.old }
+    #[tactic(auto, unfolding(crate::specs::Streams::removed, crate::specs::Waiting::place_left))]
+    fn remove(&mut self, id: u64)
+        ensures { self.new ≡ removed id self.old }
     {
+        if self.records.is_idle(id) {
+            self.waiting.marks.drop_place();
+        }
         self.records.remove(id);
         if !self.is_own(id) {
             let dir = dir_of(id);
@@ -95,13 +119,24 @@ impl StreamsState {
         }
     }
 
-    /// A stream that has ended leaves.
+    /// A stream leaves, with its turn.
+    #[tactic(auto, unfolding(crate::specs::Streams::released))]
+    fn release(&mut self, id: u64)
+        ensures { self.new ≡ released id self.old }
+    {
+        self.leave(id);
+        self.remove(id);
+    }
+
+    /// A stream that has ended leaves; of another it is looked at what it owes now.
     #[tactic(auto, unfolding(crate::specs::Streams::settled))]
     pub(crate) fn settle(&mut self, id: u64)
         ensures { self.new ≡ settled id self.old }
     {
         if self.records.has_ended(id) {
             self.release(id);
+        } else {
+            self.touch(id);
         }
     }
 

@@ -1,79 +1,98 @@
-//! The streams that are open.
+//! The streams that are open, and how many bytes they keep.
 
-ghost use Rattle.std.specs.Prelude.{◌≡◌, [], OnOk, OnErr, IfErr, None, Some};
-ghost use Rattle.std.specs.Borrow.{sem};
-ghost use Rattle.std.specs.Option.{option_copied, option_copied_mut, option_map};
+ghost use Rattle.std.specs.Prelude.{◌≡◌, [], OnOk, OnErr};
+ghost use Rattle.std.specs.Option.{option_copied};
+ghost use Rattle.qc_streams.specs.Kept.{kept_at, kept_in, kept_of};
 ghost use Rattle.qc_streams.specs.Records.{record_of, with_new, without};
-ghost use Rattle.qc_streams.specs.Lent.{LendsRecord};
 
+use crate::map::StreamMap;
 use crate::stream::Stream;
 use std::alloc::{AllocError, Global};
-use std::collections::BTreeMap;
 use std::marker::Model;
 
 /// The streams that are open, each under its id.
 #[derive(Drop)]
 pub struct Records {
-    map: BTreeMap<u64, Stream>,
-    alloc: Global,
+    pub(crate) streams: StreamMap,
+    // how many bytes they keep until they are acknowledged, all together
+    pub(crate) kept: u64,
 }
 
 impl Model for Records {
+    ghost use Rattle.std.specs.Prelude.{◌≡◌};
     ghost use Rattle.qc_streams.specs.Lending.{AllRecords};
 
     ghost Value = { AllRecords };
 
-    ghost view = { λ r. r.map.entries };
+    ghost use Rattle.qc_streams.specs.Kept.{kept_in};
+
+    ghost view = { λ r. r.streams };
+
+    ghost invariant = { λ r. r.kept ≡ kept_in r.streams };
+}
+
+/// How many bytes a stream keeps, none where there is no stream.
+fn kept_at(stream: &Option<Stream>) -> u64
+    ensures { result ≡ kept_at stream.now }
+{
+    match stream {
+        Some(stream) => stream.kept(),
+        None => 0,
+    }
 }
 
 impl Records {
     /// No stream is open.
+    #[tactic(auto, unfolding(crate::specs::Kept::kept_in))]
     pub fn new(alloc: Global) -> Records
         ensures { result ≡ [] }
     {
         Records {
-            map: BTreeMap::new(alloc),
-            alloc,
+            streams: StreamMap::new(alloc),
+            kept: 0,
         }
     }
 
     /// The allocator that streams take their memory from.
     pub(crate) fn alloc(&self) -> Global {
-        self.alloc
+        self.streams.alloc()
     }
 
     /// The stream with an id.
     pub fn get(&self, id: u64) -> Option<&Stream>
         ensures { option_copied result ≡ record_of id self.now }
     {
-        self.map.get(&id)
+        self.streams.get(id)
     }
 
-    /// The stream with an id, to be changed.
-    pub(crate) fn get_mut(&mut self, id: u64) -> Option<&mut Stream>
-        ensures* writes_back { sem 𝓛 (LendsRecord self.entry id result) }
-        ensures value { option_copied_mut result ≡ record_of id self.old }
+    /// How many bytes all streams keep together until they are acknowledged.
+    pub fn kept(&self) -> u64
+        ensures { result ≡ kept_in self.now }
     {
-        self.map.get_mut(&id)
+        self.kept
     }
 
-    /// Adds a stream.
+    /// Adds a stream that keeps no bytes.
     ///
     /// # Errors
     ///
     /// Want of memory; nothing changes then.
     pub(crate) fn insert(&mut self, id: u64, stream: Stream) -> Result<(), AllocError>
+        requires { kept_of stream ≡ 0 }
         ensures added { OnOk result (self.new ≡ with_new id stream self.old) }
         ensures err { OnErr result (self.new ≡ self.old) }
     {
-        self.map.insert(id, stream)?;
+        let before = self.streams.insert(id, stream)?;
+        self.kept -= kept_at(&before);
         Ok(())
     }
 
     /// Takes a stream out.
+    #[tactic(auto, using(crate::proofs::Keeping::removed))]
     pub(crate) fn remove(&mut self, id: u64)
         ensures { self.new ≡ without id self.old }
     {
-        self.map.remove(&id);
+        let before = self.streams.remove(id);
+        self.kept -= kept_at(&before);
     }
 }

@@ -1,9 +1,10 @@
 //! The application's calls on one side of a stream.
 
-ghost use Rattle.std.specs.Prelude.{◌≡◌, length, take, drop, IfErr, IfOk, OnErr, OnOk, None, Some, is_err};
+ghost use Rattle.std.specs.Prelude.{◌≡◌, ◌+◌, ◌≤◌, length, take, drop, IfErr, IfOk, OnErr, OnOk, None, Some, is_err};
 ghost use Rattle.qc_recv.specs.Receiving.{IsNext, reset_asked, stop_asked};
-ghost use Rattle.qc_send_stream.specs.Sending.{IsWriteRefusal, after_refusal, finished, part_written, was_reset};
+ghost use Rattle.qc_send_stream.specs.Sending.{kept_count, IsWriteRefusal, after_refusal, finished, part_written, was_reset};
 ghost use Rattle.qc_streams.specs.Calls.{IsRead, IsReadOf, after_read, bars_reset, closed_to, count_taken, fault_of_open, fault_of_read, finish_refusal, if_known, known, reset_of, write_fault};
+ghost use Rattle.qc_streams.specs.Kept.{kept_of};
 ghost use Rattle.qc_streams.specs.Stream.{with_receiving, with_sending};
 
 use crate::fault::{ClosedStream, ReadFault};
@@ -35,11 +36,14 @@ fn closed_fault(error: ReadableError) -> ReadFault
 }
 
 /// Writes on a sending side, unless all of it is acknowledged.
-#[tactic(auto, unfolding(qc_send_stream::specs::Sending::IsWriteRefusal))]
+#[tactic(auto, unfolding(qc_send_stream::specs::Sending::IsWriteRefusal, qc_send_stream::specs::Sending::was_blocked))]
 fn write(sending: &mut SendPart, chunk: &mut Bytes, most: u64) -> Result<usize, WriteError>
     ensures count { IfOk result (λ n. n ≡ count_taken (length chunk.old) most (known (Some sending.old))) }
     ensures written { IfOk result (λ n. sending.new ≡ if_known (part_written (take n chunk.old)) sending.old) }
     ensures rest { IfOk result (λ n. chunk.new ≡ drop n chunk.old) }
+    ensures within { IfOk result (λ n. n ≤ most) }
+    ensures more { IfOk result (λ n. kept_count sending.new ≡ kept_count sending.old + n) }
+    ensures same { OnErr result (kept_count sending.new ≡ kept_count sending.old) }
     ensures fits { OnOk result (write_fault most (known (Some sending.old)) ≡ None) }
     ensures refused { IfErr result (λ e. IsWriteRefusal e (write_fault most (known (Some sending.old)))) }
     ensures err { IfErr result (λ e. sending.new ≡ if_known (after_refusal e) sending.old) }
@@ -52,8 +56,10 @@ fn write(sending: &mut SendPart, chunk: &mut Bytes, most: u64) -> Result<usize, 
 }
 
 /// Finishes a sending side, unless all of it is acknowledged.
+#[tactic(auto, unfolding(qc_send_stream::specs::Sending::finished))]
 fn finish(sending: &mut SendPart) -> Result<(), FinishError>
     ensures finished { OnOk result (sending.new ≡ if_known finished sending.old) }
+    ensures same { kept_count sending.new ≡ kept_count sending.old }
     ensures fits { OnOk result (finish_refusal (known (Some sending.old)) ≡ None) }
     ensures refused { IfErr result (λ e. finish_refusal (known (Some sending.old)) ≡ Some e) }
     ensures err { OnErr result (sending.new ≡ sending.old) }
@@ -65,8 +71,10 @@ fn finish(sending: &mut SendPart) -> Result<(), FinishError>
 }
 
 /// Resets a sending side, unless all of it is acknowledged.
+#[tactic(auto, unfolding(qc_send_stream::specs::Sending::was_reset, qc_send_stream::specs::Buffer::discarded))]
 fn reset(sending: &mut SendPart, code: VarInt) -> Result<(), ClosedStream>
     ensures reset { OnOk result (sending.new ≡ if_known (was_reset code) sending.old) }
+    ensures none { OnOk result (kept_count sending.new ≡ 0) }
     ensures refused { is_err result ≡ bars_reset (known (Some sending.old)) }
     ensures err { OnErr result (sending.new ≡ sending.old) }
 {
@@ -101,6 +109,9 @@ impl Stream {
         ensures count { IfOk result (λ n. n ≡ count_taken (length chunk.old) most (known self.old.sending)) }
         ensures written { IfOk result (λ n. self.new ≡ with_sending (if_known (part_written (take n chunk.old))) self.old) }
         ensures rest { IfOk result (λ n. chunk.new ≡ drop n chunk.old) }
+        ensures within { IfOk result (λ n. n ≤ most) }
+        ensures more { IfOk result (λ n. kept_of self.new ≡ kept_of self.old + n) }
+        ensures same { OnErr result (kept_of self.new ≡ kept_of self.old) }
         ensures fits { OnOk result (write_fault most (known self.old.sending) ≡ None) }
         ensures refused { IfErr result (λ e. IsWriteRefusal e (write_fault most (known self.old.sending))) }
         ensures err { IfErr result (λ e. self.new ≡ with_sending (if_known (after_refusal e)) self.old) }
@@ -116,6 +127,7 @@ impl Stream {
     #[tactic(auto, unfolding(crate::specs::Stream::with_sending))]
     pub(crate) fn finish(&mut self) -> Result<(), FinishError>
         ensures finished { OnOk result (self.new ≡ with_sending (if_known finished) self.old) }
+        ensures same { kept_of self.new ≡ kept_of self.old }
         ensures fits { OnOk result (finish_refusal (known self.old.sending) ≡ None) }
         ensures refused { IfErr result (λ e. finish_refusal (known self.old.sending) ≡ Some e) }
         ensures err { OnErr result (self.new ≡ self.old) }
@@ -130,6 +142,7 @@ impl Stream {
     #[tactic(auto, unfolding(crate::specs::Stream::with_sending))]
     pub(crate) fn reset(&mut self, code: VarInt) -> Result<(), ClosedStream>
         ensures reset { OnOk result (self.new ≡ with_sending (if_known (was_reset code)) self.old) }
+        ensures none { OnOk result (kept_of self.new ≡ 0) }
         ensures refused { is_err result ≡ bars_reset (known self.old.sending) }
         ensures err { OnErr result (self.new ≡ self.old) }
     {
@@ -144,6 +157,7 @@ impl Stream {
     pub(crate) fn read(&mut self, ordered: bool, most: usize) -> Result<Option<Chunk>, ReadFault>
         ensures answer { IsReadOf most ordered self.old.receiving result }
         ensures leads { self.new ≡ with_receiving (after_read ordered result) self.old }
+        ensures same { kept_of self.new ≡ kept_of self.old }
     {
         match &mut self.receiving {
             Some(receiving) => read(receiving, ordered, most),
@@ -155,6 +169,7 @@ impl Stream {
     #[tactic(auto, unfolding(crate::specs::Stream::with_receiving))]
     pub(crate) fn stop(&mut self, code: VarInt) -> Result<(), ClosedStream>
         ensures stopped { OnOk result (self.new ≡ with_receiving (stop_asked code) self.old) }
+        ensures same { kept_of self.new ≡ kept_of self.old }
         ensures refused { is_err result ≡ closed_to self.old.receiving }
         ensures err { OnErr result (self.new ≡ self.old) }
     {
@@ -172,6 +187,7 @@ impl Stream {
     pub(crate) fn received_reset(&mut self) -> Result<Option<VarInt>, ClosedStream>
         ensures code { IfOk result (λ code. code ≡ reset_of self.old.receiving) }
         ensures told { OnOk result (self.new ≡ with_receiving reset_asked self.old) }
+        ensures same { kept_of self.new ≡ kept_of self.old }
         ensures refused { is_err result ≡ closed_to self.old.receiving }
         ensures err { OnErr result (self.new ≡ self.old) }
     {

@@ -2,6 +2,7 @@
 
 ghost use Rattle.std.specs.Prelude.{◌≡◌, ◌-◌, ◌<◌, ◌^◌, IsTrue, IfOk, OnOk, OnErr, None, Some, if◌then◌else◌};
 ghost use Rattle.qc_streams.specs.Counts.{by_dir, has_accepted};
+ghost use Rattle.qc_streams.specs.Kept.{kept_of};
 ghost use Rattle.qc_recv.specs.Receiving.{new_receiving};
 ghost use Rattle.qc_streams.specs.Streams.{accepted_one, closed, fresh_own, fresh_peer, limits_set, may_open, new_streams, next_accepted, next_own, no_limits, no_own, no_peer, opened_own, other};
 
@@ -10,6 +11,7 @@ use crate::credit::{Incoming, Outgoing};
 use crate::events::Events;
 use crate::records::Records;
 use crate::stream::Stream;
+use crate::waiting::Waiting;
 use qc_base::{Dir, Side, StreamId, VarInt};
 use qc_recv::Recv;
 use qc_send_stream::SendPart;
@@ -49,12 +51,18 @@ pub struct StreamsState {
     pub limits: PeerLimits,
     /// How many bytes of a stream may be underway or unread.
     pub stream_window: u64,
+    /// How many bytes may be kept until they are acknowledged, on all streams.
+    pub send_window: u64,
     /// The credit for what comes.
     pub incoming: Incoming,
     /// The credit for what is sent.
     pub outgoing: Outgoing,
     /// The events that wait.
     pub events: Events,
+    /// What waits to be sent for single streams.
+    pub waiting: Waiting,
+    /// Whether streams of one priority take turns.
+    pub fair: bool,
 }
 
 impl PeerLimits {
@@ -106,7 +114,7 @@ fn no_peer(limit: u64) -> PeerStreams
 
 impl StreamsState {
     /// No stream is open: the peer may have so many of each direction open, and sends no more than
-    /// the windows allow.
+    /// the windows allow; no more than the send window is kept until it is acknowledged.
     #[tactic(auto, unfolding(crate::specs::Streams::new_streams))]
     pub fn new(
         alloc: Global,
@@ -115,8 +123,10 @@ impl StreamsState {
         bi: VarInt,
         window: VarInt,
         stream_window: VarInt,
+        send_window: u64,
+        fair: bool,
     ) -> Self
-        ensures { result ≡ new_streams side uni bi window stream_window }
+        ensures { result ≡ new_streams side uni bi window stream_window send_window fair }
     {
         StreamsState {
             side,
@@ -132,9 +142,12 @@ impl StreamsState {
             },
             limits: PeerLimits::none(),
             stream_window: stream_window.into_inner(),
+            send_window,
             incoming: Incoming::new(window.into_inner()),
             outgoing: Outgoing::new(),
             events: Events::new(alloc),
+            waiting: Waiting::new(alloc),
+            fair,
         }
     }
 
@@ -159,36 +172,37 @@ impl StreamsState {
     }
 
     /// A stream that this end opens.
+    #[tactic(auto, unfolding(crate::specs::Stream::fresh_stream, qc_send_stream::specs::Sending::new_sending, qc_send_stream::specs::Buffer::nothing))]
     fn fresh_own(&self, dir: Dir) -> Stream
-        ensures { result ≡ fresh_own dir self.now }
+        ensures fresh { result ≡ fresh_own dir self.now }
+        ensures none { kept_of result ≡ 0 }
     {
         let alloc = self.records.alloc();
         match dir {
-            Dir::Bi => Stream {
-                receiving: Some(self.fresh_receiving()),
-                sending: Some(SendPart::new(alloc, self.limits.own_bidi_data)),
-            },
-            Dir::Uni => Stream {
-                receiving: None,
-                sending: Some(SendPart::new(alloc, self.limits.own_uni_data)),
-            },
+            Dir::Bi => {
+                let sending = SendPart::new(alloc, self.limits.own_bidi_data);
+                Stream::fresh(Some(self.fresh_receiving()), Some(sending))
+            }
+            Dir::Uni => {
+                let sending = SendPart::new(alloc, self.limits.own_uni_data);
+                Stream::fresh(None, Some(sending))
+            }
         }
     }
 
     /// A stream that the peer opens.
+    #[tactic(auto, unfolding(crate::specs::Stream::fresh_stream, qc_send_stream::specs::Sending::new_sending, qc_send_stream::specs::Buffer::nothing))]
     pub(crate) fn fresh_peer(&self, dir: Dir) -> Stream
-        ensures { result ≡ fresh_peer dir self.now }
+        ensures fresh { result ≡ fresh_peer dir self.now }
+        ensures none { kept_of result ≡ 0 }
     {
         let alloc = self.records.alloc();
         match dir {
-            Dir::Bi => Stream {
-                receiving: Some(self.fresh_receiving()),
-                sending: Some(SendPart::new(alloc, self.limits.peer_bidi_data)),
-            },
-            Dir::Uni => Stream {
-                receiving: Some(self.fresh_receiving()),
-                sending: None,
-            },
+            Dir::Bi => {
+                let sending = SendPart::new(alloc, self.limits.peer_bidi_data);
+                Stream::fresh(Some(self.fresh_receiving()), Some(sending))
+            }
+            Dir::Uni => Stream::fresh(Some(self.fresh_receiving()), None),
         }
     }
 
@@ -213,7 +227,7 @@ impl StreamsState {
         let own = self.own.get(dir);
         let id = StreamId::new(self.side, dir, own.opened);
         let stream = self.fresh_own(dir);
-        self.records.insert(id.value(), stream)?;
+        self.add(id.value(), stream)?;
         self.own.put(dir, own.with_one());
         Ok(id)
     }

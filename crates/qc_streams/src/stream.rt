@@ -2,12 +2,15 @@
 
 ghost use Rattle.std.specs.Prelude.{◌≡◌, ◌<◌, ◌^◌, IfErr, OnOk, OnErr, None, Some};
 ghost use Rattle.qc_recv.specs.Receiving.{IsRefusal, stream_taken, stream_refusal, reset_taken, reset_refusal};
-ghost use Rattle.qc_streams.specs.Stream.{is_over, totals_of, side_refusal, with_receiving, with_sending, is_reading, limit_taken, stop_taken, stops_first};
+ghost use Rattle.qc_send_stream.specs.Sending.{kept_count};
+ghost use Rattle.qc_streams.specs.Kept.{kept_of};
+ghost use Rattle.qc_streams.specs.Stream.{fresh_stream, is_over, totals_of, side_refusal, with_receiving, with_sending, is_reading, limit_taken, stop_taken, stops_first};
 
 use bytes::Bytes;
 use qc_base::VarInt;
 use qc_recv::{FrameFault, Recv, Refusal as SideRefusal};
 use qc_send_stream::SendPart;
+use qc_turns::Place;
 
 /// A stream (RFC 9000, section 3).
 #[derive(Drop)]
@@ -16,6 +19,12 @@ pub struct Stream {
     pub receiving: Option<Recv>,
     /// What is sent, where this end sends on it.
     pub sending: Option<SendPart>,
+    /// Its priority among those that have bytes to send.
+    pub priority: i32,
+    /// Its place among them, while it has one.
+    pub turn: Option<Place>,
+    /// Whether it is marked, so that what it owes is looked at.
+    pub marked: bool,
 }
 
 /// What a stream counts for the connection's credit.
@@ -28,6 +37,20 @@ pub struct Totals {
 }
 
 impl Stream {
+    /// A stream of which nothing came and nothing was sent.
+    #[tactic(auto, unfolding(crate::specs::Stream::fresh_stream))]
+    pub(crate) fn fresh(receiving: Option<Recv>, sending: Option<SendPart>) -> Stream
+        ensures { result ≡ fresh_stream receiving sending }
+    {
+        Stream {
+            receiving,
+            sending,
+            priority: 0,
+            turn: None,
+            marked: false,
+        }
+    }
+
     /// Whether nothing more happens on it.
     #[tactic(auto, unfolding(crate::specs::Stream::is_over))]
     pub fn is_over(&self) -> bool
@@ -60,6 +83,16 @@ impl Stream {
         }
     }
 
+    /// How many bytes it keeps until they are acknowledged.
+    pub fn kept(&self) -> u64
+        ensures { result ≡ kept_of self.now }
+    {
+        match &self.sending {
+            Some(sending) => sending.kept(),
+            None => 0,
+        }
+    }
+
     /// Whether bytes that come are kept for the application.
     pub fn is_reading(&self) -> bool
         ensures { result ≡ is_reading self.now.receiving }
@@ -85,6 +118,7 @@ impl Stream {
     ) -> Result<(), FrameFault>
         requires { offset < 2 ^ 62 }
         ensures taken { OnOk result (self.new ≡ with_receiving (stream_taken offset bytes last) self.old) }
+        ensures same { kept_of self.new ≡ kept_of self.old }
         ensures fits { OnOk result (side_refusal (stream_refusal offset bytes last room) self.old.receiving ≡ None) }
         ensures refused { IfErr result (λ e. IsRefusal e (side_refusal (stream_refusal offset bytes last room) self.old.receiving)) }
         ensures err { OnErr result (self.new ≡ self.old) }
@@ -103,6 +137,7 @@ impl Stream {
     #[tactic(auto, unfolding(crate::specs::Stream::with_receiving))]
     pub fn take_reset(&mut self, code: VarInt, size: u64, room: u64) -> Result<(), SideRefusal>
         ensures taken { OnOk result (self.new ≡ with_receiving (reset_taken code size) self.old) }
+        ensures same { kept_of self.new ≡ kept_of self.old }
         ensures fits { OnOk result (side_refusal (reset_refusal size room) self.old.receiving ≡ None) }
         ensures refused { IfErr result (λ e. side_refusal (reset_refusal size room) self.old.receiving ≡ Some e) }
         ensures err { OnErr result (self.new ≡ self.old) }
@@ -119,6 +154,7 @@ impl Stream {
     pub fn stop_sending(&mut self, code: VarInt) -> bool
         ensures first { result ≡ stops_first self.old.sending }
         ensures stopped { self.new ≡ with_sending (stop_taken code) self.old }
+        ensures same { kept_of self.new ≡ kept_of self.old }
     {
         match &mut self.sending {
             Some(sending) => stop(sending, code),
@@ -129,7 +165,8 @@ impl Stream {
     /// Takes a MAX_STREAM_DATA frame, unless all that was sent is acknowledged.
     #[tactic(auto, unfolding(crate::specs::Stream::with_sending))]
     pub fn raise_limit(&mut self, limit: VarInt)
-        ensures { self.new ≡ with_sending (limit_taken limit) self.old }
+        ensures raised { self.new ≡ with_sending (limit_taken limit) self.old }
+        ensures same { kept_of self.new ≡ kept_of self.old }
     {
         if let Some(sending) = &mut self.sending {
             raise(sending, limit);
@@ -138,18 +175,20 @@ impl Stream {
 }
 
 /// The peer stops a sending side; answers whether for the first time.
-#[tactic(auto, unfolding(crate::specs::Stream::stop_taken))]
+#[tactic(auto, unfolding(crate::specs::Stream::stop_taken, qc_send_stream::specs::Sending::was_stopped))]
 fn stop(sending: &mut SendPart, code: VarInt) -> bool
     ensures first { result ≡ stops_first (Some sending.old) }
     ensures stopped { sending.new ≡ stop_taken code sending.old }
+    ensures same { kept_count sending.new ≡ kept_count sending.old }
 {
     !sending.is_done() && sending.stop(code)
 }
 
 /// The peer raises a sending side's limit.
-#[tactic(auto, unfolding(crate::specs::Stream::limit_taken))]
+#[tactic(auto, unfolding(crate::specs::Stream::limit_taken, qc_send_stream::specs::Sending::limit_raised))]
 fn raise(sending: &mut SendPart, limit: VarInt)
-    ensures { sending.new ≡ limit_taken limit sending.old }
+    ensures raised { sending.new ≡ limit_taken limit sending.old }
+    ensures same { kept_count sending.new ≡ kept_count sending.old }
 {
     if !sending.is_done() {
         sending.raise_limit(limit);

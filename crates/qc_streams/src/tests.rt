@@ -5,7 +5,7 @@ use bytes::Bytes;
 use qc_base::{Dir, Side, StreamId, VarInt};
 use qc_recv::Refusal as SideRefusal;
 use qc_send_stream::{FinishError, WriteError};
-use std::alloc::Global;
+use std::alloc::{AllocError, Global};
 use std::test::Fail;
 
 fn id(number: u32) -> StreamId {
@@ -14,10 +14,21 @@ fn id(number: u32) -> StreamId {
 
 /// A client whose peer may have two bidirectional streams and one unidirectional stream open, and
 /// send 10 bytes of each and 16 of all.
-fn client(alloc: Global) -> StreamsState {
+/// The state of a client, on the heap: a function that owns it whole is slow to check.
+fn client(alloc: Global) -> Result<Box<StreamsState>, AllocError> {
     let window = VarInt::from_u32(16);
     let (uni, bi) = (VarInt::from_u32(1), VarInt::from_u32(2));
-    StreamsState::new(alloc, Side::Client, uni, bi, window, VarInt::from_u32(10))
+    let streams = StreamsState::new(
+        alloc,
+        Side::Client,
+        uni,
+        bi,
+        window,
+        VarInt::from_u32(10),
+        7,
+        true,
+    );
+    Ok(Box::new(alloc, streams)?)
 }
 
 fn zeros(alloc: Global, len: usize) -> Result<Bytes, Fail> {
@@ -44,7 +55,7 @@ fn frames_are_refused_at_their_edges(rt: HostRuntime) -> Result<(), Fail> {
         (1, 6, 1, false, Some(size)),
         (3, 0, 1, false, Some(flow)),
     ];
-    let mut streams = client(rt.alloc());
+    let mut streams = client(rt.alloc())?;
     for (stream, offset, len, fin, refusal) in frames {
         let body = zeros(rt.alloc(), len)?;
         match (
@@ -70,7 +81,7 @@ fn frames_are_refused_at_their_edges(rt: HostRuntime) -> Result<(), Fail> {
 
 #[test]
 fn controls_are_refused_at_their_edges(rt: HostRuntime) -> Result<(), Fail> {
-    let mut streams = client(rt.alloc());
+    let mut streams = client(rt.alloc())?;
     // a stream's id, and whether STOP_SENDING, MAX_STREAM_DATA and STREAM_DATA_BLOCKED are refused
     let state = Some(Refusal::State);
     let limit = Some(Refusal::Limit);
@@ -116,7 +127,7 @@ fn controls_are_refused_at_their_edges(rt: HostRuntime) -> Result<(), Fail> {
 
 #[test]
 fn streams_are_opened_up_to_the_limit(rt: HostRuntime) -> Result<(), Fail> {
-    let mut streams = client(rt.alloc());
+    let mut streams = client(rt.alloc())?;
     assert!(rt; streams.open(Dir::Bi)?.is_none());
     streams.set_limits(PeerLimits {
         all_data: 5,
@@ -135,27 +146,32 @@ fn streams_are_opened_up_to_the_limit(rt: HostRuntime) -> Result<(), Fail> {
     assert!(rt; streams.open(Dir::Bi)? == Some(id(4)));
     // of 20 bytes the stream's credit takes 4, then the connection's 1, and then nothing
     let mut chunk = zeros(rt.alloc(), 20)?;
-    assert!(rt; streams.write(id(0), &mut chunk, 100) == Ok(4));
-    assert!(rt; streams.write(id(0), &mut chunk, 100) == Err(WriteError::Blocked));
-    assert!(rt; streams.write(id(4), &mut chunk, 100) == Ok(1));
-    assert!(rt; streams.write(id(4), &mut chunk, 100) == Err(WriteError::Blocked));
-    assert!(rt; streams.write(id(8), &mut chunk, 100) == Err(WriteError::ClosedStream));
+    assert!(rt; streams.write(id(0), &mut chunk) == Ok(4));
+    assert!(rt; streams.write(id(0), &mut chunk) == Err(WriteError::Blocked));
+    assert!(rt; streams.write(id(4), &mut chunk) == Ok(1));
+    assert!(rt; streams.write(id(4), &mut chunk) == Err(WriteError::Blocked));
+    assert!(rt; streams.write(id(8), &mut chunk) == Err(WriteError::ClosedStream));
     assert_eq!(rt; chunk.len(), 15);
     streams.received_max_data(VarInt::from_u32(50));
-    assert!(rt; streams.write(id(4), &mut chunk, 2) == Ok(2));
+    // the send window of 7 has room for 2 more
+    assert_eq!(rt; streams.send_room(), 2);
+    assert!(rt; streams.write(id(4), &mut chunk) == Ok(2));
+    assert!(rt; streams.write(id(4), &mut chunk) == Err(WriteError::Blocked));
     assert!(rt; streams.finish(id(4)).is_ok());
     assert!(rt; streams.finish(id(4)) == Err(FinishError::ClosedStream));
     assert!(rt; streams.reset(id(4), VarInt::from_u32(1)).is_ok());
     assert!(rt; streams.reset(id(4), VarInt::from_u32(1)) == Err(ClosedStream));
+    // its 3 bytes are let go
+    assert_eq!(rt; streams.send_room(), 3);
     streams.close();
-    assert!(rt; streams.write(id(8), &mut chunk, 100) == Err(WriteError::Blocked));
+    assert!(rt; streams.write(id(8), &mut chunk) == Err(WriteError::Blocked));
     assert!(rt; streams.open(Dir::Bi)?.is_none());
     Ok(())
 }
 
 #[test]
 fn credit_and_places_come_back(rt: HostRuntime) -> Result<(), Fail> {
-    let mut streams = client(rt.alloc());
+    let mut streams = client(rt.alloc())?;
     assert!(rt;
         streams
             .received(id(3), 0, zeros(rt.alloc(), 3)?, true)

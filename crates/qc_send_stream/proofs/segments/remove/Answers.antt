@@ -7,10 +7,11 @@ loop-at-smaller c = omega (arith, next_bounds c.loop-at.start c.args.end c.in-So
 
 pub loop-at-preserved : goal.loop-at-preserved
 loop-at-preserved c = record {
-  same = rw c.take_out.ensures (out_step c.loop-at.start c.args.end c.in-Some.at 0 c.loop-at.segments.entries c.loop-at.invariant.apart (sym c.in-Some.ensures) ∙ c.loop-at.invariant.same);
-  apart = rw c.take_out.ensures (removed_apart c.in-Some.at 0 c.loop-at.segments.entries c.loop-at.invariant.apart);
+  same = rw c.take_out-count.ensures.removed (out_step c.loop-at.start c.args.end c.in-Some.at 0 c.loop-at.segments.entries c.loop-at.invariant.apart (sym c.in-Some.ensures) ∙ c.loop-at.invariant.same);
+  apart = rw c.take_out-count.ensures.removed (removed_apart c.in-Some.at 0 c.loop-at.segments.entries c.loop-at.invariant.apart);
+  counted = omega (arith, c.take_out-count.ensures.count, c.loop-at.invariant.counted);
 }
 
-pub returns : goal.returns
-returns c =
+pub returns-clause-removed : goal.returns-clause-removed
+returns-clause-removed c =
     sym (out_none c.loop-at.start c.args.end 0 c.loop-at.segments.entries c.loop-at.invariant.apart (sym c.in_default.ensures)) ∙ c.loop-at.invariant.same

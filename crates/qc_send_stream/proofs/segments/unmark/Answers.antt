@@ -1,8 +1,9 @@
-use Rattle.std.proofs.Common.{◌∙◌, ap, List}
+use Rattle.std.proofs.Common.{◌∙◌, ap, length, List}
 use Rattle.std.specs.Prelude.{false}
 use Rattle.qc_send_stream.specs.Buffer.{Kept, marked}
 use Rattle.qc_send_stream.proofs.Ranges.{stood_flat, stood_apart, stood_end, stood_listed}
 use Rattle.qc_send_stream.proofs.Buffering.{unmark_none}
+use Rattle.qc_send_stream.proofs.Counting.{stood_size}
 use Rattle.qc_send_stream.proofs.segments.unmark.Goals as goal
 
 pub returns-then-is_empty-clause-marked : goal.returns-then-is_empty-clause-marked
@@ -24,3 +25,9 @@ returns-clause-below c = λ n by.
 
 pub returns-clause-listed : goal.returns-clause-listed
 returns-clause-listed c = rw c.mark.ensures (stood_listed c.args.start c.args.end c.cut_range.new.segments.entries c.cut_range.new.lost.keys c.cut_range.ensures.listed)
+
+pub returns-clause-count : goal.returns-clause-count
+returns-clause-count c =
+    rw c.mark.ensures
+    (stood_size false c.args.start c.args.end c.cut_range.new.segments.entries c.cut_range.ensures.apart c.in_ok-cut_range.ensures.first c.in_ok-cut_range.ensures.last
+    ∙ ap (λ (v : List Kept). length v) c.cut_range.ensures.same)

@@ -1,9 +1,10 @@
-use Rattle.std.proofs.Common.{◌≡◌, sym, Bool, true, false, cond, ℕ, Option, Some, None}
+use Rattle.std.proofs.Common.{◌≡◌, ◌≤◌, length, arith, sym, Bool, true, false, cond, ℕ, Option, Some, None}
 use Rattle.qc_base.specs.declared.varint.VarInt.{VarInt}
 use Rattle.qc_send_stream.specs.declared.fault.WriteError.{WriteError}
 use Rattle.qc_send_stream.specs.declared.fault.WriteError.TheVariants.{Blocked, ClosedStream, Stopped, OutOfMemory}
 use Rattle.qc_send_stream.specs.declared.send.SendPart.{SendPart}
 use Rattle.qc_send_stream.specs.Sending.{write_refusal, stop_refusal, IsWriteRefusal}
+use Rattle.qc_send_stream.proofs.Counting.{part_more}
 use Rattle.qc_send_stream.proofs.send.SendPart.write.Goals as goal
 
 -- no write is refused for want of memory
@@ -27,3 +28,8 @@ returns-in-Some-clause-refused c = refusal_is c.in-Some.refusal c.args.budget c.
 pub returns-in-Err-clause-refused : goal.returns-in-Err-clause-refused
 unfolding IsWriteRefusal
 returns-in-Err-clause-refused c = sym c.in_default.ensures
+
+pub returns-in-Ok-clause-more : goal.returns-in-Ok-clause-more
+returns-in-Ok-clause-more c =
+    let within : c.takes-count.result ≤ length c.args.chunk.now = omega (arith, c.takes-count.ensures.within, c.len.ensures.value) in
+    part_more c.takes-count.result c.args.chunk.now c.args.self.now.buffer c.write_front.new.self within c.in-Ok.ensures.written

@@ -1,0 +1,8 @@
+use Rattle.std.proofs.Common.{sym, refl}
+use Rattle.qc_streams.proofs.Keeping.{more}
+use Rattle.qc_streams.proofs.records.Records.write.Goals as goal
+
+pub invariant_of-self-in-Some : goal.invariant_of-self-in-Some
+invariant_of-self-in-Some c =
+    more c.args.id c.self.inside.kept c.in_ok-count-in-Some.count c.self.inside.streams _ c.in-Some.stream.now c.write.new.self c.self.invariant
+    (sym c.in-Some.ensures.value) refl c.in_ok-count-in-Some.ensures.more

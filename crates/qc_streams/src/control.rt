@@ -1,0 +1,262 @@
+//! Frames of streams and of limits without bytes of a stream: which is sent next, and what becomes of them.
+
+ghost use Rattle.std.specs.Prelude.{◌≡◌, Some};
+ghost use Rattle.qc_base.specs.declared.side.Dir.TheVariants.{Bi, Uni};
+ghost use Rattle.qc_turns.specs.Ids.{first_id};
+ghost use Rattle.qc_streams.specs.Control.{control_acked, control_drawn, control_lost, control_sealed, credit_due, credit_of, data_with, if_fits, next_control, of_first, or_else, reset_due, reset_of, stop_due, stop_of, streams_with};
+ghost use Rattle.qc_streams.specs.Owed.{max_data_owed, max_streams_owed};
+ghost use Rattle.qc_streams.specs.Records.{record_of};
+
+use crate::records::Records;
+use crate::state::StreamsState;
+use qc_base::{Dir, VarInt};
+use qc_recv::Recv;
+use qc_send_stream::SendPart;
+
+/// A frame of a stream or of a limit, without bytes of a stream; streams are named by their ids.
+#[derive(Debug, PartialEq, Eq, Drop)]
+pub enum Control {
+    /// RESET_STREAM (RFC 9000, section 19.4).
+    Reset { id: u64, code: VarInt, size: u64 },
+    /// STOP_SENDING (RFC 9000, section 19.5).
+    Stop { id: u64, code: VarInt },
+    /// MAX_DATA (RFC 9000, section 19.9).
+    MaxData { limit: u64 },
+    /// MAX_STREAM_DATA (RFC 9000, section 19.10).
+    MaxStreamData { id: u64, limit: u64 },
+    /// MAX_STREAMS (RFC 9000, section 19.11).
+    MaxStreams { dir: Dir, limit: u64 },
+}
+
+/// The code and the final size of the RESET_STREAM that a sending side owes.
+fn reset_due(sending: &Option<SendPart>) -> Option<(VarInt, u64)>
+    ensures { result ≡ reset_due sending.now }
+{
+    match sending {
+        Some(sending) => sending.reset_owed(),
+        None => None,
+    }
+}
+
+/// The code of the STOP_SENDING that a receiving side owes.
+fn stop_due(receiving: &Option<Recv>) -> Option<VarInt>
+    ensures { result ≡ stop_due receiving.now }
+{
+    match receiving {
+        Some(receiving) if receiving.stop_waits => receiving.stopped,
+        _ => None,
+    }
+}
+
+/// The credit of the MAX_STREAM_DATA that a receiving side owes.
+fn credit_due(receiving: &Option<Recv>) -> Option<u64>
+    ensures { result ≡ credit_due receiving.now }
+{
+    match receiving {
+        Some(receiving) if receiving.credit_waits => Some(receiving.credit_value()),
+        _ => None,
+    }
+}
+
+impl Records {
+    /// The RESET_STREAM of the stream with an id.
+    fn reset_of(&self, id: u64) -> Option<Control>
+        ensures { result ≡ reset_of id (record_of id self.now) }
+    {
+        let Some(stream) = self.streams.get(id) else {
+            return None;
+        };
+        match reset_due(&stream.sending) {
+            Some((code, size)) => Some(Control::Reset { id, code, size }),
+            None => None,
+        }
+    }
+
+    /// The STOP_SENDING of the stream with an id.
+    fn stop_of(&self, id: u64) -> Option<Control>
+        ensures { result ≡ stop_of id (record_of id self.now) }
+    {
+        let Some(stream) = self.streams.get(id) else {
+            return None;
+        };
+        match stop_due(&stream.receiving) {
+            Some(code) => Some(Control::Stop { id, code }),
+            None => None,
+        }
+    }
+
+    /// The MAX_STREAM_DATA of the stream with an id.
+    fn credit_of(&self, id: u64) -> Option<Control>
+        ensures { result ≡ credit_of id (record_of id self.now) }
+    {
+        let Some(stream) = self.streams.get(id) else {
+            return None;
+        };
+        match credit_due(&stream.receiving) {
+            Some(limit) => Some(Control::MaxStreamData { id, limit }),
+            None => None,
+        }
+    }
+}
+
+/// A frame that takes at most so many bytes, where there is room for them.
+fn if_fits(room: usize, most: usize, frame: Option<Control>) -> Option<Control>
+    ensures { result ≡ if_fits room most frame }
+{
+    if most <= room { frame } else { None }
+}
+
+/// A frame, or where there is none another.
+fn or_else(frame: Option<Control>, other: Option<Control>) -> Option<Control>
+    ensures { result ≡ or_else frame other }
+{
+    match frame {
+        Some(frame) => Some(frame),
+        None => other,
+    }
+}
+
+impl StreamsState {
+    /// The RESET_STREAM that is sent next.
+    fn reset_to_send(&self) -> Option<Control>
+        ensures { result ≡ of_first reset_of (first_id self.now.waiting.resets) self.now }
+    {
+        match self.waiting.resets.first() {
+            Some(id) => self.records.reset_of(id),
+            None => None,
+        }
+    }
+
+    /// The STOP_SENDING that is sent next.
+    fn stop_to_send(&self) -> Option<Control>
+        ensures { result ≡ of_first stop_of (first_id self.now.waiting.stops) self.now }
+    {
+        match self.waiting.stops.first() {
+            Some(id) => self.records.stop_of(id),
+            None => None,
+        }
+    }
+
+    /// The MAX_STREAM_DATA that is sent next.
+    fn credit_to_send(&self) -> Option<Control>
+        ensures { result ≡ of_first credit_of (first_id self.now.waiting.credits) self.now }
+    {
+        match self.waiting.credits.first() {
+            Some(id) => self.records.credit_of(id),
+            None => None,
+        }
+    }
+
+    /// The MAX_DATA that is sent next.
+    fn next_data_limit(&self) -> Option<Control>
+        ensures { result ≡ data_with (max_data_owed self.now) }
+    {
+        match self.max_data_owed() {
+            Some(limit) => Some(Control::MaxData { limit }),
+            None => None,
+        }
+    }
+
+    /// The MAX_STREAMS that is sent next.
+    fn next_streams_limit(&self, dir: Dir) -> Option<Control>
+        ensures { result ≡ streams_with dir (max_streams_owed dir self.now) }
+    {
+        match self.max_streams_owed(dir) {
+            Some(limit) => Some(Control::MaxStreams { dir, limit }),
+            None => None,
+        }
+    }
+
+    /// The frame that is sent next, where there is room for so many bytes.
+    #[tactic(auto, unfolding(crate::specs::Control::next_control))]
+    pub fn next_control(&self, room: usize) -> Option<Control>
+        ensures { result ≡ next_control room self.now }
+    {
+        let reset = if_fits(room, 25, self.reset_to_send());
+        let stop = if_fits(room, 17, self.stop_to_send());
+        let data = if_fits(room, 9, self.next_data_limit());
+        let credit = if_fits(room, 17, self.credit_to_send());
+        let bi = if_fits(room, 9, self.next_streams_limit(Dir::Bi));
+        let uni = if_fits(room, 9, self.next_streams_limit(Dir::Uni));
+        let streams = or_else(bi, uni);
+        let others = or_else(stop, or_else(data, or_else(credit, streams)));
+        or_else(reset, others)
+    }
+
+    /// A frame was sealed.
+    #[tactic(auto, unfolding(crate::specs::Control::control_sealed))]
+    pub fn control_sealed(&mut self, frame: &Control)
+        ensures { self.new ≡ control_sealed frame.now self.old }
+    {
+        match frame {
+            Control::Reset { id, .. } => {
+                self.records.reset_sealed(*id);
+                self.waiting.resets.remove(*id);
+            }
+            Control::Stop { id, .. } => {
+                self.records.stop_sealed(*id);
+                self.waiting.stops.remove(*id);
+            }
+            Control::MaxData { .. } => self.max_data_sealed(),
+            Control::MaxStreamData { id, .. } => {
+                self.records.credit_sealed(*id);
+                self.waiting.credits.remove(*id);
+            }
+            Control::MaxStreams { dir, .. } => self.max_streams_sealed(*dir),
+        }
+    }
+
+    /// Draws the frame that is sent next, where there is room for so many bytes: RESET_STREAM comes
+    /// before STOP_SENDING, MAX_DATA, MAX_STREAM_DATA and MAX_STREAMS, and none is drawn whose
+    /// greatest form doesn't fit. It counts as sealed.
+    pub fn draw_control(&mut self, room: usize) -> Option<Control>
+        ensures next { result ≡ next_control room self.old }
+        ensures drawn { self.new ≡ control_drawn result self.old }
+    {
+        match self.next_control(room) {
+            Some(frame) => {
+                self.control_sealed(&frame);
+                Some(frame)
+            }
+            None => None,
+        }
+    }
+
+    /// A frame was lost: it waits again, where it still holds.
+    #[tactic(auto, unfolding(crate::specs::Control::control_lost))]
+    pub fn control_lost(&mut self, frame: &Control)
+        ensures { self.new ≡ control_lost frame.now self.old }
+    {
+        match frame {
+            Control::Reset { id, .. } => {
+                self.records.reset_lost(*id);
+                self.touch(*id);
+            }
+            Control::Stop { id, .. } => {
+                self.records.stop_lost(*id);
+                self.touch(*id);
+            }
+            Control::MaxData { .. } => self.max_data_lost(),
+            Control::MaxStreamData { id, .. } => {
+                self.records.credit_lost(*id);
+                self.touch(*id);
+            }
+            Control::MaxStreams { dir, .. } => self.max_streams_lost(*dir),
+        }
+    }
+
+    /// A frame was acknowledged: with its RESET_STREAM a sending side has ended.
+    #[tactic(auto, unfolding(crate::specs::Control::control_acked))]
+    pub fn control_acked(&mut self, frame: &Control)
+        ensures { self.new ≡ control_acked frame.now self.old }
+    {
+        match frame {
+            Control::Reset { id, .. } => {
+                self.records.reset_acked(*id);
+                self.settle(*id);
+            }
+            Control::Stop { .. } | Control::MaxData { .. } => {}
+            Control::MaxStreamData { .. } | Control::MaxStreams { .. } => {}
+        }
+    }
+}
