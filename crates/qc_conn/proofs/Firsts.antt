@@ -1,5 +1,5 @@
 -- The first datagram of a server, by a call of its own.
-use Rattle.std.proofs.Common.{◌≡◌, ℕ, List, [], ap, sym, ◌∙◌, Bool, true, Option}
+use Rattle.std.proofs.Common.{◌≡◌, ℕ, List, [], ap, sym, ◌∙◌, Bool, true, false, Option}
 use Rattle.std.specs.Global.{Global}
 use Rattle.std.specs.declared.net.SocketAddr.{SocketAddr}
 use Rattle.bytes.specs.declared.unique.BytesMut.{BytesMut}
@@ -11,7 +11,8 @@ use Rattle.qc_core.specs.declared.events.ConnectionEvent.{ConnectionEvent}
 use Rattle.qc_core.specs.declared.events.ConnectionEvent.TheVariants.{Datagram}
 use Rattle.qc_header.specs.Piece.{Piece}
 use Rattle.qc_state.specs.declared.deeds.Did.{Did}
-use Rattle.qc_state.specs.Moves.{Clock, state_move, setup_move}
+use Rattle.qc_state.specs.Life.{is_drained}
+use Rattle.qc_state.specs.Moves.{Clock, state_move, life_move, setup_move}
 use Rattle.qc_state.specs.Receiving.{datagram_after, event_after, is_taken}
 use Rattle.qc_state.specs.Run.{began}
 use Rattle.qc_state.specs.Setup.{is_first_awaited, ideal_setup}
@@ -22,6 +23,11 @@ use Rattle.qc_state.specs.View.{View, Held, At, at, ideal}
 pub still_awaited : {t : Types} {R : Type 0} (stream : R → Stream) (c c' : Held t R) (now : ℕ) → ideal stream c' ≡ state_move (Clock now) (ideal stream c) → is_first_awaited c.setup ≡ true → is_first_awaited c'.setup ≡ true
 unfolding is_first_awaited ideal_setup state_move setup_move
 still_awaited {t} stream c c' now told h = ap (λ (v : View t). is_first_awaited v.setup) told ∙ h
+
+-- and whether the connection has ended
+pub still_alive : {t : Types} {R : Type 0} (stream : R → Stream) (c c' : Held t R) (now : ℕ) → ideal stream c' ≡ state_move (Clock now) (ideal stream c) → is_drained c.life.state ≡ false → is_drained c'.life.state ≡ false
+unfolding state_move life_move
+still_alive {t} stream c c' now told h = ap (λ (v : View t). is_drained v.life.state) told ∙ h
 
 module _ {t : Types} (m : Meaning t) where
   -- whether it is taken

@@ -29,6 +29,7 @@ use Rattle.qc_state.specs.declared.life.Close.{Close}
 use Rattle.qc_state.specs.declared.life.Close.TheVariants.{Connection, Application}
 use Rattle.qc_state.specs.declared.events.EndpointEvent.TheVariants as endpoint
 use Rattle.qc_state.specs.declared.life.ConnectionError.{ConnectionError}
+use Rattle.qc_state.specs.declared.life.ConnectionError.TheVariants as lost
 use Rattle.qc_state.specs.declared.life.Life.{Life}
 use Rattle.qc_state.specs.declared.life.PeerToken.{PeerToken}
 use Rattle.qc_state.specs.declared.life.Wanted.{Wanted}
@@ -40,20 +41,23 @@ use Rattle.qc_state.specs.declared.trace.Step.{Step}
 use Rattle.qc_state.specs.declared.trace.Answer.TheVariants as answer
 use Rattle.qc_state.specs.declared.waiting.SpaceWaiting.{SpaceWaiting}
 use Rattle.qc_state.specs.declared.waiting.Waiting.{Waiting}
-use Rattle.qc_state.specs.Life.{is_closed, data_ready, drained_event, endpoint_events, identifiers_wanted, life_closed, life_drained, life_established, life_raised, reason_given, token_event, token_learned, token_reported, wanted_event, wanted_reported, drained_reported, lost_reported, connected_reported, ready_reported}
+use Rattle.qc_state.specs.Life.{is_closed, is_open, data_ready, drained_event, endpoint_events, identifiers_wanted, life_closed, life_drained, life_established, life_raised, reason_given, token_event, token_learned, token_reported, wanted_event, wanted_reported, drained_reported, lost_reported, connected_reported, ready_reported}
 use Rattle.qc_state.specs.Moves.{Move, Clock, Take, Seal, Forget, Raise, Say, Give, Enter, Fail, Accept, Fix, Hear, Ack, Calm, Come, Read, Write, Ready, Learn, Establish, Tell, Drain, Leave, Owe, Shut, IsTold, MayMove, state_move, move_to, deeds_move, life_move, paths_move, waiting_move, keys_move, calmed, Expect, Confirm, Token, Want}
 use Rattle.qc_state.specs.Numbers.{next_number, received_number}
 use Rattle.qc_state.specs.Paths.{path_sent, path_received, peer_fixed, path_accepted, path_spun, is_blocked}
 use Rattle.qc_state.specs.Receiving.{datagram_after, is_taken}
 use Rattle.qc_state.specs.Run.{time_of, packets_of, began, close_after, input_after, called, reported, step_after, IsAllowed, out_of, answer_of, IsStep, Run, Ran}
-use Rattle.qc_state.specs.Sending.{told_code, told_type, told_application_code, told_close, close_frame, closing_frame, IsKeptReason, close_room, Closes, padded, padding_of, packet_size, sending_space, Carries, drops_initial, initial_left, sealed_in, internal_error, given_after, killed_after, quiet_after, packet_after, transmit_after, MayTransmit, transmit_bytes, transmit_of, transmit_with, owed_quiet_after, is_silent, owes}
+use Rattle.qc_state.specs.Sending.{told_code, told_type, told_application_code, told_close, close_frame, closing_frame, IsKeptReason, close_room, Closes, padded, padding_of, packet_size, sending_space, Carries, drops_initial, initial_left, sealed_in, is_key_nearly_used_up, limit_met, spared_after, quiet_after, packet_after, transmit_after, MayTransmit, transmit_bytes, transmit_of, transmit_with, owed_quiet_after, is_silent, owes}
+use Rattle.qc_state.specs.Stopping.{given_after, key_limit_error, killed_after, stopped_after}
 use Rattle.qc_state.specs.Spaces.{space_of, with_space, is_space}
+use Rattle.qc_state.specs.Timeouts.{timeout_after}
 use Rattle.qc_state.specs.Types.{Types, Meaning}
 use Rattle.qc_state.specs.Unsent.{unsent_with}
 use Rattle.qc_state.specs.View.{Held, View, At, at}
 use Rattle.qc_state.specs.First.{first_view, server_view}
 use Rattle.qc_state.specs.declared.setup.Fixed.{Fixed}
 use Rattle.qc_state.specs.Waiting.{ping_asked, waiting_without, close_begun, packet_told, untold, flown_in, packet_flown, settled_in, packets_settled, came_in, packet_came, crypto_written, nothing_left, space_left, is_calm, without, Waits, without_all, WaitAll, done_asked}
+use Rattle.qc_state.proofs.Expired.{IsTimed, holds_timeout}
 use Rattle.qc_state.proofs.Receives.{IsReceived, holds_datagram}
 use Rattle.qc_text.specs.OneText.{IsSpelled, IsDeedPlain, IsPlainAddress, IsAnswerPlain, IsEndpointPlain, IsPlain, IsSpaceBelowLimit, IsBelowLimit, IsPlainStart, IsTellingRun}
 use Rattle.qc_text.specs.TraceText.{trace_text}
@@ -307,19 +311,19 @@ unfolding endpoint_events token_event wanted_event drained_event
 endpoint_plain v h = all_plain v.reset_token v.wanted v.drained h
 
 module _ {t : Types} where
-  quiet_by : (a : At t) (x y u z : Bool) → let b : At t = move_to (Raise Drained) a in
-      let q : At t = if x then move_to (Say Silent) a else if y then (if u then move_to (Say Amplification) a else move_to (Say Killed) (if z then move_to (Give internal_error) b else b)) else move_to (Say NothingOwed) a in
+  quiet_by : (why : ConnectionError) (a : At t) (x y u z : Bool) → let b : At t = move_to (Raise Drained) a in
+      let q : At t = if x then move_to (Say Silent) a else if y then (if u then move_to (Say Amplification) a else move_to (Say Killed) (if z then move_to (Give why) b else b)) else move_to (Say NothingOwed) a in
       (q.state.waiting ≡ a.state.waiting) × (q.state.paths ≡ a.state.paths) × (q.state.life.reset_token ≡ a.state.life.reset_token)
   unfolding move_to state_move waiting_move paths_move life_move life_raised
-  quiet_by a true y u z = (refl, refl, refl)
-  quiet_by a false true true z = (refl, refl, refl)
-  quiet_by a false true false true = (refl, refl, given_token (life_raised a.state.life Drained) internal_error)
-  quiet_by a false true false false = (refl, refl, refl)
-  quiet_by a false false u z = (refl, refl, refl)
+  quiet_by why a true y u z = (refl, refl, refl)
+  quiet_by why a false true true z = (refl, refl, refl)
+  quiet_by why a false true false true = (refl, refl, given_token (life_raised a.state.life Drained) why)
+  quiet_by why a false true false false = (refl, refl, refl)
+  quiet_by why a false false u z = (refl, refl, refl)
 
   quiet_stays : (a : At t) → ((quiet_after a).state.waiting ≡ a.state.waiting) × ((quiet_after a).state.paths ≡ a.state.paths) × ((quiet_after a).state.life.reset_token ≡ a.state.life.reset_token)
   unfolding quiet_after owed_quiet_after killed_after given_after
-  quiet_stays a = quiet_by a (is_silent a.state) (owes a.state) (is_blocked a.state.paths) (is_none (move_to (Raise Drained) a).state.life.reason)
+  quiet_stays a = quiet_by (limit_met a.state) a (is_silent a.state) (owes a.state) (is_blocked a.state.paths) (is_none (move_to (Raise Drained) a).state.life.reason)
 
   room_below : (s : View t) (id : SpaceId) (acks : List FrameValue) → close_room s id acks < 2 ^ 62
   unfolding close_room
@@ -353,6 +357,24 @@ module _ {t : Types} where
   unfolding initial_left calmed
   initial_stays id a = left_by a (drops_initial Client a.state id) (is_calm (move_to (Forget Initial) a).state.waiting)
 
+  -- this end closes behind a packet, or not
+  stopped_by : (time : ℕ) (as_told : Close) (why : ConnectionError) (a : At t) (x y : Bool) → let b : At t = move_to (Shut time as_told) a in
+      let r : At t = if x then (if y then move_to (Give why) b else b) else a in
+      (All IsDeedPlain a.did → All IsDeedPlain r.did) × (IsBelowLimit a.state.waiting → IsBelowLimit r.state.waiting) × (r.state.paths.remote ≡ a.state.paths.remote) × (r.state.life.reset_token ≡ a.state.life.reset_token)
+  unfolding move_to state_move deeds_move waiting_move close_begun paths_move life_move life_closed
+  stopped_by time as_told why a true true =
+      (λ p. one_more (a.did ++ deed.Rose 2 ∷ []) (deed.Lost why) tt (one_more a.did (deed.Rose 2) tt p), begun_below a.state.waiting a.state.waiting.close_owed, refl, given_token (life_closed a.state.life as_told) why)
+  stopped_by time as_told why a true false = (one_more a.did (deed.Rose 2) tt, begun_below a.state.waiting a.state.waiting.close_owed, refl, refl)
+  stopped_by time as_told why a false y = (λ p. p, λ h. h, refl, refl)
+
+  spared_stays : (time : ℕ) (nearly : Bool) (a : At t) → let r : At t = spared_after time nearly a in
+      (All IsDeedPlain a.did → All IsDeedPlain r.did) × (IsBelowLimit a.state.waiting → IsBelowLimit r.state.waiting) × (r.state.paths.remote ≡ a.state.paths.remote) × (r.state.life.reset_token ≡ a.state.life.reset_token)
+  unfolding spared_after stopped_after given_after
+  spared_stays time true a =
+      let why : Close = Connection (record { error_code = key_limit_error.code; frame_type = key_limit_error.frame; reason = [] }) in
+      stopped_by time why (lost.TransportError key_limit_error) a (is_open a.state.life.state) (is_none (move_to (Shut time why) a).state.life.reason)
+  spared_stays time false a = (λ p. p, λ h. h, refl, refl)
+
   -- what a transmit does
   sealed_plain : (time : ℕ) (id : SpaceId) (fs : List FrameValue) (s : View t) → Carries time s id fs → IsBelowLimit s.waiting
       → All IsDeedPlain (sealed_in time id fs (at s [])).did × IsBelowLimit (sealed_in time id fs (at s [])).state.waiting
@@ -372,7 +394,8 @@ module _ {t : Types} where
   transmit_plain time ds [] s names may told h = (unsealed_plain ds names, subst IsBelowLimit (sym (quiet_stays (at s [])).0) h)
   transmit_plain time ds (fs ∷ []) s names may told h =
       let sealed = sealed_plain time (sending_space s) fs s may.carries h in
-      (subst (All IsDeedPlain) (sym told) sealed.0, sealed.1)
+      let stays = spared_stays time (is_key_nearly_used_up s) (sealed_in time (sending_space s) fs (at s [])) in
+      (subst (All IsDeedPlain) (sym told) (stays.0 sealed.0), stays.1 sealed.1)
   transmit_plain time ds (fs ∷ gs ∷ rest) s names may told h = absurd may
 
   transmit_path : (time : ℕ) (ps : List (List FrameValue)) (a : At t) → (transmit_after time ps a).state.paths.remote ≡ a.state.paths.remote
@@ -381,7 +404,7 @@ module _ {t : Types} where
   transmit_path time (fs ∷ _) a =
       let id : SpaceId = sending_space a.state in
       let b : At t = move_to (Seal time id (next_number a.state.numbers id) (packet_size a.state id fs) fs) (move_to (Take id fs) a) in
-      ap (λ (p : Paths). p.remote) (initial_stays id b).2
+      (spared_stays time (is_key_nearly_used_up a.state) (initial_left Client id b)).2 ∙ ap (λ (p : Paths). p.remote) (initial_stays id b).2
 
   transmit_token : (time : ℕ) (ps : List (List FrameValue)) (a : At t) → (transmit_after time ps a).state.life.reset_token ≡ a.state.life.reset_token
   unfolding transmit_after packet_after sealed_in move_to state_move life_move
@@ -389,7 +412,7 @@ module _ {t : Types} where
   transmit_token time (fs ∷ _) a =
       let id : SpaceId = sending_space a.state in
       let b : At t = move_to (Seal time id (next_number a.state.numbers id) (packet_size a.state id fs) fs) (move_to (Take id fs) a) in
-      ap (λ (v : Life). v.reset_token) (initial_stays id b).3
+      (spared_stays time (is_key_nearly_used_up a.state) (initial_left Client id b)).3 ∙ ap (λ (v : Life). v.reset_token) (initial_stays id b).3
 
   shut_plain : (time : ℕ) (close : Close) (ds : List Did) (s : View t) (b : Bool) → ds ≡ (if b then move_to (Shut time close) (at s []) else at s []).did
       → IsBelowLimit s.waiting → All IsDeedPlain ds × IsBelowLimit (if b then move_to (Shut time close) (at s []) else at s []).state.waiting
@@ -422,7 +445,7 @@ module _ {t : Types} where
   keeps_next a b c g h = record { deeds = λ p. h.deeds (g.deeds p); crypto = λ p. h.crypto (g.crypto p); path = h.path ∙ g.path; token = λ p k. h.token (subst IsPlainAddress (sym g.path) p) (g.token p k) }
 
   keeps_move : (x : Move t) → IsReceived x → (a : At t) → MayMove x a.state → Keeps a (move_to x a)
-  unfolding MayMove move_to state_move deeds_move waiting_move close_begun space_left packet_came came_in packets_settled settled_in crypto_written done_asked paths_move path_received path_accepted peer_fixed life_move data_ready life_established life_drained life_closed token_learned identifiers_wanted
+  unfolding MayMove move_to state_move deeds_move waiting_move close_begun space_left packet_came came_in packets_settled settled_in crypto_written done_asked paths_move path_received path_accepted peer_fixed life_move data_ready life_established life_drained life_closed life_raised token_learned identifiers_wanted
   keeps_move (Forget id) r a h = record { deeds = λ p. p; crypto = set_below a.state.waiting id _ (nothing_below (space_of a.state.waiting.spaces id)); path = refl; token = λ p k. k }
   keeps_move (Enter id n v) r a h = record { deeds = one_more a.did _ tt; crypto = λ p. p; path = refl; token = λ p k. k }
   keeps_move (Expect token) r a h = record { deeds = λ p. p; crypto = λ p. p; path = refl; token = λ p k. k }
@@ -451,6 +474,7 @@ module _ {t : Types} where
   keeps_move (Leave time) r a h = record { deeds = one_more a.did _ tt; crypto = λ p. p; path = refl; token = λ p k. k }
   keeps_move Owe r a h = record { deeds = λ p. p; crypto = begun_below a.state.waiting a.state.waiting.close_owed; path = refl; token = λ p k. k }
   keeps_move (Shut time close) r a h = record { deeds = one_more a.did _ tt; crypto = begun_below a.state.waiting a.state.waiting.close_owed; path = refl; token = λ p k. k }
+  keeps_move (Raise to) r a h = record { deeds = one_more a.did _ tt; crypto = λ p. p; path = refl; token = λ p k. k }
   keeps_move (Give why) r a h = record { deeds = one_more a.did _ tt; crypto = λ p. p; path = refl; token = λ p k. same_token a.state.life (reason_given a.state.life why) (given_token a.state.life why) k }
   keeps_move _ r a h = absurd r
 
@@ -463,11 +487,29 @@ module _ {t : Types} where
       let keeps = keeps_datagram m time mark remote bytes (at s []) in
       (subst (All IsDeedPlain) (sym told) (keeps.deeds (All-nil IsDeedPlain)), keeps.crypto h)
 
+  -- what a timer does keeps the same
+  keeps_timed : (x : Move t) → IsTimed x → (a : At t) → MayMove x a.state → Keeps a (move_to x a)
+  unfolding MayMove move_to state_move deeds_move waiting_move paths_move life_move life_raised
+  keeps_timed Calm r a h = record { deeds = λ p. p; crypto = λ p. p; path = refl; token = λ p k. k }
+  keeps_timed (Raise to) r a h = record { deeds = one_more a.did _ tt; crypto = λ p. p; path = refl; token = λ p k. k }
+  keeps_timed (Give why) r a h = record { deeds = one_more a.did _ tt; crypto = λ p. p; path = refl; token = λ p k. same_token a.state.life (reason_given a.state.life why) (given_token a.state.life why) k }
+  keeps_timed _ r a h = absurd r
+
+  keeps_timeout : (time : ℕ) (a : At t) → Keeps a (timeout_after time a)
+  keeps_timeout time a = holds_timeout Keeps keeps_here keeps_next keeps_timed time a
+
+  timeout_plain : (time : ℕ) (ds : List Did) (s : View t) → ds ≡ (timeout_after time (at s [])).did
+      → IsBelowLimit s.waiting → All IsDeedPlain ds × IsBelowLimit (timeout_after time (at s [])).state.waiting
+  timeout_plain time ds s told h =
+      let keeps = keeps_timeout time (at s []) in
+      (subst (All IsDeedPlain) (sym told) (keeps.deeds (All-nil IsDeedPlain)), keeps.crypto h)
+
   -- what an input does
   input_plain : (m : Meaning t) (i : Input) (ds : List Did) (s : View t) → IsAllowed i ds s → ds ≡ (input_after m i ds (at s [])).did
       → IsBelowLimit s.waiting → All IsDeedPlain ds × IsBelowLimit (input_after m i ds (at s [])).state.waiting
   unfolding IsAllowed input_after close_after move_to state_move deeds_move waiting_move ping_asked
   input_plain m (input.Datagram time remote ecn bytes) ds s may told h = datagram_plain m time ecn remote bytes ds s told h
+  input_plain m (input.Timeout time) ds s may told h = timeout_plain time ds s told h
   input_plain m (input.Transmit time max) ds s may told h = transmit_plain time ds (packets_of ds) s refl may told h
   input_plain m (input.Close time code reason) ds s may told h = shut_plain time _ ds s _ told h
   input_plain m (input.Ping time) ds s may told h = (subst (All IsDeedPlain) (sym told) (All-nil IsDeedPlain), set_below s.waiting s.keys.highest _ (λ p. p) h)
@@ -475,6 +517,7 @@ module _ {t : Types} where
   input_path : (m : Meaning t) (i : Input) (ds : List Did) (a : At t) → (input_after m i ds a).state.paths.remote ≡ a.state.paths.remote
   unfolding input_after close_after move_to state_move paths_move
   input_path m (input.Datagram time remote ecn bytes) ds a = (keeps_datagram m time ecn remote bytes a).path
+  input_path m (input.Timeout time) ds a = (keeps_timeout time a).path
   input_path m (input.Transmit time max) ds a = transmit_path time (packets_of ds) a
   input_path m (input.Close time code reason) ds a = shut_path time _ a _
   input_path m (input.Ping time) ds a = refl
@@ -482,6 +525,7 @@ module _ {t : Types} where
   input_token : (m : Meaning t) (i : Input) (ds : List Did) (a : At t) → IsPlainAddress a.state.paths.remote → IsTokenPlain a.state.life → IsTokenPlain (input_after m i ds a).state.life
   unfolding input_after close_after move_to state_move life_move
   input_token m (input.Datagram time remote ecn bytes) ds a p k = (keeps_datagram m time ecn remote bytes a).token p k
+  input_token m (input.Timeout time) ds a p k = (keeps_timeout time a).token p k
   input_token m (input.Transmit time max) ds a p k = same_token a.state.life (transmit_after time (packets_of ds) a).state.life (transmit_token time (packets_of ds) a) k
   input_token m (input.Close time code reason) ds a p k = same_token a.state.life (close_after time code reason a).state.life (shut_token time _ a _) k
   input_token m (input.Ping time) ds a p k = k
@@ -495,6 +539,7 @@ module _ {t : Types} where
   answer_plain : (m : Meaning t) (i : Input) (ds : List Did) (s : View t) → IsPlainAddress s.paths.remote → IsAnswerPlain (answer_of m i ds s)
   unfolding answer_of
   answer_plain m (input.Datagram time remote ecn bytes) ds s h = done_plain (is_taken m s remote bytes)
+  answer_plain m (input.Timeout time) ds s h = tt
   answer_plain m (input.Transmit time max) ds s h = out_plain m (packets_of ds) s h
   answer_plain m (input.Close time code reason) ds s h = tt
   answer_plain m (input.Ping time) ds s h = tt

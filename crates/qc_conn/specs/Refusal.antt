@@ -6,7 +6,7 @@ use Rattle.qc_conn.specs.declared.driving.BadWhy.TheVariants.{ZeroDatagrams}
 use Rattle.qc_conn.specs.declared.driving.DriveKind.{DriveKind}
 use Rattle.qc_conn.specs.declared.driving.DriveKind.TheVariants.{OutOfMemory, TimeBack, BadCall, Failed}
 use Rattle.qc_state.specs.declared.input.Input.{Input}
-use Rattle.qc_state.specs.declared.input.Input.TheVariants.{Datagram, Transmit, Close, Ping}
+use Rattle.qc_state.specs.declared.input.Input.TheVariants.{Datagram, Timeout, Transmit, Close, Ping}
 use Rattle.qc_state.specs.declared.trace.Step.{Step}
 use Rattle.qc_state.specs.Run.{time_of, Run}
 use Rattle.qc_state.specs.Types.{Types, Meaning}
@@ -16,6 +16,7 @@ use Rattle.qc_state.specs.View.{View}
 abbrev pub bad_call : Input → Option BadWhy
 bad_call (Transmit time max) = if max == 0 then Some ZeroDatagrams else None
 bad_call (Datagram time remote ecn bytes) = None
+bad_call (Timeout time) = None
 bad_call (Close time code reason) = None
 bad_call (Ping time) = None
 

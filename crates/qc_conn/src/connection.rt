@@ -10,14 +10,16 @@ ghost use Rattle.qc_core.specs.FirstPacket.{IsFirstPacket, first_reason, size_of
 ghost use Rattle.qc_state.specs.Receiving.{datagram_after, first_packet_after, is_taken};
 ghost use Rattle.qc_state.specs.Setup.{is_first_awaited};
 ghost use Rattle.qc_state.specs.First.{first_view, server_view, fixed_of};
+ghost use Rattle.qc_state.specs.Life.{is_drained};
 ghost use Rattle.qc_state.specs.Moves.{Ask, state_move};
 ghost use Rattle.qc_state.specs.Polls.{first_endpoint_event, first_event, polled, polled_endpoint};
 ghost use Rattle.qc_state.specs.Run.{began, time_of, close_after, IsStep};
-ghost use Rattle.qc_state.specs.Timers.{next_timeout};
+ghost use Rattle.qc_state.specs.Timeouts.{timeout_after};
+ghost use Rattle.qc_state.specs.Timers.{has_come, next_timeout};
 ghost use Rattle.qc_state.specs.Types.{meaning};
 ghost use Rattle.qc_state.specs.View.{at, ideal};
 
-use crate::steps::{core_event, core_first, core_first_packet, core_send, core_step};
+use crate::steps::{core_event, core_first, core_first_packet, core_send, core_step, core_timeout};
 use bytes::{Bytes, BytesMut};
 use qc_base::{EcnCodepoint, Fault, Instant, Side, SpaceId, VarInt};
 use qc_config::TokenStore;
@@ -232,9 +234,39 @@ impl<U: Suite> Connection<U> {
         }
     }
 
+    /// Timers may have come by `now`: each that has, to that time or an earlier one, is stopped and does what it is for, in this
+    /// order. The loss timer: nothing so far. The idle timer: the connection ends at once, for `TimedOut`. The close timer: the
+    /// connection, which closed before, ends. Afterwards no timer is left that has come. In a connection that had ended nothing
+    /// happens.
+    ///
+    /// # Errors
+    ///
+    /// `OutOfMemory` for want of memory; the connection is then marked as failed. `Failed` exactly where it was marked
+    /// before; then nothing changes.
+    pub fn handle_timeout(&mut self, alloc: Global, now: Instant) -> Result<(), Fault>
+        ensures leads { OnOk result ((ideal U.Random.stream self.new.core) ≡ (timeout_after now (began (ideal U.Random.stream self.old.core) now)).state) }
+        ensures later { OnOk result (is_drained self.old.core.life.state ≡ false → has_come (next_timeout self.new.core.timers) now ≡ false) }
+        ensures alive { OnOk result (self.new.failed ≡ false) }
+        ensures failed { self.old.failed ≡ true → (result ≡ Err Fault.Failed) × (self.new ≡ self.old) }
+        ensures cause { result ≡ Err Fault.Failed → self.old.failed ≡ true }
+        ensures memory { result ≡ Err Fault.OutOfMemory → self.new.failed ≡ true }
+    {
+        if self.failed {
+            return Err(Fault::Failed);
+        }
+        match core_timeout(&mut self.core, alloc, now) {
+            Ok(()) => Ok(()),
+            Err(_) => {
+                self.failed = true;
+                Err(Fault::OutOfMemory)
+            }
+        }
+    }
+
     /// Seals what is due at `now` into `buf`, which is empty, and says where it goes: at most `max_datagrams` datagrams,
-    /// and so far at most one. None exactly where nothing is sealed: the connection had ended, nothing was owed, or the
-    /// packet numbers are used up, which ends the connection.
+    /// and so far at most one. None exactly where nothing is sealed: the connection had ended, nothing was owed, the path is
+    /// blocked, or a limit is reached, which ends the connection: the key has sealed as many packets as it may, or the
+    /// packet numbers are used up. Behind a packet whose key may seal only one more the connection closes.
     ///
     /// # Errors
     ///

@@ -31,7 +31,7 @@ const PING_AND_CLOSE: [u8; 93] =
     *b"\xcd\x00\x00\x00\x01\x08\x01\x01\x01\x01\x01\x01\x01\x01\x08\x04\x04\x04\x04\x04\x04\x04\x04\x00\x40\x14\x2a\x05\x04\x04\x99\x2e\xc3\x56\xeb\x7e\x14\xa8\x3d\xd2\x67\xfc\x91\x26\xbb\x50\xc6\x00\x00\x00\x01\x08\x01\x01\x01\x01\x01\x01\x01\x01\x08\x04\x04\x04\x04\x04\x04\x04\x04\x00\x40\x15\x8b\x18\x01\x04\x02\x8c\x14\x9c\x22\xaa\x30\xb9\x40\xc8\x50\xd8\x60\xe8\x70\xf8\x80";
 
 /// The address of both ends.
-fn address() -> SocketAddr {
+pub(crate) fn address() -> SocketAddr {
     SocketAddr::new(IpAddr::V4(Ipv4Addr::new(192, 0, 2, 1)), 4433)
 }
 
@@ -232,6 +232,27 @@ fn answer_to_opened(alloc: Global, bytes: &[u8]) -> Option<Vec<u8>> {
             None => None,
             Some((number, packet)) => answer_to_packet(alloc, number, packet, remaining),
         },
+    }
+}
+
+/// The first two datagrams of a server that is handed the client's hello.
+pub(crate) fn answers(alloc: Global) -> Option<(Vec<u8>, Vec<u8>)> {
+    let mut client = client_at(alloc, 0)?;
+    let hello = sealed(alloc, &mut client)?;
+    let mut server = server(
+        alloc,
+        address(),
+        ConnectionId::new(&[2; 8]),
+        ConnectionId::new(&[1; 8]),
+    )?;
+    let bytes = BytesMut::copy_from_slice(alloc, hello.as_slice()).ok()?;
+    match server.first_datagram(alloc, Instant::from_nanos(1), address(), None, bytes) {
+        Ok(true) => {
+            let first = sealed(alloc, &mut server)?;
+            let second = sealed(alloc, &mut server)?;
+            Some((first, second))
+        }
+        _ => None,
     }
 }
 

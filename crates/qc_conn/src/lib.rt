@@ -6,10 +6,14 @@ mod driving;
 #[cfg(test)]
 mod event_tests;
 mod laws;
+#[cfg(test)]
+mod limit_tests;
 mod steps;
 #[cfg(test)]
 mod tests;
 pub mod text;
+#[cfg(test)]
+mod timeout_tests;
 
 pub use connection::{Connection, FirstError};
 pub use driving::{BadWhy, DriveError, DriveKind, drive};

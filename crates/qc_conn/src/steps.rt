@@ -1,15 +1,17 @@
 //! One input of a driven connection: its call, and the reports after it.
 
-ghost use Rattle.std.specs.Prelude.{◌≡◌, ◌<◌, ◌≤◌, ◌++◌, [], true, length, OnOk, IfOk, IfSome, option_to_list};
+ghost use Rattle.std.specs.Prelude.{◌≡◌, ◌<◌, ◌≤◌, ◌++◌, [], true, false, length, OnOk, IfOk, IfSome, option_to_list};
 ghost use Rattle.qc_conn.specs.Seen.{Sends};
 ghost use Rattle.qc_core.specs.Cutting.{rest_of};
 ghost use Rattle.qc_core.specs.Events.{LeavesBytes, handed_after, time_of_event};
 ghost use Rattle.qc_core.specs.FirstPacket.{first_reason, size_of};
-ghost use Rattle.qc_state.specs.Life.{waiting_events, endpoint_events};
+ghost use Rattle.qc_state.specs.Life.{is_drained, waiting_events, endpoint_events};
 ghost use Rattle.qc_state.specs.Moves.{ReportReady, ReportConnected, ReportLost, ReportToken, ReportWanted, ReportDrained, state_move};
 ghost use Rattle.qc_state.specs.Receiving.{datagram_after, first_packet_after, is_taken};
 ghost use Rattle.qc_state.specs.Setup.{is_first_awaited};
 ghost use Rattle.qc_state.specs.Run.{began, time_of, word_of, out_of, close_after, Calls, IsStep};
+ghost use Rattle.qc_state.specs.Timeouts.{timeout_after};
+ghost use Rattle.qc_state.specs.Timers.{has_come, next_timeout};
 ghost use Rattle.qc_state.specs.Types.{meaning};
 ghost use Rattle.qc_state.specs.View.{ideal, held};
 
@@ -122,6 +124,20 @@ pub(crate) fn core_first_packet<U: Suite>(
     Ok(why)
 }
 
+/// Timers may have come by `now`; no one keeps the deeds.
+pub(crate) fn core_timeout<U: Suite>(
+    core: &mut Core<U>,
+    alloc: Global,
+    now: Instant,
+) -> Result<(), AllocError>
+    ensures leads { OnOk result ((ideal U.Random.stream core.new) ≡ (timeout_after now (began (ideal U.Random.stream core.old) now)).state) }
+    ensures later { OnOk result (is_drained core.old.life.state ≡ false → has_come (next_timeout core.new.timers) now ≡ false) }
+{
+    let mut did = Dids::new(alloc);
+    core.clock(now);
+    core.handle_timeout(now, &mut did)
+}
+
 /// A transmit at `now`.
 #[tactic(auto, using(qc_state::proofs::Steps::calls_transmit))]
 fn transmit_call<U: Suite>(
@@ -176,6 +192,20 @@ fn close_call<U: Suite>(
     Ok(Answer::Done)
 }
 
+/// Timers may have come by `now`.
+fn timeout_call<U: Suite>(
+    core: &mut Core<U>,
+    now: Instant,
+    did: &mut Dids,
+) -> Result<Answer, AllocError>
+    requires { did.old ≡ [] }
+    ensures { IfOk result (λ answer. Calls (meaning U.Session.Session U.Session.HeaderKey.HeaderMask U.Session.PacketKey.PacketKey) (ideal U.Random.stream core.old) (Input.Timeout now) (held U.Random.stream core.new did.new) answer) }
+{
+    core.clock(now);
+    core.handle_timeout(now, did)?;
+    Ok(Answer::Done)
+}
+
 /// A PING is asked for at `now`.
 #[tactic(auto, using(qc_state::proofs::Steps::calls_ping))]
 fn ping_call<U: Suite>(core: &mut Core<U>, now: Instant, did: &Dids) -> Answer
@@ -225,6 +255,7 @@ fn call<U: Suite>(
             ecn,
             bytes,
         } => datagram_call(core, alloc, *now, *remote, *ecn, bytes, did),
+        Input::Timeout { now } => timeout_call(core, *now, did),
         Input::Transmit { now, max_datagrams } => transmit_call(
             core,
             alloc,
@@ -311,6 +342,7 @@ fn word(input: &Input) -> Word
 {
     match input {
         Input::Datagram { .. } => Word::Datagram,
+        Input::Timeout { .. } => Word::Timeout,
         Input::Transmit { .. } => Word::Transmit,
         Input::Close { .. } => Word::Close,
         Input::Ping { .. } => Word::Ping,
@@ -323,6 +355,7 @@ pub(crate) fn time(input: &Input) -> Instant
 {
     match input {
         Input::Datagram { now, .. } => *now,
+        Input::Timeout { now } => *now,
         Input::Transmit { now, .. } => *now,
         Input::Close { now, .. } => *now,
         Input::Ping { now } => *now,

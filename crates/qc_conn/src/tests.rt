@@ -11,7 +11,7 @@ use qc_base::{ConnectionId, Duration, Instant, Side, TransportErrorCode, VarInt}
 use qc_config::{NoneTokenStore, announced};
 use qc_core::ClientSetup;
 use qc_crypto::{ClientConfig, Session};
-use qc_recovery::TransportConfig;
+use qc_recovery::{IdleTimeout, TransportConfig};
 use qc_state::{ConnectionError, Event, Input, Suite, negotiate_max_idle_timeout};
 use qc_toy::{ToyClient, ToySession, ToySettings, ZeroRandom};
 use std::alloc::{AllocError, Global};
@@ -28,24 +28,30 @@ impl Suite for Toy {
 }
 
 #[tactic(auto, using(qc_toy::specs::Start::start_fresh, qc_toy::specs::Start::start_side))]
-fn session(alloc: Global, transport: &TransportConfig, id: ConnectionId) -> Option<ToySession>
+fn session(
+    alloc: Global,
+    settings: ToySettings,
+    transport: &TransportConfig,
+    id: ConnectionId,
+) -> Option<ToySession>
     ensures fresh { IfSome result ⟦<ToySession as Session>⟧.is_fresh }
     ensures client { IfSome result (λ session. session.side ≡ Side.Client) }
 {
-    let client = ToyClient {
-        settings: ToySettings::default(),
-    };
+    let client = ToyClient { settings };
     let params = announced(transport, 1472, id, true);
     client.start_session(alloc, 1, "", &params).ok()
 }
 
-fn setup(alloc: Global) -> Option<ClientSetup<Toy>>
+fn setup(
+    alloc: Global,
+    settings: ToySettings,
+    transport: TransportConfig,
+) -> Option<ClientSetup<Toy>>
     ensures fresh { IfSome result (λ setup. ⟦<ToySession as Session>⟧.is_fresh setup.session) }
     ensures client { IfSome result (λ setup. setup.session.side ≡ Side.Client) }
 {
-    let transport = TransportConfig::default();
     let local_cid = ConnectionId::new(&[1; 8]);
-    let session = session(alloc, &transport, local_cid)?;
+    let session = session(alloc, settings, &transport, local_cid)?;
     Some(ClientSetup {
         session,
         random: ZeroRandom,
@@ -80,7 +86,23 @@ fn fresh(alloc: Global, setup: ClientSetup<Toy>) -> Result<Connection<Toy>, Allo
 pub(crate) fn fresh_client(alloc: Global) -> Option<Connection<Toy>>
     ensures { IfSome result (λ client. is_first_awaited client.core.setup ≡ false) }
 {
-    let setup = setup(alloc)?;
+    client_with(alloc, ToySettings::default())
+}
+
+/// The same with a toy session of these settings.
+pub(crate) fn client_with(alloc: Global, settings: ToySettings) -> Option<Connection<Toy>>
+    ensures { IfSome result (λ client. is_first_awaited client.core.setup ≡ false) }
+{
+    let setup = setup(alloc, settings, TransportConfig::default())?;
+    fresh(alloc, setup).ok()
+}
+
+/// A client made at time 0 that ends where it is idle for so many milliseconds.
+pub(crate) fn client_with_limit(alloc: Global, millis: u32) -> Option<Connection<Toy>> {
+    let mut transport = TransportConfig::default();
+    let limit = IdleTimeout::from(VarInt::from_u32(millis));
+    transport.max_idle_timeout(Some(limit));
+    let setup = setup(alloc, ToySettings::default(), transport)?;
     fresh(alloc, setup).ok()
 }
 
@@ -88,7 +110,7 @@ pub(crate) fn fresh_client(alloc: Global) -> Option<Connection<Toy>>
 pub(crate) fn client_at(alloc: Global, number: u64) -> Option<Connection<Toy>>
     ensures { IfSome result (λ client. client.core.timers.greatest ≡ 0) }
 {
-    let setup = setup(alloc)?;
+    let setup = setup(alloc, ToySettings::default(), TransportConfig::default())?;
     match fresh(alloc, setup) {
         Ok(client) => Some(client.with_number(number)),
         Err(_) => None,
@@ -96,7 +118,7 @@ pub(crate) fn client_at(alloc: Global, number: u64) -> Option<Connection<Toy>>
 }
 
 /// How many bytes a transmit at this time seals; None where it seals nothing.
-fn sealed_len(alloc: Global, client: &mut Connection<Toy>, nanos: u64) -> Option<usize> {
+pub(crate) fn sealed_len(alloc: Global, client: &mut Connection<Toy>, nanos: u64) -> Option<usize> {
     let mut buf = Vec::new(alloc);
     let now = Instant::from_nanos(nanos);
     match client.poll_transmit(alloc, now, 1, &mut buf) {
@@ -165,14 +187,19 @@ fn inputs() -> [Input; 4] {
     ]
 }
 
-/// The text of these inputs' trace, on a client whose next packet has this number; None where something refused.
-fn text_from(alloc: Global, number: u64) -> Option<Vec<u8>> {
-    let mut client = client_at(alloc, number)?;
-    let inputs = inputs();
-    match drive(alloc, &mut client, &inputs, &mut NoneTokenStore) {
+/// The text of these inputs' trace; None where something refused.
+pub(crate) fn text_of(alloc: Global, client: Connection<Toy>, inputs: &[Input]) -> Option<Vec<u8>> {
+    let mut client = client;
+    match drive(alloc, &mut client, inputs, &mut NoneTokenStore) {
         Ok(trace) => trace_text(alloc, &trace).ok(),
         Err(_) => None,
     }
+}
+
+/// The same on a client whose next packet has this number.
+fn text_from(alloc: Global, number: u64) -> Option<Vec<u8>> {
+    let client = client_at(alloc, number)?;
+    text_of(alloc, client, &inputs())
 }
 
 // The lines are written by hand, by the rules of the trace's text.

@@ -14,3 +14,4 @@ mod FirstDatagrams
 mod Elicits
 mod Accepts
 mod Handed
+mod Expiring

@@ -1,7 +1,7 @@
 -- What a read and a write of the session make of a connection.
 use Rattle.std.proofs.Common.{◌≡◌, ℕ, ◌<◌, List, [], ◌∷◌, ◌++◌, length, refl, ap, sym, ◌∙◌, subst, Bool, true, false, ◌==◌, Option, Some, None, Result, inl, inr, arith}
 use Rattle.std.proofs.lemmas.Bool.Decides.{nat_tests}
-use Rattle.std.specs.Prelude.{◌&&◌, ◌⊎◌, is_none, IsSome}
+use Rattle.std.specs.Prelude.{◌&&◌, ◌⊎◌, is_none, IsSome, option_map}
 use Rattle.rand_core.specs.Stream.{Stream}
 use Rattle.qc_base.specs.declared.side.SpaceId.{SpaceId}
 use Rattle.qc_base.specs.declared.side.SpaceId.TheVariants.{Initial, Handshake, «Data»}
@@ -14,9 +14,10 @@ use Rattle.qc_state.specs.declared.deeds.Did.{Did}
 use Rattle.qc_state.specs.declared.deeds.Did.TheVariants as did
 use Rattle.qc_state.specs.declared.deeds.Layer.TheVariants as layer
 use Rattle.qc_state.specs.declared.keys.KeyGroup.{KeyGroup}
+use Rattle.qc_state.specs.declared.keys.SpaceKeys.{SpaceKeys}
 use Rattle.qc_state.specs.declared.lower.Lower.{Lower}
 use Rattle.qc_state.specs.declared.waiting.Waiting.{Waiting}
-use Rattle.qc_state.specs.Keys.{keys_given}
+use Rattle.qc_state.specs.Keys.{keys_given, new_keys}
 use Rattle.qc_state.specs.Lower.{ready_bytes, stream_of, session_read, session_wrote}
 use Rattle.qc_state.specs.Moves.{move_to, state_move, numbers_move, keys_move, life_move, paths_move, timers_move, waiting_move, setup_move, lower_move, deeds_move}
 use Rattle.qc_state.specs.Progress.{is_written, write_after}
@@ -144,18 +145,19 @@ module _ {t : Types} {R : Type 0} (m : Meaning t) (stream : R → Stream) where
       (done, ap (λ (x : t.S). held stream (record w { lower = record { session = x; streams = w.lower.streams } }) ds) (idle none.0 none.1))
 
   -- the session wrote something, or gave keys
-  pub something_written : (v w : Held t R) (bytes first slice slice' : List ℕ) (keys : Option (Keys t.H t.P)) (session : t.S) (group : KeyGroup t.H t.P) (waiting : Waiting) (ds : List Did) (nothing : Bool) → w ≡ v →
+  pub something_written : (v w : Held t R) (bytes first slice slice' : List ℕ) (keys : Option (Keys t.H t.P)) (given : Option (SpaceKeys t.H t.P)) (session : t.S) (group : KeyGroup t.H t.P) (waiting : Waiting) (ds : List Did) (nothing : Bool) → w ≡ v →
       keys ≡ m.write_keys w.lower.session → first ≡ [] → bytes ≡ first ++ m.writes w.lower.session → slice ≡ bytes → nothing ≡ ((length slice == 0) && is_none keys) → nothing ≡ false →
       ((0 < length (m.writes w.lower.session)) ⊎ IsSome (m.write_keys w.lower.session) → m.left session < m.left w.lower.session) → session ≡ m.after_write w.lower.session → slice' ≡ bytes →
-      waiting ≡ crypto_written w.waiting w.keys.highest slice' → group ≡ keys_given w.keys keys →
+      waiting ≡ crypto_written w.waiting w.keys.highest slice' → given ≡ option_map (new_keys m.seal_limit m.failure_limit) keys → group ≡ keys_given w.keys given →
       HasWritten m true (held stream v ds) (held stream (record w { keys = group; waiting = waiting; lower = record { session = session; streams = w.lower.streams } }) ds)
   unfolding is_written write_after move_to state_move numbers_move keys_move life_move paths_move timers_move waiting_move setup_move lower_move deeds_move session_wrote
-  something_written v w bytes first slice slice' keys session group waiting ds nothing same is_keys is_first is_bytes is_slice is e falls after is_slice' is_waiting is_group =
+  something_written v w bytes first slice slice' keys given session group waiting ds nothing same is_keys is_first is_bytes is_slice is e falls after is_slice' is_waiting is_given is_group =
       let more : is_written m w.lower.session ≡ false = tells w.lower.session bytes first slice keys nothing is_keys is_first is_bytes is_slice is ∙ e in
       let less : m.left session < m.left w.lower.session = falls (either (m.writes w.lower.session) (m.write_keys w.lower.session) more) in
       let all : slice' ≡ m.writes w.lower.session = is_slice' ∙ is_bytes ∙ ap (λ (x : List ℕ). x ++ m.writes w.lower.session) is_first in
       let waits : waiting ≡ crypto_written w.waiting w.keys.highest (m.writes w.lower.session) = is_waiting ∙ ap (crypto_written w.waiting w.keys.highest) all in
-      let group_is : group ≡ keys_given w.keys (m.write_keys w.lower.session) = is_group ∙ ap (keys_given w.keys) is_keys in
+      let fresh : given ≡ option_map (new_keys m.seal_limit m.failure_limit) (m.write_keys w.lower.session) = is_given ∙ ap (option_map (new_keys m.seal_limit m.failure_limit)) is_keys in
+      let group_is : group ≡ keys_given w.keys (option_map (new_keys m.seal_limit m.failure_limit) (m.write_keys w.lower.session)) = is_group ∙ ap (keys_given w.keys) fresh in
       subst (λ (x : Held t R). HasWritten m true (held stream x ds) (held stream (record w { keys = group; waiting = waiting; lower = record { session = session; streams = w.lower.streams } }) ds)) same (
         more,
         (

@@ -8,7 +8,7 @@ use crate::making::{fixed, made};
 use crate::state::Core;
 use qc_base::{ConnectionId, Duration, Instant, Side};
 use qc_recovery::TransportConfig;
-use qc_state::{Paths, SoundSession, Suite};
+use qc_state::{Paths, SoundSession, SpaceKeys, Suite};
 use std::alloc::{AllocError, Global};
 use std::net::{IpAddr, SocketAddr};
 
@@ -57,7 +57,7 @@ impl<U: Suite> Core<U> {
         ensures hello { IfOk result (λ core. length core.waiting.spaces.initial.crypto.bytes < 2 ^ 62) }
     {
         let mut session = SoundSession::new(setup.session);
-        let keys = session.initial_keys(&setup.first_cid, Side::Client);
+        let keys = SpaceKeys::new(session.initial_keys(&setup.first_cid, Side::Client));
         let mut hello = Vec::new(alloc);
         session.write(&mut hello)?;
         let fixed = fixed(

@@ -1,9 +1,10 @@
 //! How the handshake goes on: the bytes of CRYPTO frames, what the session writes, and its end.
 
-ghost use Rattle.std.specs.Prelude.{◌≡◌, ◌+◌, ◌-◌, ◌<◌, ◌^◌, ◌||◌, ◌&&◌, ◌==◌, not, nat_lt, nat_le, if◌then◌else◌, [], true, false, Some, None, length, OnOk, IfOk, IfSome, IfNone, is_none};
+ghost use Rattle.std.specs.Prelude.{◌≡◌, ◌+◌, ◌-◌, ◌<◌, ◌^◌, ◌||◌, ◌&&◌, ◌==◌, not, nat_lt, nat_le, if◌then◌else◌, [], true, false, Some, None, length, OnOk, IfOk, IfSome, IfNone, is_none, option_map};
 ghost use Rattle.qc_assembler.specs.Assembly.{inserted, part_count};
 ghost use Rattle.qc_base.specs.declared.transport_error.TransportError.{TransportError};
 ghost use Rattle.qc_core.specs.Reading.{HasRead, HasWritten};
+ghost use Rattle.qc_state.specs.Keys.{new_keys};
 ghost use Rattle.qc_state.specs.Lower.{ready_bytes, stream_of};
 ghost use Rattle.qc_state.specs.Progress.{ended_after, ids_fit, is_end, is_server_start, is_written, learned_after, learned_with, names_id, over_after, parameters_and, progress_after, token_after, written_after};
 ghost use Rattle.qc_state.specs.Life.{is_handshake};
@@ -21,9 +22,9 @@ use qc_assembler::InsertError;
 use qc_base::{
     ConnectionId, Instant, ResetToken, Side, SpaceId, TransportError, TransportErrorCode,
 };
-use qc_crypto::{Keys, Session, SessionError};
+use qc_crypto::{Keys, PacketKey, Session, SessionError};
 use qc_params::TransportParameters;
-use qc_state::{Body, Dids, Layer, SoundSession, Suite};
+use qc_state::{Body, Dids, Layer, SoundSession, SpaceKeys, Suite};
 use std::alloc::{AllocError, Global};
 
 /// Whether bytes at an offset reach past those that were read.
@@ -119,6 +120,16 @@ fn is_nothing<H: Drop, P: Drop>(bytes: &[u8], keys: &Option<Keys<H, P>>) -> bool
     ensures { result ≡ ((length bytes.now == 0) && is_none keys.now) }
 {
     bytes.is_empty() && keys.is_none()
+}
+
+/// Keys that the session gave, if it gave any: nothing was sealed under them yet.
+fn unused<H: Drop, P: PacketKey>(keys: Option<Keys<H, P>>) -> Option<SpaceKeys<H, P>>
+    ensures { result ≡ option_map (new_keys P.seal_limit P.failure_limit) keys }
+{
+    match keys {
+        None => None,
+        Some(keys) => Some(SpaceKeys::new(keys)),
+    }
 }
 
 impl<U: Suite> Core<U> {
@@ -276,7 +287,7 @@ impl<U: Suite> Core<U> {
             return Ok(false);
         }
         self.waiting.write(self.keys.highest, bytes.as_slice())?;
-        self.keys.give(keys);
+        self.keys.give(unused(keys));
         Ok(true)
     }
 

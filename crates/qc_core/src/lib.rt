@@ -13,6 +13,7 @@ mod receiving;
 mod sending;
 mod server;
 pub mod state;
+mod timeouts;
 
 pub use client::ClientSetup;
 pub use events::ConnectionEvent;

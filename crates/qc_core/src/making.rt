@@ -7,7 +7,7 @@ ghost use Rattle.qc_state.specs.Setup.{idle_limit_of};
 use crate::state::Core;
 use qc_assembler::Assembler;
 use qc_base::{ConnectionId, Duration, Instant, Side, SpaceId, VarInt};
-use qc_crypto::{Keys, Session};
+use qc_crypto::Session;
 use qc_frame::EcnCounts;
 use qc_path::PendingAcks;
 use qc_recovery::{IdleTimeout, TransportConfig};
@@ -109,11 +109,11 @@ fn life() -> Life
 ghost use Rattle.std.specs.Prelude.{false, None};
 ghost use Rattle.qc_state.specs.declared.spaces.Spaces.{Spaces};
 
-/// A connection that was just made at `now`: it has the keys of the Initial space, and nothing waits but what its session
+/// A connection that was just made at `now`: it has these keys of the Initial space, and nothing waits but what its session
 /// wrote.
 pub(crate) fn made<U: Suite>(
     alloc: Global,
-    keys: Keys<<U::Session as Session>::HeaderKey, <U::Session as Session>::PacketKey>,
+    keys: SpaceKeys<<U::Session as Session>::HeaderKey, <U::Session as Session>::PacketKey>,
     session: SoundSession<U::Session>,
     hello: Vec<u8>,
     random: U::Random,
@@ -134,7 +134,7 @@ pub(crate) fn made<U: Suite>(
         },
         keys: KeyGroup {
             spaces: Spaces {
-                initial: Some(SpaceKeys { keys, sealed: 0 }),
+                initial: Some(keys),
                 handshake: None,
                 application: None,
             },

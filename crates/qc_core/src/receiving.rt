@@ -4,16 +4,17 @@ ghost use Rattle.std.specs.Prelude.{◌≡◌, ◌<◌, ◌≤◌, ◌++◌, ◌
 ghost use Rattle.qc_core.specs.Cutting.{Cuts, front_of, rest_of, others_of};
 ghost use Rattle.qc_frame.specs.Frame.{borrowed, typed};
 ghost use Rattle.qc_frame.specs.Payload.{items_of};
-ghost use Rattle.qc_state.specs.Receiving.{is_readable, is_taken, lets_in, has_first_ids, token_in_first, heard_after, datagram_after, opening_after, pieces_after, piece_after};
+ghost use Rattle.qc_state.specs.Receiving.{is_readable, is_taken, lets_in, has_first_ids, token_in_first, heard_after, datagram_after, failed_after, opening_after, pieces_after, piece_after};
 ghost use Rattle.qc_state.specs.Types.{meaning};
 ghost use Rattle.qc_state.specs.View.{ideal, held};
 
+use crate::sending::key_limit_error;
 use crate::state::Core;
 use bytes::{Bytes, BytesMut};
 use qc_base::{ConnectionId, EcnCodepoint, Instant, SpaceId};
 use qc_header::{PacketDecodeError, PartialDecode, ProtectedHeader};
 use qc_state::paths::same_address;
-use qc_state::{DATAGRAM_SIZE, Dids, Opening, Signs, Suite, Verdict};
+use qc_state::{ConnectionError, DATAGRAM_SIZE, Dids, Opening, Signs, Suite, Verdict};
 use std::alloc::{AllocError, Global};
 use std::net::SocketAddr;
 
@@ -83,6 +84,20 @@ impl<U: Suite> Core<U> {
         }
     }
 
+    /// A packet didn't open: where more of them didn't than the key of the highest space lets pass, the connection ends at once
+    /// (RFC 9001, section 6.6). Want of memory is the only refusal.
+    #[tactic(auto, unfolding(qc_state::specs::Receiving::failed_after, qc_state::specs::Moves::move_to, qc_state::specs::Moves::deeds_move))]
+    fn failed(&mut self, did: &mut Dids, space: Option<SpaceId>) -> Result<(), AllocError>
+        ensures { OnOk result ((held U.Random.stream self.new did.new) ≡ failed_after space (held U.Random.stream self.old did.old)) }
+    {
+        self.do_fail();
+        self.do_tell_piece(did, space, None, Verdict::Failure)?;
+        if self.keys.fails_too_often() {
+            return self.kill(did, ConnectionError::TransportError(key_limit_error()));
+        }
+        Ok(())
+    }
+
     /// What a packet does whose form has this space, by what came of taking its protection off. Want of memory is the only refusal.
     #[tactic(auto, unfolding(qc_state::specs::Moves::move_to, qc_state::specs::Moves::deeds_move))]
     fn opened(
@@ -98,10 +113,7 @@ impl<U: Suite> Core<U> {
     {
         match opening {
             Opening::Unreadable => self.do_tell_piece(did, space, None, Verdict::Ignored),
-            Opening::Unopened => {
-                self.do_fail();
-                self.do_tell_piece(did, space, None, Verdict::Failure)
-            }
+            Opening::Unopened => self.failed(did, space),
             Opening::Reserved { number } => {
                 self.do_tell_piece(did, space, Some(number), Verdict::BadBits)?;
                 self.violated(did, now)

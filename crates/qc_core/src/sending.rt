@@ -7,10 +7,11 @@ ghost use Rattle.qc_frame.specs.declared.frames.FrameOf.TheVariants.{Padding};
 ghost use Rattle.qc_packet.specs.Building.{padded_size};
 ghost use Rattle.qc_packet.specs.PacketSpelling.{padding_len};
 ghost use Rattle.qc_header.specs.HeaderSpelling.{header_spelling, header_number};
-ghost use Rattle.qc_state.specs.Keys.{keys_of};
+ghost use Rattle.qc_state.specs.Keys.{keys_of, reaches_limit};
 ghost use Rattle.qc_state.specs.Moves.{Take, Seal, move_to, calmed, state_move};
 ghost use Rattle.qc_state.specs.Numbers.{next_number, acked_number};
-ghost use Rattle.qc_state.specs.Sending.{internal_error, told_code, told_type, told_application_code, application_close, closing_frame, IsKeptReason, TakenNow, close_frame, is_silent, owes, owes_in, sending_space, is_used_up, may_be_quiet, given_after, killed_after, owed_quiet_after, quiet_after, header_in, fills, least_size, leaves_initial, drops_initial, initial_left, sealed_with, transmit_with};
+ghost use Rattle.qc_state.specs.Sending.{internal_error, told_code, told_type, told_application_code, application_close, closing_frame, IsKeptReason, TakenNow, close_frame, is_silent, owes, owes_in, sending_space, is_used_up, limited_keys, is_key_used_up, is_key_nearly_used_up, limit_met, spared_after, may_be_quiet, owed_quiet_after, quiet_after, header_in, fills, least_size, leaves_initial, drops_initial, initial_left, sealed_with, transmit_with};
+ghost use Rattle.qc_state.specs.Stopping.{given_after, key_limit_error, killed_after};
 ghost use Rattle.qc_state.specs.Spaces.{space_of};
 ghost use Rattle.qc_state.specs.Types.{meaning};
 ghost use Rattle.qc_state.specs.View.{ideal, held};
@@ -63,6 +64,16 @@ fn application_code_told(code: VarInt) -> VarInt
         return code;
     }
     VarInt::from_u32(0)
+}
+
+/// The error of a key that has sealed, or failed to open, as many packets as it may (RFC 9001, section 6.6).
+pub(crate) fn key_limit_error() -> TransportError
+    ensures { result ≡ key_limit_error }
+{
+    TransportError {
+        code: TransportErrorCode::AEAD_LIMIT_REACHED,
+        frame: None,
+    }
 }
 
 /// A close with this code and type of frame, without a reason in words.
@@ -191,16 +202,46 @@ impl<U: Suite> Core<U> {
         GREATEST_NUMBER <= number || NUMBER_LIMIT <= number - acked
     }
 
+    /// Whether the key of the next packet has sealed as many packets as it may, with so many more. The limit of 1-RTT keys isn't
+    /// asked so far.
+    fn key_reaches(&self, more: u64) -> bool
+        ensures { result ≡ reaches_limit more (limited_keys (ideal U.Random.stream self.now) (sending_space (ideal U.Random.stream self.now))) }
+    {
+        match self.sending_space() {
+            SpaceId::Initial => self.keys.reaches_limit(SpaceId::Initial, more),
+            SpaceId::Handshake => self.keys.reaches_limit(SpaceId::Handshake, more),
+            SpaceId::Data => false,
+        }
+    }
+
+    /// Whether the key of the next packet has sealed as many packets as it may (RFC 9001, 6.6).
+    #[tactic(auto, unfolding(qc_state::specs::Sending::is_key_used_up))]
+    pub fn is_key_used_up(&self) -> bool
+        ensures { result ≡ is_key_used_up (ideal U.Random.stream self.now) }
+    {
+        self.key_reaches(0)
+    }
+
+    /// Whether it will have with two packets more: only one may be sealed behind the next one.
+    #[tactic(auto, unfolding(qc_state::specs::Sending::is_key_nearly_used_up))]
+    pub fn is_key_nearly_used_up(&self) -> bool
+        ensures { result ≡ is_key_nearly_used_up (ideal U.Random.stream self.now) }
+    {
+        self.key_reaches(2)
+    }
+
     /// Whether a transmit now would send nothing.
     #[tactic(auto, unfolding(qc_state::specs::Sending::may_be_quiet))]
     pub fn may_be_quiet(&self) -> bool
         ensures { result ≡ may_be_quiet (ideal U.Random.stream self.now) }
     {
-        self.is_silent() || (!self.owes() || (self.paths.is_blocked() || self.is_used_up()))
+        self.is_silent()
+            || (!self.owes()
+                || (self.paths.is_blocked() || (self.is_key_used_up() || self.is_used_up())))
     }
 
     /// A reason for the end is given, unless one was given before.
-    #[tactic(auto, unfolding(qc_state::specs::Sending::given_after))]
+    #[tactic(auto, unfolding(qc_state::specs::Stopping::given_after))]
     pub(crate) fn give(&mut self, did: &mut Dids, why: ConnectionError) -> Result<(), AllocError>
         ensures { OnOk result ((held U.Random.stream self.new did.new) ≡ given_after why (held U.Random.stream self.old did.old)) }
     {
@@ -211,16 +252,30 @@ impl<U: Suite> Core<U> {
     }
 
     /// The connection ends at once, for this reason.
-    #[tactic(auto, unfolding(qc_state::specs::Sending::killed_after))]
-    fn kill(&mut self, did: &mut Dids, why: ConnectionError) -> Result<(), AllocError>
+    #[tactic(auto, unfolding(qc_state::specs::Stopping::killed_after))]
+    pub(crate) fn kill(&mut self, did: &mut Dids, why: ConnectionError) -> Result<(), AllocError>
         ensures { OnOk result ((held U.Random.stream self.new did.new) ≡ killed_after why (held U.Random.stream self.old did.old)) }
     {
         self.do_raise(did, State::Drained)?;
         self.give(did, why)
     }
 
-    /// A transmit sends nothing of what is owed: because the path is blocked, or because the packet numbers are used up, which is
-    /// the end now.
+    /// Why the connection ends where something is owed and the path is free: the next packet's key has sealed as many packets as
+    /// it may, or else the packet numbers are used up.
+    #[tactic(auto, unfolding(qc_state::specs::Sending::limit_met))]
+    fn limit_met(&self) -> ConnectionError
+        ensures { result ≡ limit_met (ideal U.Random.stream self.now) }
+    {
+        if self.is_key_used_up() {
+            return ConnectionError::TransportError(key_limit_error());
+        }
+        ConnectionError::TransportError(TransportError {
+            code: TransportErrorCode::INTERNAL_ERROR,
+            frame: None,
+        })
+    }
+
+    /// A transmit sends nothing of what is owed: because the path is blocked, or because of a limit, which is the end now.
     #[tactic(auto, unfolding(qc_state::specs::Sending::owed_quiet_after))]
     fn owed_quiet(&mut self, did: &mut Dids) -> Result<(), AllocError>
         ensures { OnOk result ((held U.Random.stream self.new did.new) ≡ owed_quiet_after (held U.Random.stream self.old did.old)) }
@@ -228,16 +283,13 @@ impl<U: Suite> Core<U> {
         if self.paths.is_blocked() {
             return self.do_say(did, Quiet::Amplification);
         }
-        let why = ConnectionError::TransportError(TransportError {
-            code: TransportErrorCode::INTERNAL_ERROR,
-            frame: None,
-        });
+        let why = self.limit_met();
         self.kill(did, why)?;
         self.do_say(did, Quiet::Killed)
     }
 
-    /// A transmit sends nothing: because the end came before, because the path is blocked, because the packet numbers are used up,
-    /// which is the end now, or because nothing was owed.
+    /// A transmit sends nothing: because the end came before, because the path is blocked, because of a limit, which is the end
+    /// now, or because nothing was owed.
     #[tactic(auto, unfolding(qc_state::specs::Sending::quiet_after))]
     pub fn quiet(&mut self, did: &mut Dids) -> Result<(), AllocError>
         ensures { OnOk result ((held U.Random.stream self.new did.new) ≡ quiet_after (held U.Random.stream self.old did.old)) }
@@ -430,6 +482,18 @@ impl<U: Suite> Core<U> {
             self.do_forget(SpaceId::Initial);
             self.calm(did);
         }
+    }
+
+    /// This end closes behind a packet that was sealed, where its key may seal only one more, so that this one can be the close
+    /// (RFC 9001, section 6.6). `nearly` is what `is_key_nearly_used_up` said before the packet.
+    #[tactic(auto, unfolding(qc_state::specs::Sending::spared_after))]
+    pub fn spare(&mut self, did: &mut Dids, now: Instant, nearly: bool) -> Result<(), AllocError>
+        ensures { OnOk result ((held U.Random.stream self.new did.new) ≡ spared_after now nearly (held U.Random.stream self.old did.old)) }
+    {
+        if nearly {
+            return self.stopped(did, now, key_limit_error());
+        }
+        Ok(())
     }
 
     /// Where a datagram of this size goes.

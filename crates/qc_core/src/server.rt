@@ -8,7 +8,7 @@ use crate::making::{fixed, made};
 use crate::state::Core;
 use qc_base::{ConnectionId, Duration, Instant, Side};
 use qc_recovery::TransportConfig;
-use qc_state::{Paths, SoundSession, Suite};
+use qc_state::{Paths, SoundSession, SpaceKeys, Suite};
 use std::alloc::{AllocError, Global};
 use std::net::{IpAddr, SocketAddr};
 
@@ -61,7 +61,7 @@ impl<U: Suite> Core<U> {
         ensures { IfOk result (λ core. core ≡ server_view (meaning U.Session.Session U.Session.HeaderKey.HeaderMask U.Session.PacketKey.PacketKey) setup.session setup.random (fixed_of Side.Server setup.version setup.local_cid setup.first_cid setup.local_ip setup.transport.max_idle_timeout setup.transport.crypto_buffer_size setup.grease_quic_bit) setup.remote setup.remote_cid setup.validated now) }
     {
         let session = SoundSession::new(setup.session);
-        let keys = session.initial_keys(&setup.first_cid, Side::Server);
+        let keys = SpaceKeys::new(session.initial_keys(&setup.first_cid, Side::Server));
         let fixed = fixed(
             Side::Server,
             setup.version,

@@ -5,16 +5,16 @@ use Rattle.std.specs.Fmt.{decimal}
 use Rattle.std.specs.declared.net.socket_addr.SocketAddr.{SocketAddr}
 use Rattle.qc_base.specs.declared.side.Side.{Side}
 use Rattle.qc_state.specs.declared.input.Input.{Input}
-use Rattle.qc_state.specs.declared.input.Input.TheVariants.{Datagram, Transmit, Close, Ping}
+use Rattle.qc_state.specs.declared.input.Input.TheVariants.{Datagram, Timeout, Transmit, Close, Ping}
 use Rattle.qc_script.specs.declared.settings.Settings.{Settings}
 use Rattle.qc_script.specs.declared.settings.Setting.{Setting}
-use Rattle.qc_script.specs.declared.settings.Setting.TheVariants.{Time, Local, Remote, First, Addr, Secret, Idle}
+use Rattle.qc_script.specs.declared.settings.Setting.TheVariants.{Time, Local, Remote, First, Addr, Secret, LimitInitial, LimitHandshake, LimitFailures, Idle}
 use Rattle.qc_script.specs.declared.items.Item.{Item}
 use Rattle.qc_script.specs.declared.items.Item.TheVariants as It
 use Rattle.qc_script.specs.Fields.{hex_field, address_text, IsAddress}
 use Rattle.qc_script.specs.Script.{line_if, side_line, set_lines, input_line, IsWithin, AllWithin, IsId, IsRemote, IsFirst, IsSecret, AreSettings}
 use Rattle.qc_script.specs.Items.{setting_line, IsSetting, IsNextSetting, IsNextItem, setting_place, with_setting, side_alone, item_line, IsItem, item_place, Follows, settings_after, inputs_after}
-use Rattle.qc_script.proofs.LineLemmas.{input_line_injective, datagram_fields, datagram_line, transmit_line, close_line, ping_line}
+use Rattle.qc_script.proofs.LineLemmas.{input_line_injective, datagram_fields, datagram_line, timeout_line, transmit_line, close_line, ping_line}
 use Rattle.qc_script.proofs.SettingLemmas.{setting_line_injective, setting_no_input, setting_ends}
 
 -- ---- one item
@@ -35,6 +35,7 @@ not_behind side before text x h k (It.Input i) n = setting_no_input x i (sym h.s
 pub item_ends : (item : Item) → (text : List ℕ) × (item_line item ≡ text ++ 10 ∷ [])
 item_ends (It.Set x) = setting_ends x
 item_ends (It.Input (Datagram now remote ecn bytes)) = (codes "datagram " ++ datagram_fields now remote ecn bytes, datagram_line now remote ecn bytes)
+item_ends (It.Input (Timeout now)) = (codes "timeout " ++ decimal now, timeout_line now)
 item_ends (It.Input (Transmit now n)) = (codes "transmit " ++ (decimal now ++ 32 ∷ decimal n), transmit_line now n)
 item_ends (It.Input (Close now code reason)) = (codes "close " ++ (decimal now ++ 32 ∷ (decimal code ++ 32 ∷ hex_field reason)), close_line now code reason)
 item_ends (It.Input (Ping now)) = (codes "ping " ++ decimal now, ping_line now)
@@ -122,7 +123,9 @@ input_items (i ∷ inputs) = It.Input i ∷ input_items inputs
 -- what a script says behind its first line
 abbrev pub items_of : Settings → List Input → List Item
 items_of s inputs =
-    item_if Time s.time ++ (item_if Local s.local ++ (item_if Remote s.remote ++ (item_if First s.first ++ (item_if Addr s.addr ++ (item_if Secret s.secret ++ (item_if Idle s.idle ++ input_items inputs))))))
+    item_if Time s.time ++ (item_if Local s.local ++ (item_if Remote s.remote ++ (item_if First s.first
+    ++ (item_if Addr s.addr ++ (item_if Secret s.secret ++ (item_if LimitInitial s.limit_initial ++ (item_if LimitHandshake s.limit_handshake
+    ++ (item_if LimitFailures s.limit_failures ++ (item_if Idle s.idle ++ input_items inputs)))))))))
 
 -- the set lines of each kind
 abbrev times : Settings → List (List ℕ)
@@ -143,6 +146,15 @@ addrs s = line_if (codes "set addr ") address_text s.addr
 abbrev secrets : Settings → List (List ℕ)
 secrets s = line_if (codes "set secret ") hex_field s.secret
 
+abbrev initial_limits : Settings → List (List ℕ)
+initial_limits s = line_if (codes "set limit_initial ") decimal s.limit_initial
+
+abbrev handshake_limits : Settings → List (List ℕ)
+handshake_limits s = line_if (codes "set limit_handshake ") decimal s.limit_handshake
+
+abbrev failure_limits : Settings → List (List ℕ)
+failure_limits s = line_if (codes "set limit_failures ") decimal s.limit_failures
+
 abbrev idles : Settings → List (List ℕ)
 idles s = line_if (codes "set idle ") decimal s.idle
 
@@ -156,20 +168,24 @@ input_lines : (inputs : List Input) → map input_line inputs ≡ map item_line 
 input_lines [] = refl
 input_lines (i ∷ inputs) = ap (λ (ls : List (List ℕ)). input_line i ∷ ls) (input_lines inputs)
 
-regrouped : (a b c d e f g m : List (List ℕ)) → (a ++ (b ++ (c ++ (d ++ (e ++ (f ++ g)))))) ++ m ≡ a ++ (b ++ (c ++ (d ++ (e ++ (f ++ (g ++ m))))))
-regrouped a b c d e f g m = simp append_assoc
+regrouped : (a b c d e f g h i j m : List (List ℕ)) → (a ++ (b ++ (c ++ (d ++ (e ++ (f ++ (g ++ (h ++ (i ++ j))))))))) ++ m ≡ a ++ (b ++ (c ++ (d ++ (e ++ (f ++ (g ++ (h ++ (i ++ (j ++ m)))))))))
+regrouped a b c d e f g h i j m = simp append_assoc
 
 pub script_lines : (s : Settings) (inputs : List Input) → set_lines s ++ map input_line inputs ≡ side_line s.side ∷ map item_line (items_of s inputs)
 unfolding set_lines setting_line
 script_lines s inputs =
     let idle = lines_if (codes "set idle ") decimal Idle s.idle (map input_line inputs) (input_items inputs) (λ v. refl) (input_lines inputs) in
-    let secret = lines_if (codes "set secret ") hex_field Secret s.secret _ _ (λ v. refl) idle in
+    let failures = lines_if (codes "set limit_failures ") decimal LimitFailures s.limit_failures _ _ (λ v. refl) idle in
+    let handshake = lines_if (codes "set limit_handshake ") decimal LimitHandshake s.limit_handshake _ _ (λ v. refl) failures in
+    let initial = lines_if (codes "set limit_initial ") decimal LimitInitial s.limit_initial _ _ (λ v. refl) handshake in
+    let secret = lines_if (codes "set secret ") hex_field Secret s.secret _ _ (λ v. refl) initial in
     let addr = lines_if (codes "set addr ") address_text Addr s.addr _ _ (λ v. refl) secret in
     let first = lines_if (codes "set first ") hex_field First s.first _ _ (λ v. refl) addr in
     let remote = lines_if (codes "set remote ") hex_field Remote s.remote _ _ (λ v. refl) first in
     let local = lines_if (codes "set local ") hex_field Local s.local _ _ (λ v. refl) remote in
     let time = lines_if (codes "set time ") decimal Time s.time _ _ (λ v. refl) local in
-    ap (λ (ls : List (List ℕ)). side_line s.side ∷ ls) (regrouped (times s) (locals s) (remotes s) (firsts s) (addrs s) (secrets s) (idles s) (map input_line inputs) ∙ time)
+    let grouped = regrouped (times s) (locals s) (remotes s) (firsts s) (addrs s) (secrets s) (initial_limits s) (handshake_limits s) (failure_limits s) (idles s) (map input_line inputs) in
+    ap (λ (ls : List (List ℕ)). side_line s.side ∷ ls) (grouped ∙ time)
 
 -- they are in order
 chain_if : {T : Type 0} → (set : T → Setting) (Within : T → Type 0) (side : Side) (o : Option T) (before : ℕ) (items : List Item) → ((v : T) → setting_place (set v) ≡ before + 1) → ((v : T) → Within v → IsSetting side (set v)) → IfSome o Within
@@ -179,12 +195,15 @@ chain_if set Within side (Some v) before items is within h chain = (within v h, 
 
 input_chain : (side : Side) (before : ℕ) (inputs : List Input) → AllWithin inputs → Chain side before (input_items inputs)
 input_chain side before [] h = tt
-input_chain side before (i ∷ inputs) h = (h.0, tt, input_chain side 8 inputs h.1)
+input_chain side before (i ∷ inputs) h = (h.0, tt, input_chain side 11 inputs h.1)
 
 pub script_chain : (s : Settings) (inputs : List Input) → AreSettings s → AllWithin inputs → Chain s.side 0 (items_of s inputs)
 script_chain s inputs h within =
-    let idle = chain_if Idle (λ n. n < 2 ^ 62) s.side s.idle 6 (input_items inputs) (λ v. refl) (λ v w. w) h.idle (input_chain s.side 7 inputs within) in
-    let secret = chain_if Secret IsSecret s.side s.secret 5 _ (λ v. refl) (λ v w. w) h.secret idle in
+    let idle = chain_if Idle (λ n. n < 2 ^ 62) s.side s.idle 9 (input_items inputs) (λ v. refl) (λ v w. w) h.idle (input_chain s.side 10 inputs within) in
+    let failures = chain_if LimitFailures (λ n. n < 2 ^ 64) s.side s.limit_failures 8 _ (λ v. refl) (λ v w. w) h.limit_failures idle in
+    let handshake = chain_if LimitHandshake (λ n. n < 2 ^ 64) s.side s.limit_handshake 7 _ (λ v. refl) (λ v w. w) h.limit_handshake failures in
+    let initial = chain_if LimitInitial (λ n. n < 2 ^ 64) s.side s.limit_initial 6 _ (λ v. refl) (λ v w. w) h.limit_initial handshake in
+    let secret = chain_if Secret IsSecret s.side s.secret 5 _ (λ v. refl) (λ v w. w) h.secret initial in
     let addr = chain_if Addr IsAddress s.side s.addr 4 _ (λ v. refl) (λ v w. w) h.addr secret in
     let first = chain_if First (IsFirst s.side) s.side s.first 3 _ (λ v. refl) (λ v w. w) h.first addr in
     let remote = chain_if Remote (IsRemote s.side) s.side s.remote 2 _ (λ v. refl) (λ v w. w) h.remote first in
@@ -192,36 +211,26 @@ script_chain s inputs h within =
     chain_if Time (λ n. n < 2 ^ 64) s.side s.time 0 _ (λ v. refl) (λ v w. w) h.time local
 
 -- and tell the settings
-abbrev said : Side → Option ℕ → Option (List ℕ) → Option (List ℕ) → Option (List ℕ) → Option SocketAddr → Option (List ℕ) → Option ℕ → Settings
-said side time local remote first addr secret idle = record { side = side; time = time; local = local; remote = remote; first = first; addr = addr; secret = secret; idle = idle }
+abbrev said : Side → Option ℕ → Option (List ℕ) → Option (List ℕ) → Option (List ℕ) → Option SocketAddr → Option (List ℕ) → Option ℕ → Option ℕ → Option ℕ → Option ℕ → Settings
+said side time local remote first addr secret limit_initial limit_handshake limit_failures idle =
+    record {
+      side = side;
+      time = time;
+      local = local;
+      remote = remote;
+      first = first;
+      addr = addr;
+      secret = secret;
+      limit_initial = limit_initial;
+      limit_handshake = limit_handshake;
+      limit_failures = limit_failures;
+      idle = idle;
+    }
 
-said_time : (side : Side) (o : Option ℕ) (items : List Item) → settings_from (said side None None None None None None None) (item_if Time o ++ items) ≡ settings_from (said side o None None None None None None) items
-said_time side None items = refl
-said_time side (Some v) items = refl
-
-said_local : (side : Side) (t : Option ℕ) (o : Option (List ℕ)) (items : List Item) → settings_from (said side t None None None None None None) (item_if Local o ++ items) ≡ settings_from (said side t o None None None None None) items
-said_local side t None items = refl
-said_local side t (Some v) items = refl
-
-said_remote : (side : Side) (t : Option ℕ) (l o : Option (List ℕ)) (items : List Item) → settings_from (said side t l None None None None None) (item_if Remote o ++ items) ≡ settings_from (said side t l o None None None None) items
-said_remote side t l None items = refl
-said_remote side t l (Some v) items = refl
-
-said_first : (side : Side) (t : Option ℕ) (l r o : Option (List ℕ)) (items : List Item) → settings_from (said side t l r None None None None) (item_if First o ++ items) ≡ settings_from (said side t l r o None None None) items
-said_first side t l r None items = refl
-said_first side t l r (Some v) items = refl
-
-said_addr : (side : Side) (t : Option ℕ) (l r f : Option (List ℕ)) (o : Option SocketAddr) (items : List Item) → settings_from (said side t l r f None None None) (item_if Addr o ++ items) ≡ settings_from (said side t l r f o None None) items
-said_addr side t l r f None items = refl
-said_addr side t l r f (Some v) items = refl
-
-said_secret : (side : Side) (t : Option ℕ) (l r f : Option (List ℕ)) (a : Option SocketAddr) (o : Option (List ℕ)) (items : List Item) → settings_from (said side t l r f a None None) (item_if Secret o ++ items) ≡ settings_from (said side t l r f a o None) items
-said_secret side t l r f a None items = refl
-said_secret side t l r f a (Some v) items = refl
-
-said_idle : (side : Side) (t : Option ℕ) (l r f : Option (List ℕ)) (a : Option SocketAddr) (b : Option (List ℕ)) (o : Option ℕ) (items : List Item) → settings_from (said side t l r f a b None) (item_if Idle o ++ items) ≡ settings_from (said side t l r f a b o) items
-said_idle side t l r f a b None items = refl
-said_idle side t l r f a b (Some v) items = refl
+-- one item, or none
+said_if : {T : Type 0} → (set : T → Setting) (with : Option T → Settings) (o : Option T) (items : List Item) → ((v : T) → with_setting (with None) (set v) ≡ with (Some v)) → settings_from (with None) (item_if set o ++ items) ≡ settings_from (with o) items
+said_if set with None items is = refl
+said_if set with (Some v) items is = ap (λ (s : Settings). settings_from s items) (is v)
 
 said_inputs : (s : Settings) (inputs : List Input) → settings_from s (input_items inputs) ≡ s
 said_inputs s [] = refl
@@ -229,8 +238,17 @@ said_inputs s (i ∷ inputs) = said_inputs s inputs
 
 pub script_settings : (s : Settings) (inputs : List Input) → settings_from (side_alone s.side) (items_of s inputs) ≡ s
 script_settings s inputs =
-    said_time s.side s.time _ ∙ said_local s.side s.time s.local _ ∙ said_remote s.side s.time s.local s.remote _ ∙ said_first s.side s.time s.local s.remote s.first _ ∙ said_addr s.side s.time s.local s.remote s.first s.addr _
-    ∙ said_secret s.side s.time s.local s.remote s.first s.addr s.secret _ ∙ said_idle s.side s.time s.local s.remote s.first s.addr s.secret s.idle (input_items inputs) ∙ said_inputs s inputs
+    said_if Time (λ o. said s.side o None None None None None None None None None) s.time _ (λ v. refl)
+    ∙ said_if Local (λ o. said s.side s.time o None None None None None None None None) s.local _ (λ v. refl)
+    ∙ said_if Remote (λ o. said s.side s.time s.local o None None None None None None None) s.remote _ (λ v. refl)
+    ∙ said_if First (λ o. said s.side s.time s.local s.remote o None None None None None None) s.first _ (λ v. refl)
+    ∙ said_if Addr (λ o. said s.side s.time s.local s.remote s.first o None None None None None) s.addr _ (λ v. refl)
+    ∙ said_if Secret (λ o. said s.side s.time s.local s.remote s.first s.addr o None None None None) s.secret _ (λ v. refl)
+    ∙ said_if LimitInitial (λ o. said s.side s.time s.local s.remote s.first s.addr s.secret o None None None) s.limit_initial _ (λ v. refl)
+    ∙ said_if LimitHandshake (λ o. said s.side s.time s.local s.remote s.first s.addr s.secret s.limit_initial o None None) s.limit_handshake _ (λ v. refl)
+    ∙ said_if LimitFailures (λ o. said s.side s.time s.local s.remote s.first s.addr s.secret s.limit_initial s.limit_handshake o None) s.limit_failures _ (λ v. refl)
+    ∙ said_if Idle (λ o. said s.side s.time s.local s.remote s.first s.addr s.secret s.limit_initial s.limit_handshake s.limit_failures o) s.idle (input_items inputs) (λ v. refl)
+    ∙ said_inputs s inputs
 
 -- and the inputs
 inputs_if : {T : Type 0} → (set : T → Setting) (o : Option T) (items : List Item) → inputs_from [] (item_if set o ++ items) ≡ inputs_from [] items
@@ -243,13 +261,24 @@ inputs_back front (i ∷ inputs) = inputs_back (front ++ i ∷ []) inputs ∙ ap
 
 pub script_inputs : (s : Settings) (inputs : List Input) → inputs_from [] (items_of s inputs) ≡ inputs
 script_inputs s inputs =
-    inputs_if Time s.time _ ∙ inputs_if Local s.local _ ∙ inputs_if Remote s.remote _ ∙ inputs_if First s.first _ ∙ inputs_if Addr s.addr _ ∙ inputs_if Secret s.secret _ ∙ inputs_if Idle s.idle (input_items inputs) ∙ inputs_back [] inputs
+    inputs_if Time s.time _ ∙ inputs_if Local s.local _ ∙ inputs_if Remote s.remote _ ∙ inputs_if First s.first _ ∙ inputs_if Addr s.addr _
+    ∙ inputs_if Secret s.secret _ ∙ inputs_if LimitInitial s.limit_initial _ ∙ inputs_if LimitHandshake s.limit_handshake _ ∙ inputs_if LimitFailures s.limit_failures _ ∙ inputs_if Idle s.idle (input_items inputs) ∙ inputs_back [] inputs
 
 -- ---- back: items in order are a script
 
 -- there is no set line behind this place
 abbrev IsOpen : ℕ → Settings → Type 0
-IsOpen before s = (before < 1 → s.time ≡ None) × (before < 2 → s.local ≡ None) × (before < 3 → s.remote ≡ None) × (before < 4 → s.first ≡ None) × (before < 5 → s.addr ≡ None) × (before < 6 → s.secret ≡ None) × (before < 7 → s.idle ≡ None)
+IsOpen before s =
+    (before < 1 → s.time ≡ None)
+    × (before < 2 → s.local ≡ None)
+    × (before < 3 → s.remote ≡ None)
+    × (before < 4 → s.first ≡ None)
+    × (before < 5 → s.addr ≡ None)
+    × (before < 6 → s.secret ≡ None)
+    × (before < 7 → s.limit_initial ≡ None)
+    × (before < 8 → s.limit_handshake ≡ None)
+    × (before < 9 → s.limit_failures ≡ None)
+    × (before < 10 → s.idle ≡ None)
 
 open_more : (before place : ℕ) (s : Settings) → before ≤ place → IsOpen before s → IsOpen place s
 open_more before place s le h = (
@@ -260,20 +289,35 @@ open_more before place s le h = (
   λ k. h.4 (omega arith),
   λ k. h.5 (omega arith),
   λ k. h.6 (omega arith),
+  λ k. h.7 (omega arith),
+  λ k. h.8 (omega arith),
+  λ k. h.9 (omega arith),
 )
 
 open_after : (before : ℕ) (s : Settings) (x : Setting) → before < setting_place x → IsOpen before s → IsOpen (setting_place x) (with_setting s x)
-open_after before s (Time v) k h = let l = open_more before 1 s (omega arith) h in (λ (q : 1 < 1). absurd (omega arith), l.1, l.2, l.3, l.4, l.5, l.6)
-open_after before s (Local v) k h = let l = open_more before 2 s (omega arith) h in (l.0, λ (q : 2 < 2). absurd (omega arith), l.2, l.3, l.4, l.5, l.6)
-open_after before s (Remote v) k h = let l = open_more before 3 s (omega arith) h in (l.0, l.1, λ (q : 3 < 3). absurd (omega arith), l.3, l.4, l.5, l.6)
-open_after before s (First v) k h = let l = open_more before 4 s (omega arith) h in (l.0, l.1, l.2, λ (q : 4 < 4). absurd (omega arith), l.4, l.5, l.6)
-open_after before s (Addr v) k h = let l = open_more before 5 s (omega arith) h in (l.0, l.1, l.2, l.3, λ (q : 5 < 5). absurd (omega arith), l.5, l.6)
-open_after before s (Secret v) k h = let l = open_more before 6 s (omega arith) h in (l.0, l.1, l.2, l.3, l.4, λ (q : 6 < 6). absurd (omega arith), l.6)
-open_after before s (Idle v) k h = let l = open_more before 7 s (omega arith) h in (l.0, l.1, l.2, l.3, l.4, l.5, λ (q : 7 < 7). absurd (omega arith))
+open_after before s (Time v) k h = let l = open_more before 1 s (omega arith) h in (λ (q : 1 < 1). absurd (omega arith), l.1, l.2, l.3, l.4, l.5, l.6, l.7, l.8, l.9)
+open_after before s (Local v) k h = let l = open_more before 2 s (omega arith) h in (l.0, λ (q : 2 < 2). absurd (omega arith), l.2, l.3, l.4, l.5, l.6, l.7, l.8, l.9)
+open_after before s (Remote v) k h = let l = open_more before 3 s (omega arith) h in (l.0, l.1, λ (q : 3 < 3). absurd (omega arith), l.3, l.4, l.5, l.6, l.7, l.8, l.9)
+open_after before s (First v) k h = let l = open_more before 4 s (omega arith) h in (l.0, l.1, l.2, λ (q : 4 < 4). absurd (omega arith), l.4, l.5, l.6, l.7, l.8, l.9)
+open_after before s (Addr v) k h = let l = open_more before 5 s (omega arith) h in (l.0, l.1, l.2, l.3, λ (q : 5 < 5). absurd (omega arith), l.5, l.6, l.7, l.8, l.9)
+open_after before s (Secret v) k h = let l = open_more before 6 s (omega arith) h in (l.0, l.1, l.2, l.3, l.4, λ (q : 6 < 6). absurd (omega arith), l.6, l.7, l.8, l.9)
+open_after before s (LimitInitial v) k h = let l = open_more before 7 s (omega arith) h in (l.0, l.1, l.2, l.3, l.4, l.5, λ (q : 7 < 7). absurd (omega arith), l.7, l.8, l.9)
+open_after before s (LimitHandshake v) k h = let l = open_more before 8 s (omega arith) h in (l.0, l.1, l.2, l.3, l.4, l.5, l.6, λ (q : 8 < 8). absurd (omega arith), l.8, l.9)
+open_after before s (LimitFailures v) k h = let l = open_more before 9 s (omega arith) h in (l.0, l.1, l.2, l.3, l.4, l.5, l.6, l.7, λ (q : 9 < 9). absurd (omega arith), l.9)
+open_after before s (Idle v) k h = let l = open_more before 10 s (omega arith) h in (l.0, l.1, l.2, l.3, l.4, l.5, l.6, l.7, l.8, λ (q : 10 < 10). absurd (omega arith))
 
 -- the set lines from each kind on
+abbrev from_failures : Settings → List (List ℕ)
+from_failures s = failure_limits s ++ idles s
+
+abbrev from_handshake : Settings → List (List ℕ)
+from_handshake s = handshake_limits s ++ from_failures s
+
+abbrev from_initial : Settings → List (List ℕ)
+from_initial s = initial_limits s ++ from_handshake s
+
 abbrev from_secret : Settings → List (List ℕ)
-from_secret s = secrets s ++ idles s
+from_secret s = secrets s ++ from_initial s
 
 abbrev from_addr : Settings → List (List ℕ)
 from_addr s = addrs s ++ from_secret s
@@ -293,11 +337,20 @@ no_line words spell o e = ap (line_if words spell) e
 no_lines : (xs ys : List (List ℕ)) → xs ≡ [] → ys ≡ [] → xs ++ ys ≡ []
 no_lines xs ys e f = ap (λ (z : List (List ℕ)). z ++ ys) e ∙ f
 
-none_from_idle : (before : ℕ) (s : Settings) → before < 7 → IsOpen before s → idles s ≡ []
-none_from_idle before s k h = no_line (codes "set idle ") decimal s.idle (h.6 k)
+none_from_idle : (before : ℕ) (s : Settings) → before < 10 → IsOpen before s → idles s ≡ []
+none_from_idle before s k h = no_line (codes "set idle ") decimal s.idle (h.9 k)
+
+none_from_failures : (before : ℕ) (s : Settings) → before < 9 → IsOpen before s → from_failures s ≡ []
+none_from_failures before s k h = no_lines (failure_limits s) (idles s) (no_line (codes "set limit_failures ") decimal s.limit_failures (h.8 k)) (none_from_idle before s (omega arith) h)
+
+none_from_handshake : (before : ℕ) (s : Settings) → before < 8 → IsOpen before s → from_handshake s ≡ []
+none_from_handshake before s k h = no_lines (handshake_limits s) (from_failures s) (no_line (codes "set limit_handshake ") decimal s.limit_handshake (h.7 k)) (none_from_failures before s (omega arith) h)
+
+none_from_initial : (before : ℕ) (s : Settings) → before < 7 → IsOpen before s → from_initial s ≡ []
+none_from_initial before s k h = no_lines (initial_limits s) (from_handshake s) (no_line (codes "set limit_initial ") decimal s.limit_initial (h.6 k)) (none_from_handshake before s (omega arith) h)
 
 none_from_secret : (before : ℕ) (s : Settings) → before < 6 → IsOpen before s → from_secret s ≡ []
-none_from_secret before s k h = no_lines (secrets s) (idles s) (no_line (codes "set secret ") hex_field s.secret (h.5 k)) (none_from_idle before s (omega arith) h)
+none_from_secret before s k h = no_lines (secrets s) (from_initial s) (no_line (codes "set secret ") hex_field s.secret (h.5 k)) (none_from_initial before s (omega arith) h)
 
 none_from_addr : (before : ℕ) (s : Settings) → before < 5 → IsOpen before s → from_addr s ≡ []
 none_from_addr before s k h = no_lines (addrs s) (from_secret s) (no_line (codes "set addr ") address_text s.addr (h.4 k)) (none_from_secret before s (omega arith) h)
@@ -318,51 +371,71 @@ put_here xs ys line e f = rw (e, f) refl
 put_behind : (xs ys zs : List (List ℕ)) (line : List ℕ) → zs ≡ ys ++ line ∷ [] → xs ++ zs ≡ (xs ++ ys) ++ line ∷ []
 put_behind xs ys zs line e = ap (λ (z : List (List ℕ)). xs ++ z) e ∙ sym (append_assoc xs ys (line ∷ []))
 
+-- a line behind the set lines of a kind is behind all of them
+behind_time : (s : Settings) (zs : List (List ℕ)) (line : List ℕ) → zs ≡ (times s ++ from_local s) ++ line ∷ [] → side_line s.side ∷ zs ≡ set_lines s ++ line ∷ []
+unfolding set_lines
+behind_time s zs line e = ap (λ (ls : List (List ℕ)). side_line s.side ∷ ls) e
+
+behind_local : (s : Settings) (zs : List (List ℕ)) (line : List ℕ) → zs ≡ from_local s ++ line ∷ [] → side_line s.side ∷ (times s ++ zs) ≡ set_lines s ++ line ∷ []
+behind_local s zs line e = behind_time s (times s ++ zs) line (put_behind (times s) (from_local s) zs line e)
+
+behind_remote : (s : Settings) (zs : List (List ℕ)) (line : List ℕ) → zs ≡ from_remote s ++ line ∷ [] → side_line s.side ∷ (times s ++ (locals s ++ zs)) ≡ set_lines s ++ line ∷ []
+behind_remote s zs line e = behind_local s (locals s ++ zs) line (put_behind (locals s) (from_remote s) zs line e)
+
+behind_first : (s : Settings) (zs : List (List ℕ)) (line : List ℕ) → zs ≡ from_first s ++ line ∷ [] → side_line s.side ∷ (times s ++ (locals s ++ (remotes s ++ zs))) ≡ set_lines s ++ line ∷ []
+behind_first s zs line e = behind_remote s (remotes s ++ zs) line (put_behind (remotes s) (from_first s) zs line e)
+
+behind_addr : (s : Settings) (zs : List (List ℕ)) (line : List ℕ) → zs ≡ from_addr s ++ line ∷ [] → side_line s.side ∷ (times s ++ (locals s ++ (remotes s ++ (firsts s ++ zs)))) ≡ set_lines s ++ line ∷ []
+behind_addr s zs line e = behind_first s (firsts s ++ zs) line (put_behind (firsts s) (from_addr s) zs line e)
+
+behind_secret : (s : Settings) (zs : List (List ℕ)) (line : List ℕ) → zs ≡ from_secret s ++ line ∷ [] → side_line s.side ∷ (times s ++ (locals s ++ (remotes s ++ (firsts s ++ (addrs s ++ zs))))) ≡ set_lines s ++ line ∷ []
+behind_secret s zs line e = behind_addr s (addrs s ++ zs) line (put_behind (addrs s) (from_secret s) zs line e)
+
+behind_initial : (s : Settings) (zs : List (List ℕ)) (line : List ℕ) → zs ≡ from_initial s ++ line ∷ [] → side_line s.side ∷ (times s ++ (locals s ++ (remotes s ++ (firsts s ++ (addrs s ++ (secrets s ++ zs)))))) ≡ set_lines s ++ line ∷ []
+behind_initial s zs line e = behind_secret s (secrets s ++ zs) line (put_behind (secrets s) (from_initial s) zs line e)
+
+behind_handshake : (s : Settings) (zs : List (List ℕ)) (line : List ℕ) → zs ≡ from_handshake s ++ line ∷ [] → side_line s.side ∷ (times s ++ (locals s ++ (remotes s ++ (firsts s ++ (addrs s ++ (secrets s ++ (initial_limits s ++ zs))))))) ≡ set_lines s ++ line ∷ []
+behind_handshake s zs line e = behind_initial s (initial_limits s ++ zs) line (put_behind (initial_limits s) (from_handshake s) zs line e)
+
+behind_failures : (s : Settings) (zs : List (List ℕ)) (line : List ℕ) → zs ≡ from_failures s ++ line ∷ [] → side_line s.side ∷ (times s ++ (locals s ++ (remotes s ++ (firsts s ++ (addrs s ++ (secrets s ++ (initial_limits s ++ (handshake_limits s ++ zs)))))))) ≡ set_lines s ++ line ∷ []
+behind_failures s zs line e = behind_handshake s (handshake_limits s ++ zs) line (put_behind (handshake_limits s) (from_failures s) zs line e)
+
+behind_idle : (s : Settings) (zs : List (List ℕ)) (line : List ℕ) → zs ≡ idles s ++ line ∷ [] → side_line s.side ∷ (times s ++ (locals s ++ (remotes s ++ (firsts s ++ (addrs s ++ (secrets s ++ (initial_limits s ++ (handshake_limits s ++ (failure_limits s ++ zs))))))))) ≡ set_lines s ++ line ∷ []
+behind_idle s zs line e = behind_failures s (failure_limits s ++ zs) line (put_behind (failure_limits s) (idles s) zs line e)
+
 -- a setting's line behind those before it
 lines_after : (before : ℕ) (s : Settings) (x : Setting) → before < setting_place x → IsOpen before s → set_lines (with_setting s x) ≡ set_lines s ++ setting_line x ∷ []
 unfolding set_lines setting_line
 lines_after before s (Time v) k h =
-    let at_time = put_here (times s) (from_local s) (setting_line (Time v)) (no_line (codes "set time ") decimal s.time (h.0 k)) (none_from_local before s (omega arith) h) in
-    ap (λ (ls : List (List ℕ)). side_line s.side ∷ ls) at_time
+    let here = put_here (times s) (from_local s) (setting_line (Time v)) (no_line (codes "set time ") decimal s.time (h.0 k)) (none_from_local before s (omega arith) h) in
+    behind_time s (setting_line (Time v) ∷ from_local s) (setting_line (Time v)) here
 lines_after before s (Local v) k h =
-    let at_local = put_here (locals s) (from_remote s) (setting_line (Local v)) (no_line (codes "set local ") hex_field s.local (h.1 k)) (none_from_remote before s (omega arith) h) in
-    let at_time = put_behind (times s) (from_local s) _ (setting_line (Local v)) at_local in
-    ap (λ (ls : List (List ℕ)). side_line s.side ∷ ls) at_time
+    let here = put_here (locals s) (from_remote s) (setting_line (Local v)) (no_line (codes "set local ") hex_field s.local (h.1 k)) (none_from_remote before s (omega arith) h) in
+    behind_local s (setting_line (Local v) ∷ from_remote s) (setting_line (Local v)) here
 lines_after before s (Remote v) k h =
-    let at_remote = put_here (remotes s) (from_first s) (setting_line (Remote v)) (no_line (codes "set remote ") hex_field s.remote (h.2 k)) (none_from_first before s (omega arith) h) in
-    let at_local = put_behind (locals s) (from_remote s) _ (setting_line (Remote v)) at_remote in
-    let at_time = put_behind (times s) (from_local s) _ (setting_line (Remote v)) at_local in
-    ap (λ (ls : List (List ℕ)). side_line s.side ∷ ls) at_time
+    let here = put_here (remotes s) (from_first s) (setting_line (Remote v)) (no_line (codes "set remote ") hex_field s.remote (h.2 k)) (none_from_first before s (omega arith) h) in
+    behind_remote s (setting_line (Remote v) ∷ from_first s) (setting_line (Remote v)) here
 lines_after before s (First v) k h =
-    let at_first = put_here (firsts s) (from_addr s) (setting_line (First v)) (no_line (codes "set first ") hex_field s.first (h.3 k)) (none_from_addr before s (omega arith) h) in
-    let at_remote = put_behind (remotes s) (from_first s) _ (setting_line (First v)) at_first in
-    let at_local = put_behind (locals s) (from_remote s) _ (setting_line (First v)) at_remote in
-    let at_time = put_behind (times s) (from_local s) _ (setting_line (First v)) at_local in
-    ap (λ (ls : List (List ℕ)). side_line s.side ∷ ls) at_time
+    let here = put_here (firsts s) (from_addr s) (setting_line (First v)) (no_line (codes "set first ") hex_field s.first (h.3 k)) (none_from_addr before s (omega arith) h) in
+    behind_first s (setting_line (First v) ∷ from_addr s) (setting_line (First v)) here
 lines_after before s (Addr v) k h =
-    let at_addr = put_here (addrs s) (from_secret s) (setting_line (Addr v)) (no_line (codes "set addr ") address_text s.addr (h.4 k)) (none_from_secret before s (omega arith) h) in
-    let at_first = put_behind (firsts s) (from_addr s) _ (setting_line (Addr v)) at_addr in
-    let at_remote = put_behind (remotes s) (from_first s) _ (setting_line (Addr v)) at_first in
-    let at_local = put_behind (locals s) (from_remote s) _ (setting_line (Addr v)) at_remote in
-    let at_time = put_behind (times s) (from_local s) _ (setting_line (Addr v)) at_local in
-    ap (λ (ls : List (List ℕ)). side_line s.side ∷ ls) at_time
+    let here = put_here (addrs s) (from_secret s) (setting_line (Addr v)) (no_line (codes "set addr ") address_text s.addr (h.4 k)) (none_from_secret before s (omega arith) h) in
+    behind_addr s (setting_line (Addr v) ∷ from_secret s) (setting_line (Addr v)) here
 lines_after before s (Secret v) k h =
-    let at_secret = put_here (secrets s) (idles s) (setting_line (Secret v)) (no_line (codes "set secret ") hex_field s.secret (h.5 k)) (none_from_idle before s (omega arith) h) in
-    let at_addr = put_behind (addrs s) (from_secret s) _ (setting_line (Secret v)) at_secret in
-    let at_first = put_behind (firsts s) (from_addr s) _ (setting_line (Secret v)) at_addr in
-    let at_remote = put_behind (remotes s) (from_first s) _ (setting_line (Secret v)) at_first in
-    let at_local = put_behind (locals s) (from_remote s) _ (setting_line (Secret v)) at_remote in
-    let at_time = put_behind (times s) (from_local s) _ (setting_line (Secret v)) at_local in
-    ap (λ (ls : List (List ℕ)). side_line s.side ∷ ls) at_time
+    let here = put_here (secrets s) (from_initial s) (setting_line (Secret v)) (no_line (codes "set secret ") hex_field s.secret (h.5 k)) (none_from_initial before s (omega arith) h) in
+    behind_secret s (setting_line (Secret v) ∷ from_initial s) (setting_line (Secret v)) here
+lines_after before s (LimitInitial v) k h =
+    let here = put_here (initial_limits s) (from_handshake s) (setting_line (LimitInitial v)) (no_line (codes "set limit_initial ") decimal s.limit_initial (h.6 k)) (none_from_handshake before s (omega arith) h) in
+    behind_initial s (setting_line (LimitInitial v) ∷ from_handshake s) (setting_line (LimitInitial v)) here
+lines_after before s (LimitHandshake v) k h =
+    let here = put_here (handshake_limits s) (from_failures s) (setting_line (LimitHandshake v)) (no_line (codes "set limit_handshake ") decimal s.limit_handshake (h.7 k)) (none_from_failures before s (omega arith) h) in
+    behind_handshake s (setting_line (LimitHandshake v) ∷ from_failures s) (setting_line (LimitHandshake v)) here
+lines_after before s (LimitFailures v) k h =
+    let here = put_here (failure_limits s) (idles s) (setting_line (LimitFailures v)) (no_line (codes "set limit_failures ") decimal s.limit_failures (h.8 k)) (none_from_idle before s (omega arith) h) in
+    behind_failures s (setting_line (LimitFailures v) ∷ idles s) (setting_line (LimitFailures v)) here
 lines_after before s (Idle v) k h =
-    let at_idle : setting_line (Idle v) ∷ [] ≡ idles s ++ setting_line (Idle v) ∷ [] = ap (λ (z : List (List ℕ)). z ++ setting_line (Idle v) ∷ []) (sym (none_from_idle before s k h)) in
-    let at_secret = put_behind (secrets s) (idles s) _ (setting_line (Idle v)) at_idle in
-    let at_addr = put_behind (addrs s) (from_secret s) _ (setting_line (Idle v)) at_secret in
-    let at_first = put_behind (firsts s) (from_addr s) _ (setting_line (Idle v)) at_addr in
-    let at_remote = put_behind (remotes s) (from_first s) _ (setting_line (Idle v)) at_first in
-    let at_local = put_behind (locals s) (from_remote s) _ (setting_line (Idle v)) at_remote in
-    let at_time = put_behind (times s) (from_local s) _ (setting_line (Idle v)) at_local in
-    ap (λ (ls : List (List ℕ)). side_line s.side ∷ ls) at_time
+    let here : setting_line (Idle v) ∷ [] ≡ idles s ++ setting_line (Idle v) ∷ [] = ap (λ (z : List (List ℕ)). z ++ setting_line (Idle v) ∷ []) (sym (none_from_idle before s k h)) in
+    behind_idle s (setting_line (Idle v) ∷ []) (setting_line (Idle v)) here
 
 -- what is set stays within its bounds
 side_after : (s : Settings) (x : Setting) → (with_setting s x).side ≡ s.side
@@ -372,21 +445,27 @@ side_after s (Remote v) = refl
 side_after s (First v) = refl
 side_after s (Addr v) = refl
 side_after s (Secret v) = refl
+side_after s (LimitInitial v) = refl
+side_after s (LimitHandshake v) = refl
+side_after s (LimitFailures v) = refl
 side_after s (Idle v) = refl
 
 set_after : (s : Settings) (x : Setting) → AreSettings s → IsSetting s.side x → AreSettings (with_setting s x)
-set_after s (Time v) h w = record { time = w; local = h.local; remote = h.remote; first = h.first; addr = h.addr; secret = h.secret; idle = h.idle }
-set_after s (Local v) h w = record { time = h.time; local = w; remote = h.remote; first = h.first; addr = h.addr; secret = h.secret; idle = h.idle }
-set_after s (Remote v) h w = record { time = h.time; local = h.local; remote = w; first = h.first; addr = h.addr; secret = h.secret; idle = h.idle }
-set_after s (First v) h w = record { time = h.time; local = h.local; remote = h.remote; first = w; addr = h.addr; secret = h.secret; idle = h.idle }
-set_after s (Addr v) h w = record { time = h.time; local = h.local; remote = h.remote; first = h.first; addr = w; secret = h.secret; idle = h.idle }
-set_after s (Secret v) h w = record { time = h.time; local = h.local; remote = h.remote; first = h.first; addr = h.addr; secret = w; idle = h.idle }
-set_after s (Idle v) h w = record { time = h.time; local = h.local; remote = h.remote; first = h.first; addr = h.addr; secret = h.secret; idle = w }
+set_after s (Time v) h w = record { time = w; local = h.local; remote = h.remote; first = h.first; addr = h.addr; secret = h.secret; limit_initial = h.limit_initial; limit_handshake = h.limit_handshake; limit_failures = h.limit_failures; idle = h.idle }
+set_after s (Local v) h w = record { time = h.time; local = w; remote = h.remote; first = h.first; addr = h.addr; secret = h.secret; limit_initial = h.limit_initial; limit_handshake = h.limit_handshake; limit_failures = h.limit_failures; idle = h.idle }
+set_after s (Remote v) h w = record { time = h.time; local = h.local; remote = w; first = h.first; addr = h.addr; secret = h.secret; limit_initial = h.limit_initial; limit_handshake = h.limit_handshake; limit_failures = h.limit_failures; idle = h.idle }
+set_after s (First v) h w = record { time = h.time; local = h.local; remote = h.remote; first = w; addr = h.addr; secret = h.secret; limit_initial = h.limit_initial; limit_handshake = h.limit_handshake; limit_failures = h.limit_failures; idle = h.idle }
+set_after s (Addr v) h w = record { time = h.time; local = h.local; remote = h.remote; first = h.first; addr = w; secret = h.secret; limit_initial = h.limit_initial; limit_handshake = h.limit_handshake; limit_failures = h.limit_failures; idle = h.idle }
+set_after s (Secret v) h w = record { time = h.time; local = h.local; remote = h.remote; first = h.first; addr = h.addr; secret = w; limit_initial = h.limit_initial; limit_handshake = h.limit_handshake; limit_failures = h.limit_failures; idle = h.idle }
+set_after s (LimitInitial v) h w = record { time = h.time; local = h.local; remote = h.remote; first = h.first; addr = h.addr; secret = h.secret; limit_initial = w; limit_handshake = h.limit_handshake; limit_failures = h.limit_failures; idle = h.idle }
+set_after s (LimitHandshake v) h w = record { time = h.time; local = h.local; remote = h.remote; first = h.first; addr = h.addr; secret = h.secret; limit_initial = h.limit_initial; limit_handshake = w; limit_failures = h.limit_failures; idle = h.idle }
+set_after s (LimitFailures v) h w = record { time = h.time; local = h.local; remote = h.remote; first = h.first; addr = h.addr; secret = h.secret; limit_initial = h.limit_initial; limit_handshake = h.limit_handshake; limit_failures = w; idle = h.idle }
+set_after s (Idle v) h w = record { time = h.time; local = h.local; remote = h.remote; first = h.first; addr = h.addr; secret = h.secret; limit_initial = h.limit_initial; limit_handshake = h.limit_handshake; limit_failures = h.limit_failures; idle = w }
 
 set_from : (side : Side) (before : ℕ) (s : Settings) (items : List Item) → s.side ≡ side → Chain side before items → AreSettings s → AreSettings (settings_from s items)
 set_from side before s [] e chain h = h
 set_from side before s (It.Set x ∷ items) e chain h = set_from side (setting_place x) (with_setting s x) items (side_after s x ∙ e) chain.2 (set_after s x h (subst (λ (d : Side). IsSetting d x) (sym e) chain.0))
-set_from side before s (It.Input i ∷ items) e chain h = set_from side 8 s items e chain.2 h
+set_from side before s (It.Input i ∷ items) e chain h = set_from side 11 s items e chain.2 h
 
 all_push : (is : List Input) (j : Input) → AllWithin is → IsWithin j → AllWithin (is ++ j ∷ [])
 all_push [] j h within = (within, tt)
@@ -395,21 +474,24 @@ all_push (i ∷ is) j h within = (h.0, all_push is j h.1 within)
 within_from : (side : Side) (before : ℕ) (inputs : List Input) (items : List Item) → Chain side before items → AllWithin inputs → AllWithin (inputs_from inputs items)
 within_from side before inputs [] chain h = h
 within_from side before inputs (It.Set x ∷ items) chain h = within_from side (setting_place x) inputs items chain.2 h
-within_from side before inputs (It.Input i ∷ items) chain h = within_from side 8 (inputs ++ i ∷ []) items chain.2 (all_push inputs i h chain.0)
+within_from side before inputs (It.Input i ∷ items) chain h = within_from side 11 (inputs ++ i ∷ []) items chain.2 (all_push inputs i h chain.0)
 
-place_small : (x : Setting) → setting_place x < 8
+place_small : (x : Setting) → setting_place x < 11
 place_small (Time v) = omega arith
 place_small (Local v) = omega arith
 place_small (Remote v) = omega arith
 place_small (First v) = omega arith
 place_small (Addr v) = omega arith
 place_small (Secret v) = omega arith
+place_small (LimitInitial v) = omega arith
+place_small (LimitHandshake v) = omega arith
+place_small (LimitFailures v) = omega arith
 place_small (Idle v) = omega arith
 
 set_line_moved : (xs ys zs more : List (List ℕ)) (line : List ℕ) → zs ≡ [] → ys ≡ xs ++ line ∷ [] → (xs ++ zs) ++ line ∷ more ≡ (ys ++ zs) ++ more
 set_line_moved xs ys zs more line e f = rw (e, f) (simp (append-nil, append_assoc))
 
-lines_from : (side : Side) (before : ℕ) (s : Settings) (inputs : List Input) (items : List Item) → Chain side before items → IsOpen before s → (before < 8 → inputs ≡ [])
+lines_from : (side : Side) (before : ℕ) (s : Settings) (inputs : List Input) (items : List Item) → Chain side before items → IsOpen before s → (before < 11 → inputs ≡ [])
     → (set_lines s ++ map input_line inputs) ++ map item_line items ≡ set_lines (settings_from s items) ++ map input_line (inputs_from inputs items)
 lines_from side before s inputs [] chain h none = append-nil (set_lines s ++ map input_line inputs)
 lines_from side before s inputs (It.Set x ∷ items) chain h none =
@@ -419,18 +501,29 @@ lines_from side before s inputs (It.Set x ∷ items) chain h none =
     ∙ lines_from side (setting_place x) (with_setting s x) inputs items chain.2 (open_after before s x follows h) (λ k. empty)
 lines_from side before s inputs (It.Input i ∷ items) chain h none =
     let moved : (set_lines s ++ map input_line inputs) ++ input_line i ∷ map item_line items ≡ (set_lines s ++ map input_line (inputs ++ i ∷ [])) ++ map item_line items = rw (map-append input_line inputs (i ∷ [])) (simp append_assoc) in
-    moved ∙ lines_from side 8 s (inputs ++ i ∷ []) items chain.2 (open_at_end s) (λ (k : 8 < 8). absurd (omega arith))
+    moved ∙ lines_from side 11 s (inputs ++ i ∷ []) items chain.2 (open_at_end s) (λ (k : 11 < 11). absurd (omega arith))
   where
-    open_at_end : (s : Settings) → IsOpen 8 s
-    open_at_end s = (λ (k : 8 < 1). absurd (omega arith), λ (k : 8 < 2). absurd (omega arith), λ (k : 8 < 3). absurd (omega arith), λ (k : 8 < 4). absurd (omega arith), λ (k : 8 < 5). absurd (omega arith), λ (k : 8 < 6). absurd (omega arith), λ (k : 8 < 7). absurd (omega arith))
+    open_at_end : (s : Settings) → IsOpen 11 s
+    open_at_end s = (
+      λ (k : 11 < 1). absurd (omega arith),
+      λ (k : 11 < 2). absurd (omega arith),
+      λ (k : 11 < 3). absurd (omega arith),
+      λ (k : 11 < 4). absurd (omega arith),
+      λ (k : 11 < 5). absurd (omega arith),
+      λ (k : 11 < 6). absurd (omega arith),
+      λ (k : 11 < 7). absurd (omega arith),
+      λ (k : 11 < 8). absurd (omega arith),
+      λ (k : 11 < 9). absurd (omega arith),
+      λ (k : 11 < 10). absurd (omega arith),
+    )
 
 -- items behind the line of a side: they are the lines of settings and inputs
 pub items_lines : (side : Side) (items : List Item) → Chain side 0 items → side_line side ∷ map item_line items ≡ set_lines (settings_from (side_alone side) items) ++ map input_line (inputs_from [] items)
 unfolding set_lines
-items_lines side items chain = lines_from side 0 (side_alone side) [] items chain (λ k. refl, λ k. refl, λ k. refl, λ k. refl, λ k. refl, λ k. refl, λ k. refl) (λ k. refl)
+items_lines side items chain = lines_from side 0 (side_alone side) [] items chain (λ k. refl, λ k. refl, λ k. refl, λ k. refl, λ k. refl, λ k. refl, λ k. refl, λ k. refl, λ k. refl, λ k. refl) (λ k. refl)
 
 pub items_settings : (side : Side) (items : List Item) → Chain side 0 items → AreSettings (settings_from (side_alone side) items)
-items_settings side items chain = set_from side 0 (side_alone side) items refl chain (record { time = tt; local = tt; remote = tt; first = tt; addr = tt; secret = tt; idle = tt })
+items_settings side items chain = set_from side 0 (side_alone side) items refl chain (record { time = tt; local = tt; remote = tt; first = tt; addr = tt; secret = tt; limit_initial = tt; limit_handshake = tt; limit_failures = tt; idle = tt })
 
 pub items_within : (side : Side) (items : List Item) → Chain side 0 items → AllWithin (inputs_from [] items)
 items_within side items chain = within_from side 0 [] items chain tt

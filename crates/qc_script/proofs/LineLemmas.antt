@@ -7,7 +7,7 @@ use Rattle.std.specs.declared.net.socket_addr.SocketAddr.{SocketAddr}
 use Rattle.qc_base.specs.Grammar.{IsBytes}
 use Rattle.qc_base.specs.declared.ecn.EcnCodepoint.{EcnCodepoint}
 use Rattle.qc_state.specs.declared.input.Input.{Input}
-use Rattle.qc_state.specs.declared.input.Input.TheVariants.{Datagram, Transmit, Close, Ping}
+use Rattle.qc_state.specs.declared.input.Input.TheVariants.{Datagram, Timeout, Transmit, Close, Ping}
 use Rattle.qc_script.specs.Fields.{Lacks, IsNumberText, hex_field, address_text, ecn_text, IsAddress, AreFields}
 use Rattle.qc_script.specs.Script.{input_line, IsWithin, IsTransmit, IsClose, IsDatagram, IsNext}
 use Rattle.qc_script.proofs.NumberLemmas.{Lacks-decimal, first_split}
@@ -23,6 +23,10 @@ pub datagram_line : (now : ℕ) (remote : SocketAddr) (ecn : Option EcnCodepoint
 unfolding input_line
 datagram_line now remote ecn bytes = simp append_assoc
 
+pub timeout_line : (now : ℕ) → input_line (Timeout now) ≡ (codes "timeout " ++ decimal now) ++ 10 ∷ []
+unfolding input_line
+timeout_line now = simp append_assoc
+
 pub transmit_line : (now n : ℕ) → input_line (Transmit now n) ≡ (codes "transmit " ++ (decimal now ++ 32 ∷ decimal n)) ++ 10 ∷ []
 unfolding input_line
 transmit_line now n = simp append_assoc
@@ -35,23 +39,24 @@ pub ping_line : (now : ℕ) → input_line (Ping now) ≡ (codes "ping " ++ deci
 unfolding input_line
 ping_line now = simp append_assoc
 
--- the first letter of an input's line
+-- the fourth letter of an input's line, by which its word is told from the other ones
 abbrev pub letter : Input → ℕ
-letter (Datagram now remote ecn bytes) = 100
-letter (Transmit now n) = 116
-letter (Close now code reason) = 99
-letter (Ping now) = 112
+letter (Datagram now remote ecn bytes) = 97
+letter (Timeout now) = 101
+letter (Transmit now n) = 110
+letter (Close now code reason) = 115
+letter (Ping now) = 103
 
-pub first_letter : (input : Input) → get_or (input_line input) 0 0 ≡ letter input
+pub fourth_letter : (input : Input) → get_or (input_line input) 3 0 ≡ letter input
 unfolding input_line
-first_letter (Datagram now remote ecn bytes) = refl
-first_letter (Transmit now n) = refl
-first_letter (Close now code reason) = refl
-first_letter (Ping now) = refl
+fourth_letter (Datagram now remote ecn bytes) = refl
+fourth_letter (Timeout now) = refl
+fourth_letter (Transmit now n) = refl
+fourth_letter (Close now code reason) = refl
+fourth_letter (Ping now) = refl
 
--- a text that begins with another letter is no line of this input
-other_letter : (text : List ℕ) (c : ℕ) (input : Input) → get_or (text ++ 10 ∷ []) 0 0 ≡ c → (c ≡ letter input → ⊥) → IsNext text input → ⊥
-other_letter text c input e apart h = apart (sym e ∙ ap (λ (z : List ℕ). get_or z 0 0) h.spelled ∙ first_letter input)
+letter_of_text : (text : List ℕ) (input : Input) → IsNext text input → get_or (text ++ 10 ∷ []) 3 0 ≡ letter input
+letter_of_text text input h = ap (λ (z : List ℕ). get_or z 3 0) h.spelled ∙ fourth_letter input
 
 -- ---- the reader's lines
 
@@ -59,6 +64,12 @@ pub datagram_next : (fields : List ℕ) (now : ℕ) (remote : SocketAddr) (ecn :
 datagram_next fields now remote ecn bytes t = record {
   spelled = ap (λ (r : List ℕ). (codes "datagram " ++ r) ++ 10 ∷ []) t.spelled ∙ sym (datagram_line now remote ecn bytes);
   within = (t.small, t.address, t.are_bytes);
+}
+
+pub timeout_next : (digits : List ℕ) (now : ℕ) → IsNumberText digits now → IsNext (codes "timeout " ++ digits) (Timeout now)
+timeout_next digits now t = record {
+  spelled = ap (λ (r : List ℕ). (codes "timeout " ++ r) ++ 10 ∷ []) t.spelled ∙ sym (timeout_line now);
+  within = t.small;
 }
 
 pub transmit_next : (fields : List ℕ) (now n : ℕ) → IsTransmit fields now n → IsNext (codes "transmit " ++ fields) (Transmit now n)
@@ -83,6 +94,9 @@ ping_next digits now t = record {
 pub next_datagram : (text : List ℕ) (now : ℕ) (remote : SocketAddr) (ecn : Option EcnCodepoint) (bytes : List ℕ) → IsNext text (Datagram now remote ecn bytes) → text ≡ codes "datagram " ++ datagram_fields now remote ecn bytes
 next_datagram text now remote ecn bytes h = append_cancel_right text (codes "datagram " ++ datagram_fields now remote ecn bytes) (10 ∷ []) (h.spelled ∙ datagram_line now remote ecn bytes)
 
+pub next_timeout : (text : List ℕ) (now : ℕ) → IsNext text (Timeout now) → text ≡ codes "timeout " ++ decimal now
+next_timeout text now h = append_cancel_right text (codes "timeout " ++ decimal now) (10 ∷ []) (h.spelled ∙ timeout_line now)
+
 pub next_transmit : (text : List ℕ) (now n : ℕ) → IsNext text (Transmit now n) → text ≡ codes "transmit " ++ (decimal now ++ 32 ∷ decimal n)
 next_transmit text now n h = append_cancel_right text (codes "transmit " ++ (decimal now ++ 32 ∷ decimal n)) (10 ∷ []) (h.spelled ∙ transmit_line now n)
 
@@ -97,39 +111,36 @@ pub no_datagram : (fields : List ℕ) → ((t : ℕ) (a : SocketAddr) (m : Optio
 no_datagram fields none (Datagram now remote ecn bytes) h =
     let same = append_cancel_left (codes "datagram ") fields (datagram_fields now remote ecn bytes) (next_datagram (codes "datagram " ++ fields) now remote ecn bytes h) in
     none now remote ecn bytes (record { spelled = same; small = h.within.0; address = h.within.1; are_bytes = h.within.2 })
-no_datagram fields none (Transmit now n) h = other_letter (codes "datagram " ++ fields) 100 (Transmit now n) refl (λ e. omega (arith, e)) h
-no_datagram fields none (Close now code reason) h = other_letter (codes "datagram " ++ fields) 100 (Close now code reason) refl (λ e. omega (arith, e)) h
-no_datagram fields none (Ping now) h = other_letter (codes "datagram " ++ fields) 100 (Ping now) refl (λ e. omega (arith, e)) h
+no_datagram fields none input h = let e : 97 ≡ letter input = letter_of_text (codes "datagram " ++ fields) input h in omega (arith, e)
+
+pub no_timeout : (digits : List ℕ) → ((t : ℕ) → t < 2 ^ 64 → digits ≢ decimal t) → (input : Input) → IsNext (codes "timeout " ++ digits) input → ⊥
+no_timeout digits none (Timeout now) h = none now h.within (append_cancel_left (codes "timeout ") digits (decimal now) (next_timeout (codes "timeout " ++ digits) now h))
+no_timeout digits none input h = let e : 101 ≡ letter input = letter_of_text (codes "timeout " ++ digits) input h in omega (arith, e)
 
 pub no_transmit : (fields : List ℕ) → ((t n : ℕ) → IsTransmit fields t n → ⊥) → (input : Input) → IsNext (codes "transmit " ++ fields) input → ⊥
 no_transmit fields none (Transmit now n) h =
     let same = append_cancel_left (codes "transmit ") fields (decimal now ++ 32 ∷ decimal n) (next_transmit (codes "transmit " ++ fields) now n h) in
     none now n (record { spelled = same; small = h.within.0; within = h.within.1 })
-no_transmit fields none (Datagram now remote ecn bytes) h = other_letter (codes "transmit " ++ fields) 116 (Datagram now remote ecn bytes) refl (λ e. omega (arith, e)) h
-no_transmit fields none (Close now code reason) h = other_letter (codes "transmit " ++ fields) 116 (Close now code reason) refl (λ e. omega (arith, e)) h
-no_transmit fields none (Ping now) h = other_letter (codes "transmit " ++ fields) 116 (Ping now) refl (λ e. omega (arith, e)) h
+no_transmit fields none input h = let e : 110 ≡ letter input = letter_of_text (codes "transmit " ++ fields) input h in omega (arith, e)
 
 pub no_close : (fields : List ℕ) → ((t c : ℕ) (r : List ℕ) → IsClose fields t c r → ⊥) → (input : Input) → IsNext (codes "close " ++ fields) input → ⊥
 no_close fields none (Close now code reason) h =
     let same = append_cancel_left (codes "close ") fields (decimal now ++ 32 ∷ (decimal code ++ 32 ∷ hex_field reason)) (next_close (codes "close " ++ fields) now code reason h) in
     none now code reason (record { spelled = same; small = h.within.0; within = h.within.1; bytes = h.within.2 })
-no_close fields none (Datagram now remote ecn bytes) h = other_letter (codes "close " ++ fields) 99 (Datagram now remote ecn bytes) refl (λ e. omega (arith, e)) h
-no_close fields none (Transmit now n) h = other_letter (codes "close " ++ fields) 99 (Transmit now n) refl (λ e. omega (arith, e)) h
-no_close fields none (Ping now) h = other_letter (codes "close " ++ fields) 99 (Ping now) refl (λ e. omega (arith, e)) h
+no_close fields none input h = let e : 115 ≡ letter input = letter_of_text (codes "close " ++ fields) input h in omega (arith, e)
 
 pub no_ping : (digits : List ℕ) → ((t : ℕ) → t < 2 ^ 64 → digits ≢ decimal t) → (input : Input) → IsNext (codes "ping " ++ digits) input → ⊥
 no_ping digits none (Ping now) h = none now h.within (append_cancel_left (codes "ping ") digits (decimal now) (next_ping (codes "ping " ++ digits) now h))
-no_ping digits none (Datagram now remote ecn bytes) h = other_letter (codes "ping " ++ digits) 112 (Datagram now remote ecn bytes) refl (λ e. omega (arith, e)) h
-no_ping digits none (Transmit now n) h = other_letter (codes "ping " ++ digits) 112 (Transmit now n) refl (λ e. omega (arith, e)) h
-no_ping digits none (Close now code reason) h = other_letter (codes "ping " ++ digits) 112 (Close now code reason) refl (λ e. omega (arith, e)) h
+no_ping digits none input h = let e : 103 ≡ letter input = letter_of_text (codes "ping " ++ digits) input h in omega (arith, e)
 
 -- a text with none of the words is the line of no input
-pub no_word : (text : List ℕ) → ((rest : List ℕ) → text ≢ codes "datagram " ++ rest) → ((rest : List ℕ) → text ≢ codes "transmit " ++ rest) → ((rest : List ℕ) → text ≢ codes "close " ++ rest) → ((rest : List ℕ) → text ≢ codes "ping " ++ rest)
+pub no_word : (text : List ℕ) → ((rest : List ℕ) → text ≢ codes "datagram " ++ rest) → ((rest : List ℕ) → text ≢ codes "timeout " ++ rest) → ((rest : List ℕ) → text ≢ codes "transmit " ++ rest) → ((rest : List ℕ) → text ≢ codes "close " ++ rest) → ((rest : List ℕ) → text ≢ codes "ping " ++ rest)
     → (input : Input) → IsNext text input → ⊥
-no_word text datagrams transmits closes pings (Datagram now remote ecn bytes) h = datagrams _ (next_datagram text now remote ecn bytes h)
-no_word text datagrams transmits closes pings (Transmit now n) h = transmits _ (next_transmit text now n h)
-no_word text datagrams transmits closes pings (Close now code reason) h = closes _ (next_close text now code reason h)
-no_word text datagrams transmits closes pings (Ping now) h = pings _ (next_ping text now h)
+no_word text datagrams timeouts transmits closes pings (Datagram now remote ecn bytes) h = datagrams _ (next_datagram text now remote ecn bytes h)
+no_word text datagrams timeouts transmits closes pings (Timeout now) h = timeouts _ (next_timeout text now h)
+no_word text datagrams timeouts transmits closes pings (Transmit now n) h = transmits _ (next_transmit text now n h)
+no_word text datagrams timeouts transmits closes pings (Close now code reason) h = closes _ (next_close text now code reason h)
+no_word text datagrams timeouts transmits closes pings (Ping now) h = pings _ (next_ping text now h)
 
 -- ---- fields
 
@@ -175,7 +186,7 @@ datagram_read fields a b c d t r m bs h small time address within mark hex are_b
 -- ---- lines and inputs
 
 letters : (i j : Input) → input_line i ≡ input_line j → letter i ≡ letter j
-letters i j e = sym (first_letter i) ∙ ap (λ (z : List ℕ). get_or z 0 0) e ∙ first_letter j
+letters i j e = sym (fourth_letter i) ∙ ap (λ (z : List ℕ). get_or z 3 0) e ∙ fourth_letter j
 
 datagram_injective : (t t' : ℕ) (a a' : SocketAddr) (m m' : Option EcnCodepoint) (bs bs' : List ℕ) → IsWithin (Datagram t a m bs) → IsWithin (Datagram t' a' m' bs') → input_line (Datagram t a m bs) ≡ input_line (Datagram t' a' m' bs') → Datagram t a m bs ≡ Datagram t' a' m' bs'
 datagram_injective t t' a a' m m' bs bs' h k e =
@@ -210,6 +221,9 @@ close_injective t t' c c' r r' h k e =
 -- an input's line is that of no other input
 pub input_line_injective : (i j : Input) → IsWithin i → IsWithin j → input_line i ≡ input_line j → i ≡ j
 input_line_injective (Datagram t a m bs) (Datagram t' a' m' bs') h k e = datagram_injective t t' a a' m m' bs bs' h k e
+input_line_injective (Timeout t) (Timeout t') h k e =
+    let digits = append_cancel_left (codes "timeout ") (decimal t) (decimal t') (append_cancel_right _ _ (10 ∷ []) (sym (timeout_line t) ∙ e ∙ timeout_line t')) in
+    ap Timeout (decimal_injective t t' h k digits)
 input_line_injective (Transmit t n) (Transmit t' n') h k e = transmit_injective t t' n n' h k e
 input_line_injective (Close t c r) (Close t' c' r') h k e = close_injective t t' c c' r r' h k e
 input_line_injective (Ping t) (Ping t') h k e =

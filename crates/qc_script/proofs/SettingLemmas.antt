@@ -1,5 +1,5 @@
 -- The line of a setting: its field, and that no other setting has it.
-use Rattle.std.proofs.Common.{◌≡◌, ◌≢◌, ℕ, ◌^◌, ◌<◌, ◌≤◌, List, [], ◌∷◌, ◌++◌, length, get_or, refl, sym, ◌∙◌, ap, arith, codes}
+use Rattle.std.proofs.Common.{◌≡◌, ◌≢◌, ℕ, ◌+◌, ◌^◌, ◌<◌, ◌≤◌, List, [], ◌∷◌, ◌++◌, length, get_or, Bool, true, false, ◌==◌, refl, sym, ◌∙◌, ap, arith, codes}
 use Rattle.std.proofs.lemmas.List.{append_assoc, append_cancel_left, append_cancel_right}
 use Rattle.std.specs.Fmt.{decimal}
 use Rattle.std.proofs.lemmas.Fmt.{decimal_injective}
@@ -8,14 +8,14 @@ use Rattle.qc_base.specs.Grammar.{IsBytes}
 use Rattle.qc_base.specs.declared.side.Side.{Side}
 use Rattle.qc_base.specs.declared.side.Side.TheVariants.{Client, Server}
 use Rattle.qc_state.specs.declared.input.Input.{Input}
-use Rattle.qc_state.specs.declared.input.Input.TheVariants.{Datagram, Transmit, Close, Ping}
+use Rattle.qc_state.specs.declared.input.Input.TheVariants.{Datagram, Timeout, Transmit, Close, Ping}
 use Rattle.qc_script.specs.declared.settings.Setting.{Setting}
-use Rattle.qc_script.specs.declared.settings.Setting.TheVariants.{Time, Local, Remote, First, Addr, Secret, Idle}
+use Rattle.qc_script.specs.declared.settings.Setting.TheVariants.{Time, Local, Remote, First, Addr, Secret, LimitInitial, LimitHandshake, LimitFailures, Idle}
 use Rattle.qc_script.specs.Fields.{hex_field, address_text, IsAddress}
 use Rattle.qc_script.specs.Script.{side_line, input_line, IsId, IsRemote, IsFirst, IsSecret}
 use Rattle.qc_script.specs.Items.{setting_line, IsSetting, IsNextSetting}
 use Rattle.qc_script.proofs.FieldLemmas.{hex_field_injective, address_injective}
-use Rattle.qc_script.proofs.LineLemmas.{letter, first_letter}
+use Rattle.qc_script.proofs.LineLemmas.{letter, fourth_letter}
 
 -- ---- words and fields
 
@@ -32,17 +32,30 @@ field_same words field f e = append_cancel_left words field f (words_and_field w
 fields_same_behind : (words a b : List ℕ) → words ++ (a ++ 10 ∷ []) ≡ words ++ (b ++ 10 ∷ []) → a ≡ b
 fields_same_behind words a b e = field_same words a b (append_assoc words a (10 ∷ []) ∙ e)
 
--- the letter behind `set ` in a setting's line
-abbrev kind : Setting → ℕ
-kind (Time now) = 116
-kind (Local id) = 108
-kind (Remote id) = 114
-kind (First id) = 102
-kind (Addr address) = 97
-kind (Secret bytes) = 115
-kind (Idle limit) = 105
+-- the letter behind `set limit_`
+abbrev limit_letter : (is_limit : Bool) → List ℕ → ℕ
+limit_letter true line = get_or line 10 0
+limit_letter false line = 0
 
-kind_at : (x : Setting) → get_or (setting_line x) 4 0 ≡ kind x
+-- By this number the lines of two settings are told apart: the sum of the two letters behind `set `, and for a limit that of the
+-- letter behind `set limit_` too.
+abbrev mark : List ℕ → ℕ
+mark line = (get_or line 4 0 + get_or line 5 0) + limit_letter (get_or line 4 0 + get_or line 5 0 == 213) line
+
+-- the mark of a setting's line
+abbrev kind : Setting → ℕ
+kind (Time now) = 221
+kind (Local id) = 219
+kind (Remote id) = 215
+kind (First id) = 207
+kind (Addr address) = 197
+kind (Secret bytes) = 216
+kind (LimitInitial packets) = 318
+kind (LimitHandshake packets) = 317
+kind (LimitFailures packets) = 315
+kind (Idle limit) = 205
+
+kind_at : (x : Setting) → mark (setting_line x) ≡ kind x
 unfolding setting_line
 kind_at (Time now) = refl
 kind_at (Local id) = refl
@@ -50,10 +63,13 @@ kind_at (Remote id) = refl
 kind_at (First id) = refl
 kind_at (Addr address) = refl
 kind_at (Secret bytes) = refl
+kind_at (LimitInitial packets) = refl
+kind_at (LimitHandshake packets) = refl
+kind_at (LimitFailures packets) = refl
 kind_at (Idle limit) = refl
 
-kind_of_text : (side : Side) (text : List ℕ) (x : Setting) → IsNextSetting side text x → get_or (text ++ 10 ∷ []) 4 0 ≡ kind x
-kind_of_text side text x h = ap (λ (z : List ℕ). get_or z 4 0) h.spelled ∙ kind_at x
+kind_of_text : (side : Side) (text : List ℕ) (x : Setting) → IsNextSetting side text x → mark (text ++ 10 ∷ []) ≡ kind x
+kind_of_text side text x h = ap mark h.spelled ∙ kind_at x
 
 -- ---- the reader's lines
 
@@ -81,6 +97,18 @@ pub secret_next : (field bytes : List ℕ) → field ≡ hex_field bytes → IsS
 unfolding setting_line
 secret_next field bytes e h side = record { spelled = spelled_on (codes "set secret ") field (hex_field bytes) e; within = h }
 
+pub limit_initial_next : (field : List ℕ) (packets : ℕ) → field ≡ decimal packets → packets < 2 ^ 64 → (side : Side) → IsNextSetting side (codes "set limit_initial " ++ field) (LimitInitial packets)
+unfolding setting_line
+limit_initial_next field packets e h side = record { spelled = spelled_on (codes "set limit_initial ") field (decimal packets) e; within = h }
+
+pub limit_handshake_next : (field : List ℕ) (packets : ℕ) → field ≡ decimal packets → packets < 2 ^ 64 → (side : Side) → IsNextSetting side (codes "set limit_handshake " ++ field) (LimitHandshake packets)
+unfolding setting_line
+limit_handshake_next field packets e h side = record { spelled = spelled_on (codes "set limit_handshake ") field (decimal packets) e; within = h }
+
+pub limit_failures_next : (field : List ℕ) (packets : ℕ) → field ≡ decimal packets → packets < 2 ^ 64 → (side : Side) → IsNextSetting side (codes "set limit_failures " ++ field) (LimitFailures packets)
+unfolding setting_line
+limit_failures_next field packets e h side = record { spelled = spelled_on (codes "set limit_failures ") field (decimal packets) e; within = h }
+
 pub idle_next : (field : List ℕ) (limit : ℕ) → field ≡ decimal limit → limit < 2 ^ 62 → (side : Side) → IsNextSetting side (codes "set idle " ++ field) (Idle limit)
 unfolding setting_line
 idle_next field limit e h side = record { spelled = spelled_on (codes "set idle ") field (decimal limit) e; within = h }
@@ -89,49 +117,68 @@ idle_next field limit e h side = record { spelled = spelled_on (codes "set idle 
 pub no_time : (field : List ℕ) → ((n : ℕ) → n < 2 ^ 64 → field ≢ decimal n) → (side : Side) (x : Setting) → IsNextSetting side (codes "set time " ++ field) x → ⊥
 unfolding setting_line
 no_time field none side (Time n) h = none n h.within (field_same (codes "set time ") field (decimal n) h.spelled)
-no_time field none side x h = let e : 116 ≡ kind x = kind_of_text side (codes "set time " ++ field) x h in omega (arith, e)
+no_time field none side x h = let e : 221 ≡ kind x = kind_of_text side (codes "set time " ++ field) x h in omega (arith, e)
 
 pub no_local : (field : List ℕ) → ((id : List ℕ) → IsId id → field ≢ hex_field id) → (side : Side) (x : Setting) → IsNextSetting side (codes "set local " ++ field) x → ⊥
 unfolding setting_line
 no_local field none side (Local id) h = none id h.within (field_same (codes "set local ") field (hex_field id) h.spelled)
-no_local field none side x h = let e : 108 ≡ kind x = kind_of_text side (codes "set local " ++ field) x h in omega (arith, e)
+no_local field none side x h = let e : 219 ≡ kind x = kind_of_text side (codes "set local " ++ field) x h in omega (arith, e)
 
 pub no_remote : (field : List ℕ) (side : Side) → ((id : List ℕ) → IsRemote side id → field ≢ hex_field id) → (x : Setting) → IsNextSetting side (codes "set remote " ++ field) x → ⊥
 unfolding setting_line
 no_remote field side none (Remote id) h = none id h.within (field_same (codes "set remote ") field (hex_field id) h.spelled)
-no_remote field side none x h = let e : 114 ≡ kind x = kind_of_text side (codes "set remote " ++ field) x h in omega (arith, e)
+no_remote field side none x h = let e : 215 ≡ kind x = kind_of_text side (codes "set remote " ++ field) x h in omega (arith, e)
 
 pub no_first : (field : List ℕ) (side : Side) → ((id : List ℕ) → IsFirst side id → field ≢ hex_field id) → (x : Setting) → IsNextSetting side (codes "set first " ++ field) x → ⊥
 unfolding setting_line
 no_first field side none (First id) h = none id h.within (field_same (codes "set first ") field (hex_field id) h.spelled)
-no_first field side none x h = let e : 102 ≡ kind x = kind_of_text side (codes "set first " ++ field) x h in omega (arith, e)
+no_first field side none x h = let e : 207 ≡ kind x = kind_of_text side (codes "set first " ++ field) x h in omega (arith, e)
 
 pub no_addr : (field : List ℕ) → ((a : SocketAddr) → IsAddress a → field ≢ address_text a) → (side : Side) (x : Setting) → IsNextSetting side (codes "set addr " ++ field) x → ⊥
 unfolding setting_line
 no_addr field none side (Addr a) h = none a h.within (field_same (codes "set addr ") field (address_text a) h.spelled)
-no_addr field none side x h = let e : 97 ≡ kind x = kind_of_text side (codes "set addr " ++ field) x h in omega (arith, e)
+no_addr field none side x h = let e : 197 ≡ kind x = kind_of_text side (codes "set addr " ++ field) x h in omega (arith, e)
 
 pub no_secret : (field : List ℕ) → ((bytes : List ℕ) → IsSecret bytes → field ≢ hex_field bytes) → (side : Side) (x : Setting) → IsNextSetting side (codes "set secret " ++ field) x → ⊥
 unfolding setting_line
 no_secret field none side (Secret bytes) h = none bytes h.within (field_same (codes "set secret ") field (hex_field bytes) h.spelled)
-no_secret field none side x h = let e : 115 ≡ kind x = kind_of_text side (codes "set secret " ++ field) x h in omega (arith, e)
+no_secret field none side x h = let e : 216 ≡ kind x = kind_of_text side (codes "set secret " ++ field) x h in omega (arith, e)
+
+pub no_limit_initial : (field : List ℕ) → ((n : ℕ) → n < 2 ^ 64 → field ≢ decimal n) → (side : Side) (x : Setting) → IsNextSetting side (codes "set limit_initial " ++ field) x → ⊥
+unfolding setting_line
+no_limit_initial field none side (LimitInitial n) h = none n h.within (field_same (codes "set limit_initial ") field (decimal n) h.spelled)
+no_limit_initial field none side x h = let e : 318 ≡ kind x = kind_of_text side (codes "set limit_initial " ++ field) x h in omega (arith, e)
+
+pub no_limit_handshake : (field : List ℕ) → ((n : ℕ) → n < 2 ^ 64 → field ≢ decimal n) → (side : Side) (x : Setting) → IsNextSetting side (codes "set limit_handshake " ++ field) x → ⊥
+unfolding setting_line
+no_limit_handshake field none side (LimitHandshake n) h = none n h.within (field_same (codes "set limit_handshake ") field (decimal n) h.spelled)
+no_limit_handshake field none side x h = let e : 317 ≡ kind x = kind_of_text side (codes "set limit_handshake " ++ field) x h in omega (arith, e)
+
+pub no_limit_failures : (field : List ℕ) → ((n : ℕ) → n < 2 ^ 64 → field ≢ decimal n) → (side : Side) (x : Setting) → IsNextSetting side (codes "set limit_failures " ++ field) x → ⊥
+unfolding setting_line
+no_limit_failures field none side (LimitFailures n) h = none n h.within (field_same (codes "set limit_failures ") field (decimal n) h.spelled)
+no_limit_failures field none side x h = let e : 315 ≡ kind x = kind_of_text side (codes "set limit_failures " ++ field) x h in omega (arith, e)
 
 pub no_idle : (field : List ℕ) → ((n : ℕ) → n < 2 ^ 62 → field ≢ decimal n) → (side : Side) (x : Setting) → IsNextSetting side (codes "set idle " ++ field) x → ⊥
 unfolding setting_line
 no_idle field none side (Idle n) h = none n h.within (field_same (codes "set idle ") field (decimal n) h.spelled)
-no_idle field none side x h = let e : 105 ≡ kind x = kind_of_text side (codes "set idle " ++ field) x h in omega (arith, e)
+no_idle field none side x h = let e : 205 ≡ kind x = kind_of_text side (codes "set idle " ++ field) x h in omega (arith, e)
 
 -- a text with none of the words is the line of no setting
 pub no_set_word : (text : List ℕ) → ((rest : List ℕ) → text ≢ codes "set time " ++ rest) → ((rest : List ℕ) → text ≢ codes "set local " ++ rest) → ((rest : List ℕ) → text ≢ codes "set remote " ++ rest) → ((rest : List ℕ) → text ≢ codes "set first " ++ rest)
-    → ((rest : List ℕ) → text ≢ codes "set addr " ++ rest) → ((rest : List ℕ) → text ≢ codes "set secret " ++ rest) → ((rest : List ℕ) → text ≢ codes "set idle " ++ rest) → (side : Side) (x : Setting) → IsNextSetting side text x → ⊥
+    → ((rest : List ℕ) → text ≢ codes "set addr " ++ rest) → ((rest : List ℕ) → text ≢ codes "set secret " ++ rest) → ((rest : List ℕ) → text ≢ codes "set limit_initial " ++ rest) → ((rest : List ℕ) → text ≢ codes "set limit_handshake " ++ rest)
+    → ((rest : List ℕ) → text ≢ codes "set limit_failures " ++ rest) → ((rest : List ℕ) → text ≢ codes "set idle " ++ rest) → (side : Side) (x : Setting) → IsNextSetting side text x → ⊥
 unfolding setting_line
-no_set_word text times locals remotes firsts addrs secrets idles side (Time now) h = times (decimal now) (words_and_field (codes "set time ") text (decimal now) h.spelled)
-no_set_word text times locals remotes firsts addrs secrets idles side (Local id) h = locals (hex_field id) (words_and_field (codes "set local ") text (hex_field id) h.spelled)
-no_set_word text times locals remotes firsts addrs secrets idles side (Remote id) h = remotes (hex_field id) (words_and_field (codes "set remote ") text (hex_field id) h.spelled)
-no_set_word text times locals remotes firsts addrs secrets idles side (First id) h = firsts (hex_field id) (words_and_field (codes "set first ") text (hex_field id) h.spelled)
-no_set_word text times locals remotes firsts addrs secrets idles side (Addr address) h = addrs (address_text address) (words_and_field (codes "set addr ") text (address_text address) h.spelled)
-no_set_word text times locals remotes firsts addrs secrets idles side (Secret bytes) h = secrets (hex_field bytes) (words_and_field (codes "set secret ") text (hex_field bytes) h.spelled)
-no_set_word text times locals remotes firsts addrs secrets idles side (Idle limit) h = idles (decimal limit) (words_and_field (codes "set idle ") text (decimal limit) h.spelled)
+no_set_word text times locals remotes firsts addrs secrets initials handshakes failures idles side (Time now) h = times (decimal now) (words_and_field (codes "set time ") text (decimal now) h.spelled)
+no_set_word text times locals remotes firsts addrs secrets initials handshakes failures idles side (Local id) h = locals (hex_field id) (words_and_field (codes "set local ") text (hex_field id) h.spelled)
+no_set_word text times locals remotes firsts addrs secrets initials handshakes failures idles side (Remote id) h = remotes (hex_field id) (words_and_field (codes "set remote ") text (hex_field id) h.spelled)
+no_set_word text times locals remotes firsts addrs secrets initials handshakes failures idles side (First id) h = firsts (hex_field id) (words_and_field (codes "set first ") text (hex_field id) h.spelled)
+no_set_word text times locals remotes firsts addrs secrets initials handshakes failures idles side (Addr address) h = addrs (address_text address) (words_and_field (codes "set addr ") text (address_text address) h.spelled)
+no_set_word text times locals remotes firsts addrs secrets initials handshakes failures idles side (Secret bytes) h = secrets (hex_field bytes) (words_and_field (codes "set secret ") text (hex_field bytes) h.spelled)
+no_set_word text times locals remotes firsts addrs secrets initials handshakes failures idles side (LimitInitial packets) h = initials (decimal packets) (words_and_field (codes "set limit_initial ") text (decimal packets) h.spelled)
+no_set_word text times locals remotes firsts addrs secrets initials handshakes failures idles side (LimitHandshake packets) h = handshakes (decimal packets) (words_and_field (codes "set limit_handshake ") text (decimal packets) h.spelled)
+no_set_word text times locals remotes firsts addrs secrets initials handshakes failures idles side (LimitFailures packets) h = failures (decimal packets) (words_and_field (codes "set limit_failures ") text (decimal packets) h.spelled)
+no_set_word text times locals remotes firsts addrs secrets initials handshakes failures idles side (Idle limit) h = idles (decimal limit) (words_and_field (codes "set idle ") text (decimal limit) h.spelled)
 
 -- ---- lines and settings
 
@@ -165,7 +212,7 @@ pub remote_short : (field id : List ℕ) (side : Side) → side ≡ Client → f
 remote_short field id side is e h short = no_remote field side (λ other k f. omega (arith, client_least side other is k, hex_length field id other e h.0 (remote_bytes side other k).0 f, short))
 
 kinds : (x y : Setting) → setting_line x ≡ setting_line y → kind x ≡ kind y
-kinds x y e = sym (kind_at x) ∙ ap (λ (z : List ℕ). get_or z 4 0) e ∙ kind_at y
+kinds x y e = sym (kind_at x) ∙ ap mark e ∙ kind_at y
 
 -- a setting's line is that of no other setting
 pub setting_line_injective : (side : Side) (x y : Setting) → IsSetting side x → IsSetting side y → setting_line x ≡ setting_line y → x ≡ y
@@ -178,28 +225,35 @@ setting_line_injective side (First id) (First id') h k e =
     ap First (hex_field_injective id id' (first_bytes side id h).0 (first_bytes side id' k).0 (fields_same_behind (codes "set first ") (hex_field id) (hex_field id') e))
 setting_line_injective side (Addr a) (Addr a') h k e = ap Addr (address_injective a a' h k (fields_same_behind (codes "set addr ") (address_text a) (address_text a') e))
 setting_line_injective side (Secret bytes) (Secret bytes') h k e = ap Secret (hex_field_injective bytes bytes' h.0 k.0 (fields_same_behind (codes "set secret ") (hex_field bytes) (hex_field bytes') e))
+setting_line_injective side (LimitInitial n) (LimitInitial n') h k e = ap LimitInitial (decimal_injective n n' h k (fields_same_behind (codes "set limit_initial ") (decimal n) (decimal n') e))
+setting_line_injective side (LimitHandshake n) (LimitHandshake n') h k e = ap LimitHandshake (decimal_injective n n' h k (fields_same_behind (codes "set limit_handshake ") (decimal n) (decimal n') e))
+setting_line_injective side (LimitFailures n) (LimitFailures n') h k e = ap LimitFailures (decimal_injective n n' h k (fields_same_behind (codes "set limit_failures ") (decimal n) (decimal n') e))
 setting_line_injective side (Idle n) (Idle n') h k e = ap Idle (decimal_injective n n' (omega (arith, h)) (omega (arith, k)) (fields_same_behind (codes "set idle ") (decimal n) (decimal n') e))
 setting_line_injective side x y h k e = absurd (omega (arith, kinds x y e))
 
--- nor is it an input's
-setting_begins : (x : Setting) → get_or (setting_line x) 0 0 ≡ 115
+-- nor is it an input's: its word has three letters, and a space behind them
+setting_word : (x : Setting) → get_or (setting_line x) 3 0 ≡ 32
 unfolding setting_line
-setting_begins (Time now) = refl
-setting_begins (Local id) = refl
-setting_begins (Remote id) = refl
-setting_begins (First id) = refl
-setting_begins (Addr address) = refl
-setting_begins (Secret bytes) = refl
-setting_begins (Idle limit) = refl
+setting_word (Time now) = refl
+setting_word (Local id) = refl
+setting_word (Remote id) = refl
+setting_word (First id) = refl
+setting_word (Addr address) = refl
+setting_word (Secret bytes) = refl
+setting_word (LimitInitial packets) = refl
+setting_word (LimitHandshake packets) = refl
+setting_word (LimitFailures packets) = refl
+setting_word (Idle limit) = refl
 
-other_letter : (i : Input) → letter i ≢ 115
-other_letter (Datagram now remote ecn bytes) e = omega (arith, e)
-other_letter (Transmit now n) e = omega (arith, e)
-other_letter (Close now code reason) e = omega (arith, e)
-other_letter (Ping now) e = omega (arith, e)
+no_space : (i : Input) → letter i ≢ 32
+no_space (Datagram now remote ecn bytes) e = omega (arith, e)
+no_space (Timeout now) e = omega (arith, e)
+no_space (Transmit now n) e = omega (arith, e)
+no_space (Close now code reason) e = omega (arith, e)
+no_space (Ping now) e = omega (arith, e)
 
 pub setting_no_input : (x : Setting) (i : Input) → setting_line x ≢ input_line i
-setting_no_input x i e = other_letter i (sym (first_letter i) ∙ ap (λ (z : List ℕ). get_or z 0 0) (sym e) ∙ setting_begins x)
+setting_no_input x i e = no_space i (sym (fourth_letter i) ∙ ap (λ (z : List ℕ). get_or z 3 0) (sym e) ∙ setting_word x)
 
 -- a setting's line is a text, and LF
 pub setting_ends : (x : Setting) → (text : List ℕ) × (setting_line x ≡ text ++ 10 ∷ [])
@@ -210,6 +264,9 @@ setting_ends (Remote id) = (codes "set remote " ++ hex_field id, sym (append_ass
 setting_ends (First id) = (codes "set first " ++ hex_field id, sym (append_assoc (codes "set first ") (hex_field id) (10 ∷ [])))
 setting_ends (Addr address) = (codes "set addr " ++ address_text address, sym (append_assoc (codes "set addr ") (address_text address) (10 ∷ [])))
 setting_ends (Secret bytes) = (codes "set secret " ++ hex_field bytes, sym (append_assoc (codes "set secret ") (hex_field bytes) (10 ∷ [])))
+setting_ends (LimitInitial packets) = (codes "set limit_initial " ++ decimal packets, sym (append_assoc (codes "set limit_initial ") (decimal packets) (10 ∷ [])))
+setting_ends (LimitHandshake packets) = (codes "set limit_handshake " ++ decimal packets, sym (append_assoc (codes "set limit_handshake ") (decimal packets) (10 ∷ [])))
+setting_ends (LimitFailures packets) = (codes "set limit_failures " ++ decimal packets, sym (append_assoc (codes "set limit_failures ") (decimal packets) (10 ∷ [])))
 setting_ends (Idle limit) = (codes "set idle " ++ decimal limit, sym (append_assoc (codes "set idle ") (decimal limit) (10 ∷ [])))
 
 -- a side's line is that of no other side

@@ -10,9 +10,13 @@
 --     set first H       on a server the destination id of the client's first packets (8 bytes 03)
 --     set addr A        the peer's address (::1, port 4433)
 --     set secret H      the toy's secret, of 5 bytes (zeros)
+--     set limit_initial N    how many packets an Initial key may seal (2^23)
+--     set limit_handshake N  how many packets a Handshake key may seal (2^23)
+--     set limit_failures N   how many packets may fail to open (2^52; RFC 9001, section 6.6)
 --     set idle N        this end's limit on idle time in milliseconds; 0 is none (30000)
 -- An input line is
 --     datagram T A E H  a datagram H came at time T from the address A with the mark E of congestion
+--     timeout T         timers may have come at time T
 --     transmit T N      a transmit at time T of at most N datagrams
 --     close T C H       the application closes at time T, with the code C and the reason H
 --     ping T            a ping at time T
@@ -27,7 +31,7 @@ use Rattle.qc_base.specs.declared.ecn.EcnCodepoint.{EcnCodepoint}
 use Rattle.qc_base.specs.declared.side.Side.{Side}
 use Rattle.qc_base.specs.declared.side.Side.TheVariants.{Client, Server}
 use Rattle.qc_state.specs.declared.input.Input.{Input}
-use Rattle.qc_state.specs.declared.input.Input.TheVariants.{Datagram, Transmit, Close, Ping}
+use Rattle.qc_state.specs.declared.input.Input.TheVariants.{Datagram, Timeout, Transmit, Close, Ping}
 use Rattle.qc_script.specs.declared.settings.Settings.{Settings}
 use Rattle.qc_script.specs.declared.script.ScriptError.{ScriptError}
 use Rattle.qc_script.specs.declared.script.ScriptError.TheVariants.{BadLine, OutOfMemory}
@@ -68,7 +72,10 @@ set_lines s =
     ++ (line_if (codes "set first ") hex_field s.first
     ++ (line_if (codes "set addr ") address_text s.addr
     ++ (line_if (codes "set secret ") hex_field s.secret
-    ++ line_if (codes "set idle ") decimal s.idle))))))
+    ++ (line_if (codes "set limit_initial ") decimal s.limit_initial
+    ++ (line_if (codes "set limit_handshake ") decimal s.limit_handshake
+    ++ (line_if (codes "set limit_failures ") decimal s.limit_failures
+    ++ line_if (codes "set idle ") decimal s.idle)))))))))
 
 -- an id has at most 20 bytes
 abbrev pub IsId : List ℕ → Type 0
@@ -96,12 +103,16 @@ pub record AreSettings (s : Settings) : Type 0 where
   pub first : IfSome s.first (IsFirst s.side)
   pub addr : IfSome s.addr IsAddress
   pub secret : IfSome s.secret IsSecret
+  pub limit_initial : IfSome s.limit_initial (λ n. n < 2 ^ 64)
+  pub limit_handshake : IfSome s.limit_handshake (λ n. n < 2 ^ 64)
+  pub limit_failures : IfSome s.limit_failures (λ n. n < 2 ^ 64)
   pub idle : IfSome s.idle (λ n. n < 2 ^ 62)
 
 -- the line of an input: its word, its time, for a datagram where it came from, its mark and its bytes, for a transmit how
 -- many datagrams it may send, and for a close its code and its reason
 unfoldable pub input_line : Input → List ℕ
 input_line (Datagram now remote ecn bytes) = codes "datagram " ++ (decimal now ++ 32 ∷ (address_text remote ++ 32 ∷ (ecn_text ecn ++ 32 ∷ (hex_field bytes ++ 10 ∷ []))))
+input_line (Timeout now) = codes "timeout " ++ (decimal now ++ 10 ∷ [])
 input_line (Transmit now max_datagrams) = codes "transmit " ++ (decimal now ++ 32 ∷ (decimal max_datagrams ++ 10 ∷ []))
 input_line (Close now code reason) = codes "close " ++ (decimal now ++ 32 ∷ (decimal code ++ 32 ∷ (hex_field reason ++ 10 ∷ [])))
 input_line (Ping now) = codes "ping " ++ (decimal now ++ 10 ∷ [])
@@ -110,6 +121,7 @@ input_line (Ping now) = codes "ping " ++ (decimal now ++ 10 ∷ [])
 -- flow label nor a scope
 abbrev pub IsWithin : Input → Type 0
 IsWithin (Datagram now remote ecn bytes) = (now < 2 ^ 64) × IsAddress remote × IsBytes bytes
+IsWithin (Timeout now) = now < 2 ^ 64
 IsWithin (Transmit now max_datagrams) = (now < 2 ^ 64) × (max_datagrams < 2 ^ 64)
 IsWithin (Close now code reason) = (now < 2 ^ 64) × (code < 2 ^ 62) × IsBytes reason
 IsWithin (Ping now) = now < 2 ^ 64

@@ -2,10 +2,12 @@
 //!
 //! ASCII lines, each ended by LF, fields separated by one space. First come the set lines, in this order: `set side S`,
 //! where S is `client` or `server`, and then at most one each of `set time N`, `set local HEX`, `set remote HEX`,
-//! `set first HEX`, `set addr A`, `set secret HEX` and `set idle N`. An id has at most 20 bytes; on a client the remote
-//! one has 8 at least (RFC 9000, section 7.2), and only a server has a first one. A secret has 5 bytes. A limit on idle
-//! time is in milliseconds and below 2^62 (RFC 9000, section 10.1). Then come the input lines `datagram T A E HEX`,
-//! `transmit T N`, `close T CODE HEX` and `ping T`.
+//! `set first HEX`, `set addr A`, `set secret HEX`, `set limit_initial N`, `set limit_handshake N`, `set limit_failures N`
+//! and `set idle N`. An id has at most 20 bytes; on a client the remote one has 8 at least (RFC 9000, section 7.2), and
+//! only a server has a first one. A secret has 5 bytes. A key of the Initial or the Handshake packets may seal as many
+//! packets as its limit says, and as many packets may fail to open as `limit_failures` says (RFC 9001, section 6.6). A
+//! limit on idle time is in milliseconds and below 2^62 (RFC 9000, section 10.1). Then come the input lines
+//! `datagram T A E HEX`, `timeout T`, `transmit T N`, `close T CODE HEX` and `ping T`.
 //!
 //! Numbers are decimal, below 2^64, without leading zeros; a code is below 2^62. Times are in nanoseconds. Bytes are
 //! lower-case hex, and `-` where there are none. An address is the 8 or 32 lower-case hex digits of its octets, `/` and a

@@ -46,6 +46,18 @@ fn datagram_line(alloc: Global, fields: &[u8]) -> Result<Option<Input>, AllocErr
     }))
 }
 
+/// The timeout of a line with this field.
+fn timeout_line(digits: &[u8]) -> Option<Input>
+    ensures { IsLineRead (codes "timeout " ++ digits.now) result }
+{
+    match read_number(digits) {
+        Some(now) => Some(Input::Timeout {
+            now: Instant::from_nanos(now),
+        }),
+        None => None,
+    }
+}
+
 /// The transmit of a line with these fields.
 fn transmit_line(fields: &[u8]) -> Option<Input>
     ensures { IsLineRead (codes "transmit " ++ fields.now) result }
@@ -103,6 +115,9 @@ pub fn read_line(alloc: Global, text: &[u8]) -> Result<Option<Input>, AllocError
 {
     if let Some(fields) = after_word(text, b"datagram ") {
         return datagram_line(alloc, fields);
+    }
+    if let Some(digits) = after_word(text, b"timeout ") {
+        return Ok(timeout_line(digits));
     }
     if let Some(fields) = after_word(text, b"transmit ") {
         return Ok(transmit_line(fields));

@@ -125,6 +125,36 @@ fn secret_line(alloc: Global, field: &[u8]) -> Result<Option<Setting>, AllocErro
     }
 }
 
+/// What a line sets that gives how many packets an Initial key may seal.
+fn limit_initial_line(digits: &[u8]) -> Option<Setting>
+    ensures { (side : Side) → IsSettingRead side (codes "set limit_initial " ++ digits.now) result }
+{
+    match read_number(digits) {
+        Some(packets) => Some(Setting::LimitInitial(packets)),
+        None => None,
+    }
+}
+
+/// What a line sets that gives how many packets a Handshake key may seal.
+fn limit_handshake_line(digits: &[u8]) -> Option<Setting>
+    ensures { (side : Side) → IsSettingRead side (codes "set limit_handshake " ++ digits.now) result }
+{
+    match read_number(digits) {
+        Some(packets) => Some(Setting::LimitHandshake(packets)),
+        None => None,
+    }
+}
+
+/// What a line sets that gives how many packets may fail to open.
+fn limit_failures_line(digits: &[u8]) -> Option<Setting>
+    ensures { (side : Side) → IsSettingRead side (codes "set limit_failures " ++ digits.now) result }
+{
+    match read_number(digits) {
+        Some(packets) => Some(Setting::LimitFailures(packets)),
+        None => None,
+    }
+}
+
 /// What a line sets that gives this limit on idle time.
 fn idle_line(digits: &[u8]) -> Option<Setting>
     ensures { (side : Side) → IsSettingRead side (codes "set idle " ++ digits.now) result }
@@ -156,6 +186,15 @@ pub fn read_setting(alloc: Global, side: Side, text: &[u8]) -> Result<Option<Set
     }
     if let Some(field) = after_word(text, b"set secret ") {
         return secret_line(alloc, field);
+    }
+    if let Some(digits) = after_word(text, b"set limit_initial ") {
+        return Ok(limit_initial_line(digits));
+    }
+    if let Some(digits) = after_word(text, b"set limit_handshake ") {
+        return Ok(limit_handshake_line(digits));
+    }
+    if let Some(digits) = after_word(text, b"set limit_failures ") {
+        return Ok(limit_failures_line(digits));
     }
     match after_word(text, b"set idle ") {
         Some(digits) => Ok(idle_line(digits)),

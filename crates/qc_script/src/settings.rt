@@ -23,6 +23,12 @@ pub struct Settings {
     pub addr: Option<SocketAddr>,
     /// The secret of the toy's keys.
     pub secret: Option<[u8; 5]>,
+    /// How many packets an Initial key may seal.
+    pub limit_initial: Option<u64>,
+    /// How many packets a Handshake key may seal.
+    pub limit_handshake: Option<u64>,
+    /// How many packets may fail to open (RFC 9001, 6.6).
+    pub limit_failures: Option<u64>,
     /// This end's limit on idle time in milliseconds; 0 is none (RFC 9000, 10.1).
     pub idle: Option<VarInt>,
 }
@@ -42,6 +48,12 @@ pub enum Setting {
     Addr(SocketAddr),
     /// The secret of the toy's keys.
     Secret([u8; 5]),
+    /// How many packets an Initial key may seal.
+    LimitInitial(u64),
+    /// How many packets a Handshake key may seal.
+    LimitHandshake(u64),
+    /// How many packets may fail to open.
+    LimitFailures(u64),
     /// This end's limit on idle time in milliseconds.
     Idle(VarInt),
 }
@@ -58,7 +70,10 @@ impl Setting {
             Setting::First(_) => 4,
             Setting::Addr(_) => 5,
             Setting::Secret(_) => 6,
-            Setting::Idle(_) => 7,
+            Setting::LimitInitial(_) => 7,
+            Setting::LimitHandshake(_) => 8,
+            Setting::LimitFailures(_) => 9,
+            Setting::Idle(_) => 10,
         }
     }
 }
@@ -76,6 +91,9 @@ impl Settings {
             first: None,
             addr: None,
             secret: None,
+            limit_initial: None,
+            limit_handshake: None,
+            limit_failures: None,
             idle: None,
         }
     }
@@ -91,6 +109,9 @@ impl Settings {
             Setting::First(id) => self.first = Some(id),
             Setting::Addr(address) => self.addr = Some(address),
             Setting::Secret(bytes) => self.secret = Some(bytes),
+            Setting::LimitInitial(packets) => self.limit_initial = Some(packets),
+            Setting::LimitHandshake(packets) => self.limit_handshake = Some(packets),
+            Setting::LimitFailures(packets) => self.limit_failures = Some(packets),
             Setting::Idle(limit) => self.idle = Some(limit),
         }
     }

@@ -39,7 +39,11 @@ fn is_bad(alloc: Global, line: &str) -> Result<bool, Fail> {
 }
 
 #[test]
-fn transmits_closes_and_pings_are_read(rt: HostRuntime) -> Result<(), Fail> {
+fn other_inputs_than_datagrams_are_read(rt: HostRuntime) -> Result<(), Fail> {
+    match input_of(rt.alloc(), "timeout 18446744073709551615")? {
+        Input::Timeout { now } => assert_eq!(rt; now, Instant::from_nanos(u64::MAX)),
+        _ => return Err("no timeout".into()),
+    }
     match input_of(rt.alloc(), "transmit 18446744073709551615 10")? {
         Input::Transmit { now, max_datagrams } => {
             assert_eq!(rt; now, Instant::from_nanos(u64::MAX));
@@ -160,6 +164,11 @@ fn other_lines_are_bad(rt: HostRuntime) -> Result<(), Fail> {
         "datagram 18446744073709551616 c0000201/1 - 00",
         "datagram",
         // The other words.
+        "timeout",
+        "timeout ",
+        "timeout 07",
+        "timeout 18446744073709551616",
+        "timeout 7 1",
         "transmit 7",
         "transmit 7 18446744073709551616",
         "close 7 4611686018427387904 -",
@@ -177,7 +186,7 @@ fn other_lines_are_bad(rt: HostRuntime) -> Result<(), Fail> {
 }
 
 /// For which values there is a set line, in the order of the lines.
-fn are_set(settings: &Settings) -> [bool; 7] {
+fn are_set(settings: &Settings) -> [bool; 10] {
     [
         settings.time.is_some(),
         settings.local.is_some(),
@@ -185,6 +194,9 @@ fn are_set(settings: &Settings) -> [bool; 7] {
         settings.first.is_some(),
         settings.addr.is_some(),
         settings.secret.is_some(),
+        settings.limit_initial.is_some(),
+        settings.limit_handshake.is_some(),
+        settings.limit_failures.is_some(),
         settings.idle.is_some(),
     ]
 }
@@ -198,6 +210,9 @@ fn each_set_line_stands_alone(rt: HostRuntime) -> Result<(), Fail> {
         "set first 02",
         "set addr c0000201/1",
         "set secret 0102030405",
+        "set limit_initial 0",
+        "set limit_handshake 0",
+        "set limit_failures 0",
         "set idle 0",
     ];
     for (place, line) in lines.iter().enumerate() {
@@ -213,7 +228,7 @@ fn each_set_line_stands_alone(rt: HostRuntime) -> Result<(), Fail> {
 #[test]
 fn a_server_has_every_set_line(rt: HostRuntime) -> Result<(), Fail> {
     let text =
-        "set side server\nset time 5\nset local 0a0b\nset remote -\nset first 0102030405060708\nset addr c0000201/443\nset secret 00ff010203\nset idle 30000\nping 6\n";
+        "set side server\nset time 5\nset local 0a0b\nset remote -\nset first 0102030405060708\nset addr c0000201/443\nset secret 00ff010203\nset limit_initial 2\nset limit_handshake 30\nset limit_failures 18446744073709551615\nset idle 30000\nping 6\n";
     let script = match read_script(rt.alloc(), text.as_bytes()) {
         Ok(script) => script,
         Err(_) => return Err("a bad line".into()),
@@ -228,6 +243,9 @@ fn a_server_has_every_set_line(rt: HostRuntime) -> Result<(), Fail> {
     let address = SocketAddr::new(IpAddr::V4(Ipv4Addr::new(192, 0, 2, 1)), 443);
     assert!(rt; settings.addr == Some(address));
     assert_eq!(rt; settings.secret, Some([0, 255, 1, 2, 3]));
+    assert_eq!(rt; settings.limit_initial, Some(2));
+    assert_eq!(rt; settings.limit_handshake, Some(30));
+    assert_eq!(rt; settings.limit_failures, Some(u64::MAX));
     assert_eq!(rt; settings.idle, Some(VarInt::from_u32(30_000)));
     assert_eq!(rt; script.inputs.len(), 1);
     Ok(())
@@ -248,13 +266,47 @@ fn set_lines_have_bounds(rt: HostRuntime) -> Result<(), Fail> {
         ("set secret 01020304", true),
         ("set secret 0102030405", false),
         ("set secret 010203040506", true),
+        ("set limit_initial 18446744073709551615", false),
+        ("set limit_initial 18446744073709551616", true),
+        ("set limit_handshake 18446744073709551615", false),
+        ("set limit_handshake 18446744073709551616", true),
+        ("set limit_failures 18446744073709551615", false),
+        ("set limit_failures 18446744073709551616", true),
         ("set idle 4611686018427387903", false),
         ("set idle 4611686018427387904", true),
         ("set local 0A", true),
+        ("set limit_initial 02", true),
+        ("set limit_handshake 00", true),
+        ("set limit_failures 01", true),
+        ("set limit_initial ", true),
+        ("set limit_handshake", true),
+        ("set limit_failures -", true),
+        ("set limit_data 1", true),
+        ("set limit_ 1", true),
+        ("set limit 1", true),
         ("set other 1", true),
     ];
     for (line, bad) in cases {
         assert_eq!(rt; is_bad(rt.alloc(), line)?, bad, "{line:?}");
+    }
+    Ok(())
+}
+
+// Each text's third line is the same as its second, or comes before it in the order of set lines.
+#[test]
+fn limits_stand_once_and_in_order(rt: HostRuntime) -> Result<(), Fail> {
+    for lines in [
+        "set limit_initial 1\nset limit_initial 1",
+        "set limit_handshake 1\nset limit_handshake 1",
+        "set limit_failures 1\nset limit_failures 1",
+        "set limit_initial 1\nset secret 0102030405",
+        "set limit_handshake 1\nset limit_initial 1",
+        "set limit_failures 1\nset limit_handshake 1",
+        "set limit_failures 1\nset limit_initial 1",
+        "set idle 0\nset limit_failures 1",
+    ] {
+        let text = format!(in rt.alloc(); "set side client\n{lines}\nping 0\n")?;
+        assert_eq!(rt; bad_line(rt.alloc(), text.as_str())?, Some(3), "{lines:?}");
     }
     Ok(())
 }

@@ -15,7 +15,7 @@ use std::alloc::{AllocError, Global};
 /// make sure that there is a sample for header protection (RFC 9001, section 5.4.2).
 const RESERVED: usize = 20;
 
-/// Seals one packet into an empty buffer.
+/// Seals one packet into an empty buffer. This end closes behind it where its key may seal only one more.
 fn seal_one<U: Suite>(
     core: &mut Core<U>,
     did: &mut Dids,
@@ -28,6 +28,7 @@ fn seal_one<U: Suite>(
     ensures { OnOk result (SealsOne (meaning U.Session.Session U.Session.HeaderKey.HeaderMask U.Session.PacketKey.PacketKey) now (held U.Random.stream core.old did.old) (held U.Random.stream core.new did.new) buf.new.items) }
 {
     let space = core.sending_space();
+    let nearly = core.is_key_nearly_used_up();
     let number = core.next_number(space);
     let header = core.header(space);
     let room = DATAGRAM_SIZE as usize - RESERVED - header.encoded_len();
@@ -36,6 +37,7 @@ fn seal_one<U: Suite>(
     core.seal(space, number, &header, &mut frames, least, buf)?;
     core.sealed(did, now, space, number, buf.len() as u64, frames)?;
     core.leave_initial(Side::Client, space, did);
+    core.spare(did, now, nearly)?;
     Ok(())
 }
 

@@ -31,14 +31,17 @@ use Rattle.qc_state.specs.Numbers.{next_number}
 use Rattle.qc_state.specs.Numbers as numbers
 use Rattle.qc_state.specs.Run.{time_of, packets_of, began, close_after, input_after, called, reported, step_after, IsAllowed, IsStep, Run, Ran}
 use Rattle.qc_state.specs.Paths.{is_blocked}
-use Rattle.qc_state.specs.Sending.{is_silent, owes, sending_space, internal_error, given_after, killed_after, quiet_after, drops_initial, initial_left, packet_size, sealed_in, packet_after, transmit_after, MaySeal, MayTransmit, owed_quiet_after}
+use Rattle.qc_state.specs.Sending.{is_silent, owes, sending_space, is_key_nearly_used_up, limit_met, quiet_after, drops_initial, initial_left, packet_size, sealed_in, spared_after, packet_after, transmit_after, MaySeal, MayTransmit, owed_quiet_after}
+use Rattle.qc_state.specs.Stopping.{given_after, key_limit_error, killed_after}
 use Rattle.qc_state.specs.Spaces.{space_of, with_space, is_space}
 use Rattle.qc_state.specs.Receiving.{datagram_after}
+use Rattle.qc_state.specs.Timeouts.{timeout_after}
 use Rattle.qc_state.specs.Types.{Types, Meaning}
 use Rattle.qc_state.specs.View.{View, At}
 use Rattle.qc_state.specs.Waiting.{done_asked, ping_asked, waiting_without, close_begun, packet_told, untold, flown_in, packet_flown, settled_in, packets_settled, came_in, packet_came, crypto_written, nothing_left, space_left}
 use Rattle.qc_state.proofs.AcksKnown.{received_has, KnownSince, known_more, since_more, known_append, since_append, only_more, without_all_keeps, carries_known}
-use Rattle.qc_state.proofs.Receives.{IsReceived, holds_datagram}
+use Rattle.qc_state.proofs.Receives.{IsReceived, holds_datagram, holds_stopped, in_packet_received}
+use Rattle.qc_state.proofs.Expired.{IsTimed, holds_timeout}
 use Rattle.qc_state.proofs.Telling.{is_none_none, low_rank, open_rank}
 use Rattle.qc_state.proofs.Told.{loud_alive, closes_only}
 
@@ -219,12 +222,12 @@ module _ {t : Types} where
   knows_killed id why a h = knows_next id a (move_to (Raise state.Drained) a) _ (knows_move id (Raise state.Drained) a (low_rank a.state.life.state h) tt) (given_by id why (move_to (Raise state.Drained) a) _ refl)
 
   -- nothing is sealed
-  quiet_by : (id : SpaceId) (a : At t) (x y z : Bool) → is_silent a.state ≡ x → Knows id a (if x then move_to (Say Silent) a else if y then (if z then move_to (Say Amplification) a else move_to (Say Killed) (killed_after internal_error a)) else move_to (Say NothingOwed) a)
+  quiet_by : (id : SpaceId) (why : ConnectionError) (a : At t) (x y z : Bool) → is_silent a.state ≡ x → Knows id a (if x then move_to (Say Silent) a else if y then (if z then move_to (Say Amplification) a else move_to (Say Killed) (killed_after why a)) else move_to (Say NothingOwed) a)
   unfolding MayMove is_silent
-  quiet_by id a true y z h = knows_move id (Say Silent) a tt tt
-  quiet_by id a false true true h = knows_move id (Say Amplification) a tt tt
-  quiet_by id a false true false h = knows_next id a (killed_after internal_error a) _ (knows_killed id internal_error a (loud_alive a.state.life.state a.state.waiting.close_owed h)) (knows_move id (Say Killed) (killed_after internal_error a) tt tt)
-  quiet_by id a false false z h = knows_move id (Say NothingOwed) a tt tt
+  quiet_by id why a true y z h = knows_move id (Say Silent) a tt tt
+  quiet_by id why a false true true h = knows_move id (Say Amplification) a tt tt
+  quiet_by id why a false true false h = knows_next id a (killed_after why a) _ (knows_killed id why a (loud_alive a.state.life.state a.state.waiting.close_owed h)) (knows_move id (Say Killed) (killed_after why a) tt tt)
+  quiet_by id why a false false z h = knows_move id (Say NothingOwed) a tt tt
 
   -- nothing more may be in flight
   calm_by : (id : SpaceId) (a : At t) (b : Bool) → Knows id a (if b then move_to Calm a else a)
@@ -237,33 +240,6 @@ module _ {t : Types} where
   unfolding calmed MayMove
   left_by id a true = knows_next id a (move_to (Forget Initial) a) _ (knows_move id (Forget Initial) a tt tt) (calm_by id (move_to (Forget Initial) a) _)
   left_by id a false = knows_here id a
-
-  -- a packet is sealed
-  knows_packet : (id : SpaceId) (time : ℕ) (fs : List FrameValue) (a : At t) → MaySeal time a.state fs → Knows id a (packet_after time fs a)
-  unfolding packet_after sealed_in initial_left MayMove move_to state_move numbers_move life_move waiting_move
-  knows_packet id time fs a may =
-      let space : SpaceId = sending_space a.state in
-      let b : At t = move_to (Take space fs) a in
-      let n : ℕ = next_number a.state.numbers space in
-      let size : ℕ = packet_size a.state space fs in
-      let c : At t = move_to (Seal time space n size fs) b in
-      let said : AcksOnly (IsKept space (waiting_without a.state.waiting space fs)) fs =
-      only_more (IsKept space a.state.waiting) (IsKept space (waiting_without a.state.waiting space fs)) (taken_kept space a.state.waiting fs) fs (carries_known time a.state space fs may.carries) in
-      knows_next id a b _ (knows_move id (Take space fs) a tt tt)
-      (knows_next id b c _ (knows_move id (Seal time space n size fs) b (refl, closes_only time a.state fs may) said) (left_by id c (drops_initial Client c.state space)))
-
-  -- a transmit seals a packet or none
-  knows_transmit : (id : SpaceId) (time : ℕ) (ps : List (List FrameValue)) (a : At t) → MayTransmit time a.state ps → Knows id a (transmit_after time ps a)
-  unfolding MayTransmit transmit_after quiet_after owed_quiet_after
-  knows_transmit id time [] a may = quiet_by id a (is_silent a.state) (owes a.state) (is_blocked a.state.paths) refl
-  knows_transmit id time (fs ∷ []) a may = knows_packet id time fs a may
-  knows_transmit id time (fs ∷ gs ∷ rest) a may = absurd may
-
-  -- the application closes, or has closed before
-  closed_by : (id : SpaceId) (time : ℕ) (close : Close) (a : At t) (b : Bool) → is_open a.state.life.state ≡ b → Knows id a (if b then move_to (Shut time close) a else a)
-  unfolding MayMove
-  closed_by id time close a true h = knows_move id (Shut time close) a (open_rank a.state.life.state h) tt
-  closed_by id time close a false h = knows_here id a
 
   -- what is received seals nothing, and accepts what it says that it accepts
   received_knows : (x : Move t) (s : View t) → IsReceived x → IsKnowing x s
@@ -290,18 +266,70 @@ module _ {t : Types} where
   received_knows (Leave time) s r = tt
   received_knows Owe s r = tt
   received_knows (Shut time close) s r = tt
+  received_knows (Raise to) s r = tt
   received_knows (Give why) s r = tt
   received_knows _ s r = absurd r
+
+  -- this end closes behind a packet, or not
+  knows_spared : (id : SpaceId) (time : ℕ) (nearly : Bool) (a : At t) → Knows id a (spared_after time nearly a)
+  unfolding spared_after
+  knows_spared id time true a = holds_stopped (Knows id) (knows_here id) (knows_next id) (λ x r b may. knows_move id x b may (received_knows x b.state (in_packet_received x r))) time key_limit_error a
+  knows_spared id time false a = knows_here id a
+
+  -- a packet is sealed
+  knows_sealed : (id : SpaceId) (time : ℕ) (fs : List FrameValue) (a : At t) → MaySeal time a.state fs → Knows id a (sealed_in time (sending_space a.state) fs a)
+  unfolding sealed_in initial_left MayMove move_to state_move numbers_move life_move waiting_move
+  knows_sealed id time fs a may =
+      let space : SpaceId = sending_space a.state in
+      let b : At t = move_to (Take space fs) a in
+      let n : ℕ = next_number a.state.numbers space in
+      let size : ℕ = packet_size a.state space fs in
+      let c : At t = move_to (Seal time space n size fs) b in
+      let said : AcksOnly (IsKept space (waiting_without a.state.waiting space fs)) fs =
+      only_more (IsKept space a.state.waiting) (IsKept space (waiting_without a.state.waiting space fs)) (taken_kept space a.state.waiting fs) fs (carries_known time a.state space fs may.carries) in
+      knows_next id a b _ (knows_move id (Take space fs) a tt tt)
+      (knows_next id b c _ (knows_move id (Seal time space n size fs) b (refl, closes_only time a.state fs may) said) (left_by id c (drops_initial Client c.state space)))
+
+  knows_packet : (id : SpaceId) (time : ℕ) (fs : List FrameValue) (a : At t) → MaySeal time a.state fs → Knows id a (packet_after time fs a)
+  unfolding packet_after
+  knows_packet id time fs a may =
+      let b : At t = sealed_in time (sending_space a.state) fs a in
+      knows_next id a b _ (knows_sealed id time fs a may) (knows_spared id time (is_key_nearly_used_up a.state) b)
+
+  -- a transmit seals a packet or none
+  knows_transmit : (id : SpaceId) (time : ℕ) (ps : List (List FrameValue)) (a : At t) → MayTransmit time a.state ps → Knows id a (transmit_after time ps a)
+  unfolding MayTransmit transmit_after quiet_after owed_quiet_after
+  knows_transmit id time [] a may = quiet_by id (limit_met a.state) a (is_silent a.state) (owes a.state) (is_blocked a.state.paths) refl
+  knows_transmit id time (fs ∷ []) a may = knows_packet id time fs a may
+  knows_transmit id time (fs ∷ gs ∷ rest) a may = absurd may
+
+  -- the application closes, or has closed before
+  closed_by : (id : SpaceId) (time : ℕ) (close : Close) (a : At t) (b : Bool) → is_open a.state.life.state ≡ b → Knows id a (if b then move_to (Shut time close) a else a)
+  unfolding MayMove
+  closed_by id time close a true h = knows_move id (Shut time close) a (open_rank a.state.life.state h) tt
+  closed_by id time close a false h = knows_here id a
 
   -- a datagram
   knows_datagram : (id : SpaceId) (m : Meaning t) (time : ℕ) (mark : Option EcnCodepoint) (remote : SocketAddr) (bytes : List ℕ) (a : At t) → Knows id a (datagram_after m time mark remote bytes a)
   knows_datagram id m time mark remote bytes a =
       holds_datagram (Knows id) (knows_here id) (knows_next id) (λ x received b may. knows_move id x b may (received_knows x b.state received)) m time mark remote bytes a
 
+  -- what a timer does seals nothing, and accepts nothing
+  timed_knows : (x : Move t) (s : View t) → IsTimed x → IsKnowing x s
+  timed_knows Calm s r = tt
+  timed_knows (Raise to) s r = tt
+  timed_knows (Give why) s r = tt
+  timed_knows _ s r = absurd r
+
+  -- a timeout
+  knows_timeout : (id : SpaceId) (time : ℕ) (a : At t) → Knows id a (timeout_after time a)
+  knows_timeout id time a = holds_timeout (Knows id) (knows_here id) (knows_next id) (λ x timed b may. knows_move id x b may (timed_knows x b.state timed)) time a
+
   -- each input
   knows_input : (id : SpaceId) (m : Meaning t) (i : Input) (ds : List Did) (a : At t) → IsAllowed i ds a.state → Knows id a (input_after m i ds a)
   unfolding IsAllowed input_after close_after MayMove
   knows_input id m (input.Datagram time remote ecn bytes) ds a h = knows_datagram id m time ecn remote bytes a
+  knows_input id m (input.Timeout time) ds a h = knows_timeout id time a
   knows_input id m (input.Transmit time max) ds a h = knows_transmit id time (packets_of ds) a h
   knows_input id m (input.Close time code reason) ds a h = closed_by id time _ a _ refl
   knows_input id m (input.Ping time) ds a h = knows_move id (Ask a.state.keys.highest) a tt tt

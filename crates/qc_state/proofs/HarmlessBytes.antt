@@ -24,6 +24,8 @@ use Rattle.qc_state.specs.declared.deeds.Verdict.TheVariants as verdict
 use Rattle.qc_state.specs.declared.input.Input.{Input}
 use Rattle.qc_state.specs.declared.input.Input.TheVariants as input
 use Rattle.qc_state.specs.declared.keys.KeyGroup.{KeyGroup}
+use Rattle.qc_state.specs.declared.life.ConnectionError.{ConnectionError}
+use Rattle.qc_state.specs.declared.life.ConnectionError.TheVariants as lost
 use Rattle.qc_state.specs.declared.life.Life.{Life}
 use Rattle.qc_state.specs.declared.life.State.{State}
 use Rattle.qc_state.specs.declared.life.State.TheVariants as state
@@ -35,20 +37,20 @@ use Rattle.qc_state.specs.declared.timers.Timers.{Timers}
 use Rattle.qc_state.specs.declared.trace.Step.{Step}
 use Rattle.qc_state.specs.declared.transmit.TheConstants.{DATAGRAM_SIZE}
 use Rattle.qc_state.specs.Headline.{deeds_of, is_harmless, is_datagram, OnlyCounts, Harmless}
-use Rattle.qc_state.specs.Keys.{failure_counted}
+use Rattle.qc_state.specs.Keys.{fails_too_often, failure_counted}
 use Rattle.qc_state.specs.Life.{is_handshake, is_over, ready_reported, connected_reported, lost_reported, token_reported, wanted_reported, drained_reported}
-use Rattle.qc_state.specs.Moves.{Move, Accept, Clock, Drain, Enter, Expect, Fail, Hear, Owe, Tell, deeds_move, keys_move, life_move, lower_move, move_to, numbers_move, paths_move, setup_move, state_move, timers_move, waiting_move}
+use Rattle.qc_state.specs.Moves.{Move, Accept, Clock, Drain, Enter, Expect, Fail, Hear, Owe, Raise, Tell, deeds_move, keys_move, life_move, lower_move, move_to, numbers_move, paths_move, setup_move, state_move, timers_move, waiting_move}
 use Rattle.qc_state.specs.Opening.{opening_of}
 use Rattle.qc_state.specs.Paths.{path_received, same_address}
-use Rattle.qc_state.specs.Receiving.{accepted_after, admitted_after, cut_of, datagram_after, first_after, first_token, fixed_after, has_first_ids, heard_after, is_close_item, is_eliciting_item, is_initial_with, is_readable, lets_in, opened_token, opening_after, piece_after, piece_told, pieces_after, read_for_close, received_after, token_in_first, token_in_items, verdict_after}
+use Rattle.qc_state.specs.Receiving.{accepted_after, admitted_after, cut_of, datagram_after, failed_after, first_after, first_token, fixed_after, has_first_ids, heard_after, is_close_item, is_eliciting_item, is_initial_with, is_readable, lets_in, opened_token, opening_after, piece_after, piece_told, pieces_after, read_for_close, received_after, token_in_first, token_in_items, verdict_after}
 use Rattle.qc_state.specs.Run.{IsStep, Run, began, called, input_after, reported, step_after}
 use Rattle.qc_state.specs.Setup.{is_first_awaited, token_expected}
-use Rattle.qc_state.specs.Stopping.{violation_at, stopped_after}
+use Rattle.qc_state.specs.Stopping.{key_limit_error, killed_after, stopped_after, violation_at}
 use Rattle.qc_state.specs.Timers.{clock_set}
 use Rattle.qc_state.specs.Types.{Types, Meaning}
 use Rattle.qc_state.specs.Verdicts.{first_row, verdict_of}
 use Rattle.qc_state.specs.View.{View, At}
-use Rattle.qc_state.proofs.Receives.{holds_fixed, holds_initial, holds_payload, holds_stopped}
+use Rattle.qc_state.proofs.Receives.{holds_fixed, holds_given, holds_initial, holds_payload, holds_stopped}
 use Rattle.qc_state.proofs.Telling.{told_appends}
 
 -- of two tests that hold each holds
@@ -337,12 +339,30 @@ module _ {t : Types} where
       let b : At t = piece_told id (Some number) verdict.BadBits a in
       harmed_next a b _ (harmed_move (Tell (did.Piece id (Some number) verdict.BadBits)) a refl) (holds_stopped Grown grown_here grown_next (λ x r c k. grown_move x c) time (violation_at None) b)
 
+  -- a packet that didn't open, and ends the connection
+  harmed_killed : (why : ConnectionError) (a : At t) → Harmed a (killed_after why a)
+  unfolding killed_after deeds_move
+  harmed_killed why a =
+      let b : At t = move_to (Raise state.Drained) a in
+      harmed_next a b _ (harmed_move (Raise state.Drained) a refl) (holds_given Grown grown_here grown_next (λ x r c k. grown_move x c) why b)
+
+  failed_by : (why : ConnectionError) (a : At t) (b : Bool) → Tame a (if b then killed_after why a else a)
+  failed_by why a true = harmed_tame a _ (harmed_killed why a)
+  failed_by why a false = tame_here a
+
+  -- a packet that didn't open
+  tame_failed : (id : Option SpaceId) (a : At t) → Tame a (failed_after id a)
+  unfolding failed_after
+  tame_failed id a =
+      let b : At t = move_to Fail a in
+      let c : At t = piece_told id None verdict.Failure b in
+      tame_next a b _ (tame_move Fail a (same_fail a.state))
+      (tame_next b c _ (tame_move (Tell (did.Piece id None verdict.Failure)) b (same_tell (did.Piece id None verdict.Failure) b.state)) (failed_by (lost.TransportError key_limit_error) c (fails_too_often c.state.keys)))
+
   -- a packet by what came of taking its protection off
   tame_opening : (m : Meaning t) (time : ℕ) (mark : Option EcnCodepoint) (id : Option SpaceId) (o : Opening) (a : At t) → Tame a (opening_after m time mark id o a)
   tame_opening m time mark id Unreadable a = tame_move (Tell (did.Piece id None verdict.Ignored)) a (same_tell (did.Piece id None verdict.Ignored) a.state)
-  tame_opening m time mark id Unopened a =
-      let b : At t = move_to Fail a in
-      tame_next a b _ (tame_move Fail a (same_fail a.state)) (tame_move (Tell (did.Piece id None verdict.Failure)) b (same_tell (did.Piece id None verdict.Failure) b.state))
+  tame_opening m time mark id Unopened a = tame_failed id a
   tame_opening m time mark id (Reserved number) a = harmed_tame a _ (harmed_reserved time id number a)
   tame_opening m time mark (Some id) (Opened source token spin number payload) a = harmed_tame a _ (harmed_received m time id (record { mark = mark; spin = spin }) source token number payload a)
   tame_opening m time mark None (Opened source token spin number payload) a = tame_move (Tell (did.Piece None None verdict.Ignored)) a (same_tell (did.Piece None None verdict.Ignored) a.state)
@@ -485,6 +505,7 @@ module _ {t : Types} where
       let b : At t = datagram_after m time ecn remote bytes a in
       let tame = tame_datagram m time ecn remote bytes a in
       same_next s a.state b.state (same_clock time s) (tame.same (subst (λ (es : List Did). list_all is_harmless es ≡ true) (is_did ∙ tame.appended) h))
+  same_called m (input.Timeout time) s ds is_one is_did h = cc
   same_called m (input.Transmit time max) s ds is_one is_did h = cc
   same_called m (input.Close time code reason) s ds is_one is_did h = cc
   same_called m (input.Ping time) s ds is_one is_did h = cc

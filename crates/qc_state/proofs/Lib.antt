@@ -6,8 +6,10 @@ pub mod AcksBefore
 mod AcksKnown
 pub mod DatagramLaws
 pub mod Expansions
+pub mod Expired
 pub mod HarmlessBytes
 pub mod Joins
+pub mod KeysHold
 pub mod OnlyOnce
 pub mod PathsHold
 pub mod Receives

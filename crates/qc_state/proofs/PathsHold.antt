@@ -21,6 +21,9 @@ use Rattle.qc_state.specs.declared.deeds.Quiet.TheVariants.{NothingOwed, Silent,
 use Rattle.qc_state.specs.declared.input.Input.{Input}
 use Rattle.qc_state.specs.declared.input.Input.TheVariants as input
 use Rattle.qc_state.specs.declared.life.Close.{Close}
+use Rattle.qc_state.specs.declared.life.Close.TheVariants as close
+use Rattle.qc_state.specs.declared.life.ConnectionError.{ConnectionError}
+use Rattle.qc_state.specs.declared.life.ConnectionError.TheVariants as lost
 use Rattle.qc_state.specs.declared.life.State.TheVariants.{Drained}
 use Rattle.qc_state.specs.declared.paths.Paths.{Paths}
 use Rattle.qc_state.specs.declared.trace.Step.{Step}
@@ -33,11 +36,14 @@ use Rattle.qc_state.specs.PathLaws.{PathHolds, all_from, bytes_from, is_handshak
 use Rattle.qc_state.specs.Paths.{is_blocked, path_accepted, path_received, path_sent, path_spun, peer_fixed, same_address, spun_by}
 use Rattle.qc_state.specs.Receiving.{cut_of, datagram_after, first_after, first_token, heard_after, is_readable, lets_in, pieces_after}
 use Rattle.qc_state.specs.Run.{IsAllowed, IsStep, Run, began, called, close_after, input_after, packets_of, reported, step_after, time_of}
-use Rattle.qc_state.specs.Sending.{MaySeal, MayTransmit, drops_initial, given_after, initial_left, internal_error, is_silent, killed_after, owed_quiet_after, owes, packet_after, packet_size, quiet_after, sealed_in, sending_space, transmit_after}
+use Rattle.qc_state.specs.Sending.{MaySeal, MayTransmit, drops_initial, initial_left, is_key_nearly_used_up, is_silent, limit_met, owed_quiet_after, owes, packet_after, packet_size, quiet_after, sealed_in, sending_space, spared_after, transmit_after}
+use Rattle.qc_state.specs.Stopping.{given_after, key_limit_error, killed_after, stopped_after}
 use Rattle.qc_state.specs.Setup.{is_first_awaited}
+use Rattle.qc_state.specs.Timeouts.{timeout_after}
 use Rattle.qc_state.specs.Types.{Types, Meaning}
 use Rattle.qc_state.specs.View.{View, At, at}
 use Rattle.qc_state.specs.Waiting.{is_calm}
+use Rattle.qc_state.proofs.Expired.{IsTimed, holds_timeout}
 use Rattle.qc_state.proofs.Receives.{IsInPacket, holds_pieces}
 
 -- nothing changes of the counts of a path, nor of its address, and an address that is validated stays so
@@ -233,6 +239,7 @@ module _ {t : Types} where
   still_move (Leave time) r a h = deed_at (Leave time) _ a refl (still_here a.state.paths) (λ v. inl v)
   still_move Owe r a h = silent_at Owe a refl (still_here a.state.paths) (λ v. inl v)
   still_move (Shut time close) r a h = deed_at (Shut time close) _ a refl (still_here a.state.paths) (λ v. inl v)
+  still_move (Raise to) r a h = deed_at (Raise to) _ a refl (still_here a.state.paths) (λ v. inl v)
   still_move (Give why) r a h = deed_at (Give why) _ a refl (still_here a.state.paths) (λ v. inl v)
   still_move _ r a h = absurd r
 
@@ -285,19 +292,19 @@ module _ {t : Types} where
   path_datagram m time mark from bytes s = datagram_by m time mark from bytes (first_token m s from bytes) s (is_first_awaited s.setup)
 
   -- a transmit that sends nothing
-  quiet_paths : (a : At t) (x y u z : Bool) →
+  quiet_paths : (why : ConnectionError) (a : At t) (x y u z : Bool) →
       let b : At t = move_to (Raise Drained) a in
-      (if x then move_to (Say Silent) a else if y then (if u then move_to (Say Amplification) a else move_to (Say Killed) (if z then move_to (Give internal_error) b else b)) else move_to (Say NothingOwed) a).state.paths ≡ a.state.paths
+      (if x then move_to (Say Silent) a else if y then (if u then move_to (Say Amplification) a else move_to (Say Killed) (if z then move_to (Give why) b else b)) else move_to (Say NothingOwed) a).state.paths ≡ a.state.paths
   unfolding move_to state_move paths_move
-  quiet_paths a true y u z = refl
-  quiet_paths a false true true z = refl
-  quiet_paths a false true false true = refl
-  quiet_paths a false true false false = refl
-  quiet_paths a false false u z = refl
+  quiet_paths why a true y u z = refl
+  quiet_paths why a false true true z = refl
+  quiet_paths why a false true false true = refl
+  quiet_paths why a false true false false = refl
+  quiet_paths why a false false u z = refl
 
   path_quiet : (a : At t) → (quiet_after a).state.paths ≡ a.state.paths
   unfolding quiet_after owed_quiet_after killed_after given_after
-  path_quiet a = quiet_paths a (is_silent a.state) (owes a.state) (is_blocked a.state.paths) (is_none (move_to (Raise Drained) a).state.life.reason)
+  path_quiet a = quiet_paths (limit_met a.state) a (is_silent a.state) (owes a.state) (is_blocked a.state.paths) (is_none (move_to (Raise Drained) a).state.life.reason)
 
   -- leaving the Initial space
   left_paths : (a : At t) (x y : Bool) → let b : At t = move_to (Forget Initial) a in
@@ -311,12 +318,27 @@ module _ {t : Types} where
   unfolding initial_left calmed
   path_left id a = left_paths a (drops_initial Client a.state id) (is_calm (move_to (Forget Initial) a).state.waiting)
 
+  -- this end closes behind a packet, or not
+  stopped_paths : (time : ℕ) (as_told : Close) (why : ConnectionError) (a : At t) (x y : Bool) → let b : At t = move_to (Shut time as_told) a in
+      (if x then (if y then move_to (Give why) b else b) else a).state.paths ≡ a.state.paths
+  unfolding move_to state_move paths_move
+  stopped_paths time as_told why a true true = refl
+  stopped_paths time as_told why a true false = refl
+  stopped_paths time as_told why a false y = refl
+
+  path_spared : (time : ℕ) (nearly : Bool) (a : At t) → (spared_after time nearly a).state.paths ≡ a.state.paths
+  unfolding spared_after stopped_after given_after
+  path_spared time true a =
+      let why : Close = close.Connection (record { error_code = key_limit_error.code; frame_type = key_limit_error.frame; reason = [] }) in
+      stopped_paths time why (lost.TransportError key_limit_error) a (is_open a.state.life.state) (is_none (move_to (Shut time why) a).state.life.reason)
+  path_spared time false a = refl
+
   path_packet : (time : ℕ) (fs : List FrameValue) (ds : List Did) (a : At t) → MaySeal time a.state fs → PathHolds 0 ds a.state.paths (packet_after time fs a).state.paths
   unfolding packet_after sealed_in move_to state_move paths_move
   path_packet time fs ds a may =
       let id : SpaceId = sending_space a.state in
       let b : At t = move_to (Seal time id (next_number a.state.numbers id) (packet_size a.state id fs) fs) (move_to (Take id fs) a) in
-      subst (λ (p : Paths). PathHolds 0 ds a.state.paths p) (sym (path_left id b)) (sent_path 0 ds a.state.paths (packet_size a.state id fs) may.fits may.free)
+      subst (λ (p : Paths). PathHolds 0 ds a.state.paths p) (sym (path_spared time (is_key_nearly_used_up a.state) (initial_left Client id b) ∙ path_left id b)) (sent_path 0 ds a.state.paths (packet_size a.state id fs) may.fits may.free)
 
   path_transmit : (time : ℕ) (ps : List (List FrameValue)) (ds : List Did) (a : At t) → MayTransmit time a.state ps → PathHolds 0 ds a.state.paths (transmit_after time ps a).state.paths
   unfolding MayTransmit transmit_after
@@ -330,10 +352,24 @@ module _ {t : Types} where
   path_close time close ds a true = unchanged 0 ds a.state.paths
   path_close time close ds a false = unchanged 0 ds a.state.paths
 
+  -- what a timer does leaves the path
+  timed_paths : (x : Move t) → IsTimed x → (a : At t) → MayMove x a.state → (move_to x a).state.paths ≡ a.state.paths
+  unfolding move_to state_move paths_move
+  timed_paths Calm r a h = refl
+  timed_paths (Raise to) r a h = refl
+  timed_paths (Give why) r a h = refl
+  timed_paths _ r a h = absurd r
+
+  -- and so does a timeout
+  path_timeout : (time : ℕ) (ds : List Did) (a : At t) → PathHolds 0 ds a.state.paths (timeout_after time a).state.paths
+  path_timeout time ds a =
+      subst (λ (p : Paths). PathHolds 0 ds a.state.paths p) (sym (holds_timeout (λ (b c : At t). c.state.paths ≡ b.state.paths) (λ b. refl) (λ b c d g h. h ∙ g) timed_paths time a)) (unchanged 0 ds a.state.paths)
+
   -- each input
   path_input : (m : Meaning t) (i : Input) (ds : List Did) (s : View t) → IsAllowed i ds s → let r : At t = input_after m i ds (at s []) in PathHolds (bytes_from s.paths.remote i) r.did s.paths r.state.paths
   unfolding IsAllowed input_after close_after move_to state_move paths_move
   path_input m (input.Datagram time from ecn bytes) ds s may = path_datagram m time ecn from bytes s
+  path_input m (input.Timeout time) ds s may = path_timeout time _ (at s [])
   path_input m (input.Transmit time max) ds s may = path_transmit time (packets_of ds) _ (at s []) may
   path_input m (input.Close time code reason) ds s may = path_close time _ _ (at s []) (is_open s.life.state)
   path_input m (input.Ping time) ds s may = unchanged 0 _ s.paths

@@ -1,6 +1,6 @@
 -- What holds of each move that receiving makes holds of a datagram.
 use Rattle.std.proofs.Common.{◌≡◌, ℕ, ◌<◌, List, [], ◌∷◌, length, refl, sym, ◌∙◌, subst, Bool, true, false, Option, Some, None, if◌then◌else◌, arith}
-use Rattle.std.specs.Prelude.{zero, suc, ◌-◌, ◌==◌, min, is_none, not, ◌&&◌, Result, Ok, Err}
+use Rattle.std.specs.Prelude.{zero, suc, ◌-◌, ◌==◌, min, is_none, not, ◌&&◌, Result, Ok, Err, option_map, IfSome}
 use Rattle.std.specs.List.{list_any}
 use Rattle.std.specs.declared.net.SocketAddr.{SocketAddr}
 use Rattle.qc_base.specs.declared.ecn.EcnCodepoint.{EcnCodepoint}
@@ -17,6 +17,8 @@ use Rattle.qc_frame.specs.declared.frames.FrameOf.TheVariants as frames
 use Rattle.qc_header.specs.HeaderGrammar.{DatagramItem}
 use Rattle.qc_header.specs.Piece.{Piece, space_of}
 use Rattle.qc_params.specs.declared.params.TransportParameters.{TransportParameters}
+use Rattle.qc_crypto.specs.declared.keys.Keys.{Keys}
+use Rattle.qc_state.specs.declared.keys.SpaceKeys.{SpaceKeys}
 use Rattle.qc_state.specs.declared.deeds.Did.TheVariants as did
 use Rattle.qc_state.specs.declared.deeds.Layer.TheVariants as layer
 use Rattle.qc_state.specs.declared.deeds.Verdict.{Verdict}
@@ -29,15 +31,16 @@ use Rattle.qc_state.specs.declared.life.State.TheVariants as state
 use Rattle.qc_state.specs.declared.opening.Opening.{Opening}
 use Rattle.qc_state.specs.declared.opening.Signs.{Signs}
 use Rattle.qc_state.specs.declared.opening.Opening.TheVariants.{Unreadable, Unopened, Reserved, Opened}
-use Rattle.qc_state.specs.Life.{rank_of, is_open, is_closed, is_handshake, token_learned, identifiers_wanted}
+use Rattle.qc_state.specs.Keys.{fails_too_often, new_keys}
+use Rattle.qc_state.specs.Life.{rank_of, is_open, is_closed, is_handshake, is_over, token_learned, identifiers_wanted}
 use Rattle.qc_state.specs.Lower.{ready_bytes, stream_of}
-use Rattle.qc_state.specs.Moves.{Move, Give, Forget, Enter, Expect, Fail, Accept, Fix, Hear, Ack, Calm, Come, Read, Write, Ready, Token, Learn, Want, Confirm, Establish, Tell, Drain, Leave, Owe, Shut, move_to, state_move, life_move, MayMove, accepts, enters, calmed}
+use Rattle.qc_state.specs.Moves.{Move, Give, Forget, Enter, Expect, Fail, Accept, Fix, Hear, Ack, Calm, Come, Read, Write, Ready, Token, Learn, Want, Confirm, Establish, Tell, Drain, Leave, Owe, Shut, Raise, move_to, state_move, life_move, MayMove, accepts, enters, calmed}
 use Rattle.qc_state.specs.Numbers.{is_new_in}
 use Rattle.qc_state.specs.Opening.{opening_of}
 use Rattle.qc_state.specs.Progress.{is_written, write_after, writes_after, written_after, ids_fit, token_after, learned_with, parameters_and, is_end, ended_after, progress_after, learned_after, over_after}
-use Rattle.qc_state.specs.Receiving.{reason_of, is_close_item, is_eliciting_item, left_after, acked_after, confirmed_after, applied_after, close_given, closed_in_data, close_and, end_after, crypto_stop, answered_and, given_and, kept_and, crypto_and, taken_and, frame_and, read_and, items_after, payload_after, fixes_peer, fixed_after, piece_told, read_for_close, admitted_after, verdict_after, received_after, opening_after, piece_after, pieces_after, cut_of, datagram_after, accepted_after, heard_after, first_token, first_after}
-use Rattle.qc_state.specs.Sending.{given_after, initial_left, drops_initial}
-use Rattle.qc_state.specs.Stopping.{missing_parameters, parameter_error, violation_at, stopped_after}
+use Rattle.qc_state.specs.Receiving.{reason_of, is_close_item, is_eliciting_item, left_after, acked_after, confirmed_after, applied_after, close_given, closed_in_data, close_and, end_after, crypto_stop, answered_and, given_and, kept_and, crypto_and, taken_and, frame_and, read_and, items_after, payload_after, fixes_peer, fixed_after, piece_told, read_for_close, admitted_after, verdict_after, received_after, failed_after, opening_after, piece_after, pieces_after, cut_of, datagram_after, accepted_after, heard_after, first_token, first_after}
+use Rattle.qc_state.specs.Sending.{initial_left, drops_initial}
+use Rattle.qc_state.specs.Stopping.{given_after, key_limit_error, killed_after, missing_parameters, parameter_error, stopped_after, violation_at}
 use Rattle.qc_state.specs.Types.{Types, Meaning}
 use Rattle.qc_state.specs.Verdicts.{first_row, verdict_of}
 use Rattle.qc_state.specs.View.{At}
@@ -70,6 +73,14 @@ open_low state.Closed h = cc
 open_low state.Draining h = cc
 open_low state.Drained h = cc
 
+-- a connection that isn't over has not ended
+lively_rank : (s : State) → is_over s ≡ false → rank_of s < 4
+lively_rank state.Handshake h = omega arith
+lively_rank state.Established h = omega arith
+lively_rank state.Closed h = omega arith
+lively_rank state.Draining h = cc
+lively_rank state.Drained h = cc
+
 -- while the handshake goes on the rank is the least
 handshake_rank : (s : State) → is_handshake s ≡ true → rank_of s < 1
 handshake_rank state.Handshake h = omega arith
@@ -83,6 +94,14 @@ first_holds : (a b : Bool) → (a && b) ≡ true → a ≡ true
 first_holds true b h = refl
 first_holds false b h = cc
 
+-- keys under which nothing was sealed yet, if there are any
+abbrev pub AreUnused : {H P : Type 0} → Option (SpaceKeys H P) → Type 0
+AreUnused keys = IfSome keys (λ k. k.sealed ≡ 0)
+
+new_unused : {H P : Type 0} (seals failures : P → ℕ) (keys : Option (Keys H P)) → AreUnused (option_map (new_keys seals failures) keys)
+new_unused seals failures None = tt
+new_unused seals failures (Some k) = refl
+
 -- the moves that a packet which came makes
 abbrev pub IsInPacket : {t : Types} → Move t → Type 0
 IsInPacket (Forget id) = Unit {0}
@@ -94,7 +113,7 @@ IsInPacket (Ack id n rs) = Unit {0}
 IsInPacket Calm = Unit {0}
 IsInPacket (Come id offset bytes) = Unit {0}
 IsInPacket (Read id count session) = Unit {0}
-IsInPacket (Write bytes keys session) = Unit {0}
+IsInPacket (Write bytes keys session) = AreUnused keys
 IsInPacket Ready = Unit {0}
 IsInPacket (Token token) = Unit {0}
 IsInPacket (Learn parameters) = Unit {0}
@@ -106,6 +125,7 @@ IsInPacket Drain = Unit {0}
 IsInPacket (Leave time) = Unit {0}
 IsInPacket Owe = Unit {0}
 IsInPacket (Shut time close) = Unit {0}
+IsInPacket (Raise to) = Unit {0}
 IsInPacket (Give why) = Unit {0}
 IsInPacket _ = ⊥
 
@@ -116,7 +136,7 @@ IsReceived (Hear bytes) = Unit {0}
 IsReceived x = IsInPacket x
 
 -- those of a packet among them
-in_packet_received : {t : Types} (x : Move t) → IsInPacket x → IsReceived x
+pub in_packet_received : {t : Types} (x : Move t) → IsInPacket x → IsReceived x
 in_packet_received (Expect token) h = tt
 in_packet_received (Hear bytes) h = tt
 in_packet_received _ h = h
@@ -148,7 +168,7 @@ module _ {t : Types} (R : At t → At t → Type 0) (here : (a : At t) → R a a
   given_by why a true h = move (Give why) tt a (is_none_none a.state.life.reason h)
   given_by why a false h = here a
 
-  holds_given : (why : ConnectionError) (a : At t) → R a (given_after why a)
+  pub holds_given : (why : ConnectionError) (a : At t) → R a (given_after why a)
   unfolding given_after
   holds_given why a = given_by why a _ refl
 
@@ -220,7 +240,7 @@ module _ {t : Types} (R : At t → At t → Type 0) (here : (a : At t) → R a a
   -- the session writes once
   holds_write : (m : Meaning t) (a : At t) → R a (write_after m a)
   unfolding write_after MayMove
-  holds_write m a = move (Write (m.writes a.state.lower.session) (m.write_keys a.state.lower.session) (m.after_write a.state.lower.session)) tt a tt
+  holds_write m a = move (Write (m.writes a.state.lower.session) (option_map (new_keys m.seal_limit m.failure_limit) (m.write_keys a.state.lower.session)) (m.after_write a.state.lower.session)) (new_unused m.seal_limit m.failure_limit (m.write_keys a.state.lower.session)) a tt
 
   -- it writes once and more, or not at all
   writes_by : (n : ℕ) (m : Meaning t) (a : At t) (b : Bool) → R (write_after m a) (writes_after n m (write_after m a)) → R a (if b then a else writes_after n m (write_after m a))
@@ -436,28 +456,41 @@ module _ {t : Types} (R : At t → At t → Type 0) (here : (a : At t) → R a a
       (λ h. new_by (is_new_in a.state.numbers space number) (is_closed a.state.life.state) _ _ (verdict_of a.state space source token number) refl h)
       (λ e. closed_by_row (is_new_in a.state.numbers space number) (is_closed a.state.life.state) _ _ e)
 
-  holds_opening : (m : Meaning t) (time : ℕ) (mark : Option EcnCodepoint) (space : Option SpaceId) (o : Opening) (a : At t) → R a (opening_after m time mark space o a)
-  unfolding MayMove
-  holds_opening m time mark space Unreadable a = move (Tell (did.Piece space None verdict.Ignored)) tt a refl
-  holds_opening m time mark space Unopened a =
+  -- the connection ends at once, or not
+  killed_by : (why : ConnectionError) (a : At t) (b : Bool) → rank_of a.state.life.state < 4 → R a (if b then killed_after why a else a)
+  unfolding killed_after MayMove
+  killed_by why a true h = let b : At t = move_to (Raise state.Drained) a in next a b _ (move (Raise state.Drained) tt a h) (holds_given why b)
+  killed_by why a false h = here a
+
+  -- a packet didn't open
+  holds_failed : (space : Option SpaceId) (a : At t) → rank_of a.state.life.state < 4 → R a (failed_after space a)
+  unfolding failed_after MayMove move_to state_move life_move
+  holds_failed space a low =
       let b : At t = move_to Fail a in
-      next a b _ (move Fail tt a tt) (move (Tell (did.Piece space None verdict.Failure)) tt b refl)
-  holds_opening m time mark space (Reserved number) a =
+      let c : At t = move_to (Tell (did.Piece space None verdict.Failure)) b in
+      next a b _ (move Fail tt a tt)
+      (next b c _ (move (Tell (did.Piece space None verdict.Failure)) tt b refl) (killed_by (lost.TransportError key_limit_error) c (fails_too_often c.state.keys) low))
+
+  holds_opening : (m : Meaning t) (time : ℕ) (mark : Option EcnCodepoint) (space : Option SpaceId) (o : Opening) (a : At t) → is_over a.state.life.state ≡ false → R a (opening_after m time mark space o a)
+  unfolding MayMove
+  holds_opening m time mark space Unreadable a h = move (Tell (did.Piece space None verdict.Ignored)) tt a refl
+  holds_opening m time mark space Unopened a h = holds_failed space a (lively_rank a.state.life.state h)
+  holds_opening m time mark space (Reserved number) a h =
       let b : At t = move_to (Tell (did.Piece space (Some number) verdict.BadBits)) a in
       next a b _ (move (Tell (did.Piece space (Some number) verdict.BadBits)) tt a refl) (holds_stopped time (violation_at None) b)
-  holds_opening m time mark (Some space) (Opened source token spin number payload) a = holds_received m time space (record { mark = mark; spin = spin }) source token number payload a
-  holds_opening m time mark None (Opened source token spin number payload) a = move (Tell (did.Piece None None verdict.Ignored)) tt a refl
+  holds_opening m time mark (Some space) (Opened source token spin number payload) a h = holds_received m time space (record { mark = mark; spin = spin }) source token number payload a
+  holds_opening m time mark None (Opened source token spin number payload) a h = move (Tell (did.Piece None None verdict.Ignored)) tt a refl
 
-  piece_by : (m : Meaning t) (time : ℕ) (mark : Option EcnCodepoint) (p : Piece) (a : At t) (b : Bool) → R a (if b then piece_told (space_of p.header) None verdict.Ignored a else opening_after m time mark (space_of p.header) (opening_of m a.state p) a)
+  piece_by : (m : Meaning t) (time : ℕ) (mark : Option EcnCodepoint) (p : Piece) (a : At t) (b : Bool) → is_over a.state.life.state ≡ b → R a (if b then piece_told (space_of p.header) None verdict.Ignored a else opening_after m time mark (space_of p.header) (opening_of m a.state p) a)
   unfolding MayMove
-  piece_by m time mark p a true = move (Tell (did.Piece (space_of p.header) None verdict.Ignored)) tt a refl
-  piece_by m time mark p a false = holds_opening m time mark (space_of p.header) (opening_of m a.state p) a
+  piece_by m time mark p a true h = move (Tell (did.Piece (space_of p.header) None verdict.Ignored)) tt a refl
+  piece_by m time mark p a false h = holds_opening m time mark (space_of p.header) (opening_of m a.state p) a h
 
   pub holds_pieces : (m : Meaning t) (time : ℕ) (mark : Option EcnCodepoint) (items : List DatagramItem) (a : At t) → R a (pieces_after m time mark items a)
   unfolding piece_after
   holds_pieces m time mark [] a = here a
   holds_pieces m time mark (Err fault ∷ items) a = here a
-  holds_pieces m time mark (Ok p ∷ items) a = next a (piece_after m time mark p a) _ (piece_by m time mark p a _) (holds_pieces m time mark items (piece_after m time mark p a))
+  holds_pieces m time mark (Ok p ∷ items) a = next a (piece_after m time mark p a) _ (piece_by m time mark p a _ refl) (holds_pieces m time mark items (piece_after m time mark p a))
 
 -- what holds of these, and of each move that receiving makes, holds of a datagram
 module _ {t : Types} (R : At t → At t → Type 0) (here : (a : At t) → R a a) (next : (a b c : At t) → R a b → R b c → R a c)

@@ -29,7 +29,7 @@ use Rattle.qc_state.specs.Keys.{keys_of}
 use Rattle.qc_state.specs.Moves.{Take, Seal, state_move, move_to, numbers_move, keys_move, life_move, paths_move, timers_move, waiting_move, setup_move, lower_move, deeds_move}
 use Rattle.qc_state.specs.Numbers.{next_number, acked_number}
 use Rattle.qc_state.specs.Paths.{is_blocked}
-use Rattle.qc_state.specs.Sending.{close_frame, told_code, told_type, told_application_code, application_close, told_close, closing_frame, IsKeptReason, close_room, Closes, Carries, TakenNow, owes_in, sending_space, owes, is_past_limit, is_used_up, may_be_quiet, header_in, header_of, sealed_with, packet_bytes, initial_left, sealed_in, packet_after, quiet_after, transmit_after, MayTransmit, transmit_bytes, transmit_with, transmit_of, SealsOne, Transmits, is_silent, fills, packet_size, least_size, padding_of, padded}
+use Rattle.qc_state.specs.Sending.{close_frame, told_code, told_type, told_application_code, application_close, told_close, closing_frame, IsKeptReason, close_room, Closes, Carries, TakenNow, owes_in, sending_space, owes, is_past_limit, is_used_up, is_key_used_up, is_key_nearly_used_up, may_be_quiet, header_in, header_of, sealed_with, packet_bytes, initial_left, sealed_in, spared_after, packet_after, quiet_after, transmit_after, MayTransmit, transmit_bytes, transmit_with, transmit_of, SealsOne, Transmits, is_silent, fills, packet_size, least_size, padding_of, padded}
 use Rattle.qc_state.specs.Spaces.{space_of, with_space}
 use Rattle.qc_state.specs.Types.{Types, Meaning}
 use Rattle.qc_state.specs.View.{View, At, at}
@@ -41,27 +41,35 @@ and_right : (a b : Bool) → (a && b) ≡ true → b ≡ true
 and_right true b h = h
 and_right false b h = cc
 
--- none of three tests holds
-not_quiet_1 : (a b c d : Bool) → (a || not b || c || d) ≡ false → a ≡ false
-not_quiet_1 true b c d h = cc
-not_quiet_1 false b c d h = refl
+-- none of the tests of silence holds
+not_quiet_1 : (a b c k d : Bool) → (a || not b || c || k || d) ≡ false → a ≡ false
+not_quiet_1 true b c k d h = cc
+not_quiet_1 false b c k d h = refl
 
-not_quiet_2 : (a b c d : Bool) → (a || not b || c || d) ≡ false → b ≡ true
-not_quiet_2 true b c d h = cc
-not_quiet_2 false true c d h = refl
-not_quiet_2 false false c d h = cc
+not_quiet_2 : (a b c k d : Bool) → (a || not b || c || k || d) ≡ false → b ≡ true
+not_quiet_2 true b c k d h = cc
+not_quiet_2 false true c k d h = refl
+not_quiet_2 false false c k d h = cc
 
-not_quiet_3 : (a b c d : Bool) → (a || not b || c || d) ≡ false → d ≡ false
-not_quiet_3 true b c d h = cc
-not_quiet_3 false true true d h = cc
-not_quiet_3 false true false d h = h
-not_quiet_3 false false c d h = cc
+not_quiet_3 : (a b c k d : Bool) → (a || not b || c || k || d) ≡ false → d ≡ false
+not_quiet_3 true b c k d h = cc
+not_quiet_3 false true true k d h = cc
+not_quiet_3 false true false true d h = cc
+not_quiet_3 false true false false d h = h
+not_quiet_3 false false c k d h = cc
 
-not_quiet_4 : (a b c d : Bool) → (a || not b || c || d) ≡ false → c ≡ false
-not_quiet_4 true b c d h = cc
-not_quiet_4 false true true d h = cc
-not_quiet_4 false true false d h = refl
-not_quiet_4 false false c d h = cc
+not_quiet_4 : (a b c k d : Bool) → (a || not b || c || k || d) ≡ false → c ≡ false
+not_quiet_4 true b c k d h = cc
+not_quiet_4 false true true k d h = cc
+not_quiet_4 false true false k d h = refl
+not_quiet_4 false false c k d h = cc
+
+not_quiet_5 : (a b c k d : Bool) → (a || not b || c || k || d) ≡ false → k ≡ false
+not_quiet_5 true b c k d h = cc
+not_quiet_5 false true true k d h = cc
+not_quiet_5 false true false true d h = cc
+not_quiet_5 false true false false d h = refl
+not_quiet_5 false false c k d h = cc
 
 -- of two tests of which none holds the first doesn't hold
 neither_left : (a b : Bool) → (a || b) ≡ false → a ≡ false
@@ -215,18 +223,18 @@ module _ {t : Types} where
   padded_size_now s mid id h least size fs gs is_h is_mid is_least is_gs is_size =
       is_size ∙ ap (λ (x : ℕ). padded_size h fs x) (is_least ∙ least_kept s mid id fs is_mid) ∙ padded_size_is s id h fs is_h ∙ ap (λ (x : List FrameValue). packet_size s id x) (sym is_gs)
 
-  -- frames are taken, filled up with the PADDING that they need, sealed, and counted, and the Initial space is left where this
-  -- says so
-  pub seals_one : (m : Meaning t) (time room number size : ℕ) (space : SpaceId) (a : At t) (mid : View t) (b c : At t) (buffer : List ℕ) (fs gs : List FrameValue) (h : Header) →
+  -- frames are taken, filled up with the PADDING that they need, sealed, and counted; the Initial space is left, and this end
+  -- closes, where these say so
+  pub seals_one : (m : Meaning t) (time room number size : ℕ) (space : SpaceId) (nearly : Bool) (a : At t) (mid : View t) (b c d : At t) (buffer : List ℕ) (fs gs : List FrameValue) (h : Header) →
       may_be_quiet a.state ≡ false → space ≡ sending_space a.state → 20 ≤ room →
       TakenNow time a.state space room fs → gs ≡ padded a.state space fs →
       mid ≡ state_move (Take space fs) a.state → number ≡ next_number a.state.numbers space → size ≡ packet_size a.state space gs → size ≤ DATAGRAM_SIZE →
-      b ≡ move_to (Seal time space number size gs) (at mid a.did) → c ≡ initial_left Client space b →
+      b ≡ move_to (Seal time space number size gs) (at mid a.did) → c ≡ initial_left Client space b → nearly ≡ is_key_nearly_used_up a.state → d ≡ spared_after time nearly c →
       h ≡ header_in a.state space → buffer ≡ sealed_with m (keys_of mid.keys space) h number (frames_spelling gs) →
-      length buffer ≡ size → SealsOne m time a c buffer
+      length buffer ≡ size → SealsOne m time a d buffer
   unfolding may_be_quiet packet_after sealed_in packet_bytes header_of move_to deeds_move state_move keys_of keys_move
-  seals_one m time room number size space a mid b c buffer fs gs h loud is_space wide taken is_gs is_mid is_number is_size fits is_b is_c is_h is_buffer full =
-      let owed : owes a.state ≡ true = not_quiet_2 (is_silent a.state) (owes a.state) (is_blocked a.state.paths) (is_used_up a.state) loud in
+  seals_one m time room number size space nearly a mid b c d buffer fs gs h loud is_space wide taken is_gs is_mid is_number is_size fits is_b is_c is_nearly is_d is_h is_buffer full =
+      let owed : owes a.state ≡ true = not_quiet_2 (is_silent a.state) (owes a.state) (is_blocked a.state.paths) (is_key_used_up a.state) (is_used_up a.state) loud in
       let same : mid ≡ state_move (Take space gs) a.state = is_mid ∙ sym (ap (λ (x : List FrameValue). state_move (Take space x) a.state) is_gs ∙ take_padded space fs a.state) in
       let now : TakenNow time a.state (sending_space a.state) room fs = subst (λ (id : SpaceId). TakenNow time a.state id room fs) is_space taken in
       let filled : gs ≡ padded a.state (sending_space a.state) fs = is_gs ∙ ap (λ (id : SpaceId). padded a.state id fs) is_space in
@@ -234,18 +242,20 @@ module _ {t : Types} where
       record {
         frames = gs;
         may = record {
-          alive = not_quiet_1 (is_silent a.state) (owes a.state) (is_blocked a.state.paths) (is_used_up a.state) loud;
+          alive = not_quiet_1 (is_silent a.state) (owes a.state) (is_blocked a.state.paths) (is_key_used_up a.state) (is_used_up a.state) loud;
           owed = owed;
-          free = not_quiet_4 (is_silent a.state) (owes a.state) (is_blocked a.state.paths) (is_used_up a.state) loud;
-          spelled = not_quiet_3 (is_silent a.state) (owes a.state) (is_blocked a.state.paths) (is_used_up a.state) loud;
+          free = not_quiet_4 (is_silent a.state) (owes a.state) (is_blocked a.state.paths) (is_key_used_up a.state) (is_used_up a.state) loud;
+          fresh = not_quiet_5 (is_silent a.state) (owes a.state) (is_blocked a.state.paths) (is_key_used_up a.state) (is_used_up a.state) loud;
+          spelled = not_quiet_3 (is_silent a.state) (owes a.state) (is_blocked a.state.paths) (is_key_used_up a.state) (is_used_up a.state) loud;
           carries = carries time a.state room fs gs owed wide now filled;
           fits = subst (λ (x : ℕ). x ≤ DATAGRAM_SIZE) whole fits;
         };
-        leads = is_c ∙ ap (λ (x : At t). initial_left Client space x) is_b
+        leads = is_d ∙ ap (λ (x : At t). spared_after time nearly x) (is_c ∙ ap (λ (x : At t). initial_left Client space x) is_b
             ∙ ap (λ (x : View t). initial_left Client space (move_to (Seal time space number size gs) (at x a.did))) same
             ∙ ap (λ (x : ℕ). initial_left Client space (move_to (Seal time space x size gs) (move_to (Take space gs) a))) is_number
             ∙ ap (λ (x : ℕ). initial_left Client space (move_to (Seal time space (next_number a.state.numbers space) x gs) (move_to (Take space gs) a))) is_size
-            ∙ ap (λ (id : SpaceId). sealed_in time id gs a) is_space;
+            ∙ ap (λ (id : SpaceId). sealed_in time id gs a) is_space)
+            ∙ ap (λ (x : Bool). spared_after time x (sealed_in time (sending_space a.state) gs a)) is_nearly;
         bytes = is_buffer ∙ ap (λ (x : Header). sealed_with m (keys_of mid.keys space) x number (frames_spelling gs)) is_h
             ∙ ap (λ (x : View t). sealed_with m (keys_of x.keys space) (header_in a.state space) number (frames_spelling gs)) same
             ∙ ap (λ (x : ℕ). sealed_with m (keys_of a.state.keys space) (header_in a.state space) x (frames_spelling gs)) is_number
@@ -276,20 +286,20 @@ module _ {t : Types} where
   unfolding may_be_quiet is_used_up
   loud_low s space is_space h =
       subst (λ (id : SpaceId). next_number s.numbers id < 2 ^ 62 - 1) (sym is_space)
-      (number_low (next_number s.numbers (sending_space s)) (acked_number s.numbers (sending_space s)) (not_quiet_3 (is_silent s) (owes s) (is_blocked s.paths) (is_used_up s) h))
+      (number_low (next_number s.numbers (sending_space s)) (acked_number s.numbers (sending_space s)) (not_quiet_3 (is_silent s) (owes s) (is_blocked s.paths) (is_key_used_up s) (is_used_up s) h))
 
   -- and it is near the greatest acknowledged one
   pub loud_near : (s : View t) (space : SpaceId) → space ≡ sending_space s → may_be_quiet s ≡ false → next_number s.numbers space - acked_number s.numbers space < 2 ^ 31
   unfolding may_be_quiet is_used_up
   loud_near s space is_space h =
       subst (λ (id : SpaceId). next_number s.numbers id - acked_number s.numbers id < 2 ^ 31) (sym is_space)
-      (number_near (next_number s.numbers (sending_space s)) (acked_number s.numbers (sending_space s)) (not_quiet_3 (is_silent s) (owes s) (is_blocked s.paths) (is_used_up s) h))
+      (number_near (next_number s.numbers (sending_space s)) (acked_number s.numbers (sending_space s)) (not_quiet_3 (is_silent s) (owes s) (is_blocked s.paths) (is_key_used_up s) (is_used_up s) h))
 
   -- and its space has keys, once frames were taken too
   pub loud_keyed : (s mid : View t) (space : SpaceId) (fs : List FrameValue) → space ≡ sending_space s → may_be_quiet s ≡ false → mid ≡ state_move (Take space fs) s → IsSome (keys_of mid.keys space)
   unfolding may_be_quiet owes owes_in state_move keys_move
   loud_keyed s mid space fs is_space h e =
-      ap (λ (x : View t). is_some (keys_of x.keys space)) e ∙ ap (λ (id : SpaceId). is_some (keys_of s.keys id)) is_space ∙ and_left _ _ (not_quiet_2 (is_silent s) (owes s) (is_blocked s.paths) (is_used_up s) h)
+      ap (λ (x : View t). is_some (keys_of x.keys space)) e ∙ ap (λ (id : SpaceId). is_some (keys_of s.keys id)) is_space ∙ and_left _ _ (not_quiet_2 (is_silent s) (owes s) (is_blocked s.paths) (is_key_used_up s) (is_used_up s) h)
 
   -- the header of the next packet is that of its space
   pub header_now : (s : View t) (space : SpaceId) (h : Header) → space ≡ sending_space s → h ≡ header_of s → h ≡ header_in s space
@@ -366,16 +376,16 @@ taken_room time s space h fs n room is_h is_n most is_room taken few =
 
 -- the same, from what the calls say that take the frames, fill them up to as many bytes as are asked for, seal them, and count
 -- what was sealed
-pub seals_taken : {t : Types} (m : Meaning t) (time n room number least size : ℕ) (space : SpaceId) (a : At t) (mid : View t) (b c : At t) (buffer : List ℕ) (fs gs : List FrameValue) (h : Header) →
+pub seals_taken : {t : Types} (m : Meaning t) (time n room number least size : ℕ) (space : SpaceId) (nearly : Bool) (a : At t) (mid : View t) (b c d : At t) (buffer : List ℕ) (fs gs : List FrameValue) (h : Header) →
     may_be_quiet a.state ≡ false → space ≡ sending_space a.state → h ≡ header_in a.state space → n ≡ length (header_spelling h 0) → n ≤ 61 → room ≡ 1180 - n →
     TakenNow time a.state space room fs → length (space_of a.state.waiting.spaces space).acks.ranges ≤ 64 → mid ≡ state_move (Take space fs) a.state → least ≡ least_size mid space fs →
     gs ≡ fs ++ replicate (padding_len h fs (padded_size h fs least)) Padding → number ≡ next_number a.state.numbers space → size ≡ length buffer →
-    b ≡ move_to (Seal time space number size gs) (at mid a.did) → c ≡ initial_left Client space b →
-    buffer ≡ sealed_with m (keys_of mid.keys space) h number (frames_spelling gs) → length buffer ≡ padded_size h fs least → SealsOne m time a c buffer
-seals_taken m time n room number least size space a mid b c buffer fs gs h loud is_space is_h is_n most is_room taken few is_mid is_least is_gs is_number is_size is_b is_c is_buffer full =
+    b ≡ move_to (Seal time space number size gs) (at mid a.did) → c ≡ initial_left Client space b → nearly ≡ is_key_nearly_used_up a.state → d ≡ spared_after time nearly c →
+    buffer ≡ sealed_with m (keys_of mid.keys space) h number (frames_spelling gs) → length buffer ≡ padded_size h fs least → SealsOne m time a d buffer
+seals_taken m time n room number least size space nearly a mid b c d buffer fs gs h loud is_space is_h is_n most is_room taken few is_mid is_least is_gs is_number is_size is_b is_c is_nearly is_d is_buffer full =
     let filled : gs ≡ padded a.state space fs = padded_now a.state mid space h least fs gs is_h is_mid is_least is_gs in
     let whole : size ≡ packet_size a.state space gs = padded_size_now a.state mid space h least size fs gs is_h is_mid is_least filled (is_size ∙ full) in
     let behind : length (header_spelling h 0) + length (frames_spelling fs) + 20 ≤ DATAGRAM_SIZE = taken_room time a.state space h fs n room is_h is_n most is_room taken few in
     let fits : packet_size a.state space (padded a.state space fs) ≤ DATAGRAM_SIZE = padded_fits a.state space h fs is_h (omega (arith, is_n, most)) behind in
-    seals_one m time room number size space a mid b c buffer fs gs h loud is_space (omega (arith, most, is_room)) taken filled is_mid is_number whole
-    (omega (arith, whole, fits, ap (λ (x : List FrameValue). packet_size a.state space x) filled)) is_b is_c is_h is_buffer (sym is_size)
+    seals_one m time room number size space nearly a mid b c d buffer fs gs h loud is_space (omega (arith, most, is_room)) taken filled is_mid is_number whole
+    (omega (arith, whole, fits, ap (λ (x : List FrameValue). packet_size a.state space x) filled)) is_b is_c is_nearly is_d is_h is_buffer (sym is_size)

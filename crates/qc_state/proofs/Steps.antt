@@ -7,6 +7,7 @@ use Rattle.std.specs.declared.net.SocketAddr.{SocketAddr}
 use Rattle.qc_base.specs.declared.ecn.EcnCodepoint.{EcnCodepoint}
 use Rattle.qc_frame.specs.Frame.{FrameValue}
 use Rattle.qc_state.specs.declared.deeds.Did.{Did}
+use Rattle.qc_state.specs.declared.deeds.Did.TheVariants as did
 use Rattle.qc_state.specs.declared.deeds.Quiet.TheVariants.{NothingOwed, Silent, Killed, Amplification}
 use Rattle.qc_state.specs.declared.life.State.TheVariants.{Drained}
 use Rattle.qc_base.specs.declared.side.Side.TheVariants.{Client}
@@ -16,22 +17,37 @@ use Rattle.qc_state.specs.declared.events.EndpointEvent.{EndpointEvent}
 use Rattle.qc_state.specs.declared.events.Event.{Event}
 use Rattle.qc_state.specs.declared.input.Input.{Input}
 use Rattle.qc_state.specs.declared.input.Input.TheVariants as input
+use Rattle.qc_state.specs.declared.life.Close.{Close}
+use Rattle.qc_state.specs.declared.life.Close.TheVariants as close
 use Rattle.qc_state.specs.declared.life.ConnectionError.{ConnectionError}
+use Rattle.qc_state.specs.declared.life.ConnectionError.TheVariants as lost
 use Rattle.qc_state.specs.declared.trace.Answer.{Answer}
 use Rattle.qc_state.specs.declared.trace.Answer.TheVariants.{Done, Dropped}
 use Rattle.qc_state.specs.declared.trace.Step.{Step}
 use Rattle.qc_state.specs.declared.transmit.Transmit.{Transmit}
-use Rattle.qc_state.specs.Life.{ready_event, connected_event, lost_event, waiting_events, ready_reported, connected_reported, lost_reported, token_event, wanted_event, drained_event, token_reported, wanted_reported, endpoint_events}
-use Rattle.qc_state.specs.Moves.{Ask, Clock, Take, Seal, Forget, Calm, Raise, Give, Say, ReportReady, ReportConnected, ReportLost, ReportToken, ReportWanted, ReportDrained, state_move, move_to, deeds_move, life_move, calmed}
+use Rattle.qc_state.specs.Life.{is_open, ready_event, connected_event, lost_event, waiting_events, ready_reported, connected_reported, lost_reported, token_event, wanted_event, drained_event, token_reported, wanted_reported, endpoint_events}
+use Rattle.qc_state.specs.Moves.{Ask, Clock, Take, Seal, Forget, Calm, Shut, Raise, Give, Say, ReportReady, ReportConnected, ReportLost, ReportToken, ReportWanted, ReportDrained, state_move, move_to, deeds_move, life_move, calmed}
 use Rattle.qc_state.specs.Run.{time_of, word_of, packets_of, began, close_after, input_after, called, reported, step_after, IsAllowed, out_of, answer_of, IsStep, Run, Calls, Ran, Adds}
 use Rattle.qc_state.specs.Numbers.{next_number}
 use Rattle.qc_state.specs.Receiving.{is_taken, datagram_after}
 use Rattle.qc_state.specs.Paths.{is_blocked}
-use Rattle.qc_state.specs.Sending.{internal_error, given_after, killed_after, quiet_after, packet_size, sending_space, drops_initial, initial_left, sealed_in, packet_after, transmit_after, MayTransmit, transmit_bytes, transmit_of, Transmits, owed_quiet_after, is_silent, owes}
+use Rattle.qc_state.specs.Sending.{is_key_nearly_used_up, limit_met, spared_after, quiet_after, packet_size, sending_space, drops_initial, initial_left, sealed_in, packet_after, transmit_after, MayTransmit, transmit_bytes, transmit_of, Transmits, owed_quiet_after, is_silent, owes}
+use Rattle.qc_state.specs.Stopping.{given_after, key_limit_error, killed_after, stopped_after}
+use Rattle.qc_state.specs.Timeouts.{timeout_after}
 use Rattle.qc_state.specs.Timers.{next_timeout}
 use Rattle.qc_state.specs.Types.{Types, Meaning}
 use Rattle.qc_state.specs.View.{View, At, at}
 use Rattle.qc_state.specs.Waiting.{is_calm}
+
+-- a deed behind others that seals nothing names no packet
+packets_behind : (ds : List Did) (d : Did) → packets_of (d ∷ []) ≡ [] → packets_of (ds ++ d ∷ []) ≡ packets_of ds
+packets_behind [] d h = h
+packets_behind (did.Sealed id n epoch early fs ∷ ds) d h = ap (λ (x : List (List FrameValue)). fs ∷ x) (packets_behind ds d h)
+packets_behind (did.Piece space number v ∷ ds) d h = packets_behind ds d h
+packets_behind (did.Gave layer body ∷ ds) d h = packets_behind ds d h
+packets_behind (did.Rose life ∷ ds) d h = packets_behind ds d h
+packets_behind (did.Lost why ∷ ds) d h = packets_behind ds d h
+packets_behind (did.Quiet why ∷ ds) d h = packets_behind ds d h
 
 module _ {t : Types} where
   -- deeds that seal nothing name no packets, whichever they are
@@ -57,6 +73,21 @@ module _ {t : Types} where
   left_did a true = calm_did (move_to (Forget Initial) a) (is_calm (move_to (Forget Initial) a).state.waiting)
   left_did a false = refl
 
+  -- that this end closes behind a packet names none
+  stopped_told : (time : ℕ) (as_told : Close) (why : ConnectionError) (a : At t) (x y : Bool) → let b : At t = move_to (Shut time as_told) a in
+      packets_of (if x then (if y then move_to (Give why) b else b) else a).did ≡ packets_of a.did
+  unfolding move_to deeds_move
+  stopped_told time as_told why a true true = packets_behind (a.did ++ did.Rose 2 ∷ []) (did.Lost why) refl ∙ packets_behind a.did (did.Rose 2) refl
+  stopped_told time as_told why a true false = packets_behind a.did (did.Rose 2) refl
+  stopped_told time as_told why a false y = refl
+
+  spared_told : (time : ℕ) (nearly : Bool) (a : At t) → packets_of (spared_after time nearly a).did ≡ packets_of a.did
+  unfolding spared_after stopped_after given_after
+  spared_told time true a =
+      let why : Close = close.Connection (record { error_code = key_limit_error.code; frame_type = key_limit_error.frame; reason = [] }) in
+      stopped_told time why (lost.TransportError key_limit_error) a (is_open a.state.life.state) (is_none (move_to (Shut time why) a).state.life.reason)
+  spared_told time false a = refl
+
   -- a packet's deeds name it alone
   packet_told : (time : ℕ) (s : View t) (id : SpaceId) (fs : List FrameValue) → packets_of (sealed_in time id fs (at s [])).did ≡ fs ∷ []
   unfolding sealed_in initial_left move_to deeds_move
@@ -67,8 +98,8 @@ module _ {t : Types} where
   -- a transmit's deeds name the packets that it sealed
   packets_told : (time : ℕ) (s : View t) (packets : List (List FrameValue)) → MayTransmit time s packets → packets_of (transmit_after time packets (at s [])).did ≡ packets
   unfolding MayTransmit transmit_after quiet_after owed_quiet_after killed_after given_after packet_after move_to state_move
-  packets_told time s [] may = quiet_told s internal_error (is_silent s) (owes s) (is_blocked s.paths) (is_none (state_move (Raise Drained) s).life.reason)
-  packets_told time s (fs ∷ []) may = packet_told time s (sending_space s) fs
+  packets_told time s [] may = quiet_told s (limit_met s) (is_silent s) (owes s) (is_blocked s.paths) (is_none (state_move (Raise Drained) s).life.reason)
+  packets_told time s (fs ∷ []) may = spared_told time (is_key_nearly_used_up s) (sealed_in time (sending_space s) fs (at s [])) ∙ packet_told time s (sending_space s) fs
   packets_told time s (fs ∷ gs ∷ rest) may = absurd may
 
   pub calls_transmit : (m : Meaning t) (s : View t) (time max : ℕ) (b : At t) (sent : Option Transmit) (buffer : List ℕ) (answer : Answer) →
@@ -82,6 +113,15 @@ module _ {t : Types} where
         answers = e ∙ ap (λ (x : Option Transmit). out_of x buffer) h.answer ∙ ap (λ (x : List ℕ). out_of (transmit_of h.packets (began s time).state) x) h.bytes
             ∙ ap (λ (ps : List (List FrameValue)). out_of (transmit_of ps (began s time).state) (transmit_bytes m ps (began s time).state)) (sym names);
       }
+
+  pub calls_timeout : (m : Meaning t) (s mid : View t) (time : ℕ) (ds : List Did) (b : At t) (answer : Answer) →
+      mid ≡ state_move (Clock time) s → ds ≡ [] → b ≡ timeout_after time (at mid ds) → answer ≡ Done → Calls m s (input.Timeout time) b answer
+  unfolding began input_after called IsAllowed answer_of
+  calls_timeout m s mid time ds b answer is_mid is_ds is_b e = record {
+    leads = is_b ∙ ap (λ (x : List Did). timeout_after time (at mid x)) is_ds ∙ ap (λ (x : View t). timeout_after time (at x [])) is_mid;
+    allowed = tt;
+    answers = e;
+  }
 
   pub calls_ping : (m : Meaning t) (s mid : View t) (time : ℕ) (b : View t) (ds : List Did) (answer : Answer) →
       mid ≡ state_move (Clock time) s → b ≡ state_move (Ask mid.keys.highest) mid → ds ≡ [] → answer ≡ Done → Calls m s (input.Ping time) (at b ds) answer

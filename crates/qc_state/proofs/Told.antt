@@ -25,11 +25,14 @@ use Rattle.qc_state.specs.Moves.{Move, ClosesOnly, is_close, Ask, Take, Seal, Fo
 use Rattle.qc_state.specs.Numbers.{next_number, came_in}
 use Rattle.qc_state.specs.Run.{time_of, packets_of, began, close_after, input_after, called, reported, step_after, IsAllowed, IsStep, Run, Ran}
 use Rattle.qc_state.specs.Paths.{is_blocked}
-use Rattle.qc_state.specs.Sending.{close_frame, application_close, told_close, closing_frame, Closes, is_silent, owes, sending_space, internal_error, given_after, killed_after, quiet_after, drops_initial, initial_left, sealed_in, packet_after, transmit_after, Carries, MaySeal, MayTransmit, owed_quiet_after, packet_size, padding_of, padded}
+use Rattle.qc_state.specs.Sending.{close_frame, application_close, told_close, closing_frame, Closes, is_silent, owes, sending_space, is_key_nearly_used_up, limit_met, quiet_after, drops_initial, initial_left, sealed_in, spared_after, packet_after, transmit_after, Carries, MaySeal, MayTransmit, owed_quiet_after, packet_size, padding_of, padded}
+use Rattle.qc_state.specs.Stopping.{given_after, key_limit_error, killed_after}
 use Rattle.qc_state.specs.Timers.{clock_set}
 use Rattle.qc_state.specs.Types.{Types, Meaning}
 use Rattle.qc_state.specs.View.{View, At}
 use Rattle.qc_state.proofs.Telling.{tells_append, rises, reasons, lives, closes, admits, one_at_most, low_rank, open_rank, kernel, Told, told_here, told_next, told_move, given_by}
+use Rattle.qc_state.proofs.Expired.{holds_timeout}
+use Rattle.qc_state.proofs.Receives.{holds_stopped}
 use Rattle.qc_state.proofs.ToldReceiving.{told_datagram}
 
 -- a connection that isn't silent has not ended, and it owes a close once it has closed
@@ -79,12 +82,12 @@ module _ {t : Types} where
   unfolding killed_after given_after MayMove
   told_killed id why a h = told_next id a (move_to (Raise state.Drained) a) _ (told_move id (Raise state.Drained) a (low_rank a.state.life.state h)) (given_by id why (move_to (Raise state.Drained) a) _ refl)
 
-  quiet_by : (id : SpaceId) (a : At t) (x y z : Bool) → is_silent a.state ≡ x → Told id a (if x then move_to (Say Silent) a else if y then (if z then move_to (Say Amplification) a else move_to (Say Killed) (killed_after internal_error a)) else move_to (Say NothingOwed) a)
+  quiet_by : (id : SpaceId) (why : ConnectionError) (a : At t) (x y z : Bool) → is_silent a.state ≡ x → Told id a (if x then move_to (Say Silent) a else if y then (if z then move_to (Say Amplification) a else move_to (Say Killed) (killed_after why a)) else move_to (Say NothingOwed) a)
   unfolding MayMove is_silent
-  quiet_by id a true y z h = told_move id (Say Silent) a tt
-  quiet_by id a false true true h = told_move id (Say Amplification) a tt
-  quiet_by id a false true false h = told_next id a (killed_after internal_error a) _ (told_killed id internal_error a (loud_alive a.state.life.state a.state.waiting.close_owed h)) (told_move id (Say Killed) (killed_after internal_error a) tt)
-  quiet_by id a false false z h = told_move id (Say NothingOwed) a tt
+  quiet_by id why a true y z h = told_move id (Say Silent) a tt
+  quiet_by id why a false true true h = told_move id (Say Amplification) a tt
+  quiet_by id why a false true false h = told_next id a (killed_after why a) _ (told_killed id why a (loud_alive a.state.life.state a.state.waiting.close_owed h)) (told_move id (Say Killed) (killed_after why a) tt)
+  quiet_by id why a false false z h = told_move id (Say NothingOwed) a tt
 
   -- an ACK and a close hold a close
   closes_close : (time : ℕ) (s : View t) (id : SpaceId) (gs : List FrameValue) → Closes time s id gs → list_any is_close gs ≡ true
@@ -118,10 +121,16 @@ module _ {t : Types} where
   told_left_by id a true = told_next id a (move_to (Forget Initial) a) _ (told_move id (Forget Initial) a tt) (told_calm_by id (move_to (Forget Initial) a) _)
   told_left_by id a false = told_here id a
 
+  -- this end closes behind a packet, or not
+  told_spared : (id : SpaceId) (time : ℕ) (nearly : Bool) (a : At t) → Told id a (spared_after time nearly a)
+  unfolding spared_after
+  told_spared id time true a = holds_stopped (Told id) (told_here id) (told_next id) (λ x received b may. told_move id x b may) time key_limit_error a
+  told_spared id time false a = told_here id a
+
   -- a packet is sealed
-  told_packet : (id : SpaceId) (time : ℕ) (fs : List FrameValue) (a : At t) → MaySeal time a.state fs → Told id a (packet_after time fs a)
-  unfolding packet_after sealed_in initial_left MayMove move_to state_move numbers_move life_move
-  told_packet id time fs a may =
+  told_sealed : (id : SpaceId) (time : ℕ) (fs : List FrameValue) (a : At t) → MaySeal time a.state fs → Told id a (sealed_in time (sending_space a.state) fs a)
+  unfolding sealed_in initial_left MayMove move_to state_move numbers_move life_move
+  told_sealed id time fs a may =
       let space : SpaceId = sending_space a.state in
       let b : At t = move_to (Take space fs) a in
       let seal : Move t = Seal time space (next_number a.state.numbers space) (packet_size a.state space fs) fs in
@@ -129,9 +138,15 @@ module _ {t : Types} where
       told_next id a b _ (told_move id (Take space fs) a tt)
       (told_next id b c _ (told_move id seal b (refl, closes_only time a.state fs may)) (told_left_by id c (drops_initial Client c.state space)))
 
+  told_packet : (id : SpaceId) (time : ℕ) (fs : List FrameValue) (a : At t) → MaySeal time a.state fs → Told id a (packet_after time fs a)
+  unfolding packet_after
+  told_packet id time fs a may =
+      let b : At t = sealed_in time (sending_space a.state) fs a in
+      told_next id a b _ (told_sealed id time fs a may) (told_spared id time (is_key_nearly_used_up a.state) b)
+
   told_transmit : (id : SpaceId) (time : ℕ) (ps : List (List FrameValue)) (a : At t) → MayTransmit time a.state ps → Told id a (transmit_after time ps a)
   unfolding MayTransmit transmit_after quiet_after owed_quiet_after
-  told_transmit id time [] a may = quiet_by id a (is_silent a.state) (owes a.state) (is_blocked a.state.paths) refl
+  told_transmit id time [] a may = quiet_by id (limit_met a.state) a (is_silent a.state) (owes a.state) (is_blocked a.state.paths) refl
   told_transmit id time (fs ∷ []) a may = told_packet id time fs a may
   told_transmit id time (fs ∷ gs ∷ rest) a may = absurd may
 
@@ -143,6 +158,7 @@ module _ {t : Types} where
   told_input : (id : SpaceId) (m : Meaning t) (i : Input) (ds : List Did) (a : At t) → IsAllowed i ds a.state → Told id a (input_after m i ds a)
   unfolding IsAllowed input_after close_after MayMove
   told_input id m (input.Datagram time remote ecn bytes) ds a h = told_datagram id m time ecn remote bytes a
+  told_input id m (input.Timeout time) ds a h = holds_timeout (Told id) (told_here id) (told_next id) (λ x timed b may. told_move id x b may) time a
   told_input id m (input.Transmit time max) ds a h = told_transmit id time (packets_of ds) a h
   told_input id m (input.Close time code reason) ds a h = closed_by id time _ a _ refl
   told_input id m (input.Ping time) ds a h = told_move id (Ask a.state.keys.highest) a tt

@@ -4,7 +4,8 @@ use Rattle.std.specs.declared.net.IpAddr.{IpAddr}
 use Rattle.qc_assembler.specs.Assembly.{nothing}
 use Rattle.qc_base.specs.declared.side.Side.{Side}
 use Rattle.qc_base.specs.declared.side.Side.TheVariants.{Client, Server}
-use Rattle.qc_crypto.specs.declared.keys.Keys.{Keys}
+use Rattle.qc_state.specs.declared.keys.SpaceKeys.{SpaceKeys}
+use Rattle.qc_state.specs.Keys.{new_keys}
 use Rattle.qc_base.specs.declared.side.SpaceId.TheVariants as space
 use Rattle.qc_path.specs.Acks.{no_marks}
 use Rattle.qc_state.specs.declared.life.State.TheVariants.{Handshake}
@@ -38,10 +39,10 @@ nothing_waits crypto = record { done = false; ping = false; crypto = from_start 
 module _ {t : Types} {R : Type 0} where
   -- a connection that was just made at this time: it has the keys of the Initial space, and nothing waits but what its session
   -- wrote, from the start of that space's CRYPTO stream
-  abbrev pub just_made : Keys t.H t.P → t.S → (hello : List ℕ) → R → Fixed → Paths → ℕ → Held t R
+  abbrev pub just_made : SpaceKeys t.H t.P → t.S → (hello : List ℕ) → R → Fixed → Paths → ℕ → Held t R
   just_made keys session hello random fixed paths time = record {
     numbers = record { spaces = record { initial = no_numbers; handshake = no_numbers; application = no_numbers } };
-    keys = record { spaces = record { initial = Some (record { keys = keys; sealed = 0 }); handshake = None; application = None }; highest = space.Initial; failures = 0 };
+    keys = record { spaces = record { initial = Some keys; handshake = None; application = None }; highest = space.Initial; failures = 0 };
     life = record { state = Handshake; reason = None; ready = false; connected = false; lost = None; reset_token = None; wanted = None; drained = false; close = None };
     paths = paths;
     timers = record { loss_detection = None; idle = None; close = None; sets_idle = true; greatest = time };
@@ -61,12 +62,12 @@ module _ {t : Types} {R : Type 0} where
   -- until the server chooses one, and its hello waits
   unfoldable pub first_view : Meaning t → t.S → R → Fixed → SocketAddr → List ℕ → ℕ → Held t R
   first_view m session random fixed remote first_cid time =
-      just_made (m.initial session first_cid Client) (m.after_write session) (m.writes session) random fixed
+      just_made (new_keys m.seal_limit m.failure_limit (m.initial session first_cid Client)) (m.after_write session) (m.writes session) random fixed
       (record { remote = remote; remote_cid = first_cid; peer_fixed = false; validated = true; spin = false; sent = 0; received = 0 }) time
 
   -- a server that was just made: its keys are those of the destination id of the client's first packets, it knows the client's
   -- id, and it waits for the first packet
   unfoldable pub server_view : Meaning t → t.S → R → Fixed → SocketAddr → (remote_cid : List ℕ) → (validated : Bool) → ℕ → Held t R
   server_view m session random fixed remote remote_cid validated time =
-      just_made (m.initial session fixed.first_cid Server) session [] random fixed
+      just_made (new_keys m.seal_limit m.failure_limit (m.initial session fixed.first_cid Server)) session [] random fixed
       (record { remote = remote; remote_cid = remote_cid; peer_fixed = true; validated = validated; spin = false; sent = 0; received = 0 }) time

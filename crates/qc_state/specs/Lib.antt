@@ -4,6 +4,7 @@ pub mod Expansion
 pub mod First
 pub mod Flight
 pub mod Headline
+pub mod KeyLaws
 pub mod Keys
 pub mod Life
 pub mod Lower
@@ -20,6 +21,7 @@ pub mod Sending
 pub mod Setup
 pub mod Spaces
 pub mod Stopping
+pub mod Timeouts
 pub mod Timers
 pub mod Types
 pub mod Unsent

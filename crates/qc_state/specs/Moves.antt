@@ -4,12 +4,12 @@ use Rattle.std.specs.Prelude.{◌≡◌, ℕ, ◌<◌, ◌≤◌, nat_le, Bool, 
 use Rattle.std.specs.List.{list_any}
 use Rattle.rand_core.specs.Stream.{Stream}
 use Rattle.qc_base.specs.declared.side.SpaceId.{SpaceId}
-use Rattle.qc_crypto.specs.declared.keys.Keys.{Keys}
 use Rattle.qc_frame.specs.Frame.{FrameValue}
 use Rattle.qc_frame.specs.FrameSpelling.{elicits}
 use Rattle.qc_frame.specs.declared.frames.FrameOf.TheVariants as frames
 use Rattle.qc_state.specs.declared.numbers.Numbers.{Numbers}
 use Rattle.qc_state.specs.declared.keys.KeyGroup.{KeyGroup}
+use Rattle.qc_state.specs.declared.keys.SpaceKeys.{SpaceKeys}
 use Rattle.qc_state.specs.declared.life.Close.{Close}
 use Rattle.qc_state.specs.declared.life.Life.{Life}
 use Rattle.qc_state.specs.declared.life.State.{State}
@@ -95,7 +95,7 @@ pub data Move (t : Types) : Type 0 where
   Calm : Move t  -- nothing in flight elicits an acknowledgement any more
   Come : (id : SpaceId) → (offset : ℕ) → (bytes : List ℕ) → Move t  -- bytes of a CRYPTO stream came
   Read : (id : SpaceId) → (count : ℕ) → (session : t.S) → Move t  -- the session was given so many of them
-  Write : (bytes : List ℕ) → (keys : Option (Keys t.H t.P)) → (session : t.S) → Move t  -- the session wrote bytes, and gave keys
+  Write : (bytes : List ℕ) → (keys : Option (SpaceKeys t.H t.P)) → (session : t.S) → Move t  -- the session wrote bytes, and gave keys
   Ready : Move t  -- what the handshake settles is ready
   Token : (token : List ℕ) → Move t  -- the peer's token for a stateless reset was read
   Learn : (parameters : TransportParameters) → Move t  -- the peer's parameters were read

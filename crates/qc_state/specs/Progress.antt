@@ -1,5 +1,5 @@
 -- How the handshake goes on behind the frames of a packet (RFC 9001, sections 4.1 and 8.2; RFC 9000, section 7.3).
-use Rattle.std.specs.Prelude.{ℕ, zero, suc, ◌-◌, min, ◌==◌, ◌&&◌, not, nat_eq, Bool, true, false, if◌then◌else◌, List, length, Option, None, Some, Result, Ok, Err, is_none}
+use Rattle.std.specs.Prelude.{ℕ, zero, suc, ◌-◌, min, ◌==◌, ◌&&◌, not, nat_eq, Bool, true, false, if◌then◌else◌, List, length, Option, None, Some, Result, Ok, Err, is_none, option_map}
 use Rattle.std.specs.Cmp.Lexicographic.{pointwise}
 use Rattle.qc_base.specs.declared.side.Side.{Side}
 use Rattle.qc_base.specs.declared.side.Side.TheVariants.{Client, Server}
@@ -7,6 +7,7 @@ use Rattle.qc_base.specs.declared.side.SpaceId.{SpaceId}
 use Rattle.qc_base.specs.declared.side.SpaceId.TheVariants.{Initial, Handshake, «Data»}
 use Rattle.qc_base.specs.declared.transport_error.TransportError.{TransportError}
 use Rattle.qc_params.specs.declared.params.TransportParameters.{TransportParameters}
+use Rattle.qc_state.specs.Keys.{new_keys}
 use Rattle.qc_state.specs.Life.{is_handshake}
 use Rattle.qc_state.specs.Moves.{Write, Token, Learn, Want, Confirm, Forget, Establish, calmed, move_to}
 use Rattle.qc_state.specs.Stopping.{missing_parameters, parameter_error, stopped_after}
@@ -38,7 +39,9 @@ module _ {t : Types} where
 
   -- the session writes once: its bytes wait in the highest space, and the keys that it gives are those of the next one
   unfoldable pub write_after : Meaning t → At t → At t
-  write_after m a = move_to (Write (m.writes a.state.lower.session) (m.write_keys a.state.lower.session) (m.after_write a.state.lower.session)) a
+  write_after m a =
+      let session : t.S = a.state.lower.session in
+      move_to (Write (m.writes session) (option_map (new_keys m.seal_limit m.failure_limit) (m.write_keys session)) (m.after_write session)) a
 
   -- the session writes until it writes nothing, at most so many times
   abbrev pub writes_after : ℕ → Meaning t → At t → At t

@@ -32,6 +32,7 @@ use Rattle.qc_state.specs.declared.opening.Opening.{Opening}
 use Rattle.qc_state.specs.declared.opening.Signs.{Signs}
 use Rattle.qc_state.specs.declared.transmit.TheConstants.{DATAGRAM_SIZE}
 use Rattle.qc_state.specs.declared.opening.Opening.TheVariants.{Unreadable, Unopened, Reserved, Opened}
+use Rattle.qc_state.specs.Keys.{fails_too_often}
 use Rattle.qc_state.specs.Life.{is_open, is_over, is_handshake, is_established}
 use Rattle.qc_state.specs.Lower.{ready_bytes, stream_of}
 use Rattle.qc_state.specs.Moves.{is_close, Forget, Expect, Enter, Fail, Accept, Fix, Hear, Ack, Come, Read, Ready, Tell, Drain, Leave, Owe, move_to, calmed}
@@ -39,9 +40,9 @@ use Rattle.qc_state.specs.Numbers.{next_number}
 use Rattle.qc_state.specs.Opening.{opening_of}
 use Rattle.qc_state.specs.Paths.{same_address}
 use Rattle.qc_state.specs.Progress.{progress_after}
-use Rattle.qc_state.specs.Sending.{given_after, initial_left}
+use Rattle.qc_state.specs.Sending.{initial_left}
 use Rattle.qc_state.specs.Setup.{is_first_awaited}
-use Rattle.qc_state.specs.Stopping.{internal_error_at, encoding_error_at, violation_at, buffer_error_at, stopped_after}
+use Rattle.qc_state.specs.Stopping.{buffer_error_at, encoding_error_at, given_after, internal_error_at, key_limit_error, killed_after, stopped_after, violation_at}
 use Rattle.qc_state.specs.Types.{Types, Meaning}
 use Rattle.qc_state.specs.Verdicts.{verdict_of}
 use Rattle.qc_state.specs.View.{View, At}
@@ -280,10 +281,17 @@ module _ {t : Types} where
   unfoldable pub received_after : Meaning t → (time : ℕ) → SpaceId → Signs → (source token : List ℕ) → (number : ℕ) → (payload : List ℕ) → At t → At t
   received_after m time id signs source token number payload a = verdict_after m time id signs source number payload (verdict_of a.state id source token number) a
 
+  -- a packet didn't open, which is counted; once more did than the key of the highest space lets pass, the connection ends (RFC
+  -- 9001, section 6.6)
+  unfoldable pub failed_after : Option SpaceId → At t → At t
+  failed_after space a =
+      let b : At t = piece_told space None verdict.Failure (move_to Fail a) in
+      if fails_too_often b.state.keys then killed_after (lost.TransportError key_limit_error) b else b
+
   -- a packet of a form with this space, by what came of taking its protection off
   abbrev pub opening_after : Meaning t → (time : ℕ) → (mark : Option EcnCodepoint) → Option SpaceId → Opening → At t → At t
   opening_after m time mark space Unreadable a = piece_told space None verdict.Ignored a
-  opening_after m time mark space Unopened a = piece_told space None verdict.Failure (move_to Fail a)
+  opening_after m time mark space Unopened a = failed_after space a
   opening_after m time mark space (Reserved number) a = stopped_after time (violation_at None) (piece_told space (Some number) verdict.BadBits a)
   opening_after m time mark (Some id) (Opened source token spin number payload) a = received_after m time id (record { mark = mark; spin = spin }) source token number payload a
   opening_after m time mark None (Opened source token spin number payload) a = piece_told None None verdict.Ignored a

@@ -5,7 +5,7 @@ use Rattle.qc_state.specs.declared.deeds.Did.{Did}
 use Rattle.qc_state.specs.declared.deeds.Did.TheVariants as did
 use Rattle.qc_state.specs.declared.life.Close.TheVariants.{Application}
 use Rattle.qc_state.specs.declared.input.Input.{Input}
-use Rattle.qc_state.specs.declared.input.Input.TheVariants.{Datagram, Transmit, Close, Ping}
+use Rattle.qc_state.specs.declared.input.Input.TheVariants.{Datagram, Timeout, Transmit, Close, Ping}
 use Rattle.qc_state.specs.declared.input.Word.{Word}
 use Rattle.qc_state.specs.declared.input.Word.TheVariants as word
 use Rattle.qc_state.specs.declared.trace.Answer.{Answer}
@@ -16,6 +16,7 @@ use Rattle.qc_state.specs.Life.{is_open, waiting_events, endpoint_events}
 use Rattle.qc_state.specs.Moves.{Clock, Ask, Shut, ReportReady, ReportConnected, ReportLost, ReportToken, ReportWanted, ReportDrained, move_to, state_move}
 use Rattle.qc_state.specs.Receiving.{is_taken, datagram_after}
 use Rattle.qc_state.specs.Sending.{MayTransmit, transmit_after, transmit_bytes, transmit_of}
+use Rattle.qc_state.specs.Timeouts.{timeout_after}
 use Rattle.qc_state.specs.Timers.{next_timeout}
 use Rattle.qc_state.specs.Types.{Types, Meaning}
 use Rattle.qc_state.specs.View.{View, At, at}
@@ -23,6 +24,7 @@ use Rattle.qc_state.specs.View.{View, At, at}
 -- the time of an input
 abbrev pub time_of : Input → ℕ
 time_of (Datagram time remote ecn bytes) = time
+time_of (Timeout time) = time
 time_of (Transmit time max) = time
 time_of (Close time code reason) = time
 time_of (Ping time) = time
@@ -30,6 +32,7 @@ time_of (Ping time) = time
 -- its kind
 abbrev pub word_of : Input → Word
 word_of (Datagram time remote ecn bytes) = word.Datagram
+word_of (Timeout time) = word.Timeout
 word_of (Transmit time max) = word.Transmit
 word_of (Close time code reason) = word.Close
 word_of (Ping time) = word.Ping
@@ -58,6 +61,7 @@ module _ {t : Types} where
   -- the deeds name
   unfoldable pub input_after : Meaning t → Input → List Did → At t → At t
   input_after m (Datagram time remote ecn bytes) ds a = datagram_after m time ecn remote bytes a
+  input_after m (Timeout time) ds a = timeout_after time a
   input_after m (Transmit time max) ds a = transmit_after time (packets_of ds) a
   input_after m (Close time code reason) ds a = close_after time code reason a
   input_after m (Ping time) ds a = move_to (Ask a.state.keys.highest) a
@@ -76,6 +80,7 @@ module _ {t : Types} where
   -- what an input may do
   unfoldable pub IsAllowed : Input → List Did → View t → Type 0
   IsAllowed (Datagram time remote ecn bytes) ds s = Unit {0}
+  IsAllowed (Timeout time) ds s = Unit {0}
   IsAllowed (Transmit time max) ds s = MayTransmit time s (packets_of ds)
   IsAllowed (Close time code reason) ds s = Unit {0}
   IsAllowed (Ping time) ds s = Unit {0}
@@ -83,6 +88,7 @@ module _ {t : Types} where
   -- what an input answers
   unfoldable pub answer_of : Meaning t → Input → List Did → View t → Answer
   answer_of m (Datagram time remote ecn bytes) ds s = if is_taken m s remote bytes then Done else Dropped
+  answer_of m (Timeout time) ds s = Done
   answer_of m (Transmit time max) ds s = out_of (transmit_of (packets_of ds) s) (transmit_bytes m (packets_of ds) s)
   answer_of m (Close time code reason) ds s = Done
   answer_of m (Ping time) ds s = Done

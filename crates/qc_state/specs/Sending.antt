@@ -1,6 +1,6 @@
 -- What a transmit may send, and what it leaves. Which of the waiting frames a packet carries is free, where no close is
 -- owed; all else is a function of that choice. So far a transmit seals at most one packet, in a datagram of its own.
-use Rattle.std.specs.Prelude.{◌≡◌, ℕ, ◌+◌, ◌-◌, ◌<◌, ◌≤◌, ◌^◌, ◌==◌, Bool, true, false, ◌||◌, ◌&&◌, not, nat_lt, nat_le, if◌then◌else◌, List, [], ◌∷◌, ◌++◌, length, replicate, Option, Some, None, is_some, is_none}
+use Rattle.std.specs.Prelude.{◌≡◌, ℕ, ◌+◌, ◌-◌, ◌<◌, ◌≤◌, ◌^◌, ◌==◌, Bool, true, false, ◌||◌, ◌&&◌, not, nat_lt, nat_le, if◌then◌else◌, List, [], ◌∷◌, ◌++◌, length, replicate, Option, Some, None, is_some}
 use Rattle.std.specs.List.{list_any}
 use Rattle.qc_base.specs.declared.ecn.EcnCodepoint.TheVariants.{Ect0}
 use Rattle.qc_base.specs.declared.side.LongType.TheVariants as long
@@ -24,17 +24,17 @@ use Rattle.qc_state.specs.declared.life.Close.TheVariants.{Connection, Applicati
 use Rattle.qc_state.specs.declared.life.ConnectionError.{ConnectionError}
 use Rattle.qc_state.specs.declared.life.ConnectionError.TheVariants as lost
 use Rattle.qc_state.specs.declared.life.Life.{Life}
-use Rattle.qc_state.specs.declared.life.State.TheVariants.{Drained}
 use Rattle.qc_state.specs.declared.transmit.Transmit.{Transmit}
 use Rattle.qc_state.specs.declared.transmit.TheConstants.{DATAGRAM_SIZE}
 use Rattle.qc_state.specs.declared.keys.SpaceKeys.{SpaceKeys}
-use Rattle.qc_state.specs.Keys.{keys_of}
+use Rattle.qc_state.specs.Keys.{keys_of, reaches_limit}
 use Rattle.qc_state.specs.Life.{is_open, is_closed, is_drained}
 use Rattle.qc_state.specs.Acks.{AckPart, may_acknowledge}
-use Rattle.qc_state.specs.Moves.{Seal, Take, Forget, Raise, Give, Say, move_to, calmed}
+use Rattle.qc_state.specs.Moves.{Seal, Take, Forget, Say, move_to, calmed}
 use Rattle.qc_state.specs.Numbers.{next_number, acked_number}
 use Rattle.qc_state.specs.Paths.{is_blocked}
 use Rattle.qc_state.specs.Spaces.{space_of}
+use Rattle.qc_state.specs.Stopping.{key_limit_error, killed_after, stopped_after}
 use Rattle.qc_state.specs.Types.{Types, Meaning}
 use Rattle.qc_state.specs.View.{View, At}
 use Rattle.qc_state.specs.Waiting.{waits_in, WaitAll, TakenPart}
@@ -128,9 +128,23 @@ module _ {t : Types} where
   unfoldable pub is_used_up : View t → Bool
   is_used_up s = is_past_limit (next_number s.numbers (sending_space s)) (acked_number s.numbers (sending_space s))
 
-  -- nothing may be sealed: the end came before, nothing is owed, the path is blocked, or the limit stands
+  -- the keys of a space, where their limit counts: that of 1-RTT keys doesn't so far
+  abbrev pub limited_keys : View t → SpaceId → Option (SpaceKeys t.H t.P)
+  limited_keys s Initial = keys_of s.keys Initial
+  limited_keys s Handshake = keys_of s.keys Handshake
+  limited_keys s Data = None
+
+  -- the next packet's key has sealed as many packets as it may (RFC 9001, section 6.6)
+  unfoldable pub is_key_used_up : View t → Bool
+  is_key_used_up s = reaches_limit 0 (limited_keys s (sending_space s))
+
+  -- so it will have with two packets more
+  unfoldable pub is_key_nearly_used_up : View t → Bool
+  is_key_nearly_used_up s = reaches_limit 2 (limited_keys s (sending_space s))
+
+  -- nothing may be sealed: the end came before, nothing is owed, the path is blocked, or a limit stands
   unfoldable pub may_be_quiet : View t → Bool
-  may_be_quiet s = is_silent s || not (owes s) || is_blocked s.paths || is_used_up s
+  may_be_quiet s = is_silent s || not (owes s) || is_blocked s.paths || is_key_used_up s || is_used_up s
 
   -- the header of the next packet in a space (RFC 9000, sections 17.2.2, 17.2.4 and 17.3.1); a 1-RTT packet has the first key
   -- phase so far
@@ -197,11 +211,13 @@ module _ {t : Types} where
     a_close : s.waiting.close_owed ≡ true → (gs : List FrameValue) → Closes time s id gs → fs ≡ padded s id gs → Carries time s id fs
     what_waits : s.waiting.close_owed ≡ false → (gs : List FrameValue) → WaitAll time (space_of s.waiting.spaces id) gs → 0 < length gs → fs ≡ padded s id gs → Carries time s id fs
 
-  -- a packet with these frames may be sealed at a time: something is owed, the path isn't blocked, and it carries what it may
+  -- a packet with these frames may be sealed at a time: something is owed, the path isn't blocked, no limit stands, and it carries
+  -- what it may
   pub record MaySeal (time : ℕ) (s : View t) (fs : List FrameValue) : Type 0 where
     pub alive : is_silent s ≡ false
     pub owed : owes s ≡ true
     pub free : is_blocked s.paths ≡ false
+    pub fresh : is_key_used_up s ≡ false
     pub spelled : is_used_up s ≡ false
     pub carries : Carries time s (sending_space s) fs
     pub fits : packet_size s (sending_space s) fs ≤ DATAGRAM_SIZE
@@ -218,23 +234,25 @@ module _ {t : Types} where
   unfoldable pub sealed_in : ℕ → SpaceId → List FrameValue → At t → At t
   sealed_in time id fs a = initial_left Client id (move_to (Seal time id (next_number a.state.numbers id) (packet_size a.state id fs) fs) (move_to (Take id fs) a))
 
+  -- where its key could seal only two packets more before, and one now, this end closes, so that the close can be that one (RFC
+  -- 9001, section 6.6)
+  unfoldable pub spared_after : (time : ℕ) → (nearly : Bool) → At t → At t
+  spared_after time nearly a = if nearly then stopped_after time key_limit_error a else a
+
   -- the next packet is sealed
   unfoldable pub packet_after : ℕ → List FrameValue → At t → At t
-  packet_after time fs a = sealed_in time (sending_space a.state) fs a
+  packet_after time fs a = spared_after time (is_key_nearly_used_up a.state) (sealed_in time (sending_space a.state) fs a)
 
-  -- a reason for the end is given, unless one was given before
-  unfoldable pub given_after : ConnectionError → At t → At t
-  given_after why a = if is_none a.state.life.reason then move_to (Give why) a else a
+  -- why the connection ends where something is owed and the path is free: its key has sealed as many packets as it may, or else
+  -- the packet numbers are used up
+  unfoldable pub limit_met : View t → ConnectionError
+  limit_met s = if is_key_used_up s then lost.TransportError key_limit_error else internal_error
 
-  -- the connection ends at once, for this reason
-  unfoldable pub killed_after : ConnectionError → At t → At t
-  killed_after why a = given_after why (move_to (Raise Drained) a)
-
-  -- nothing is sealed of what is owed: because the path is blocked, or because of the limit, which is now the end
+  -- nothing is sealed of what is owed: because the path is blocked, or because of a limit, which is now the end
   unfoldable pub owed_quiet_after : At t → At t
-  owed_quiet_after a = if is_blocked a.state.paths then move_to (Say Amplification) a else move_to (Say Killed) (killed_after internal_error a)
+  owed_quiet_after a = if is_blocked a.state.paths then move_to (Say Amplification) a else move_to (Say Killed) (killed_after (limit_met a.state) a)
 
-  -- nothing is sealed: because the end came before, or the path is blocked, or because of the limit, which is now the end, or
+  -- nothing is sealed: because the end came before, or the path is blocked, or because of a limit, which is now the end, or
   -- because nothing was owed
   unfoldable pub quiet_after : At t → At t
   quiet_after a =
@@ -248,7 +266,7 @@ module _ {t : Types} where
   transmit_after time (fs ∷ _) a = packet_after time fs a
 
   -- which packets a transmit may seal: one with something owed, and none only where the end came before, nothing is owed, the path
-  -- is blocked, or the limit stands
+  -- is blocked, or a limit stands
   unfoldable pub MayTransmit : ℕ → View t → List (List FrameValue) → Type 0
   MayTransmit time s [] = may_be_quiet s ≡ true
   MayTransmit time s (fs ∷ []) = MaySeal time s fs

@@ -1,11 +1,12 @@
 -- How this end closes for an error that it found (RFC 9000, sections 10.2 and 11.1).
-use Rattle.std.specs.Prelude.{ℕ, if◌then◌else◌, [], Option, None}
+use Rattle.std.specs.Prelude.{ℕ, if◌then◌else◌, [], Option, None, is_none}
 use Rattle.qc_base.specs.declared.transport_error.TransportError.{TransportError}
 use Rattle.qc_state.specs.declared.life.Close.TheVariants as close
+use Rattle.qc_state.specs.declared.life.ConnectionError.{ConnectionError}
 use Rattle.qc_state.specs.declared.life.ConnectionError.TheVariants as lost
+use Rattle.qc_state.specs.declared.life.State.TheVariants.{Drained}
 use Rattle.qc_state.specs.Life.{is_open}
-use Rattle.qc_state.specs.Moves.{Shut, move_to}
-use Rattle.qc_state.specs.Sending.{given_after}
+use Rattle.qc_state.specs.Moves.{Shut, Raise, Give, move_to}
 use Rattle.qc_state.specs.Types.{Types}
 use Rattle.qc_state.specs.View.{At}
 
@@ -33,7 +34,19 @@ parameter_error = record { code = 0x08; frame = None }
 abbrev pub missing_parameters : TransportError
 missing_parameters = record { code = 0x16d; frame = None }
 
+-- a key has sealed, or failed to open, as many packets as it may (RFC 9001, section 6.6)
+abbrev pub key_limit_error : TransportError
+key_limit_error = record { code = 0x0f; frame = None }
+
 module _ {t : Types} where
+  -- a reason for the end is given, unless one was given before
+  unfoldable pub given_after : ConnectionError → At t → At t
+  given_after why a = if is_none a.state.life.reason then move_to (Give why) a else a
+
+  -- the connection ends at once, for this reason
+  unfoldable pub killed_after : ConnectionError → At t → At t
+  killed_after why a = given_after why (move_to (Raise Drained) a)
+
   -- this end closes for this error, where it hasn't closed before (RFC 9000, section 10.2)
   unfoldable pub stopped_after : (time : ℕ) → TransportError → At t → At t
   stopped_after time error a =

@@ -1,8 +1,13 @@
 -- The timers of a connection (RFC 9000, section 10.1; RFC 9002, section 6.2). Times are nanoseconds.
-use Rattle.std.specs.Prelude.{ℕ, max, true, false, nat_le, if◌then◌else◌, Option, Some, None}
+use Rattle.std.specs.Prelude.{ℕ, Bool, max, true, false, nat_le, if◌then◌else◌, Option, Some, None}
 use Rattle.qc_base.specs.Time.{plus, times}
 use Rattle.qc_state.specs.declared.timers.TheConstants.{PROBE_TIMEOUT}
 use Rattle.qc_state.specs.declared.timers.Timers.{Timers}
+
+-- whether a timer has come at this time: it is set, to this time or an earlier one
+abbrev pub has_come : Option ℕ → (time : ℕ) → Bool
+has_come None time = false
+has_come (Some at) time = nat_le at time
 
 -- the earlier of two times, where there is one
 abbrev pub least : Option ℕ → Option ℕ → Option ℕ

@@ -21,6 +21,8 @@ pub record Meaning (t : Types) : Type 0 where
   pub mask : t.H → List ℕ → List ℕ
   pub seal : t.P → ℕ → List ℕ → List ℕ → List ℕ
   pub opening : t.P → ℕ → List ℕ → List ℕ → Option (List ℕ)
+  pub seal_limit : t.P → ℕ
+  pub failure_limit : t.P → ℕ
   pub initial : t.S → List ℕ → Side → Keys t.H t.P
   pub reads : t.S → List ℕ → Result Bool TransportError
   pub after_read : t.S → List ℕ → t.S
@@ -37,6 +39,8 @@ meaning s h p = record {
   mask = h.mask_of;
   seal = p.seal;
   opening = p.opening;
+  seal_limit = p.seal_limit;
+  failure_limit = p.failure_limit;
   initial = s.initial;
   reads = s.reads;
   after_read = s.after_read;

@@ -18,6 +18,11 @@ pub enum Input {
         /// Its bytes.
         bytes: Body,
     },
+    /// Timers may have come.
+    Timeout {
+        /// The time.
+        now: Instant,
+    },
     /// What waits may be sent.
     Transmit {
         /// The time.
@@ -46,6 +51,8 @@ pub enum Input {
 pub enum Word {
     /// An `Input::Datagram`.
     Datagram,
+    /// An `Input::Timeout`.
+    Timeout,
     /// An `Input::Transmit`.
     Transmit,
     /// An `Input::Close`.

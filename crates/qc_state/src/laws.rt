@@ -10,6 +10,7 @@ ghost use Rattle.qc_header.specs.Piece.{Piece};
 ghost use Rattle.qc_path.specs.Arrived.{Remembers, Window, is_among};
 ghost use Rattle.qc_state.specs.DatagramLaws.{DatagramHolds};
 ghost use Rattle.qc_state.specs.Headline.{deeds_of, accepted_in, AcksOnly, EachAcksKnown, EachNew, Harmless, IsKept, NoneTwice};
+ghost use Rattle.qc_state.specs.KeyLaws.{KeysHold};
 ghost use Rattle.qc_state.specs.Opening.{opening_of};
 ghost use Rattle.qc_state.specs.PathLaws.{PathHolds, all_from};
 ghost use Rattle.qc_state.specs.Paths.{same_address};
@@ -52,6 +53,12 @@ pub fn acks_were_accepted<U: Suite>()
 /// it, and one datagram (RFC 9000, 8.1).
 pub fn paths_hold<U: Suite>()
     ensures { (s last : View (record { S = U.Session; H = U.Session.HeaderKey; P = U.Session.PacketKey; D = U.Session.HandshakeData; I = U.Session.PeerIdentity })) (k : ℕ) (is : List Input) (xs : List Step) → Run (meaning U.Session.Session U.Session.HeaderKey.HeaderMask U.Session.PacketKey.PacketKey) k s is xs last → PathHolds (all_from s.paths.remote is) (deeds_of xs) s.paths last.paths }
+{}
+
+/// A law, which runs no code. Over a run no Initial or Handshake key seals more packets than it may (RFC 9001, 6.6): each packet that is
+/// sealed under it counts, and the count stays within the limit.
+pub fn keys_hold<U: Suite>()
+    ensures { (s last : View (record { S = U.Session; H = U.Session.HeaderKey; P = U.Session.PacketKey; D = U.Session.HandshakeData; I = U.Session.PeerIdentity })) (k : ℕ) (is : List Input) (xs : List Step) → Run (meaning U.Session.Session U.Session.HeaderKey.HeaderMask U.Session.PacketKey.PacketKey) k s is xs last → KeysHold s.keys → KeysHold last.keys }
 {}
 
 /// A law, which runs no code. Where all inputs of a run are datagrams, and each of its deeds tells of a packet that was ignored

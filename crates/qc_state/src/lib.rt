@@ -34,7 +34,7 @@ pub use input::{Input, Word};
 pub use keys::{KeyGroup, SpaceKeys};
 pub use laws::{
     acks_were_accepted, datagrams_keep, events_are_datagrams, first_packets_are_datagrams,
-    harmless_bytes, numbers_count_once, paths_hold, runs_join,
+    harmless_bytes, keys_hold, numbers_count_once, paths_hold, runs_join,
 };
 pub use life::{
     ApplicationClose, Close, ConnectionClose, ConnectionError, Life, PeerToken, State, Wanted,

@@ -63,6 +63,8 @@ pub enum ConnectionError {
     ConnectionClosed(ConnectionClose),
     /// The peer's application closed.
     ApplicationClosed(ApplicationClose),
+    /// The peer gave no sign for too long (RFC 9000, 10.1).
+    TimedOut,
 }
 
 /// The token with which the peer can reset the connection (RFC 9000, 10.3), and the address that it holds for.
@@ -148,6 +150,7 @@ impl ConnectionError {
                 let close = close.copy()?;
                 Ok(ConnectionError::ApplicationClosed(close))
             }
+            ConnectionError::TimedOut => Ok(ConnectionError::TimedOut),
         }
     }
 }

@@ -1,7 +1,7 @@
 //! The timers, and the greatest time so far.
 
 ghost use Rattle.std.specs.Prelude.{◌≡◌};
-ghost use Rattle.qc_state.specs.Timers.{timers_sealed, timers_stopped, timers_closing, timers_accepted, timers_settled, clock_set, next_timeout, least, idle_from};
+ghost use Rattle.qc_state.specs.Timers.{timers_sealed, timers_stopped, timers_closing, timers_accepted, timers_settled, clock_set, next_timeout, least, idle_from, has_come};
 
 use qc_base::{Duration, Instant};
 
@@ -38,6 +38,16 @@ fn earlier(a: Option<Instant>, b: Option<Instant>) -> Option<Instant>
                 Some(b)
             }
         }
+    }
+}
+
+/// Whether a timer has come at `now`: it is set, to this time or an earlier one.
+pub fn has_come(timer: Option<Instant>, now: Instant) -> bool
+    ensures { result ≡ has_come timer now }
+{
+    match timer {
+        None => false,
+        Some(at) => at.nanos() <= now.nanos(),
     }
 }
 

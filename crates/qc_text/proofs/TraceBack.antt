@@ -28,17 +28,20 @@ use Rattle.qc_text.proofs.AnswersBack.{address_back, is_after_answer, answer_bac
 word_is_token : (w : Word) → is_token (word_name w) ≡ true
 unfolding word_name
 word_is_token word.Datagram = refl
+word_is_token word.Timeout = refl
 word_is_token word.Transmit = refl
 word_is_token word.Close = refl
 word_is_token word.Ping = refl
 
+-- the third letters differ
 word_injective : (v w : Word) → word_name v ≡ word_name w → v ≡ w
 unfolding word_name
 word_injective word.Datagram word.Datagram e = refl
+word_injective word.Timeout word.Timeout e = refl
 word_injective word.Transmit word.Transmit e = refl
 word_injective word.Close word.Close e = refl
 word_injective word.Ping word.Ping e = refl
-word_injective _ _ e = absurd (omega (arith, ap (λ (a : List ℕ). get_or a 0 0) e))
+word_injective _ _ e = absurd (omega (arith, ap (λ (a : List ℕ). get_or a 2 0) e))
 
 head_parts : (at : ℕ) (w : Word) (now : ℕ) (r : List ℕ) → step_head at w now ++ r ≡ codes "step " ++ (decimal at ++ 32 ∷ (word_name w ++ 32 ∷ (decimal now ++ 10 ∷ r)))
 unfolding step_head

@@ -30,7 +30,7 @@ use Rattle.qc_state.specs.declared.events.Event.TheVariants.{HandshakeDataReady,
 use Rattle.qc_state.specs.declared.input.Word.{Word}
 use Rattle.qc_state.specs.declared.input.Word.TheVariants as word
 use Rattle.qc_state.specs.declared.life.ConnectionError.{ConnectionError}
-use Rattle.qc_state.specs.declared.life.ConnectionError.TheVariants.{TransportError, ConnectionClosed, ApplicationClosed}
+use Rattle.qc_state.specs.declared.life.ConnectionError.TheVariants.{TransportError, ConnectionClosed, ApplicationClosed, TimedOut}
 use Rattle.qc_state.specs.declared.trace.Answer.{Answer}
 use Rattle.qc_state.specs.declared.trace.Answer.TheVariants as answer
 use Rattle.qc_state.specs.declared.trace.Step.{Step}
@@ -170,6 +170,7 @@ unfoldable pub reason_name : ConnectionError → List ℕ
 reason_name (TransportError error) = codes "TransportError"
 reason_name (ConnectionClosed close) = codes "ConnectionClosed"
 reason_name (ApplicationClosed close) = codes "ApplicationClosed"
+reason_name TimedOut = codes "TimedOut"
 
 -- of an error that this end found: its code, and the type of the frame that was at fault
 unfoldable pub error_text : TransportFault → List ℕ
@@ -184,15 +185,16 @@ connection_close_text code frame_type reason = decimal code ++ codes " " ++ numb
 unfoldable pub application_close_text : (code : ℕ) → (reason : List ℕ) → List ℕ
 application_close_text code reason = decimal code ++ codes " " ++ bytes_or_dash reason
 
--- the values of a reason for the end
+-- the values of a reason for the end, behind a space, where it has any
 unfoldable pub reason_values : ConnectionError → List ℕ
-reason_values (TransportError error) = error_text error
-reason_values (ConnectionClosed close) = connection_close_text close.error_code close.frame_type close.reason
-reason_values (ApplicationClosed close) = application_close_text close.error_code close.reason
+reason_values (TransportError error) = codes " " ++ error_text error
+reason_values (ConnectionClosed close) = codes " " ++ connection_close_text close.error_code close.frame_type close.reason
+reason_values (ApplicationClosed close) = codes " " ++ application_close_text close.error_code close.reason
+reason_values TimedOut = []
 
 -- a reason for the end
 unfoldable pub reason_text : ConnectionError → List ℕ
-reason_text reason = reason_name reason ++ codes " " ++ reason_values reason
+reason_text reason = reason_name reason ++ reason_values reason
 
 -- why a transmit sent nothing: nothing was owed, the end had come before, or this call ended the connection
 unfoldable pub quiet_name : Quiet → List ℕ
@@ -274,6 +276,7 @@ timer_text timeout = codes "timer " ++ number_or_dash timeout ++ codes "\n"
 -- an input's kind, by the word that a script has for it
 unfoldable pub word_name : Word → List ℕ
 word_name word.Datagram = codes "datagram"
+word_name word.Timeout = codes "timeout"
 word_name word.Transmit = codes "transmit"
 word_name word.Close = codes "close"
 word_name word.Ping = codes "ping"

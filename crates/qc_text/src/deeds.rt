@@ -179,24 +179,29 @@ fn put_why(out: &mut Vec<u8>, reason: &ConnectionError) -> Result<(), AllocError
     ensures in_range { OnOk result (IsReasonInRange reason.now) }
 {
     out.extend_from_slice(reason_of(reason))?;
-    out.extend_from_slice(b" ")?;
     put_values(out, reason)
 }
 
-/// Appends the values of a reason for the end.
+/// Appends the values of a reason for the end, behind a space, where it has any.
 #[tactic(auto, unfolding(crate::specs::TraceText::reason_values))]
 fn put_values(out: &mut Vec<u8>, reason: &ConnectionError) -> Result<(), AllocError>
     ensures text { OnOk result (out.new.items ≡ out.old.items ++ reason_values reason.now) }
     ensures in_range { OnOk result (IsReasonInRange reason.now) }
 {
     match reason {
-        ConnectionError::TransportError(error) => put_error(out, *error),
+        ConnectionError::TransportError(error) => {
+            out.extend_from_slice(b" ")?;
+            put_error(out, *error)
+        }
         ConnectionError::ConnectionClosed(close) => {
+            out.extend_from_slice(b" ")?;
             put_connection_close(out, close.error_code, close.frame_type, &close.reason)
         }
         ConnectionError::ApplicationClosed(close) => {
+            out.extend_from_slice(b" ")?;
             put_application_close(out, close.error_code, &close.reason)
         }
+        ConnectionError::TimedOut => Ok(()),
     }
 }
 

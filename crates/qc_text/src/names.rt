@@ -13,6 +13,7 @@ pub fn word_of(word: Word) -> &'static [u8]
 {
     match word {
         Word::Datagram => b"datagram",
+        Word::Timeout => b"timeout",
         Word::Transmit => b"transmit",
         Word::Close => b"close",
         Word::Ping => b"ping",
@@ -111,6 +112,7 @@ pub fn reason_of(reason: &ConnectionError) -> &'static [u8]
         ConnectionError::TransportError(_) => b"TransportError",
         ConnectionError::ConnectionClosed(_) => b"ConnectionClosed",
         ConnectionError::ApplicationClosed(_) => b"ApplicationClosed",
+        ConnectionError::TimedOut => b"TimedOut",
     }
 }
 

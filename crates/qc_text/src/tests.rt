@@ -203,6 +203,27 @@ fn a_close_of_the_application(rt: HostRuntime) -> Result<(), Fail> {
     Ok(())
 }
 
+// A reason without values ends its line.
+#[test]
+fn an_end_without_a_sign(rt: HostRuntime) -> Result<(), Fail> {
+    let mut did = Dids::new(rt.alloc());
+    did.push_rose(4)?;
+    did.push_lost(ConnectionError::TimedOut)?;
+    let mut step = step(rt.alloc(), Word::Timeout, did, Answer::Done);
+    let mut events = Events::new(rt.alloc());
+    events.push_lost(ConnectionError::TimedOut)?;
+    step.events = events;
+    let mut endpoint = EndpointEvents::new(rt.alloc());
+    endpoint.push(Some(EndpointEvent::Drained))?;
+    step.endpoint = endpoint;
+    let text = text(rt.alloc(), step)?;
+    assert_eq!(rt;
+        text.as_str(),
+        "qconn 1\nstep 0 timeout 5\nlife 4\nlost TimedOut\nanswer done\nevent lost TimedOut\nendpoint drained\ntimer -\nend\n"
+    );
+    Ok(())
+}
+
 /// A packet with a PING and three PADDING frames.
 fn frames(alloc: Global) -> Result<FrameList, AllocError> {
     let mut frames = FrameList::new(alloc);

@@ -78,10 +78,15 @@ abbrev pub transport_of : Option ℕ → TransportValues
 transport_of None = default_transport
 transport_of (Some millis) = record default_transport { max_idle_timeout = Some millis }
 
--- the toy's usual settings, with its secret where a line gives one
-abbrev pub settings_of : Option (List ℕ) → ToySettings
-settings_of None = default_settings
-settings_of (Some secret) = record default_settings { secret = secret }
+-- the toy's usual settings, with its secret and its limits where lines give them
+abbrev pub settings_of : Settings → ToySettings
+settings_of s =
+    record default_settings {
+      secret = unwrap_or s.secret default_settings.secret;
+      limit_initial = unwrap_or s.limit_initial default_settings.limit_initial;
+      limit_handshake = unwrap_or s.limit_handshake default_settings.limit_handshake;
+      limit_failures = unwrap_or s.limit_failures default_settings.limit_failures;
+    }
 
 -- what an end announces of this transport
 abbrev pub parameters_of : Settings → TransportParameters
@@ -97,11 +102,11 @@ server_parameters_of s = record (parameters_of s) { original_dst_cid = Some (fir
 
 -- the session of a script's client
 abbrev pub client_session : Settings → ToySession
-client_session s = session_of (settings_of s.secret) Client (parameters_of s)
+client_session s = session_of (settings_of s) Client (parameters_of s)
 
 -- the session of a script's server
 abbrev pub server_session : Settings → ToySession
-server_session s = session_of (settings_of s.secret) Server (server_parameters_of s)
+server_session s = session_of (settings_of s) Server (server_parameters_of s)
 
 -- the text is that of a trace which is a run of these inputs from the first view of this script's client, made at time 0,
 -- and of no other trace that has its values in range and leaves nothing out

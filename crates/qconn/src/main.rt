@@ -5,6 +5,8 @@
 #[cfg(test)]
 mod handshake_tests;
 #[cfg(test)]
+mod limit_tests;
+#[cfg(test)]
 mod peer_tests;
 mod perform;
 #[cfg(test)]
@@ -21,6 +23,8 @@ mod source;
 mod standard;
 #[cfg(test)]
 mod tests;
+#[cfg(test)]
+mod timeout_tests;
 mod transfer;
 
 use run::{Status, end, run};

@@ -56,15 +56,18 @@ fn transport_with(idle: Option<VarInt>) -> TransportConfig
     transport
 }
 
-/// The toy's usual settings, with this secret where a line gives one.
-fn settings_with(secret: Option<[u8; 5]>) -> ToySettings
-    ensures { result ≡ settings_of secret }
+/// The toy's usual settings, with its secret and its limits where lines give them.
+fn settings_with(set: &Settings) -> ToySettings
+    ensures { result ≡ settings_of set.now }
 {
-    let mut settings = ToySettings::default();
-    if let Some(secret) = secret {
-        settings.secret = secret;
+    let usual = ToySettings::default();
+    ToySettings {
+        secret: set.secret.unwrap_or(usual.secret),
+        limit_initial: set.limit_initial.unwrap_or(usual.limit_initial),
+        limit_handshake: set.limit_handshake.unwrap_or(usual.limit_handshake),
+        limit_failures: set.limit_failures.unwrap_or(usual.limit_failures),
+        ..usual
     }
-    settings
 }
 
 /// `::1`, port 4433.
@@ -104,7 +107,7 @@ fn session_of_client(
     ensures { IfOk result (λ session. session ≡ client_session set.now) }
 {
     let client = ToyClient {
-        settings: settings_with(set.secret),
+        settings: settings_with(set),
     };
     let params = announced(transport, MAX_UDP_PAYLOAD, id_or(set.local, 1), true);
     match client.start_session(alloc, 1, "", &params) {
@@ -147,7 +150,7 @@ fn session_of_server(
     ensures { IfOk result (λ session. session ≡ server_session set.now) }
 {
     let server = ToyServer {
-        settings: settings_with(set.secret),
+        settings: settings_with(set),
     };
     let token = reset_token_of(alloc, set)?;
     let params = server_parameters(set, transport, token);
@@ -326,6 +329,9 @@ mod tests {
             first: None,
             addr: None,
             secret: None,
+            limit_initial: None,
+            limit_handshake: None,
+            limit_failures: None,
             idle: None,
         };
         let mut client = script_client(rt.alloc(), &set)?;

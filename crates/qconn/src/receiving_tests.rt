@@ -23,7 +23,7 @@ const ACK_OF_9: &str =
     "c60000000108010101010101010108040404040404040400401604060d04020226486a8aacccef1032547698badcfe20";
 
 /// An Initial packet, number 3, with a CONNECTION_CLOSE, code 5.
-const CLOSE: &str =
+pub(crate) const CLOSE: &str =
     "c6000000010801010101010101010804040404040404040040158b180104028c149c22aa30b940c850d860e870f880";
 
 /// An Initial packet, number 4, whose reserved bits are 1.

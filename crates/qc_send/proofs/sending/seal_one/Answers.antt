@@ -33,6 +33,6 @@ sealed-requires g c =
 -- what was taken, sealed and counted is one packet
 pub returns : goal.returns
 returns g c =
-    seals_taken _ c.args.now _ _ _ _ _ c.sending_space-space.result (held g.U.Random.Rng.stream c.args.core.now c.args.did.now) _ _ _ _ _ _ _ c.requires.loud c.sending_space-space.ensures c.header-header.ensures (c.encoded_len.ensures.len 0)
+    seals_taken _ c.args.now _ _ _ _ _ c.sending_space-space.result c.is_key_nearly_used_up-nearly.result (held g.U.Random.Rng.stream c.args.core.now c.args.did.now) _ _ _ _ _ _ _ _ c.requires.loud c.sending_space-space.ensures c.header-header.ensures (c.encoded_len.ensures.len 0)
     (header_is_short (ideal g.U.Random.Rng.stream c.args.core.now) c.sending_space-space.result _ _ c.header-header.ensures c.encoded_len.ensures.most) refl c.in_ok-frames.ensures.frames c.in_ok-frames.ensures.most c.in_ok-frames.ensures.leads
-    c.least_size-least.ensures.value c.in_ok-seal.ensures.frames c.next_number-number.ensures (omega (arith, c.len.ensures)) c.in_ok-sealed.ensures c.leave_initial.ensures c.in_ok-seal.ensures.bytes c.in_ok-seal.ensures.full
+    c.least_size-least.ensures.value c.in_ok-seal.ensures.frames c.next_number-number.ensures (omega (arith, c.len.ensures)) c.in_ok-sealed.ensures c.leave_initial.ensures c.is_key_nearly_used_up-nearly.ensures c.in_ok-spare.ensures c.in_ok-seal.ensures.bytes c.in_ok-seal.ensures.full

@@ -1,0 +1,141 @@
+//! Timers of a client that come. Expected times are computed by hand: the loss timer stands 999 ms after the packet, the idle
+//! timer after the limit or three times that, the longer one (RFC 9000, 10.1), and the close timer three times that after the
+//! close (10.2).
+
+use crate::connection::Connection;
+use crate::driving::drive;
+use crate::tests::{Toy, client_with_limit, sealed_len};
+use crate::text::trace_text;
+use bytes::Bytes;
+use qc_base::{Instant, VarInt};
+use qc_config::NoneTokenStore;
+use qc_state::{ConnectionError, EndpointEvent, Event, Input};
+use std::alloc::Global;
+use std::test::Fail;
+
+/// The next timeout in nanoseconds, once timers that had come at this time were looked at.
+fn after(alloc: Global, client: &mut Connection<Toy>, nanos: u64) -> Option<u64> {
+    client
+        .handle_timeout(alloc, Instant::from_nanos(nanos))
+        .ok()?;
+    next(client)
+}
+
+/// The next timeout in nanoseconds.
+fn next(client: &Connection<Toy>) -> Option<u64> {
+    match client.poll_timeout() {
+        None => None,
+        Some(time) => Some(time.nanos()),
+    }
+}
+
+/// Whether the next event tells that the peer gave no sign for too long.
+fn timed_out(client: &mut Connection<Toy>) -> bool {
+    let event = client.poll();
+    matches!(
+        &event,
+        Some(Event::ConnectionLost {
+            reason: ConnectionError::TimedOut,
+        },)
+    )
+}
+
+/// Whether the next event for the endpoint tells that the connection has ended.
+fn drained(client: &mut Connection<Toy>) -> bool {
+    let event = client.poll_endpoint_events();
+    matches!(&event, Some(EndpointEvent::Drained))
+}
+
+#[test]
+fn an_idle_client_ends_once(rt: HostRuntime) -> Result<(), Fail> {
+    let mut client = client_with_limit(rt.alloc(), 5_000).ok_or("no client")?;
+    assert_eq!(rt; sealed_len(rt.alloc(), &mut client, 7), Some(1200));
+    assert_eq!(rt; next(&client), Some(999_000_007));
+    assert_eq!(rt;
+        after(rt.alloc(), &mut client, 999_000_006),
+        Some(999_000_007)
+    );
+    assert_eq!(rt;
+        after(rt.alloc(), &mut client, 999_000_007),
+        Some(5_000_000_007)
+    );
+    assert_eq!(rt;
+        after(rt.alloc(), &mut client, 5_000_000_006),
+        Some(5_000_000_007)
+    );
+    assert!(rt; client.poll().is_none());
+    assert_eq!(rt; after(rt.alloc(), &mut client, 5_000_000_007), None);
+    assert!(rt; timed_out(&mut client));
+    assert!(rt; client.poll().is_none());
+    assert!(rt; drained(&mut client));
+    assert!(rt; client.poll_endpoint_events().is_none());
+    assert_eq!(rt; after(rt.alloc(), &mut client, 5_000_000_008), None);
+    assert!(rt; client.poll().is_none());
+    assert!(rt; client.poll_endpoint_events().is_none());
+    Ok(())
+}
+
+// A limit below three probe timeouts.
+#[test]
+fn a_short_limit_waits_for_three_probes(rt: HostRuntime) -> Result<(), Fail> {
+    let mut client = client_with_limit(rt.alloc(), 100).ok_or("no client")?;
+    assert_eq!(rt; sealed_len(rt.alloc(), &mut client, 7), Some(1200));
+    assert_eq!(rt;
+        after(rt.alloc(), &mut client, 999_000_007),
+        Some(2_997_000_007)
+    );
+    assert!(rt; client.poll().is_none());
+    assert_eq!(rt; after(rt.alloc(), &mut client, 2_997_000_007), None);
+    assert!(rt; timed_out(&mut client));
+    Ok(())
+}
+
+#[test]
+fn a_closed_client_ends_for_no_reason(rt: HostRuntime) -> Result<(), Fail> {
+    let mut client = client_with_limit(rt.alloc(), 5_000).ok_or("no client")?;
+    client.close(Instant::from_nanos(7), VarInt::from_u32(0), Bytes::new());
+    assert_eq!(rt;
+        after(rt.alloc(), &mut client, 2_997_000_006),
+        Some(2_997_000_007)
+    );
+    assert!(rt; client.poll_endpoint_events().is_none());
+    assert_eq!(rt; after(rt.alloc(), &mut client, 2_997_000_007), None);
+    assert!(rt; client.poll().is_none());
+    assert!(rt; drained(&mut client));
+    assert!(rt; client.poll_endpoint_events().is_none());
+    Ok(())
+}
+
+/// A transmit, and timeouts three probe timeouts after it and later.
+fn inputs() -> [Input; 3] {
+    [
+        Input::Transmit {
+            now: Instant::from_nanos(7),
+            max_datagrams: 1,
+        },
+        Input::Timeout {
+            now: Instant::from_nanos(2_997_000_007),
+        },
+        Input::Timeout {
+            now: Instant::from_nanos(2_997_000_008),
+        },
+    ]
+}
+
+// The lines are written by hand, by the rules of the trace's text.
+#[test]
+fn the_trace_tells_of_the_end(rt: HostRuntime) -> Result<(), Fail> {
+    let mut client = client_with_limit(rt.alloc(), 100).ok_or("no client")?;
+    let inputs = inputs();
+    match drive(rt.alloc(), &mut client, &inputs, &mut NoneTokenStore) {
+        Err(_) => assert!(rt; false, "refused"),
+        Ok(trace) => {
+            let text = String::from_utf8(trace_text(rt.alloc(), &trace)?)?;
+            let end =
+                "timer 999000007\nstep 1 timeout 2997000007\nlife 4\nlost TimedOut\nanswer done\nevent lost TimedOut\nendpoint drained\ntimer -\n\
+                step 2 timeout 2997000008\nanswer done\ntimer -\nend\n";
+            assert!(rt; text.as_str().ends_with(end), "{text}");
+        }
+    }
+    Ok(())
+}

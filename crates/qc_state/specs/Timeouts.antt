@@ -1,0 +1,27 @@
+-- What the timers do that have come, each in its turn (RFC 9000, sections 10.1 and 10.2; RFC 9002, section 6.2).
+use Rattle.std.specs.Prelude.{ℕ, if◌then◌else◌}
+use Rattle.qc_state.specs.declared.life.ConnectionError.TheVariants.{TimedOut}
+use Rattle.qc_state.specs.declared.life.State.TheVariants.{Drained}
+use Rattle.qc_state.specs.Life.{is_drained}
+use Rattle.qc_state.specs.Moves.{Calm, Raise, move_to}
+use Rattle.qc_state.specs.Stopping.{killed_after}
+use Rattle.qc_state.specs.Timers.{has_come}
+use Rattle.qc_state.specs.Types.{Types}
+use Rattle.qc_state.specs.View.{At}
+
+module _ {t : Types} where
+  -- packets were in flight for so long that they are to be taken up again: the timer stops, and so far nothing is sent again
+  unfoldable pub loss_expired : (time : ℕ) → At t → At t
+  loss_expired time a = if has_come a.state.timers.loss_detection time then move_to Calm a else a
+
+  -- the peer gave no sign for too long: the connection ends without a word
+  unfoldable pub idle_expired : (time : ℕ) → At t → At t
+  idle_expired time a = if has_come a.state.timers.idle time then killed_after TimedOut a else a
+
+  -- a connection that closed has waited long enough for its peer: it ends
+  unfoldable pub close_expired : (time : ℕ) → At t → At t
+  close_expired time a = if has_come a.state.timers.close time then move_to (Raise Drained) a else a
+
+  -- the timers that have come at this time, one after the other; in a connection that has ended none is left
+  unfoldable pub timeout_after : (time : ℕ) → At t → At t
+  timeout_after time a = if is_drained a.state.life.state then a else close_expired time (idle_expired time (loss_expired time a))
