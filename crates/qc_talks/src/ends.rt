@@ -1,0 +1,166 @@
+//! One end: a connection that is driven input by input, and the text of all its steps.
+
+use crate::setups::{Toy, client_address, client_to, server, server_address};
+use qc_base::{ConnectionId, EcnCodepoint, Instant, VarInt};
+use qc_config::NoneTokenStore;
+use qc_conn::text::trace_text;
+use qc_conn::{Connection, drive};
+use qc_state::{Answer, Body, Input, Step, Trace};
+use std::alloc::{AllocError, Global};
+use std::net::SocketAddr;
+use std::slice;
+use std::test::Fail;
+
+/// One end, and where its datagrams come from.
+#[derive(Drop)]
+pub(crate) struct End {
+    /// On the heap: a function that owns a whole connection is slow to check.
+    connection: Box<Connection<Toy>>,
+    /// Where its datagrams come from.
+    pub(crate) address: SocketAddr,
+    /// The text of its steps: the lines of a trace each.
+    pub(crate) text: String,
+}
+
+/// The lines of a text that begin with these words, each with its end.
+pub(crate) fn lines_with(alloc: Global, text: &str, words: &str) -> Result<String, AllocError> {
+    let mut kept = String::new(alloc);
+    let mut rest = text;
+    for _ in 0..text.len() {
+        match rest.split_once("\n") {
+            Some((line, behind)) => {
+                if line.starts_with(words) {
+                    kept.push_str(line)?;
+                    kept.push_str("\n")?;
+                }
+                rest = behind;
+            }
+            None => return Ok(kept),
+        }
+    }
+    Ok(kept)
+}
+
+/// The datagram that a step sent, if it sent one.
+fn datagram_of(alloc: Global, step: &Step) -> Result<Option<Vec<u8>>, AllocError> {
+    match &step.answer {
+        Answer::Out { bytes, .. } => {
+            let bytes = Vec::from_slice(alloc, bytes.as_slice())?;
+            Ok(Some(bytes))
+        }
+        Answer::Done | Answer::Dropped | Answer::Nothing => Ok(None),
+    }
+}
+
+/// The datagram that the last step of a trace sent, if it sent one.
+fn last_datagram(alloc: Global, trace: &Trace) -> Result<Option<Vec<u8>>, AllocError> {
+    match trace.as_slice().last() {
+        Some(step) => datagram_of(alloc, step),
+        None => Ok(None),
+    }
+}
+
+impl End {
+    /// The client whose first packets go to the id of eight such bytes.
+    pub(crate) fn client(alloc: Global, first: u8) -> Result<End, AllocError> {
+        let connection = client_to(alloc, ConnectionId::new(&[first; 8]))?;
+        Ok(End {
+            connection: Box::new(alloc, connection)?,
+            address: client_address(),
+            text: String::new(alloc),
+        })
+    }
+
+    /// The server.
+    pub(crate) fn server(alloc: Global) -> Result<End, AllocError> {
+        let connection = server(alloc)?;
+        Ok(End {
+            connection: Box::new(alloc, connection)?,
+            address: server_address(),
+            text: String::new(alloc),
+        })
+    }
+
+    /// One input, whose text is put behind that of the others: gives the datagram that it sent, if it sent one.
+    fn step(&mut self, alloc: Global, input: &Input) -> Result<Option<Vec<u8>>, Fail> {
+        let inputs = slice::from_ref(input);
+        match drive(alloc, &mut self.connection, inputs, &mut NoneTokenStore) {
+            Ok(trace) => {
+                let text = String::from_utf8(trace_text(alloc, &trace)?)?;
+                self.text.push_str(text.as_str())?;
+                Ok(last_datagram(alloc, &trace)?)
+            }
+            Err(_) => Err(Fail::from("an input was refused")),
+        }
+    }
+
+    /// What waits may be sent at this time: gives the datagram, if one is sent.
+    pub(crate) fn sends(&mut self, alloc: Global, nanos: u64) -> Result<Option<Vec<u8>>, Fail> {
+        let input = Input::Transmit {
+            now: Instant::from_nanos(nanos),
+            max_datagrams: 1,
+        };
+        self.step(alloc, &input)
+    }
+
+    /// A datagram comes at this time from this address, with this mark.
+    pub(crate) fn takes(
+        &mut self,
+        alloc: Global,
+        nanos: u64,
+        remote: SocketAddr,
+        ecn: Option<EcnCodepoint>,
+        datagram: &[u8],
+    ) -> Result<(), Fail> {
+        let input = Input::Datagram {
+            now: Instant::from_nanos(nanos),
+            remote,
+            ecn,
+            bytes: Body::from_slice(alloc, datagram)?,
+        };
+        let _none = self.step(alloc, &input)?;
+        Ok(())
+    }
+
+    /// The application asks for a PING.
+    pub(crate) fn pings(&mut self, alloc: Global, nanos: u64) -> Result<(), Fail> {
+        let input = Input::Ping {
+            now: Instant::from_nanos(nanos),
+        };
+        let _none = self.step(alloc, &input)?;
+        Ok(())
+    }
+
+    /// The application closes with code 7 and the reason `bye`.
+    pub(crate) fn closes(&mut self, alloc: Global, nanos: u64) -> Result<(), Fail> {
+        let input = Input::Close {
+            now: Instant::from_nanos(nanos),
+            code: VarInt::from_u32(7),
+            reason: Body::from_slice(alloc, b"bye")?,
+        };
+        let _none = self.step(alloc, &input)?;
+        Ok(())
+    }
+
+    /// All datagrams that it sends at this time, up to 20.
+    pub(crate) fn flight(&mut self, alloc: Global, nanos: u64) -> Result<Vec<Vec<u8>>, Fail> {
+        let mut flight = Vec::new(alloc);
+        for _ in 0..20 {
+            match self.sends(alloc, nanos)? {
+                Some(datagram) => flight.push(datagram)?,
+                None => return Ok(flight),
+            }
+        }
+        Ok(flight)
+    }
+
+    /// Its steps so far aren't told any more.
+    pub(crate) fn forget(&mut self) {
+        self.text.clear();
+    }
+
+    /// The lines of its steps that begin with these words.
+    pub(crate) fn told(&self, alloc: Global, words: &str) -> Result<String, AllocError> {
+        lines_with(alloc, self.text.as_str(), words)
+    }
+}
