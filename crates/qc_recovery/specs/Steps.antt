@@ -1,5 +1,5 @@
 -- What recovery's calls leave (RFC 9002, appendix A)
-use Rattle.std.specs.Prelude.{ℕ, ◌+◌, ◌^◌, ◌==◌, Bool, true, false, not, ◌&&◌, nat_lt, if◌then◌else◌, List, [], ◌∷◌, ◌++◌, length, Option, Some, None, unwrap_or, min}
+use Rattle.std.specs.Prelude.{ℕ, ◌+◌, ◌^◌, ◌==◌, Bool, true, false, not, ◌&&◌, nat_lt, if◌then◌else◌, List, [], ◌∷◌, ◌++◌, length, Option, Some, None, unwrap_or, is_some, min}
 use Rattle.std.specs.List.{list_any}
 use Rattle.qc_base.specs.Time.{plus, times}
 use Rattle.qc_base.specs.declared.range_set.NumberRange.{NumberRange}
@@ -146,6 +146,10 @@ time_of (Some a) = Some a.0
 unfoldable pub armed_at : ℕ → Around → Rtt → Recovery → Option ℕ
 armed_at now around rtt r = time_of (first_that_holds (loss_first r) (probe_line now around rtt r))
 
+-- the peer sent an ACK in the space
+abbrev pub was_acknowledged : SpaceId → Recovery → Bool
+was_acknowledged id r = is_some (space_of id r).greatest
+
 -- one of these elicits an ACK
 abbrev pub has_eliciting : List Entry → Bool
 has_eliciting es = list_any (λ e. e.1.ack_eliciting) es
@@ -260,7 +264,7 @@ module _ {C : Type 0} where
 
   -- the timer found these packets lost
   abbrev pub losses_fired : SpaceId → Recovery → SpaceAfter C → FiredAfter C
-  losses_fired id r q = fired_with (with_space id q.space r) q.path (fired.Lost q.lost)
+  losses_fired id r q = fired_with (with_space id q.space r) q.path (fired.Lost id q.lost)
 
   -- the timer makes probes due, where a line behind the first holds
   abbrev pub probe_fired : Option (ℕ × SpaceId) → Recovery → PathData C → FiredAfter C

@@ -51,8 +51,13 @@ pub struct Settled {
 /// What the loss timer does.
 #[derive(Drop)]
 pub enum Fired {
-    /// These packets are lost.
-    Lost(PacketList),
+    /// Packets are lost.
+    Lost {
+        /// Their space.
+        space: SpaceId,
+        /// The packets.
+        packets: PacketList,
+    },
     /// Probes are due in a space.
     Probe {
         /// The space.

@@ -120,7 +120,10 @@ fn packets_are_lost_by_number_and_by_age(rt: HostRuntime) -> Result<(), Fail> {
     let due = Instant::from_nanos(112_500_000);
     assert_eq!(rt; recovery.arm(at(100), &around(), &path), Some(due));
     match recovery.on_timeout(due, &around(), &mut path)? {
-        Fired::Lost(mut lost) => {
+        Fired::Lost {
+            packets: mut lost,
+            ..
+        } => {
             let first = lost.pop_front().ok_or("none lost")?;
             assert_eq!(rt; first.0, 2);
             assert_eq!(rt; lost.len(), 1);
@@ -147,7 +150,7 @@ fn probes_double(rt: HostRuntime) -> Result<(), Fail> {
                 assert_eq!(rt; space, SpaceId::Data);
                 assert_eq!(rt; count, 2);
             }
-            Fired::Lost(_) | Fired::Nothing => assert!(rt; false),
+            Fired::Lost { .. } | Fired::Nothing => assert!(rt; false),
         }
     }
     let early = Around {
@@ -186,7 +189,7 @@ fn an_end_that_may_be_blocked_is_probed(rt: HostRuntime) -> Result<(), Fail> {
             assert_eq!(rt; space, SpaceId::Initial);
             assert_eq!(rt; count, 1);
         }
-        Fired::Lost(_) | Fired::Nothing => assert!(rt; false),
+        Fired::Lost { .. } | Fired::Nothing => assert!(rt; false),
     }
     assert_eq!(rt; recovery.arm(at(5), &client, &path), Some(at(2003)));
     let blocked = Around {
@@ -305,7 +308,7 @@ fn the_clock_ends_and_goes_back(rt: HostRuntime) -> Result<(), Fail> {
                 assert_eq!(rt; space, SpaceId::Data);
                 assert_eq!(rt; count, 2);
             }
-            Fired::Lost(_) | Fired::Nothing => assert!(rt; false),
+            Fired::Lost { .. } | Fired::Nothing => assert!(rt; false),
         }
     }
     let settled = acknowledge(alloc, &mut recovery, &mut path, at(0), &[0], None)?;

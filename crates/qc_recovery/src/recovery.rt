@@ -9,7 +9,7 @@ ghost use Rattle.qc_frame.specs.FrameFits.{Fits};
 ghost use Rattle.qc_frame.specs.declared.frames.FrameOf.TheVariants as frames;
 ghost use Rattle.qc_recovery.specs.Frames.{ranges_up_of, values_of};
 ghost use Rattle.qc_recovery.specs.Calls.{begun_recovery, dropped_after};
-ghost use Rattle.qc_recovery.specs.Steps.{ack_after, after_with, all_bytes, armed_at, backed_off, count_after, fired_with, is_handshake, is_quiet, later_by, loss_first, losses_fired, other_bytes, path_dropped, placed, probe_fired, probe_first, probe_in, probe_line, probe_of_nothing, probe_timeout, probes_of, sent_after, sooner, space_after, space_of, space_timed, time_of, timed, timeout_after};
+ghost use Rattle.qc_recovery.specs.Steps.{ack_after, after_with, all_bytes, armed_at, backed_off, count_after, fired_with, is_handshake, is_quiet, later_by, loss_first, losses_fired, other_bytes, path_dropped, placed, probe_fired, probe_first, probe_in, probe_line, probe_of_nothing, probe_timeout, probes_of, sent_after, sooner, space_after, space_of, space_timed, time_of, timed, timeout_after, was_acknowledged};
 
 use crate::ack::{ranges_up, values};
 use crate::acking::{acknowledge, lose};
@@ -383,6 +383,17 @@ impl Recovery {
         }
     }
 
+    /// Whether the peer sent an ACK in the space.
+    pub fn was_acknowledged(&self, space: SpaceId) -> bool
+        ensures { result ≡ was_acknowledged space self.now }
+    {
+        match space {
+            SpaceId::Initial => self.initial.greatest.is_some(),
+            SpaceId::Handshake => self.handshake.greatest.is_some(),
+            SpaceId::Data => self.application.greatest.is_some(),
+        }
+    }
+
     /// The probe timeout of a space (RFC 9002, section 6.2.1), but for how often it is doubled.
     pub fn pto(&self, space: SpaceId, around: &Around, rtt: &RttEstimator) -> Duration
         ensures { result ≡ probe_timeout space around.now rtt.now }
@@ -489,17 +500,12 @@ impl Recovery {
         ensures path { OnErr result (path.new ≡ path.old) }
     {
         let limits = self.limits;
-        match id {
-            SpaceId::Initial => Ok(Fired::Lost(lose(&mut self.initial, path, &limits, now, id)?)),
-            SpaceId::Handshake => Ok(Fired::Lost(lose(
-                &mut self.handshake,
-                path,
-                &limits,
-                now,
-                id,
-            )?)),
-            SpaceId::Data => Ok(Fired::Lost(lose(&mut self.application, path, &limits, now, id)?)),
-        }
+        let packets = match id {
+            SpaceId::Initial => lose(&mut self.initial, path, &limits, now, id)?,
+            SpaceId::Handshake => lose(&mut self.handshake, path, &limits, now, id)?,
+            SpaceId::Data => lose(&mut self.application, path, &limits, now, id)?,
+        };
+        Ok(Fired::Lost { space: id, packets })
     }
 
     fn probes(&self) -> u8
