@@ -2,11 +2,12 @@
 
 use crate::{
     BuildError, DecryptPacketResult, KeyRing, Kill, OpenError, OpenKeys, PacketBuilder, Slot,
-    decrypt_packet_body, unprotect_header,
+    decrypt_packet_body, seal_padded, unprotect_header,
 };
 use bytes::{Bytes, BytesMut};
 use qc_base::{ConnectionId, PacketNumber, ResetToken, Side, SpaceId};
 use qc_crypto::{HeaderKey, KeySource, PacketKey, ServerConfig};
+use qc_frame::{FrameList, FrameOf};
 use qc_header::{Header, InitialHeader, Packet, PartialDecode};
 use qc_toy::{ToyHeaderKey, ToyKeys, ToyPacketKey, ToyServer, ToySettings};
 use std::alloc::{AllocError, Global};
@@ -106,6 +107,43 @@ fn a_packet_is_built_and_opened(rt: HostRuntime) -> Result<(), Fail> {
     let (answer, payload) = opened(rt.alloc(), changed, 0)?;
     assert_eq!(rt; answer, Err(OpenError::Unopened));
     assert_eq!(rt; payload.as_slice(), &changed[2..]);
+    Ok(())
+}
+
+// The same packet, sealed in one call: it is filled up to the 22 bytes that each packet has at least.
+#[test]
+fn a_padded_packet_is_sealed(rt: HostRuntime) -> Result<(), Fail> {
+    let header = Header::Short {
+        spin: false,
+        key_phase: false,
+        dst_cid: ConnectionId::new(b""),
+        number: PacketNumber::U8(7),
+    };
+    let header_key = header_key().ok_or("no keys")?;
+    let keys = KEYS.keys(Side::Client, 0);
+    let mut frames = FrameList::new(rt.alloc());
+    frames.push(FrameOf::Ping)?;
+    let mut payload = Vec::new(rt.alloc());
+    frames.put(&mut payload)?;
+    if header.encoded_len() + payload.len() > 1000 {
+        return Err("too long".into());
+    }
+    let mut buf = Vec::new(rt.alloc());
+    seal_padded(
+        &header_key,
+        &keys.local,
+        7,
+        &header,
+        &mut frames,
+        0,
+        &mut buf,
+    )?;
+    let sealed =
+        b"\x40\x5f\x01\x00\x00\x00\x58\xb0\x08\x60\xb8\x12\x68\xc0\x18\x70\xc8\x20\x78\xd0\x28\x80";
+    assert_eq!(rt; buf.as_slice(), sealed.as_slice());
+    let (listed, padding) = frames.parts();
+    assert_eq!(rt; listed.len(), 1);
+    assert_eq!(rt; padding, 3);
     Ok(())
 }
 
