@@ -1,7 +1,10 @@
 pub mod Back
+pub mod Done
 pub mod Faults
 pub mod MarksOff
 pub mod Keeping
 pub mod Places
 pub mod Reading
+pub mod Refused
+pub mod Sending
 pub mod Sizes

@@ -10,10 +10,10 @@ use Rattle.qc_recv.specs.declared.fault.ReadError.TheVariants.{Reset as SideRese
 use Rattle.qc_recv.specs.Receiving.{is_closed, is_at_end, has_chunk, chunk_given, end_told, opened, read_refusal, GivesChunk}
 use Rattle.qc_send_stream.specs.declared.send.SendPart.{SendPart}
 use Rattle.qc_send_stream.specs.declared.fault.WriteError.{WriteError}
-use Rattle.qc_send_stream.specs.declared.fault.WriteError.TheVariants.{Blocked as WriteBlocked, ClosedStream as WriteClosed}
+use Rattle.qc_send_stream.specs.declared.fault.WriteError.TheVariants.{Blocked as WriteBlocked, ClosedStream as WriteClosed, Stopped as WriteStopped, OutOfMemory as WriteMemory}
 use Rattle.qc_send_stream.specs.declared.fault.FinishError.{FinishError}
 use Rattle.qc_send_stream.specs.declared.fault.FinishError.TheVariants.{ClosedStream as FinishClosed}
-use Rattle.qc_send_stream.specs.Sending.{is_done, takes, part_written, after_refusal, write_refusal as part_write_refusal, finish_refusal as part_finish_refusal}
+use Rattle.qc_send_stream.specs.Sending.{is_done, takes, part_written, was_blocked, write_refusal as part_write_refusal, finish_refusal as part_finish_refusal}
 use Rattle.qc_streams.specs.declared.stream.Stream.{Stream}
 use Rattle.qc_streams.specs.declared.fault.ReadFault.{ReadFault}
 use Rattle.qc_streams.specs.declared.fault.ReadFault.TheVariants.{ClosedStream, IllegalOrderedRead, Reset, Blocked, OutOfMemory}
@@ -24,6 +24,7 @@ use Rattle.qc_streams.specs.Records.{record_of, changed}
 use Rattle.qc_streams.specs.Stream.{totals_at, with_receiving, with_sending}
 use Rattle.qc_streams.specs.Streams.{counted, settled}
 use Rattle.qc_streams.specs.Waiting.{touched}
+use Rattle.qc_streams.specs.Writable.{credit_at, held_up, passed}
 
 -- a sending side that the application knows: not one of which all is acknowledged
 abbrev pub known : Option SendPart → Option SendPart
@@ -43,9 +44,9 @@ known_at id s = known_of (record_of id s.records)
 abbrev pub if_known : (SendPart → SendPart) → SendPart → SendPart
 if_known f p = if is_done p then p else f p
 
--- the same of the stream with an id; it is looked at what it owes now
+-- the same of the stream with an id, which may not wait for the connection any more; it is looked at what it owes now
 unfoldable pub sends : (SendPart → SendPart) → ℕ → StreamsState → StreamsState
-sends f id s = touched id (record s { records = changed (with_sending (if_known f)) id s.records })
+sends f id s = touched id (passed id (record s { records = changed (with_sending (if_known f)) id s.records }))
 
 -- why a write is refused: the stream is unknown, or its sending side refuses
 abbrev pub write_fault : ℕ → Option SendPart → Option WriteError
@@ -67,14 +68,34 @@ count_taken wanted most (Some p) = takes wanted most p
 
 -- the application writes so many bytes of a chunk's front
 unfoldable pub wrote : ℕ → ℕ → List ℕ → StreamsState → StreamsState
-wrote id n chunk s = touched id (record s {
+wrote id n chunk s = touched id (passed id (record s {
   records = changed (with_sending (if_known (part_written (take n chunk)))) id s.records;
   outgoing = outgoing_written n s.outgoing;
-})
+}))
 
--- a write that is refused leaves everything as it was, but that it was blocked
+-- whether a write needs memory that may want: it isn't refused, or is blocked, which is noted
+abbrev pub needs_memory : Option WriteError → Bool
+needs_memory None = true
+needs_memory (Some WriteBlocked) = true
+needs_memory (Some WriteClosed) = false
+needs_memory (Some (WriteStopped code)) = false
+needs_memory (Some WriteMemory) = false
+
+-- a write isn't done because of that refusal, or for want of memory
+unfoldable pub IsRefused : WriteError → Option WriteError → Type 0
+IsRefused WriteMemory refusal = needs_memory refusal ≡ true
+IsRefused WriteBlocked refusal = refusal ≡ Some WriteBlocked
+IsRefused WriteClosed refusal = refusal ≡ Some WriteClosed
+IsRefused (WriteStopped code) refusal = refusal ≡ Some (WriteStopped code)
+
+-- a write that is refused leaves everything as it was, but that it was blocked on a connection that isn't closed
 unfoldable pub write_refused : WriteError → ℕ → StreamsState → StreamsState
-write_refused e id s = if s.closed then s else record s { records = changed (with_sending (if_known (after_refusal e))) id s.records }
+write_refused WriteBlocked id s =
+    if s.closed then s
+    else held_up (credit_at (record_of id s.records)) id (record s { records = changed (with_sending (if_known was_blocked)) id s.records })
+write_refused WriteClosed id s = s
+write_refused (WriteStopped code) id s = s
+write_refused WriteMemory id s = s
 
 -- why a stream can't be finished: it is unknown, or its sending side refuses
 abbrev pub finish_refusal : Option SendPart → Option FinishError

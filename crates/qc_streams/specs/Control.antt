@@ -1,6 +1,7 @@
 -- Frames of streams and of limits without bytes of a stream: which is sent next, and what becomes of them (RFC 9000, sections
 -- 19.4, 19.5 and 19.9 to 19.11)
-use Rattle.std.specs.Prelude.{ℕ, Bool, nat_le, if◌then◌else◌, Option, None, Some}
+use Rattle.std.specs.Prelude.{ℕ, Bool, nat_le, if◌then◌else◌, Option, None, Some, is_some}
+use Rattle.std.specs.Option.{option_and_then, option_map}
 use Rattle.qc_base.specs.declared.side.Dir.{Dir}
 use Rattle.qc_base.specs.declared.side.Dir.TheVariants.{Bi, Uni}
 use Rattle.qc_base.specs.declared.varint.VarInt.{VarInt}
@@ -15,6 +16,7 @@ use Rattle.qc_streams.specs.declared.stream.Stream.{Stream}
 use Rattle.qc_streams.specs.declared.state.StreamsState.{StreamsState}
 use Rattle.qc_streams.specs.Owed.{max_data_owed, max_data_sealed, max_data_lost, max_streams_owed, max_streams_sealed, max_streams_lost}
 use Rattle.qc_streams.specs.Records.{record_of, changed}
+use Rattle.qc_streams.specs.Stops.{first_stop, with_stop, without_stop}
 use Rattle.qc_streams.specs.Stream.{with_receiving, with_sending}
 use Rattle.qc_streams.specs.Streams.{settled}
 use Rattle.qc_streams.specs.Waiting.{touched}
@@ -34,44 +36,33 @@ abbrev pub credit_due : Option Recv → Option ℕ
 credit_due None = None
 credit_due (Some r) = if r.credit_waits then Some (credit_value r) else None
 
--- these frames of a stream, where there is one
-abbrev pub reset_with : ℕ → Option (VarInt × ℕ) → Option Control
-reset_with id None = None
-reset_with id (Some x) = Some (Reset id x.0 x.1)
-
-abbrev pub stop_with : ℕ → Option VarInt → Option Control
-stop_with id None = None
-stop_with id (Some code) = Some (Stop id code)
-
-abbrev pub credit_with : ℕ → Option ℕ → Option Control
-credit_with id None = None
-credit_with id (Some limit) = Some (MaxStreamData id limit)
-
+-- the RESET_STREAM that the stream with an id owes
 abbrev pub reset_of : ℕ → Option Stream → Option Control
-reset_of id None = None
-reset_of id (Some st) = reset_with id (reset_due st.sending)
+reset_of id st = option_map (λ due. Reset id due.0 due.1) (option_and_then (λ st. reset_due st.sending) st)
 
+-- the STOP_SENDING that the stream with an id owes
 abbrev pub stop_of : ℕ → Option Stream → Option Control
-stop_of id None = None
-stop_of id (Some st) = stop_with id (stop_due st.receiving)
+stop_of id st = option_map (Stop id) (option_and_then (λ st. stop_due st.receiving) st)
 
+-- the MAX_STREAM_DATA that the stream with an id owes
 abbrev pub credit_of : ℕ → Option Stream → Option Control
-credit_of id None = None
-credit_of id (Some st) = credit_with id (credit_due st.receiving)
+credit_of id st = option_map (MaxStreamData id) (option_and_then (λ st. credit_due st.receiving) st)
+
+-- the STOP_SENDING of a stream that has gone
+abbrev pub gone_stop : StreamsState → Option Control
+gone_stop s = option_map (λ stop. Stop stop.0 stop.1) (first_stop s.waiting.gone_stops)
 
 -- the frame of the stream that is the first of a set
 abbrev pub of_first : (ℕ → Option Stream → Option Control) → Option ℕ → StreamsState → Option Control
-of_first f None s = None
-of_first f (Some id) s = f id (record_of id s.records)
+of_first f first s = option_and_then (λ id. f id (record_of id s.records)) first
 
--- the frames of the connection's limits
+-- the MAX_DATA with a limit that is owed
 abbrev pub data_with : Option ℕ → Option Control
-data_with None = None
-data_with (Some limit) = Some (MaxData limit)
+data_with limit = option_map MaxData limit
 
+-- the MAX_STREAMS of a direction with a limit that is owed
 abbrev pub streams_with : Dir → Option ℕ → Option Control
-streams_with dir None = None
-streams_with dir (Some limit) = Some (MaxStreams dir limit)
+streams_with dir limit = option_map (MaxStreams dir) limit
 
 -- a frame that takes at most so many bytes, where there is room for them
 abbrev pub if_fits : ℕ → ℕ → Option Control → Option Control
@@ -82,15 +73,17 @@ abbrev pub or_else : Option Control → Option Control → Option Control
 or_else (Some c) other = Some c
 or_else None other = other
 
--- the frame that is sent next: RESET_STREAM, STOP_SENDING, MAX_DATA, MAX_STREAM_DATA and MAX_STREAMS, in this order
+-- the frame that is sent next: RESET_STREAM, STOP_SENDING, those of streams that have gone last, MAX_DATA, MAX_STREAM_DATA and
+-- MAX_STREAMS, in this order
 unfoldable pub next_control : ℕ → StreamsState → Option Control
 next_control room s =
     or_else (if_fits room 25 (of_first reset_of (first_id s.waiting.resets) s))
     (or_else (if_fits room 17 (of_first stop_of (first_id s.waiting.stops) s))
+    (or_else (if_fits room 17 (gone_stop s))
     (or_else (if_fits room 9 (data_with (max_data_owed s)))
     (or_else (if_fits room 17 (of_first credit_of (first_id s.waiting.credits) s))
     (or_else (if_fits room 9 (streams_with Bi (max_streams_owed Bi s)))
-    (if_fits room 9 (streams_with Uni (max_streams_owed Uni s)))))))
+    (if_fits room 9 (streams_with Uni (max_streams_owed Uni s))))))))
 
 -- a frame is sealed: it waits no longer
 unfoldable pub control_sealed : Control → StreamsState → StreamsState
@@ -100,7 +93,7 @@ control_sealed (Reset id code size) s = record s {
 }
 control_sealed (Stop id code) s = record s {
   records = changed (with_receiving stop_sealed) id s.records;
-  waiting = record s.waiting { stops = without_id id s.waiting.stops };
+  waiting = record s.waiting { stops = without_id id s.waiting.stops; gone_stops = without_stop id s.waiting.gone_stops };
 }
 control_sealed (MaxData limit) s = max_data_sealed s
 control_sealed (MaxStreamData id limit) s = record s {
@@ -114,10 +107,16 @@ abbrev pub control_drawn : Option Control → StreamsState → StreamsState
 control_drawn None s = s
 control_drawn (Some c) s = control_sealed c s
 
+-- a STOP_SENDING is lost: it waits again, by itself where its stream has gone
+unfoldable pub stop_again : ℕ → VarInt → StreamsState → StreamsState
+stop_again id code s =
+    if is_some (record_of id s.records) then touched id (record s { records = changed (with_receiving stop_lost) id s.records })
+    else record s { waiting = record s.waiting { gone_stops = with_stop id code s.waiting.gone_stops } }
+
 -- a frame is lost: it waits again, where it still holds
 unfoldable pub control_lost : Control → StreamsState → StreamsState
 control_lost (Reset id code size) s = touched id (record s { records = changed (with_sending reset_lost) id s.records })
-control_lost (Stop id code) s = touched id (record s { records = changed (with_receiving stop_lost) id s.records })
+control_lost (Stop id code) s = stop_again id code s
 control_lost (MaxData limit) s = max_data_lost s
 control_lost (MaxStreamData id limit) s = touched id (record s { records = changed (with_receiving credit_lost) id s.records })
 control_lost (MaxStreams dir limit) s = max_streams_lost dir s

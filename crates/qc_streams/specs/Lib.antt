@@ -3,12 +3,16 @@ pub mod Credit
 pub mod Lending
 pub mod Records
 pub mod Kept
+pub mod Sends
 pub mod Events
 pub mod Stream
 pub mod Refusals
 pub mod Lent
+pub mod Stops
+pub mod Blocked
 pub mod Waiting
 pub mod Streams
+pub mod Writable
 pub mod Frames
 pub mod Calls
 pub mod Owed

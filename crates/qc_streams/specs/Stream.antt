@@ -41,9 +41,9 @@ abbrev pub side_refusal : (Recv → Option SideRefusal) → Option Recv → Opti
 side_refusal f None = None
 side_refusal f (Some r) = f r
 
--- a stream of which nothing came and nothing was sent
-unfoldable pub fresh_stream : Option Recv → Option SendPart → Stream
-fresh_stream r p = record { receiving = r; sending = p; priority = pos 0; turn = None; marked = false }
+-- a stream of which nothing came and nothing was sent, and whether this end opened it
+unfoldable pub fresh_stream : Bool → Option Recv → Option SendPart → Stream
+fresh_stream taken r p = record { receiving = r; sending = p; priority = pos 0; turn = None; marked = false; taken = taken }
 
 -- the receiving side changes, where there is one
 unfoldable pub with_receiving : (Recv → Recv) → Stream → Stream

@@ -18,8 +18,9 @@ use Rattle.qc_streams.specs.Counts.{at_most, by_dir, dir_put, own_opened, own_ra
 use Rattle.qc_streams.specs.Credit.{new_incoming, tallied, new_outgoing, outgoing_raised}
 use Rattle.qc_streams.specs.Lending.{AllRecords}
 use Rattle.qc_streams.specs.Records.{record_of, with_new, without, changed}
+use Rattle.qc_streams.specs.Sends.{was_taken}
 use Rattle.qc_streams.specs.Stream.{fresh_stream, totals_at, has_ended}
-use Rattle.qc_streams.specs.Waiting.{new_waiting, place_made, places_made, place_left, left, touched, is_idle}
+use Rattle.qc_streams.specs.Waiting.{new_waiting, place_made, places_made, place_left, dues_at, sets_filed, left, touched, is_idle}
 
 -- the other end
 abbrev pub other : Side → Side
@@ -75,6 +76,7 @@ new_streams side uni bi window stream_window send_window fair = record {
   outgoing = new_outgoing;
   events = [];
   waiting = new_waiting;
+  blocked = [];
   fair = fair;
 }
 
@@ -92,13 +94,13 @@ closed s = record s { closed = true }
 
 -- a stream that this end opens
 abbrev pub fresh_own : Dir → StreamsState → Stream
-fresh_own Bi s = fresh_stream (Some (new_receiving s.stream_window)) (Some (new_sending s.limits.own_bidi_data))
-fresh_own Uni s = fresh_stream None (Some (new_sending s.limits.own_uni_data))
+fresh_own Bi s = fresh_stream true (Some (new_receiving s.stream_window)) (Some (new_sending s.limits.own_bidi_data))
+fresh_own Uni s = fresh_stream true None (Some (new_sending s.limits.own_uni_data))
 
 -- a stream that the peer opens
 abbrev pub fresh_peer : Dir → StreamsState → Stream
-fresh_peer Bi s = fresh_stream (Some (new_receiving s.stream_window)) (Some (new_sending s.limits.peer_bidi_data))
-fresh_peer Uni s = fresh_stream (Some (new_receiving s.stream_window)) None
+fresh_peer Bi s = fresh_stream false (Some (new_receiving s.stream_window)) (Some (new_sending s.limits.peer_bidi_data))
+fresh_peer Uni s = fresh_stream false (Some (new_receiving s.stream_window)) None
 
 -- whether the application may open a stream: the connection isn't closed, and the peer's limit isn't reached
 unfoldable pub may_open : Dir → StreamsState → Bool
@@ -122,7 +124,10 @@ next_accepted dir s = stream_id (other s.side) dir (by_dir dir s.peer).accepted
 
 -- the application accepts a stream
 unfoldable pub accepted_one : Dir → StreamsState → StreamsState
-accepted_one dir s = record s { peer = dir_put dir (accepted (by_dir dir s.peer)) s.peer }
+accepted_one dir s = record s {
+  peer = dir_put dir (accepted (by_dir dir s.peer)) s.peer;
+  records = changed was_taken (next_accepted dir s) s.records;
+}
 
 -- whether this end hasn't opened its stream with an id yet
 unfoldable pub is_own_unopened : ℕ → StreamsState → Bool
@@ -183,9 +188,13 @@ removed id s = record s {
   waiting = if is_idle (record_of id s.records) then place_left s.waiting else s.waiting;
 }
 
--- the same, with its turn
+-- nothing of a stream waits any more
+unfoldable pub forgotten : ℕ → StreamsState → StreamsState
+forgotten id s = record s { waiting = sets_filed (dues_at None) id s.waiting }
+
+-- the same, with its turn and with what it owes
 unfoldable pub released : ℕ → StreamsState → StreamsState
-released id s = removed id (left id s)
+released id s = removed id (left id (forgotten id s))
 
 -- a stream that has ended leaves; of another it is looked at what it owes now
 unfoldable pub settled : ℕ → StreamsState → StreamsState

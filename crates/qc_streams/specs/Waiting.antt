@@ -15,7 +15,7 @@ use Rattle.qc_streams.specs.Records.{record_of, changed}
 
 -- nothing waits
 unfoldable pub new_waiting : Waiting
-new_waiting = record { marks = no_marks; resets = []; stops = []; credits = []; ready = []; turns = 0 }
+new_waiting = record { marks = no_marks; resets = []; stops = []; gone_stops = []; credits = []; ready = []; turns = 0 }
 
 -- a stream that is opened has a place for its mark
 unfoldable pub place_made : Waiting → Waiting
@@ -64,10 +64,11 @@ abbrev pub dues_at : Option Stream → Dues
 dues_at None = record { reset = false; stop = false; credit = false; bytes = false }
 dues_at (Some st) = dues_of st
 
--- a stream's mark, and its place among those that have bytes to send
+-- a stream's mark
 unfoldable pub with_mark : Bool → Stream → Stream
 with_mark marked st = record st { marked = marked }
 
+-- a stream's place among those that have bytes to send
 unfoldable pub with_turn : Option (ℤ × ℕ) → Stream → Stream
 with_turn turn st = record st { turn = turn }
 

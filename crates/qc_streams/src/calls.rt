@@ -1,9 +1,9 @@
 //! The application's calls on the stream with an id.
 
-ghost use Rattle.std.specs.Prelude.{◌≡◌, ◌+◌, ◌^◌, ◌<◌, length, take, drop, IfErr, IfOk, OnErr, OnOk, None, Some, is_err};
+ghost use Rattle.std.specs.Prelude.{◌≡◌, false, ◌+◌, ◌^◌, ◌<◌, length, take, drop, IfErr, IfOk, OnErr, OnOk, None, Some, is_err};
 ghost use Rattle.qc_recv.specs.Receiving.{reset_asked, stop_asked};
 ghost use Rattle.qc_send_stream.specs.Sending.{IsWriteRefusal, after_refusal, finished, part_written, was_reset};
-ghost use Rattle.qc_streams.specs.Calls.{IsReadOf, after_read, bars_reset, closed_to, count_taken, finish_refusal, gives, if_known, known_at, known_of, receiving_at, receiving_of, reset_of, send_room, sends, write_fault, write_refusal, write_refused, wrote};
+ghost use Rattle.qc_streams.specs.Calls.{IsReadOf, IsRefused, after_read, bars_reset, closed_to, count_taken, finish_refusal, gives, if_known, known_at, known_of, receiving_at, receiving_of, reset_of, send_room, sends, write_fault, write_refusal, write_refused, wrote};
 ghost use Rattle.qc_streams.specs.Credit.{budget};
 ghost use Rattle.qc_streams.specs.Kept.{kept_in};
 ghost use Rattle.qc_streams.specs.Records.{changed, record_of};
@@ -11,6 +11,7 @@ ghost use Rattle.qc_streams.specs.Stream.{with_receiving, with_sending};
 
 use crate::fault::{ClosedStream, ReadFault};
 use crate::records::Records;
+use crate::sends::recounted;
 use crate::state::StreamsState;
 use bytes::Bytes;
 use qc_base::{StreamId, VarInt};
@@ -19,7 +20,7 @@ use qc_send_stream::{FinishError, WriteError};
 
 impl Records {
     /// Writes on the stream with an id.
-    #[tactic(auto, using(crate::proofs::Keeping::same), unfolding(qc_send_stream::specs::Sending::IsWriteRefusal))]
+    #[tactic(auto, using(crate::proofs::Keeping::same, crate::proofs::Sending::still, crate::proofs::Sending::recounts), unfolding(qc_send_stream::specs::Sending::IsWriteRefusal))]
     fn write(&mut self, id: u64, chunk: &mut Bytes, most: u64) -> Result<usize, WriteError>
         requires { kept_in self.old + most < 2 ^ 64 }
         ensures count { IfOk result (λ n. n ≡ count_taken (length chunk.old) most (known_of (record_of id self.old))) }
@@ -32,8 +33,12 @@ impl Records {
     {
         match self.streams.get_mut(id) {
             Some(stream) => {
+                let before = stream.sends();
                 let count = stream.write(chunk, most)?;
+                let after = stream.sends();
+                let _count = self.streams.len();
                 self.kept += count as u64;
+                self.sending = recounted(self.sending, before, after);
                 Ok(count)
             }
             None => Err(WriteError::ClosedStream),
@@ -41,7 +46,7 @@ impl Records {
     }
 
     /// Finishes the stream with an id.
-    #[tactic(auto, using(crate::proofs::Back::record_back, crate::proofs::Keeping::same))]
+    #[tactic(auto, using(crate::proofs::Back::record_back, crate::proofs::Keeping::same, crate::proofs::Sending::still, crate::proofs::Sending::recounts))]
     fn finish(&mut self, id: u64) -> Result<(), FinishError>
         ensures finished { OnOk result (self.new ≡ changed (with_sending (if_known finished)) id self.old) }
         ensures fits { OnOk result (finish_refusal (known_of (record_of id self.old)) ≡ None) }
@@ -49,13 +54,20 @@ impl Records {
         ensures err { OnErr result (self.new ≡ self.old) }
     {
         match self.streams.get_mut(id) {
-            Some(stream) => stream.finish(),
+            Some(stream) => {
+                let before = stream.sends();
+                stream.finish()?;
+                let after = stream.sends();
+                let _count = self.streams.len();
+                self.sending = recounted(self.sending, before, after);
+                Ok(())
+            }
             None => Err(FinishError::ClosedStream),
         }
     }
 
     /// Resets the stream with an id.
-    #[tactic(auto, using(crate::proofs::Back::record_back, crate::proofs::Keeping::same, crate::proofs::Keeping::less, crate::proofs::Keeping::at_most))]
+    #[tactic(auto, using(crate::proofs::Back::record_back, crate::proofs::Keeping::same, crate::proofs::Keeping::less, crate::proofs::Keeping::at_most, crate::proofs::Sending::still, crate::proofs::Sending::recounts))]
     fn reset(&mut self, id: u64, code: VarInt) -> Result<(), ClosedStream>
         ensures reset { OnOk result (self.new ≡ changed (with_sending (if_known (was_reset code))) id self.old) }
         ensures refused { is_err result ≡ bars_reset (known_of (record_of id self.old)) }
@@ -63,9 +75,13 @@ impl Records {
     {
         match self.streams.get_mut(id) {
             Some(stream) => {
-                let before = stream.kept();
+                let kept = stream.kept();
+                let before = stream.sends();
                 stream.reset(code)?;
-                self.kept -= before;
+                let after = stream.sends();
+                let _count = self.streams.len();
+                self.kept -= kept;
+                self.sending = recounted(self.sending, before, after);
                 Ok(())
             }
             None => Err(ClosedStream),
@@ -73,32 +89,32 @@ impl Records {
     }
 
     /// The next bytes of the stream with an id.
-    #[tactic(auto, using(crate::proofs::Keeping::same), unfolding(crate::specs::Calls::IsReadOf))]
+    #[tactic(auto, using(crate::proofs::Keeping::same, crate::proofs::Sending::still), unfolding(crate::specs::Calls::IsReadOf))]
     fn read(&mut self, id: u64, ordered: bool, most: usize) -> Result<Option<Chunk>, ReadFault>
         ensures answer { IsReadOf most ordered (receiving_of (record_of id self.old)) result }
         ensures leads { self.new ≡ changed (with_receiving (after_read ordered result)) id self.old }
     {
-        match self.streams.get_mut(id) {
-            Some(stream) => stream.read(ordered, most),
-            None => Err(ReadFault::ClosedStream),
-        }
+        let Some(stream) = self.streams.get_mut(id) else {
+            return Err(ReadFault::ClosedStream);
+        };
+        stream.read(ordered, most)
     }
 
     /// Stops the stream with an id.
-    #[tactic(auto, using(crate::proofs::Back::record_back, crate::proofs::Keeping::same))]
+    #[tactic(auto, using(crate::proofs::Back::record_back, crate::proofs::Keeping::same, crate::proofs::Sending::still))]
     fn stop(&mut self, id: u64, code: VarInt) -> Result<(), ClosedStream>
         ensures stopped { OnOk result (self.new ≡ changed (with_receiving (stop_asked code)) id self.old) }
         ensures refused { is_err result ≡ closed_to (receiving_of (record_of id self.old)) }
         ensures err { OnErr result (self.new ≡ self.old) }
     {
-        match self.streams.get_mut(id) {
-            Some(stream) => stream.stop(code),
-            None => Err(ClosedStream),
-        }
+        let Some(stream) = self.streams.get_mut(id) else {
+            return Err(ClosedStream);
+        };
+        stream.stop(code)
     }
 
     /// The code of the reset that came on the stream with an id.
-    #[tactic(auto, using(crate::proofs::Back::record_back, crate::proofs::Keeping::same))]
+    #[tactic(auto, using(crate::proofs::Back::record_back, crate::proofs::Keeping::same, crate::proofs::Sending::still))]
     fn received_reset(&mut self, id: u64) -> Result<Option<VarInt>, ClosedStream>
         ensures code { IfOk result (λ code. code ≡ reset_of (receiving_of (record_of id self.old))) }
         ensures told { OnOk result (self.new ≡ changed (with_receiving reset_asked) id self.old) }
@@ -122,6 +138,39 @@ impl StreamsState {
         self.send_window.saturating_sub(self.records.kept())
     }
 
+    /// Writes where the connection has credit, and the send window room.
+    #[tactic(auto, using(crate::proofs::Refused::refused_so, crate::proofs::Refused::refusal_so), unfolding(crate::specs::Calls::wrote, crate::specs::Calls::known_at))]
+    fn write_some(
+        &mut self,
+        id: StreamId,
+        chunk: &mut Bytes,
+        most: u64,
+    ) -> Result<usize, WriteError>
+        requires some { 0 < most }
+        requires room { kept_in self.old.records + most < 2 ^ 64 }
+        requires open { self.old.closed ≡ false }
+        ensures count { IfOk result (λ n. n ≡ count_taken (length chunk.old) most (known_at id self.old)) }
+        ensures written { IfOk result (λ n. self.new ≡ wrote id n chunk.old self.old) }
+        ensures rest { IfOk result (λ n. chunk.new ≡ drop n chunk.old) }
+        ensures fits { OnOk result (write_fault most (known_at id self.old) ≡ None) }
+        ensures refused { IfErr result (λ e. IsRefused e (write_fault most (known_at id self.old))) }
+        ensures err { IfErr result (λ e. self.new ≡ write_refused e id self.old) }
+        ensures kept { OnErr result (chunk.new ≡ chunk.old) }
+    {
+        match self.records.write(id.value(), chunk, most) {
+            Ok(count) => {
+                self.outgoing.write(count as u64);
+                self.pass(id.value());
+                self.touch(id.value());
+                Ok(count)
+            }
+            Err(refusal) => {
+                self.blocked.note_refusal(&refusal, id.value());
+                Err(refusal)
+            }
+        }
+    }
+
     /// Writes as many bytes of the chunk's front as fit, which are cut off it: no more than the peer
     /// takes of the stream and of all streams together (RFC 9000, section 4.1), nor than the send window
     /// leaves beside the bytes that all streams keep. Answers how many.
@@ -132,16 +181,17 @@ impl StreamsState {
     /// [`WriteError::ClosedStream`] where the stream is unknown, [`WriteError::Blocked`] where the
     /// connection's credit or the send window is used up, [`WriteError::ClosedStream`] where the stream is
     /// finished or reset, [`WriteError::Stopped`] where the peer stopped it,
-    /// [`WriteError::Blocked`] where its credit is used up; or want of memory. The chunk is as
-    /// before then, and so is all else, but that a write was blocked is noted on a connection that
-    /// isn't closed.
-    #[tactic(auto, unfolding(crate::specs::Calls::wrote, crate::specs::Calls::sends, crate::specs::Calls::write_refusal, crate::specs::Calls::write_refused, crate::specs::Calls::known_at, qc_send_stream::specs::Sending::IsWriteRefusal))]
+    /// [`WriteError::Blocked`] where its credit is used up; or want of memory, to write or to note that
+    /// a write is blocked. The chunk is as before then, and so is all else, but that a write was
+    /// blocked is noted on a connection that isn't closed: [`StreamEvent::Writable`] follows once it
+    /// can be done.
+    #[tactic(auto, unfolding(crate::specs::Calls::write_refusal, crate::specs::Calls::write_refused, crate::specs::Calls::IsRefused))]
     pub fn write(&mut self, id: StreamId, chunk: &mut Bytes) -> Result<usize, WriteError>
         ensures count { IfOk result (λ n. n ≡ count_taken (length chunk.old) (budget (send_room self.old) self.old.outgoing) (known_at id self.old)) }
         ensures written { IfOk result (λ n. self.new ≡ wrote id n chunk.old self.old) }
         ensures rest { IfOk result (λ n. chunk.new ≡ drop n chunk.old) }
         ensures fits { OnOk result (write_refusal id self.old ≡ None) }
-        ensures refused { IfErr result (λ e. IsWriteRefusal e (write_refusal id self.old)) }
+        ensures refused { IfErr result (λ e. IsRefused e (write_refusal id self.old)) }
         ensures err { IfErr result (λ e. self.new ≡ write_refused e id self.old) }
         ensures kept { OnErr result (chunk.new ≡ chunk.old) }
     {
@@ -149,10 +199,10 @@ impl StreamsState {
             return Err(WriteError::Blocked);
         }
         let most = self.outgoing.budget(self.send_room());
-        let count = self.records.write(id.value(), chunk, most)?;
-        self.outgoing.write(count as u64);
-        self.touch(id.value());
-        Ok(count)
+        if most == 0 {
+            return Err(self.hold(id));
+        }
+        self.write_some(id, chunk, most)
     }
 
     /// Finishes a stream: nothing is written on it any more.
@@ -170,6 +220,7 @@ impl StreamsState {
         ensures err { OnErr result (self.new ≡ self.old) }
     {
         self.records.finish(id.value())?;
+        self.pass(id.value());
         self.touch(id.value());
         Ok(())
     }
@@ -186,6 +237,7 @@ impl StreamsState {
         ensures err { OnErr result (self.new ≡ self.old) }
     {
         self.records.reset(id.value(), error_code)?;
+        self.pass(id.value());
         self.touch(id.value());
         Ok(())
     }

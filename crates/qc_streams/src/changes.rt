@@ -13,7 +13,7 @@ use qc_recv::{FrameFault, Refusal as SideRefusal};
 
 impl Records {
     /// A STREAM frame on the stream with an id, where one is open.
-    #[tactic(auto, using(crate::proofs::Back::record_back, crate::proofs::Keeping::same))]
+    #[tactic(auto, using(crate::proofs::Back::record_back, crate::proofs::Keeping::same, crate::proofs::Sending::still))]
     pub(crate) fn take_stream(
         &mut self,
         id: u64,
@@ -35,7 +35,7 @@ impl Records {
     }
 
     /// A RESET_STREAM frame on the stream with an id, where one is open.
-    #[tactic(auto, using(crate::proofs::Back::record_back, crate::proofs::Keeping::same))]
+    #[tactic(auto, using(crate::proofs::Back::record_back, crate::proofs::Keeping::same, crate::proofs::Sending::still))]
     pub(crate) fn take_reset(
         &mut self,
         id: u64,
@@ -55,7 +55,7 @@ impl Records {
     }
 
     /// A STOP_SENDING frame on the stream with an id, where one is open: whether it is to be told.
-    #[tactic(auto, using(crate::proofs::Keeping::same))]
+    #[tactic(auto, using(crate::proofs::Keeping::same, crate::proofs::Sending::still))]
     pub(crate) fn stop_sending(&mut self, id: u64, code: VarInt) -> bool
         ensures first { result ≡ stops_at (record_of id self.old) }
         ensures stopped { self.new ≡ changed (with_sending (stop_taken code)) id self.old }
@@ -67,7 +67,7 @@ impl Records {
     }
 
     /// A MAX_STREAM_DATA frame on the stream with an id, where one is open.
-    #[tactic(auto, using(crate::proofs::Keeping::same))]
+    #[tactic(auto, using(crate::proofs::Keeping::same, crate::proofs::Sending::still))]
     pub(crate) fn raise_limit(&mut self, id: u64, limit: VarInt)
         ensures { self.new ≡ changed (with_sending (limit_taken limit)) id self.old }
     {

@@ -1,9 +1,9 @@
 //! Frames of streams and of limits without bytes of a stream: which is sent next, and what becomes of them.
 
-ghost use Rattle.std.specs.Prelude.{◌≡◌, Some};
+ghost use Rattle.std.specs.Prelude.{◌≡◌, OnErr, OnOk, Some};
 ghost use Rattle.qc_base.specs.declared.side.Dir.TheVariants.{Bi, Uni};
 ghost use Rattle.qc_turns.specs.Ids.{first_id};
-ghost use Rattle.qc_streams.specs.Control.{control_acked, control_drawn, control_lost, control_sealed, credit_due, credit_of, data_with, if_fits, next_control, of_first, or_else, reset_due, reset_of, stop_due, stop_of, streams_with};
+ghost use Rattle.qc_streams.specs.Control.{control_acked, control_drawn, control_lost, control_sealed, credit_due, credit_of, data_with, gone_stop, if_fits, next_control, of_first, or_else, reset_due, reset_of, stop_again, stop_due, stop_of, streams_with};
 ghost use Rattle.qc_streams.specs.Owed.{max_data_owed, max_streams_owed};
 ghost use Rattle.qc_streams.specs.Records.{record_of};
 
@@ -12,6 +12,7 @@ use crate::state::StreamsState;
 use qc_base::{Dir, VarInt};
 use qc_recv::Recv;
 use qc_send_stream::SendPart;
+use std::alloc::AllocError;
 
 /// A frame of a stream or of a limit, without bytes of a stream; streams are named by their ids.
 #[derive(Debug, PartialEq, Eq, Drop)]
@@ -137,6 +138,16 @@ impl StreamsState {
         }
     }
 
+    /// The STOP_SENDING of a stream that has gone.
+    fn gone_stop(&self) -> Option<Control>
+        ensures { result ≡ gone_stop self.now }
+    {
+        match self.waiting.gone_stops.first() {
+            Some((id, code)) => Some(Control::Stop { id, code }),
+            None => None,
+        }
+    }
+
     /// The MAX_STREAM_DATA that is sent next.
     fn credit_to_send(&self) -> Option<Control>
         ensures { result ≡ of_first credit_of (first_id self.now.waiting.credits) self.now }
@@ -174,12 +185,14 @@ impl StreamsState {
     {
         let reset = if_fits(room, 25, self.reset_to_send());
         let stop = if_fits(room, 17, self.stop_to_send());
+        let gone = if_fits(room, 17, self.gone_stop());
         let data = if_fits(room, 9, self.next_data_limit());
         let credit = if_fits(room, 17, self.credit_to_send());
         let bi = if_fits(room, 9, self.next_streams_limit(Dir::Bi));
         let uni = if_fits(room, 9, self.next_streams_limit(Dir::Uni));
         let streams = or_else(bi, uni);
-        let others = or_else(stop, or_else(data, or_else(credit, streams)));
+        let limits = or_else(data, or_else(credit, streams));
+        let others = or_else(stop, or_else(gone, limits));
         or_else(reset, others)
     }
 
@@ -196,6 +209,7 @@ impl StreamsState {
             Control::Stop { id, .. } => {
                 self.records.stop_sealed(*id);
                 self.waiting.stops.remove(*id);
+                self.waiting.gone_stops.remove(*id);
             }
             Control::MaxData { .. } => self.max_data_sealed(),
             Control::MaxStreamData { id, .. } => {
@@ -207,8 +221,8 @@ impl StreamsState {
     }
 
     /// Draws the frame that is sent next, where there is room for so many bytes: RESET_STREAM comes
-    /// before STOP_SENDING, MAX_DATA, MAX_STREAM_DATA and MAX_STREAMS, and none is drawn whose
-    /// greatest form doesn't fit. It counts as sealed.
+    /// before STOP_SENDING (those of streams that have gone last), MAX_DATA, MAX_STREAM_DATA and
+    /// MAX_STREAMS, and none is drawn whose greatest form doesn't fit. It counts as sealed.
     pub fn draw_control(&mut self, room: usize) -> Option<Control>
         ensures next { result ≡ next_control room self.old }
         ensures drawn { self.new ≡ control_drawn result self.old }
@@ -222,20 +236,36 @@ impl StreamsState {
         }
     }
 
+    /// A STOP_SENDING was lost: it waits again, by itself where its stream has gone.
+    #[tactic(auto, unfolding(crate::specs::Control::stop_again))]
+    fn stop_again(&mut self, id: u64, code: VarInt) -> Result<(), AllocError>
+        ensures again { OnOk result (self.new ≡ stop_again id code self.old) }
+        ensures err { OnErr result (self.new ≡ self.old) }
+    {
+        if !self.records.has(id) {
+            return self.waiting.gone_stops.insert(id, code);
+        }
+        self.records.stop_lost(id);
+        self.touch(id);
+        Ok(())
+    }
+
     /// A frame was lost: it waits again, where it still holds.
+    ///
+    /// # Errors
+    ///
+    /// Want of memory, for a STOP_SENDING whose stream has gone; nothing changes then.
     #[tactic(auto, unfolding(crate::specs::Control::control_lost))]
-    pub fn control_lost(&mut self, frame: &Control)
-        ensures { self.new ≡ control_lost frame.now self.old }
+    pub fn control_lost(&mut self, frame: &Control) -> Result<(), AllocError>
+        ensures lost { OnOk result (self.new ≡ control_lost frame.now self.old) }
+        ensures err { OnErr result (self.new ≡ self.old) }
     {
         match frame {
             Control::Reset { id, .. } => {
                 self.records.reset_lost(*id);
                 self.touch(*id);
             }
-            Control::Stop { id, .. } => {
-                self.records.stop_lost(*id);
-                self.touch(*id);
-            }
+            Control::Stop { id, code } => return self.stop_again(*id, *code),
             Control::MaxData { .. } => self.max_data_lost(),
             Control::MaxStreamData { id, .. } => {
                 self.records.credit_lost(*id);
@@ -243,6 +273,7 @@ impl StreamsState {
             }
             Control::MaxStreams { dir, .. } => self.max_streams_lost(*dir),
         }
+        Ok(())
     }
 
     /// A frame was acknowledged: with its RESET_STREAM a sending side has ended.

@@ -45,7 +45,16 @@ impl StreamsState {
         self.open_with(id, stream)
     }
 
-    /// The same, with the event of a first STOP_SENDING.
+    /// The same; the stream waits for the connection, where a write was blocked on it.
+    #[tactic(auto, unfolding(crate::specs::Frames::stream_limit_came))]
+    fn raise_stream(&mut self, id: StreamId, limit: VarInt) -> Result<(), AllocError>
+        ensures { OnOk result (self.new ≡ stream_limit_came id limit self.old) }
+    {
+        self.meet_limit(id.value(), limit)?;
+        self.watch(id)
+    }
+
+    /// A STOP_SENDING frame meets its stream, with the event of a first one.
     #[tactic(auto, unfolding(crate::specs::Frames::stop_came))]
     fn tell_stop(&mut self, id: StreamId, error_code: VarInt) -> Result<(), AllocError>
         ensures { OnOk result (self.new ≡ stop_came id error_code self.old) }
@@ -88,7 +97,7 @@ impl StreamsState {
     ///
     /// A [`Refusal`], exactly by the table of the definition; nothing changes then, and no stream is
     /// opened. Or want of memory.
-    #[tactic(auto, unfolding(crate::specs::Frames::stream_limit_came, crate::specs::Refusals::IsRefusal, crate::specs::Refusals::KeptOn))]
+    #[tactic(auto, unfolding(crate::specs::Refusals::IsRefusal, crate::specs::Refusals::KeptOn))]
     pub fn received_max_stream_data(
         &mut self,
         id: StreamId,
@@ -102,7 +111,7 @@ impl StreamsState {
         if let Some(refusal) = self.send_refusal(id.value()) {
             return Err(StreamFault::Refused(refusal));
         }
-        match self.meet_limit(id.value(), limit) {
+        match self.raise_stream(id, limit) {
             Ok(()) => Ok(()),
             Err(_) => Err(StreamFault::OutOfMemory),
         }

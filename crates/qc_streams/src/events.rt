@@ -15,6 +15,8 @@ pub enum StreamEvent {
     Opened { dir: Dir },
     /// More came on a stream.
     Readable { id: StreamId },
+    /// A stream can be written on again on which a write was blocked (RFC 9000, section 4.1).
+    Writable { id: StreamId },
     /// The peer stopped a stream (RFC 9000, section 3.5).
     Stopped { id: StreamId, error_code: VarInt },
     /// All bytes of a stream and its end are acknowledged.

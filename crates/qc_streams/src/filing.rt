@@ -12,7 +12,7 @@ use std::alloc::AllocError;
 
 impl Records {
     /// What waits of the stream with an id.
-    #[tactic(auto, using(crate::proofs::Back::record_back, crate::proofs::Keeping::same))]
+    #[tactic(auto, using(crate::proofs::Back::record_back, crate::proofs::Keeping::same, crate::proofs::Sending::still))]
     pub(crate) fn dues(&mut self, id: u64) -> Dues
         ensures dues { result ≡ dues_at (record_of id self.old) }
         ensures same { self.new ≡ self.old }
@@ -24,7 +24,7 @@ impl Records {
     }
 
     /// The stream with an id is marked, or isn't any more.
-    #[tactic(auto, using(crate::proofs::Keeping::same))]
+    #[tactic(auto, using(crate::proofs::Keeping::same, crate::proofs::Sending::still))]
     fn set_mark(&mut self, id: u64, marked: bool)
         ensures { self.new ≡ changed (with_mark marked) id self.old }
     {
@@ -34,7 +34,7 @@ impl Records {
     }
 
     /// The stream with an id has a place, or none.
-    #[tactic(auto, using(crate::proofs::Keeping::same))]
+    #[tactic(auto, using(crate::proofs::Keeping::same, crate::proofs::Sending::still))]
     fn set_turn(&mut self, id: u64, turn: Option<Place>)
         ensures { self.new ≡ changed (with_turn turn) id self.old }
     {
@@ -54,7 +54,7 @@ impl Records {
     }
 
     /// Whether there is a stream with an id.
-    fn has(&self, id: u64) -> bool
+    pub(crate) fn has(&self, id: u64) -> bool
         ensures { result ≡ is_some (record_of id self.now) }
     {
         match self.streams.get(id) {

@@ -1,6 +1,7 @@
 //! The state over all streams of a connection.
 #![tactic(auto)]
 
+mod blocked;
 mod calls;
 mod changes;
 mod control;
@@ -18,12 +19,16 @@ mod owed;
 mod parts;
 mod received;
 mod records;
+mod sends;
 mod settings;
 mod sides;
 mod state;
+mod stops;
 mod stream;
 mod waiting;
+mod writable;
 
+pub use blocked::Blocked;
 pub use control::Control;
 pub use counts::{ByDir, OwnStreams, PeerStreams, StreamLimit};
 pub use credit::{Incoming, Outgoing};
@@ -32,6 +37,7 @@ pub use fault::{ClosedStream, ReadFault, Refusal, StreamFault};
 pub use parts::StreamPart;
 pub use records::Records;
 pub use state::{PeerLimits, StreamsState};
+pub use stops::Stops;
 pub use stream::{Stream, Totals};
 pub use waiting::{Dues, Waiting};
 
@@ -39,3 +45,5 @@ pub use waiting::{Dues, Waiting};
 mod sending_tests;
 #[cfg(test)]
 mod tests;
+#[cfg(test)]
+mod writing_tests;

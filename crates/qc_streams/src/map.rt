@@ -1,6 +1,6 @@
 //! The streams that are open, as an ordered map that lends them.
 
-ghost use Rattle.std.specs.Prelude.{◌≡◌, [], IfOk, OnOk, OnErr};
+ghost use Rattle.std.specs.Prelude.{◌≡◌, [], IfOk, OnOk, OnErr, length};
 ghost use Rattle.std.specs.Borrow.{sem};
 ghost use Rattle.std.specs.Option.{option_copied, option_copied_mut};
 ghost use Rattle.std.specs.Map.{keys_of};
@@ -43,6 +43,13 @@ impl StreamMap {
     /// The allocator that streams take their memory from.
     pub(crate) fn alloc(&self) -> Global {
         self.alloc
+    }
+
+    /// How many streams are open.
+    pub(crate) fn len(&self) -> usize
+        ensures { result ≡ length self.now }
+    {
+        self.map.len()
     }
 
     /// The stream with an id.

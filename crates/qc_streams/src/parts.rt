@@ -3,12 +3,14 @@
 ghost use Rattle.std.specs.Prelude.{◌≡◌, ◌+◌, IfOk, OnErr, OnOk, length};
 ghost use Rattle.qc_send_stream.specs.Sending.{IsOffer, part_acked, part_lost, part_sealed};
 ghost use Rattle.qc_streams.specs.Kept.{kept_of};
+ghost use Rattle.qc_streams.specs.Sends.{sends_of};
 ghost use Rattle.qc_streams.specs.Parts.{IsDrawn, IsOfferAt, IsOfferOf, bytes_acked, bytes_lost, bytes_taken, finished_at, finishes, is_finished, part_drawn, part_end, place_again, sealed_part, turned};
 ghost use Rattle.qc_streams.specs.Records.{changed, record_of};
 ghost use Rattle.qc_streams.specs.Stream.{with_sending};
 
 use crate::events::StreamEvent;
 use crate::records::Records;
+use crate::sends::recounted;
 use crate::state::StreamsState;
 use crate::stream::Stream;
 use qc_base::StreamId;
@@ -63,10 +65,11 @@ impl Stream {
     }
 
     /// Bytes of it are sealed.
-    #[tactic(auto, using(crate::proofs::Sizes::sealed_same), unfolding(crate::specs::Stream::with_sending))]
+    #[tactic(auto, using(crate::proofs::Sizes::sealed_same, crate::proofs::Done::sealed_still), unfolding(crate::specs::Stream::with_sending))]
     fn seal(&mut self, start: u64, end: u64, last: bool) -> Result<(), AllocError>
         ensures sealed { OnOk result (self.new ≡ with_sending (part_sealed start end last) self.old) }
         ensures same { kept_of self.new ≡ kept_of self.old }
+        ensures still { sends_of self.new ≡ sends_of self.old }
     {
         match &mut self.sending {
             Some(sending) => {
@@ -78,10 +81,11 @@ impl Stream {
     }
 
     /// Bytes of it are lost.
-    #[tactic(auto, using(crate::proofs::Sizes::lost_same), unfolding(crate::specs::Stream::with_sending))]
+    #[tactic(auto, using(crate::proofs::Sizes::lost_same, crate::proofs::Done::lost_still), unfolding(crate::specs::Stream::with_sending))]
     fn lose(&mut self, start: u64, end: u64, last: bool) -> Result<(), AllocError>
         ensures lost { OnOk result (self.new ≡ with_sending (part_lost start end last) self.old) }
         ensures same { kept_of self.new ≡ kept_of self.old }
+        ensures still { sends_of self.new ≡ sends_of self.old }
     {
         match &mut self.sending {
             Some(sending) => {
@@ -98,6 +102,7 @@ impl Stream {
         ensures acked { OnOk result (self.new ≡ with_sending (part_acked start end last) self.old) }
         ensures count { IfOk result (λ n. n + kept_of self.new ≡ kept_of self.old) }
         ensures same { OnErr result (kept_of self.new ≡ kept_of self.old) }
+        ensures still { OnErr result (sends_of self.new ≡ sends_of self.old) }
     {
         match &mut self.sending {
             Some(sending) => sending.acknowledge(start, end, last),
@@ -108,7 +113,7 @@ impl Stream {
 
 impl Records {
     /// What the stream with an id may give next, with at most so many bytes.
-    #[tactic(auto, using(crate::proofs::Back::record_back, crate::proofs::Keeping::same), unfolding(crate::specs::Parts::IsOfferAt))]
+    #[tactic(auto, using(crate::proofs::Back::record_back, crate::proofs::Keeping::same, crate::proofs::Sending::still), unfolding(crate::specs::Parts::IsOfferAt))]
     fn offer(&mut self, id: u64, most: usize) -> Result<Option<Part>, AllocError>
         ensures next { IfOk result (λ p. IsOfferAt most (record_of id self.old) p) }
         ensures same { self.new ≡ self.old }
@@ -120,7 +125,7 @@ impl Records {
     }
 
     /// Bytes of the stream with an id are sealed.
-    #[tactic(auto, using(crate::proofs::Keeping::same))]
+    #[tactic(auto, using(crate::proofs::Keeping::same, crate::proofs::Sending::still))]
     fn seal(&mut self, id: u64, start: u64, end: u64, last: bool) -> Result<(), AllocError>
         ensures { OnOk result (self.new ≡ changed (with_sending (part_sealed start end last)) id self.old) }
     {
@@ -131,7 +136,7 @@ impl Records {
     }
 
     /// Bytes of the stream with an id are lost.
-    #[tactic(auto, using(crate::proofs::Keeping::same))]
+    #[tactic(auto, using(crate::proofs::Keeping::same, crate::proofs::Sending::still))]
     fn lose(&mut self, id: u64, start: u64, end: u64, last: bool) -> Result<(), AllocError>
         ensures { OnOk result (self.new ≡ changed (with_sending (part_lost start end last)) id self.old) }
     {
@@ -142,14 +147,18 @@ impl Records {
     }
 
     /// Bytes of the stream with an id are acknowledged.
-    #[tactic(auto, using(crate::proofs::Keeping::same, crate::proofs::Keeping::less))]
+    #[tactic(auto, using(crate::proofs::Keeping::same, crate::proofs::Keeping::less, crate::proofs::Sending::still, crate::proofs::Sending::recounts))]
     fn acknowledge(&mut self, id: u64, start: u64, end: u64, last: bool) -> Result<(), AllocError>
         ensures { OnOk result (self.new ≡ changed (with_sending (part_acked start end last)) id self.old) }
     {
         match self.streams.get_mut(id) {
             Some(stream) => {
+                let before = stream.sends();
                 let count = stream.acknowledge(start, end, last)?;
+                let after = stream.sends();
+                let _count = self.streams.len();
                 self.kept -= count;
+                self.sending = recounted(self.sending, before, after);
                 Ok(())
             }
             None => Ok(()),

@@ -1,4 +1,4 @@
-//! The streams that are open, and how many bytes they keep.
+//! The streams that are open, how many bytes they keep, and on how many this end sends.
 
 ghost use Rattle.std.specs.Prelude.{◌≡◌, [], OnOk, OnErr};
 ghost use Rattle.std.specs.Option.{option_copied};
@@ -6,6 +6,7 @@ ghost use Rattle.qc_streams.specs.Kept.{kept_at, kept_in, kept_of};
 ghost use Rattle.qc_streams.specs.Records.{record_of, with_new, without};
 
 use crate::map::StreamMap;
+use crate::sends::{recounted, sends_at};
 use crate::stream::Stream;
 use std::alloc::{AllocError, Global};
 use std::marker::Model;
@@ -16,6 +17,8 @@ pub struct Records {
     pub(crate) streams: StreamMap,
     // how many bytes they keep until they are acknowledged, all together
     pub(crate) kept: u64,
+    // how many of them this end opened or accepted, and sends on
+    pub(crate) sending: u64,
 }
 
 impl Model for Records {
@@ -25,10 +28,11 @@ impl Model for Records {
     ghost Value = { AllRecords };
 
     ghost use Rattle.qc_streams.specs.Kept.{kept_in};
+    ghost use Rattle.qc_streams.specs.Sends.{sends_in};
 
     ghost view = { λ r. r.streams };
 
-    ghost invariant = { λ r. r.kept ≡ kept_in r.streams };
+    ghost invariant = { λ r. (r.kept ≡ kept_in r.streams) × (r.sending ≡ sends_in r.streams) };
 }
 
 /// How many bytes a stream keeps, none where there is no stream.
@@ -43,13 +47,14 @@ fn kept_at(stream: &Option<Stream>) -> u64
 
 impl Records {
     /// No stream is open.
-    #[tactic(auto, unfolding(crate::specs::Kept::kept_in))]
+    #[tactic(auto, unfolding(crate::specs::Kept::kept_in, crate::specs::Sends::sends_in))]
     pub fn new(alloc: Global) -> Records
         ensures { result ≡ [] }
     {
         Records {
             streams: StreamMap::new(alloc),
             kept: 0,
+            sending: 0,
         }
     }
 
@@ -82,17 +87,20 @@ impl Records {
         ensures added { OnOk result (self.new ≡ with_new id stream self.old) }
         ensures err { OnErr result (self.new ≡ self.old) }
     {
+        let after = stream.sends();
         let before = self.streams.insert(id, stream)?;
         self.kept -= kept_at(&before);
+        let _count = self.streams.len();
+        self.sending = recounted(self.sending, sends_at(&before), after);
         Ok(())
     }
 
     /// Takes a stream out.
-    #[tactic(auto, using(crate::proofs::Keeping::removed))]
     pub(crate) fn remove(&mut self, id: u64)
         ensures { self.new ≡ without id self.old }
     {
         let before = self.streams.remove(id);
         self.kept -= kept_at(&before);
+        self.sending = self.sending.saturating_sub(sends_at(&before));
     }
 }

@@ -150,10 +150,9 @@ fn frames_go_in_their_order(rt: HostRuntime) -> Result<(), Fail> {
     assert!(rt; streams.next_control(24) == Some(stop()));
     assert!(rt; draws_all(&mut streams));
     // what is lost waits again
-    streams.control_lost(&credit());
-    streams.control_lost(&data());
-    streams.control_lost(&stop());
-    streams.control_lost(&reset());
+    for lost in [credit(), data(), stop(), reset()] {
+        streams.control_lost(&lost)?;
+    }
     streams.file_marks()?;
     assert!(rt; draws_all(&mut streams));
     // the reset is acknowledged, and then the end comes: the stream has ended
@@ -173,6 +172,50 @@ fn frames_go_in_their_order(rt: HostRuntime) -> Result<(), Fail> {
     streams.max_streams_sealed(Dir::Bi);
     streams.max_data_lost();
     assert!(rt; streams.next_control(9) == Some(data()));
+    Ok(())
+}
+
+/// The STOP_SENDING of a stream.
+fn stop_of(id: u64) -> Control {
+    Control::Stop {
+        id,
+        code: VarInt::from_u32(5),
+    }
+}
+
+#[test]
+fn a_lost_stop_outlives_its_stream(rt: HostRuntime) -> Result<(), Fail> {
+    let mut streams = client(rt.alloc(), true)?;
+    let code = VarInt::from_u32(5);
+    // a byte of stream 7 opens stream 3 too; both are stopped, and one STOP_SENDING is drawn
+    assert!(rt;
+        streams
+            .received(id(7), 0, zeros(rt.alloc(), 1)?, false)
+            .is_ok()
+    );
+    assert!(rt; streams.stop(id(3), code).is_ok());
+    assert!(rt; streams.stop(id(7), code).is_ok());
+    streams.file_marks()?;
+    assert!(rt; streams.draw_control(17) == Some(stop_of(3)));
+    assert!(rt; streams.next_control(17) == Some(stop_of(7)));
+    // their ends come, and they leave: what still waits goes with them
+    for (number, offset) in [(3, 0), (7, 1)] {
+        let none = zeros(rt.alloc(), 0)?;
+        assert!(rt; streams.received(id(number), offset, none, true).is_ok());
+    }
+    assert_eq!(rt; streams.remote_open_streams(Dir::Uni), 0);
+    let places = Control::MaxStreams {
+        dir: Dir::Uni,
+        limit: 4,
+    };
+    assert!(rt; streams.next_control(17) == Some(places));
+    // what is lost waits again, the least id first, and is drawn once
+    streams.control_lost(&stop_of(7))?;
+    streams.control_lost(&stop_of(3))?;
+    assert!(rt; streams.draw_control(17) == Some(stop_of(3)));
+    assert!(rt; streams.draw_control(17) == Some(stop_of(7)));
+    assert!(rt; matches!(&streams.draw_control(17), Some(Control::MaxStreams { .. })));
+    assert!(rt; streams.draw_control(17).is_none());
     Ok(())
 }
 

@@ -3,6 +3,7 @@
 ghost use Rattle.std.specs.Prelude.{◌≡◌, IfOk, OnErr, OnOk, is_err};
 ghost use Rattle.qc_streams.specs.Calls.{known, known_at, known_of};
 ghost use Rattle.qc_streams.specs.Kept.{kept_of};
+ghost use Rattle.qc_streams.specs.Sends.{sends_of};
 ghost use Rattle.qc_streams.specs.Records.{changed, record_of};
 ghost use Rattle.qc_streams.specs.Settings.{is_unknown, max_concurrent_set, priority_set, send_window_set, stop_code, with_priority};
 ghost use Rattle.qc_streams.specs.Waiting.{priority_at};
@@ -31,6 +32,7 @@ impl Stream {
     fn set_priority(&mut self, priority: i32)
         ensures priority { self.new ≡ with_priority priority self.old }
         ensures same { kept_of self.new ≡ kept_of self.old }
+        ensures still { sends_of self.new ≡ sends_of self.old }
     {
         self.priority = priority;
     }
@@ -49,13 +51,14 @@ impl Records {
     }
 
     /// The priority of the stream with an id is set.
-    #[tactic(auto, using(crate::proofs::Keeping::same))]
+    #[tactic(auto, using(crate::proofs::Keeping::same, crate::proofs::Sending::still))]
     fn set_priority(&mut self, id: u64, priority: i32)
         ensures { self.new ≡ changed (with_priority priority) id self.old }
     {
-        if let Some(stream) = self.streams.get_mut(id) {
-            stream.set_priority(priority);
-        }
+        let Some(stream) = self.streams.get_mut(id) else {
+            return;
+        };
+        stream.set_priority(priority);
     }
 }
 

@@ -2,9 +2,10 @@
 
 ghost use Rattle.std.specs.Prelude.{◌≡◌, ◌+◌, ◌≤◌, length, take, drop, IfErr, IfOk, OnErr, OnOk, None, Some, is_err};
 ghost use Rattle.qc_recv.specs.Receiving.{IsNext, reset_asked, stop_asked};
-ghost use Rattle.qc_send_stream.specs.Sending.{kept_count, IsWriteRefusal, after_refusal, finished, part_written, was_reset};
+ghost use Rattle.qc_send_stream.specs.Sending.{kept_count, IsWriteRefusal, after_refusal, is_done, finished, part_written, was_reset};
 ghost use Rattle.qc_streams.specs.Calls.{IsRead, IsReadOf, after_read, bars_reset, closed_to, count_taken, fault_of_open, fault_of_read, finish_refusal, if_known, known, reset_of, write_fault};
 ghost use Rattle.qc_streams.specs.Kept.{kept_of};
+ghost use Rattle.qc_streams.specs.Sends.{sends_of};
 ghost use Rattle.qc_streams.specs.Stream.{with_receiving, with_sending};
 
 use crate::fault::{ClosedStream, ReadFault};
@@ -36,7 +37,7 @@ fn closed_fault(error: ReadableError) -> ReadFault
 }
 
 /// Writes on a sending side, unless all of it is acknowledged.
-#[tactic(auto, unfolding(qc_send_stream::specs::Sending::IsWriteRefusal, qc_send_stream::specs::Sending::was_blocked))]
+#[tactic(auto, unfolding(qc_send_stream::specs::Sending::IsWriteRefusal, qc_send_stream::specs::Sending::was_blocked, qc_send_stream::specs::Sending::is_done))]
 fn write(sending: &mut SendPart, chunk: &mut Bytes, most: u64) -> Result<usize, WriteError>
     ensures count { IfOk result (λ n. n ≡ count_taken (length chunk.old) most (known (Some sending.old))) }
     ensures written { IfOk result (λ n. sending.new ≡ if_known (part_written (take n chunk.old)) sending.old) }
@@ -44,6 +45,7 @@ fn write(sending: &mut SendPart, chunk: &mut Bytes, most: u64) -> Result<usize, 
     ensures within { IfOk result (λ n. n ≤ most) }
     ensures more { IfOk result (λ n. kept_count sending.new ≡ kept_count sending.old + n) }
     ensures same { OnErr result (kept_count sending.new ≡ kept_count sending.old) }
+    ensures still { OnErr result (is_done sending.new ≡ is_done sending.old) }
     ensures fits { OnOk result (write_fault most (known (Some sending.old)) ≡ None) }
     ensures refused { IfErr result (λ e. IsWriteRefusal e (write_fault most (known (Some sending.old)))) }
     ensures err { IfErr result (λ e. sending.new ≡ if_known (after_refusal e) sending.old) }
@@ -112,6 +114,7 @@ impl Stream {
         ensures within { IfOk result (λ n. n ≤ most) }
         ensures more { IfOk result (λ n. kept_of self.new ≡ kept_of self.old + n) }
         ensures same { OnErr result (kept_of self.new ≡ kept_of self.old) }
+        ensures still { OnErr result (sends_of self.new ≡ sends_of self.old) }
         ensures fits { OnOk result (write_fault most (known self.old.sending) ≡ None) }
         ensures refused { IfErr result (λ e. IsWriteRefusal e (write_fault most (known self.old.sending))) }
         ensures err { IfErr result (λ e. self.new ≡ with_sending (if_known (after_refusal e)) self.old) }
@@ -158,6 +161,7 @@ impl Stream {
         ensures answer { IsReadOf most ordered self.old.receiving result }
         ensures leads { self.new ≡ with_receiving (after_read ordered result) self.old }
         ensures same { kept_of self.new ≡ kept_of self.old }
+        ensures still { sends_of self.new ≡ sends_of self.old }
     {
         match &mut self.receiving {
             Some(receiving) => read(receiving, ordered, most),
@@ -170,6 +174,7 @@ impl Stream {
     pub(crate) fn stop(&mut self, code: VarInt) -> Result<(), ClosedStream>
         ensures stopped { OnOk result (self.new ≡ with_receiving (stop_asked code) self.old) }
         ensures same { kept_of self.new ≡ kept_of self.old }
+        ensures still { sends_of self.new ≡ sends_of self.old }
         ensures refused { is_err result ≡ closed_to self.old.receiving }
         ensures err { OnErr result (self.new ≡ self.old) }
     {
@@ -188,6 +193,7 @@ impl Stream {
         ensures code { IfOk result (λ code. code ≡ reset_of self.old.receiving) }
         ensures told { OnOk result (self.new ≡ with_receiving reset_asked self.old) }
         ensures same { kept_of self.new ≡ kept_of self.old }
+        ensures still { sends_of self.new ≡ sends_of self.old }
         ensures refused { is_err result ≡ closed_to self.old.receiving }
         ensures err { OnErr result (self.new ≡ self.old) }
     {

@@ -6,6 +6,7 @@ ghost use Rattle.qc_streams.specs.Kept.{kept_of};
 ghost use Rattle.qc_recv.specs.Receiving.{new_receiving};
 ghost use Rattle.qc_streams.specs.Streams.{accepted_one, closed, fresh_own, fresh_peer, limits_set, may_open, new_streams, next_accepted, next_own, no_limits, no_own, no_peer, opened_own, other};
 
+use crate::blocked::Blocked;
 use crate::counts::{ByDir, OwnStreams, PeerStreams, StreamLimit};
 use crate::credit::{Incoming, Outgoing};
 use crate::events::Events;
@@ -61,6 +62,8 @@ pub struct StreamsState {
     pub events: Events,
     /// What waits to be sent for single streams.
     pub waiting: Waiting,
+    /// Streams that wait until they can be written on again.
+    pub blocked: Blocked,
     /// Whether streams of one priority take turns.
     pub fair: bool,
 }
@@ -147,6 +150,7 @@ impl StreamsState {
             outgoing: Outgoing::new(),
             events: Events::new(alloc),
             waiting: Waiting::new(alloc),
+            blocked: Blocked::new(alloc),
             fair,
         }
     }
@@ -181,11 +185,11 @@ impl StreamsState {
         match dir {
             Dir::Bi => {
                 let sending = SendPart::new(alloc, self.limits.own_bidi_data);
-                Stream::fresh(Some(self.fresh_receiving()), Some(sending))
+                Stream::fresh(true, Some(self.fresh_receiving()), Some(sending))
             }
             Dir::Uni => {
                 let sending = SendPart::new(alloc, self.limits.own_uni_data);
-                Stream::fresh(None, Some(sending))
+                Stream::fresh(true, None, Some(sending))
             }
         }
     }
@@ -200,9 +204,9 @@ impl StreamsState {
         match dir {
             Dir::Bi => {
                 let sending = SendPart::new(alloc, self.limits.peer_bidi_data);
-                Stream::fresh(Some(self.fresh_receiving()), Some(sending))
+                Stream::fresh(false, Some(self.fresh_receiving()), Some(sending))
             }
-            Dir::Uni => Stream::fresh(Some(self.fresh_receiving()), None),
+            Dir::Uni => Stream::fresh(false, Some(self.fresh_receiving()), None),
         }
     }
 
@@ -272,6 +276,7 @@ impl StreamsState {
         }
         let id = StreamId::new(self.other(), dir, peer.accepted);
         self.peer.put(dir, peer.with_accepted());
+        self.records.take(id.value());
         Some(id)
     }
 

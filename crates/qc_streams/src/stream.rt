@@ -2,8 +2,9 @@
 
 ghost use Rattle.std.specs.Prelude.{◌≡◌, ◌<◌, ◌^◌, IfErr, OnOk, OnErr, None, Some};
 ghost use Rattle.qc_recv.specs.Receiving.{IsRefusal, stream_taken, stream_refusal, reset_taken, reset_refusal};
-ghost use Rattle.qc_send_stream.specs.Sending.{kept_count};
+ghost use Rattle.qc_send_stream.specs.Sending.{is_done, kept_count};
 ghost use Rattle.qc_streams.specs.Kept.{kept_of};
+ghost use Rattle.qc_streams.specs.Sends.{sends_of};
 ghost use Rattle.qc_streams.specs.Stream.{fresh_stream, is_over, totals_of, side_refusal, with_receiving, with_sending, is_reading, limit_taken, stop_taken, stops_first};
 
 use bytes::Bytes;
@@ -25,6 +26,8 @@ pub struct Stream {
     pub turn: Option<Place>,
     /// Whether it is marked, so that what it owes is looked at.
     pub marked: bool,
+    /// Whether this end opened it, or the application accepted it.
+    pub taken: bool,
 }
 
 /// What a stream counts for the connection's credit.
@@ -37,10 +40,10 @@ pub struct Totals {
 }
 
 impl Stream {
-    /// A stream of which nothing came and nothing was sent.
+    /// A stream of which nothing came and nothing was sent, and whether this end opened it.
     #[tactic(auto, unfolding(crate::specs::Stream::fresh_stream))]
-    pub(crate) fn fresh(receiving: Option<Recv>, sending: Option<SendPart>) -> Stream
-        ensures { result ≡ fresh_stream receiving sending }
+    pub(crate) fn fresh(taken: bool, receiving: Option<Recv>, sending: Option<SendPart>) -> Stream
+        ensures { result ≡ fresh_stream taken receiving sending }
     {
         Stream {
             receiving,
@@ -48,6 +51,7 @@ impl Stream {
             priority: 0,
             turn: None,
             marked: false,
+            taken,
         }
     }
 
@@ -119,6 +123,7 @@ impl Stream {
         requires { offset < 2 ^ 62 }
         ensures taken { OnOk result (self.new ≡ with_receiving (stream_taken offset bytes last) self.old) }
         ensures same { kept_of self.new ≡ kept_of self.old }
+        ensures still { sends_of self.new ≡ sends_of self.old }
         ensures fits { OnOk result (side_refusal (stream_refusal offset bytes last room) self.old.receiving ≡ None) }
         ensures refused { IfErr result (λ e. IsRefusal e (side_refusal (stream_refusal offset bytes last room) self.old.receiving)) }
         ensures err { OnErr result (self.new ≡ self.old) }
@@ -138,6 +143,7 @@ impl Stream {
     pub fn take_reset(&mut self, code: VarInt, size: u64, room: u64) -> Result<(), SideRefusal>
         ensures taken { OnOk result (self.new ≡ with_receiving (reset_taken code size) self.old) }
         ensures same { kept_of self.new ≡ kept_of self.old }
+        ensures still { sends_of self.new ≡ sends_of self.old }
         ensures fits { OnOk result (side_refusal (reset_refusal size room) self.old.receiving ≡ None) }
         ensures refused { IfErr result (λ e. side_refusal (reset_refusal size room) self.old.receiving ≡ Some e) }
         ensures err { OnErr result (self.new ≡ self.old) }
@@ -155,6 +161,7 @@ impl Stream {
         ensures first { result ≡ stops_first self.old.sending }
         ensures stopped { self.new ≡ with_sending (stop_taken code) self.old }
         ensures same { kept_of self.new ≡ kept_of self.old }
+        ensures still { sends_of self.new ≡ sends_of self.old }
     {
         match &mut self.sending {
             Some(sending) => stop(sending, code),
@@ -167,6 +174,7 @@ impl Stream {
     pub fn raise_limit(&mut self, limit: VarInt)
         ensures raised { self.new ≡ with_sending (limit_taken limit) self.old }
         ensures same { kept_of self.new ≡ kept_of self.old }
+        ensures still { sends_of self.new ≡ sends_of self.old }
     {
         if let Some(sending) = &mut self.sending {
             raise(sending, limit);
@@ -175,20 +183,22 @@ impl Stream {
 }
 
 /// The peer stops a sending side; answers whether for the first time.
-#[tactic(auto, unfolding(crate::specs::Stream::stop_taken, qc_send_stream::specs::Sending::was_stopped))]
+#[tactic(auto, unfolding(crate::specs::Stream::stop_taken, qc_send_stream::specs::Sending::was_stopped, qc_send_stream::specs::Sending::is_done))]
 fn stop(sending: &mut SendPart, code: VarInt) -> bool
     ensures first { result ≡ stops_first (Some sending.old) }
     ensures stopped { sending.new ≡ stop_taken code sending.old }
     ensures same { kept_count sending.new ≡ kept_count sending.old }
+    ensures still { is_done sending.new ≡ is_done sending.old }
 {
     !sending.is_done() && sending.stop(code)
 }
 
 /// The peer raises a sending side's limit.
-#[tactic(auto, unfolding(crate::specs::Stream::limit_taken, qc_send_stream::specs::Sending::limit_raised))]
+#[tactic(auto, unfolding(crate::specs::Stream::limit_taken, qc_send_stream::specs::Sending::limit_raised, qc_send_stream::specs::Sending::is_done))]
 fn raise(sending: &mut SendPart, limit: VarInt)
     ensures raised { sending.new ≡ limit_taken limit sending.old }
     ensures same { kept_count sending.new ≡ kept_count sending.old }
+    ensures still { is_done sending.new ≡ is_done sending.old }
 {
     if !sending.is_done() {
         sending.raise_limit(limit);

@@ -2,8 +2,10 @@
 
 ghost use Rattle.std.specs.Prelude.{◌≡◌, None, OnOk};
 ghost use Rattle.qc_streams.specs.Kept.{kept_of};
+ghost use Rattle.qc_streams.specs.Sends.{sends_of};
 ghost use Rattle.qc_streams.specs.Waiting.{dues_at, dues_of, new_waiting, owes_credit, owes_data, owes_reset, owes_stop, put_if, sets_filed, with_mark, with_turn};
 
+use crate::stops::Stops;
 use crate::stream::Stream;
 use qc_recv::Recv;
 use qc_send_stream::SendPart;
@@ -32,6 +34,8 @@ pub struct Waiting {
     pub resets: Ids,
     /// Those that owe a STOP_SENDING.
     pub stops: Ids,
+    /// STOP_SENDING frames of streams that have gone.
+    pub gone_stops: Stops,
     /// Those that owe a MAX_STREAM_DATA.
     pub credits: Ids,
     /// Those that have bytes to send, or their end.
@@ -112,6 +116,7 @@ impl Stream {
     pub(crate) fn set_mark(&mut self, marked: bool)
         ensures mark { self.new ≡ with_mark marked self.old }
         ensures same { kept_of self.new ≡ kept_of self.old }
+        ensures still { sends_of self.new ≡ sends_of self.old }
     {
         self.marked = marked;
     }
@@ -121,6 +126,7 @@ impl Stream {
     pub(crate) fn set_turn(&mut self, turn: Option<Place>)
         ensures turn { self.new ≡ with_turn turn self.old }
         ensures same { kept_of self.new ≡ kept_of self.old }
+        ensures still { sends_of self.new ≡ sends_of self.old }
     {
         self.turn = turn;
     }
@@ -150,6 +156,7 @@ impl Waiting {
             marks: Marks::new(alloc),
             resets: Ids::new(alloc),
             stops: Ids::new(alloc),
+            gone_stops: Stops::new(alloc),
             credits: Ids::new(alloc),
             ready: Ready::new(alloc),
             turns: 0,
@@ -164,5 +171,15 @@ impl Waiting {
         put_if(&mut self.resets, dues.reset, id)?;
         put_if(&mut self.stops, dues.stop, id)?;
         put_if(&mut self.credits, dues.credit, id)
+    }
+
+    /// A stream is in none of the sets.
+    #[tactic(auto, unfolding(crate::specs::Waiting::sets_filed))]
+    pub(crate) fn forget(&mut self, id: u64)
+        ensures { self.new ≡ sets_filed (dues_at None) id self.old }
+    {
+        self.resets.remove(id);
+        self.stops.remove(id);
+        self.credits.remove(id);
     }
 }
