@@ -1,10 +1,9 @@
 -- The steps of a run leave nothing out of their text.
 use Rattle.std.specs.Prelude.{IfSome, is_none, option_map, option_to_list}
-use Rattle.std.proofs.Common.{◌≡◌, ℕ, ◌+◌, ◌<◌, ◌≤◌, ◌^◌, ◌==◌, ◌||◌, Bool, true, false, if◌then◌else◌, List, [], ◌∷◌, ◌++◌, length, length-append, replicate, take, zero, suc, Option, Some, None, refl, sym, ap, ◌∙◌, subst, arith}
+use Rattle.std.proofs.Common.{◌≡◌, ℕ, ◌+◌, ◌-◌, ◌<◌, ◌≤◌, ◌^◌, ◌==◌, ◌||◌, Bool, true, false, if◌then◌else◌, List, [], ◌∷◌, ◌++◌, length, replicate, take, zero, suc, Option, Some, None, refl, sym, ap, ◌∙◌, subst, arith}
 use Rattle.std.specs.Prelude.{nat_lt, nat_le}
-use Rattle.std.specs.List.{All, list_any}
+use Rattle.std.specs.List.{All}
 use Rattle.std.specs.declared.net.socket_addr.SocketAddr.{SocketAddr}
-use Rattle.std.proofs.lemmas.List.{length-drop}
 use Rattle.std.proofs.lemmas.Bool.Decides.{nat_tests}
 use Rattle.std.proofs.lemmas.List.Elements.{All-nil, All-cons, All-append}
 use Rattle.qc_base.specs.Varint.{IsNumber}
@@ -15,10 +14,17 @@ use Rattle.qc_base.specs.declared.side.SpaceId.{SpaceId}
 use Rattle.qc_base.specs.declared.side.SpaceId.TheVariants.{Initial, Handshake, «Data»}
 use Rattle.qc_frame.specs.Frame.{FrameValue, AckValue}
 use Rattle.qc_frame.specs.FrameFits.{Fits, TypeFits}
-use Rattle.qc_frame.specs.FrameSpelling.{elicits, spelling}
+use Rattle.qc_flight.specs.Packets.{Entry, first_of}
+use Rattle.qc_flight.specs.declared.sent.SentPacket.{SentPacket}
+use Rattle.qc_frame.specs.FrameSpelling.{spelling}
 use Rattle.qc_frame.specs.Sizes.{IsLongestReason}
 use Rattle.qc_frame.specs.declared.frames.FrameOf.TheVariants as frames
 use Rattle.qc_frame.proofs.Lengths.{length-application_close}
+use Rattle.qc_recovery.specs.Steps as recovery
+use Rattle.qc_recovery.specs.TransportValues.{TransportValues}
+use Rattle.qc_recovery.specs.declared.calls.Fired.{Fired}
+use Rattle.qc_recovery.specs.declared.calls.Fired.TheVariants as fired
+use Rattle.qc_send_stream.specs.Buffer.{bytes_written, discarded, nothing, range_lost, range_sealed}
 use Rattle.qc_state.specs.Acks.{AckPart, SaysAck, may_acknowledge}
 use Rattle.qc_state.specs.declared.deeds.Did.{Did}
 use Rattle.qc_state.specs.declared.deeds.Did.TheVariants as deed
@@ -42,21 +48,20 @@ use Rattle.qc_state.specs.declared.trace.Answer.TheVariants as answer
 use Rattle.qc_state.specs.declared.waiting.SpaceWaiting.{SpaceWaiting}
 use Rattle.qc_state.specs.declared.waiting.Waiting.{Waiting}
 use Rattle.qc_state.specs.Life.{is_closed, is_open, data_ready, drained_event, endpoint_events, identifiers_wanted, life_closed, life_drained, life_established, life_raised, reason_given, token_event, token_learned, token_reported, wanted_event, wanted_reported, drained_reported, lost_reported, connected_reported, ready_reported}
-use Rattle.qc_state.specs.Moves.{Move, Clock, Take, Seal, Forget, Raise, Say, Give, Enter, Fail, Accept, Fix, Hear, Ack, Calm, Come, Read, Write, Ready, Learn, Establish, Tell, Drain, Leave, Owe, Shut, IsTold, MayMove, state_move, move_to, deeds_move, life_move, paths_move, waiting_move, keys_move, calmed, Expect, Confirm, Token, Want}
+use Rattle.qc_state.specs.Moves.{Move, Clock, Take, Seal, Forget, Raise, Say, Give, Enter, Fail, Accept, Fix, Hear, Ack, Fire, Arm, Begin, Come, Read, Write, Ready, Learn, Establish, Tell, Drain, Leave, Owe, Shut, IsTold, MayMove, state_move, move_to, deeds_move, life_move, paths_move, waiting_move, keys_move, armed_with, Expect, Confirm, Token, Want}
 use Rattle.qc_state.specs.Numbers.{next_number, received_number}
-use Rattle.qc_state.specs.Paths.{path_sent, path_received, peer_fixed, path_accepted, path_spun, is_blocked}
+use Rattle.qc_state.specs.Paths.{path_idle, path_sent, path_received, peer_fixed, path_accepted, path_spun, is_blocked}
 use Rattle.qc_state.specs.Receiving.{datagram_after, is_taken}
 use Rattle.qc_state.specs.Run.{time_of, packets_of, began, close_after, input_after, called, reported, step_after, IsAllowed, out_of, answer_of, IsStep, Run, Ran}
-use Rattle.qc_state.specs.Sending.{told_code, told_type, told_application_code, told_close, close_frame, closing_frame, IsKeptReason, close_room, Closes, padded, padding_of, packet_size, sending_space, Carries, drops_initial, initial_left, sealed_in, is_key_nearly_used_up, limit_met, spared_after, quiet_after, packet_after, transmit_after, MayTransmit, transmit_bytes, transmit_of, transmit_with, owed_quiet_after, is_silent, owes}
+use Rattle.qc_state.specs.Sending.{told_code, told_type, told_application_code, told_close, close_frame, closing_frame, IsKeptReason, close_room, Closes, padded, padding_of, packet_size, sending_space, begun_view, Carries, drops_initial, initial_left, is_flown, flown_after, sealed_in, is_key_nearly_used_up, limit_met, spared_after, quiet_after, packet_after, transmit_after, MayTransmit, transmit_bytes, transmit_of, transmit_with, owed_quiet_after, is_silent, owes}
 use Rattle.qc_state.specs.Stopping.{given_after, key_limit_error, killed_after, stopped_after}
 use Rattle.qc_state.specs.Spaces.{space_of, with_space, is_space}
 use Rattle.qc_state.specs.Timeouts.{timeout_after}
 use Rattle.qc_state.specs.Types.{Types, Meaning}
-use Rattle.qc_state.specs.Unsent.{unsent_with}
 use Rattle.qc_state.specs.View.{Held, View, At, at}
 use Rattle.qc_state.specs.First.{first_view, server_view}
 use Rattle.qc_state.specs.declared.setup.Fixed.{Fixed}
-use Rattle.qc_state.specs.Waiting.{ping_asked, waiting_without, close_begun, packet_told, untold, flown_in, packet_flown, settled_in, packets_settled, came_in, packet_came, crypto_written, nothing_left, space_left, is_calm, without, Waits, without_all, WaitAll, done_asked}
+use Rattle.qc_state.specs.Waiting.{again, all_again, lost_in, confirmed, all_confirmed, acked_in, packets_lost, packets_acked, probes_added, fired_in, packet_again, with_ping, wants_sending, probe_sent, begun_in, datagram_begun, ping_asked, waiting_without, close_begun, packet_told, untold, came_in, packet_came, crypto_more, crypto_written, nothing_left, space_left, without, Waits, without_all, WaitAll, done_asked}
 use Rattle.qc_state.proofs.Expired.{IsTimed, holds_timeout}
 use Rattle.qc_state.proofs.Receives.{IsReceived, holds_datagram}
 use Rattle.qc_text.specs.OneText.{IsSpelled, IsDeedPlain, IsPlainAddress, IsAnswerPlain, IsEndpointPlain, IsPlain, IsSpaceBelowLimit, IsBelowLimit, IsPlainStart, IsTellingRun}
@@ -70,14 +75,13 @@ ack_spelled time w ack says =
     (says.fits, ap (λ (more : List ℕ). frames.Ack (record { largest = ack.largest; delay = ack.delay; additional = more; ecn = ack.ecn })) (sym says.shortest))
 
 frame_spelled : (time : ℕ) (w : SpaceWaiting) (f : FrameValue) → Waits time w f → IsSpaceBelowLimit w → IsSpelled f × IsSpaceBelowLimit (without w f)
-unfolding Waits without Fits
+unfolding Waits without Fits range_sealed
 frame_spelled time w frames.HandshakeDone h b = ((tt, refl), b)
 frame_spelled time w frames.Ping h b = ((tt, refl), b)
 frame_spelled time w (frames.Ack ack) h b = (ack_spelled time w ack h.1, b)
 frame_spelled time w (frames.Crypto offset body) h b =
-    let place = h.0 in
-    let few = h.1 in
-    (((omega arith, omega arith), refl), omega (arith, length-drop (length body) w.crypto.bytes))
+    let within : offset + length body ≤ w.crypto.written = h.within in
+    (((omega arith, omega arith), refl), b)
 frame_spelled time w _ h b = absurd h
 
 frames_spelled : (time : ℕ) (w : SpaceWaiting) (fs : List FrameValue) → WaitAll time w fs → IsSpaceBelowLimit w → All IsSpelled fs × IsSpaceBelowLimit (without_all w fs)
@@ -209,21 +213,17 @@ space_below w Initial h = h.0
 space_below w Handshake h = h.1
 space_below w Data h = h.2
 
--- a packet was sealed with these frames, which flies where it elicits an acknowledgement
-sealed_below : (w : Waiting) (id : SpaceId) (fs : List FrameValue) (n : ℕ) (elicits last : Bool) → IsBelowLimit w → IsSpaceBelowLimit (without_all (space_of w.spaces id) fs)
-    → let told : Waiting = packet_told (waiting_without w id fs) id last in IsBelowLimit (if elicits then packet_flown told id n else told)
-unfolding waiting_without packet_told packet_flown flown_in
-sealed_below w Initial fs n true last h k = (k, h.1, h.2)
-sealed_below w Initial fs n false last h k = (k, h.1, h.2)
-sealed_below w Handshake fs n true last h k = (h.0, k, h.2)
-sealed_below w Handshake fs n false last h k = (h.0, k, h.2)
-sealed_below w Data fs n true last h k = (h.0, h.1, k)
-sealed_below w Data fs n false last h k = (h.0, h.1, k)
+-- a packet was sealed with these frames
+sealed_below : (w : Waiting) (id : SpaceId) (fs : List FrameValue) (last : Bool) → IsBelowLimit w → IsSpaceBelowLimit (without_all (space_of w.spaces id) fs) → IsBelowLimit (packet_told (waiting_without w id fs) id last)
+unfolding waiting_without packet_told
+sealed_below w Initial fs last h k = (k, h.1, h.2)
+sealed_below w Handshake fs last h k = (h.0, k, h.2)
+sealed_below w Data fs last h k = (h.0, h.1, k)
 
 -- nothing waits in a space that was left
 nothing_below : (w : SpaceWaiting) → IsSpaceBelowLimit w → IsSpaceBelowLimit (nothing_left w)
-unfolding nothing_left
-nothing_below w h = omega (arith, length-drop (length w.crypto.bytes) w.crypto.bytes)
+unfolding nothing_left discarded
+nothing_below w h = h
 
 -- another value in a space
 set_below : (w : Waiting) (id : SpaceId) (x : SpaceWaiting) → (IsSpaceBelowLimit (space_of w.spaces id) → IsSpaceBelowLimit x) → IsBelowLimit w → IsBelowLimit (record w { spaces = with_space w.spaces id x })
@@ -236,17 +236,85 @@ begun_below : (w : Waiting) (b : Bool) → IsBelowLimit w
 begun_below w true h = h
 begun_below w false h = h
 
--- the session's bytes come behind those that wait, where the stream has room for them
-unsent_below : (w : SpaceWaiting) (more : List ℕ) → IsSpaceBelowLimit w → IsSpaceBelowLimit (record w { crypto = unsent_with w.crypto more })
-unfolding unsent_with
-unsent_below w more h = by_test (nat_lt (w.crypto.offset + length w.crypto.bytes + length more) (2 ^ 62)) refl
+-- the session's bytes come behind those that it wrote before, where the stream has room for them
+more_below : (w : SpaceWaiting) (bytes : List ℕ) → IsSpaceBelowLimit w → IsSpaceBelowLimit (record w { crypto = crypto_more w.crypto bytes })
+unfolding crypto_more bytes_written
+more_below w bytes h = by_test (nat_lt (w.crypto.written + length bytes) (2 ^ 62)) refl
   where
-    by_test : (b : Bool) → nat_lt (w.crypto.offset + length w.crypto.bytes + length more) (2 ^ 62) ≡ b
-        → IsSpaceBelowLimit (record w { crypto = if b then record { offset = w.crypto.offset; bytes = w.crypto.bytes ++ more } else w.crypto })
+    by_test : (b : Bool) → nat_lt (w.crypto.written + length bytes) (2 ^ 62) ≡ b → IsSpaceBelowLimit (record w { crypto = if b then bytes_written bytes w.crypto else w.crypto })
     by_test true e =
-        let room : w.crypto.offset + length w.crypto.bytes + length more < 2 ^ 62 = grind (arith, nat_tests) in
-        omega (arith, length-append w.crypto.bytes more)
+        let room : w.crypto.written + length bytes < 2 ^ 62 = grind (arith, nat_tests) in
+        room
     by_test false e = h
+
+-- frames that wait again are no bytes more
+again_below : (w : SpaceWaiting) (f : FrameValue) → IsSpaceBelowLimit w → IsSpaceBelowLimit (again w f)
+unfolding range_lost
+again_below w frames.HandshakeDone h = h
+again_below w (frames.Crypto offset body) h = h
+again_below w _ h = h
+
+all_again_below : (w : SpaceWaiting) (fs : List FrameValue) → IsSpaceBelowLimit w → IsSpaceBelowLimit (all_again w fs)
+all_again_below w [] h = h
+all_again_below w (f ∷ fs) h = all_again_below (again w f) fs (again_below w f h)
+
+lost_below : (w : SpaceWaiting) (es : List Entry) → IsSpaceBelowLimit w → IsSpaceBelowLimit (lost_in w es)
+lost_below w [] h = h
+lost_below w (e ∷ es) h = lost_below (all_again w e.1.frames) es (all_again_below w e.1.frames h)
+
+-- nor are frames that were acknowledged
+confirmed_below : (w : SpaceWaiting) (f : FrameValue) → IsSpaceBelowLimit w → IsSpaceBelowLimit (confirmed w f)
+confirmed_below w (frames.Ack ack) h = h
+confirmed_below w _ h = h
+
+all_confirmed_below : (w : SpaceWaiting) (fs : List FrameValue) → IsSpaceBelowLimit w → IsSpaceBelowLimit (all_confirmed w fs)
+all_confirmed_below w [] h = h
+all_confirmed_below w (f ∷ fs) h = all_confirmed_below (confirmed w f) fs (confirmed_below w f h)
+
+acked_below : (w : SpaceWaiting) (es : List Entry) → IsSpaceBelowLimit w → IsSpaceBelowLimit (acked_in w es)
+acked_below w [] h = h
+acked_below w (e ∷ es) h = acked_below (all_confirmed w e.1.frames) es (all_confirmed_below w e.1.frames h)
+
+-- what an acknowledgement leaves of a space
+settled_below : (w : Waiting) (id : SpaceId) (acked lost : List Entry) → IsBelowLimit w → IsBelowLimit (packets_lost (packets_acked w id acked) id lost)
+unfolding packets_lost packets_acked
+settled_below w id acked lost h =
+    let v : Waiting = packets_acked w id acked in
+    set_below v id _ (lost_below (space_of v.spaces id) lost) (set_below w id _ (acked_below (space_of w.spaces id) acked) h)
+
+-- what the loss timer leaves
+fired_below : (w : Waiting) (f : Fired) → IsBelowLimit w → IsBelowLimit (fired_in w f)
+unfolding packets_lost probes_added
+fired_below w (fired.Lost id lost) h = set_below w id _ (lost_below (space_of w.spaces id) lost) h
+fired_below w (fired.Probe id count) h = set_below w id _ (λ p. p) h
+fired_below w fired.Nothing h = h
+
+-- a datagram is begun, which may spend a probe
+one_of_below : (b : Bool) (v w : SpaceWaiting) → IsSpaceBelowLimit v → IsSpaceBelowLimit w → IsSpaceBelowLimit (if b then v else w)
+one_of_below true v w h k = h
+one_of_below false v w h k = k
+
+packet_again_below : (w : SpaceWaiting) (oldest : Option SentPacket) → IsSpaceBelowLimit w → IsSpaceBelowLimit (packet_again w oldest)
+packet_again_below w None h = h
+packet_again_below w (Some packet) h = all_again_below w packet.frames h
+
+ping_below : (w : SpaceWaiting) → IsSpaceBelowLimit w → IsSpaceBelowLimit (with_ping w)
+ping_below w h = one_of_below (wants_sending w) w (record w { ping = true }) h h
+
+probe_below : (w : SpaceWaiting) (oldest : Option SentPacket) → IsSpaceBelowLimit w → IsSpaceBelowLimit (probe_sent w oldest)
+unfolding probe_sent
+probe_below w oldest h =
+    ping_below (if wants_sending w then w else packet_again w oldest) (one_of_below (wants_sending w) w (packet_again w oldest) h (packet_again_below w oldest h))
+
+begun_in_below : (w : SpaceWaiting) (oldest : Option SentPacket) → IsSpaceBelowLimit w → IsSpaceBelowLimit (begun_in w oldest)
+unfolding begun_in
+begun_in_below w oldest h =
+    let spent : SpaceWaiting = record w { probes = w.probes - 1 } in
+    one_of_below (w.probes == 0) w (probe_sent spent oldest) h (probe_below spent oldest h)
+
+datagram_below : (w : Waiting) (id : SpaceId) (oldest : Option SentPacket) → IsBelowLimit w → IsBelowLimit (datagram_begun w id oldest)
+unfolding datagram_begun
+datagram_below w id oldest h = set_below w id _ (begun_in_below (space_of w.spaces id) oldest) h
 
 one_more : (ds : List Did) (d : Did) → IsDeedPlain d → All IsDeedPlain ds → All IsDeedPlain (ds ++ d ∷ [])
 one_more ds d h p = All-append IsDeedPlain ds (d ∷ []) p (All-cons IsDeedPlain d [] h (All-nil IsDeedPlain))
@@ -313,15 +381,15 @@ endpoint_plain v h = all_plain v.reset_token v.wanted v.drained h
 module _ {t : Types} where
   quiet_by : (why : ConnectionError) (a : At t) (x y u z : Bool) → let b : At t = move_to (Raise Drained) a in
       let q : At t = if x then move_to (Say Silent) a else if y then (if u then move_to (Say Amplification) a else move_to (Say Killed) (if z then move_to (Give why) b else b)) else move_to (Say NothingOwed) a in
-      (q.state.waiting ≡ a.state.waiting) × (q.state.paths ≡ a.state.paths) × (q.state.life.reset_token ≡ a.state.life.reset_token)
-  unfolding move_to state_move waiting_move paths_move life_move life_raised
+      (q.state.waiting ≡ a.state.waiting) × (q.state.paths.remote ≡ a.state.paths.remote) × (q.state.life.reset_token ≡ a.state.life.reset_token)
+  unfolding move_to state_move waiting_move paths_move path_idle life_move life_raised
   quiet_by why a true y u z = (refl, refl, refl)
   quiet_by why a false true true z = (refl, refl, refl)
   quiet_by why a false true false true = (refl, refl, given_token (life_raised a.state.life Drained) why)
   quiet_by why a false true false false = (refl, refl, refl)
   quiet_by why a false false u z = (refl, refl, refl)
 
-  quiet_stays : (a : At t) → ((quiet_after a).state.waiting ≡ a.state.waiting) × ((quiet_after a).state.paths ≡ a.state.paths) × ((quiet_after a).state.life.reset_token ≡ a.state.life.reset_token)
+  quiet_stays : (a : At t) → ((quiet_after a).state.waiting ≡ a.state.waiting) × ((quiet_after a).state.paths.remote ≡ a.state.paths.remote) × ((quiet_after a).state.life.reset_token ≡ a.state.life.reset_token)
   unfolding quiet_after owed_quiet_after killed_after given_after
   quiet_stays a = quiet_by (limit_met a.state) a (is_silent a.state) (owes a.state) (is_blocked a.state.paths) (is_none (move_to (Raise Drained) a).state.life.reason)
 
@@ -344,18 +412,23 @@ module _ {t : Types} where
       subst (ArePlain w) (sym is) (padded_plain w gs (padding_of s id gs) (frames_spelled time w gs wait h))
 
   -- leaving the Initial space
-  left_by : (a : At t) (x y : Bool) → let b : At t = move_to (Forget Initial) a in
-      let r : At t = if x then (if y then move_to Calm b else b) else a in
+  left_by : (time : ℕ) (a : At t) (x : Bool) → let r : At t = if x then armed_with false time (move_to (Forget Initial) a) else a in
       (r.did ≡ a.did) × (IsBelowLimit a.state.waiting → IsBelowLimit r.state.waiting) × (r.state.paths ≡ a.state.paths) × (r.state.life ≡ a.state.life)
-  unfolding move_to state_move deeds_move waiting_move space_left paths_move life_move
-  left_by a true true = (refl, λ h. (nothing_below a.state.waiting.spaces.initial h.0, h.1, h.2), refl, refl)
-  left_by a true false = (refl, λ h. (nothing_below a.state.waiting.spaces.initial h.0, h.1, h.2), refl, refl)
-  left_by a false y = (refl, λ h. h, refl, refl)
+  unfolding armed_with move_to state_move deeds_move waiting_move space_left paths_move life_move
+  left_by time a true = (refl, λ h. (nothing_below a.state.waiting.spaces.initial h.0, h.1, h.2), refl, refl)
+  left_by time a false = (refl, λ h. h, refl, refl)
 
-  initial_stays : (id : SpaceId) (a : At t) → let r : At t = initial_left Client id a in
+  initial_stays : (time : ℕ) (id : SpaceId) (a : At t) → let r : At t = initial_left Client false time id a in
       (r.did ≡ a.did) × (IsBelowLimit a.state.waiting → IsBelowLimit r.state.waiting) × (r.state.paths ≡ a.state.paths) × (r.state.life ≡ a.state.life)
-  unfolding initial_left calmed
-  initial_stays id a = left_by a (drops_initial Client a.state id) (is_calm (move_to (Forget Initial) a).state.waiting)
+  unfolding initial_left
+  initial_stays time id a = left_by time a (drops_initial Client a.state id)
+
+  -- the loss timer is set anew behind a packet, or not
+  flown_stays : (time : ℕ) (counts : Bool) (a : At t) → let r : At t = flown_after time counts a in
+      (r.did ≡ a.did) × (r.state.waiting ≡ a.state.waiting) × (r.state.paths ≡ a.state.paths) × (r.state.life ≡ a.state.life)
+  unfolding armed_with move_to state_move deeds_move waiting_move paths_move life_move
+  flown_stays time true a = (refl, refl, refl, refl)
+  flown_stays time false a = (refl, refl, refl, refl)
 
   -- this end closes behind a packet, or not
   stopped_by : (time : ℕ) (as_told : Close) (why : ConnectionError) (a : At t) (x y : Bool) → let b : At t = move_to (Shut time as_told) a in
@@ -383,36 +456,47 @@ module _ {t : Types} where
       let frames = carried_plain time s id fs carries (space_below s.waiting id h) in
       let taken : At t = move_to (Take id fs) (at s []) in
       let a : At t = move_to (Seal time id (next_number s.numbers id) (packet_size s id fs) fs) taken in
-      let left = initial_stays id a in
+      let flown = flown_stays time (is_flown s fs) a in
+      let left = initial_stays time id (flown_after time (is_flown s fs) a) in
       let one : Did = deed.Sealed id (next_number s.numbers id) 0 false fs in
       let plain : All IsDeedPlain (one ∷ []) = All-cons IsDeedPlain one [] ((λ e. refl), frames.0) (All-nil IsDeedPlain) in
-      (subst (All IsDeedPlain) (sym left.0) plain, left.1 (sealed_below s.waiting id fs (next_number s.numbers id) (list_any elicits fs) (is_space id s.keys.highest) h frames.1))
+      let below : IsBelowLimit a.state.waiting = sealed_below s.waiting id fs (is_space id s.keys.highest) h frames.1 in
+      (subst (All IsDeedPlain) (sym (left.0 ∙ flown.0)) plain, left.1 (subst IsBelowLimit (sym flown.1) below))
+
+  begun_view_below : (s : View t) → IsBelowLimit s.waiting → IsBelowLimit (begun_view s).waiting
+  unfolding begun_view state_move waiting_move
+  begun_view_below s h = datagram_below s.waiting (sending_space s) (first_of (recovery.space_of (sending_space s) s.lower.recovery).flight) h
 
   transmit_plain : (time : ℕ) (ds : List Did) (ps : List (List FrameValue)) (s : View t) → packets_of ds ≡ ps → MayTransmit time s ps → ds ≡ (transmit_after time ps (at s [])).did
       → IsBelowLimit s.waiting → All IsDeedPlain ds × IsBelowLimit (transmit_after time ps (at s [])).state.waiting
-  unfolding MayTransmit transmit_after packet_after
+  unfolding MayTransmit transmit_after packet_after begun_view move_to deeds_move
   transmit_plain time ds [] s names may told h = (unsealed_plain ds names, subst IsBelowLimit (sym (quiet_stays (at s [])).0) h)
   transmit_plain time ds (fs ∷ []) s names may told h =
-      let sealed = sealed_plain time (sending_space s) fs s may.carries h in
-      let stays = spared_stays time (is_key_nearly_used_up s) (sealed_in time (sending_space s) fs (at s [])) in
+      let begun : View t = begun_view s in
+      let sealed = sealed_plain time (sending_space s) fs begun may.carries (begun_view_below s h) in
+      let stays = spared_stays time (is_key_nearly_used_up s) (sealed_in time (sending_space s) fs (at begun [])) in
       (subst (All IsDeedPlain) (sym told) (stays.0 sealed.0), stays.1 sealed.1)
   transmit_plain time ds (fs ∷ gs ∷ rest) s names may told h = absurd may
 
   transmit_path : (time : ℕ) (ps : List (List FrameValue)) (a : At t) → (transmit_after time ps a).state.paths.remote ≡ a.state.paths.remote
   unfolding transmit_after packet_after sealed_in move_to state_move paths_move path_sent
-  transmit_path time [] a = ap (λ (p : Paths). p.remote) (quiet_stays a).1
+  transmit_path time [] a = (quiet_stays a).1
   transmit_path time (fs ∷ _) a =
       let id : SpaceId = sending_space a.state in
-      let b : At t = move_to (Seal time id (next_number a.state.numbers id) (packet_size a.state id fs) fs) (move_to (Take id fs) a) in
-      (spared_stays time (is_key_nearly_used_up a.state) (initial_left Client id b)).2 ∙ ap (λ (p : Paths). p.remote) (initial_stays id b).2
+      let begun : At t = move_to (Begin id) a in
+      let b : At t = move_to (Seal time id (next_number begun.state.numbers id) (packet_size begun.state id fs) fs) (move_to (Take id fs) begun) in
+      let c : At t = flown_after time (is_flown begun.state fs) b in
+      (spared_stays time (is_key_nearly_used_up a.state) (initial_left Client false time id c)).2 ∙ ap (λ (p : Paths). p.remote) ((initial_stays time id c).2 ∙ (flown_stays time (is_flown begun.state fs) b).2)
 
   transmit_token : (time : ℕ) (ps : List (List FrameValue)) (a : At t) → (transmit_after time ps a).state.life.reset_token ≡ a.state.life.reset_token
   unfolding transmit_after packet_after sealed_in move_to state_move life_move
   transmit_token time [] a = (quiet_stays a).2
   transmit_token time (fs ∷ _) a =
       let id : SpaceId = sending_space a.state in
-      let b : At t = move_to (Seal time id (next_number a.state.numbers id) (packet_size a.state id fs) fs) (move_to (Take id fs) a) in
-      (spared_stays time (is_key_nearly_used_up a.state) (initial_left Client id b)).3 ∙ ap (λ (v : Life). v.reset_token) (initial_stays id b).3
+      let begun : At t = move_to (Begin id) a in
+      let b : At t = move_to (Seal time id (next_number begun.state.numbers id) (packet_size begun.state id fs) fs) (move_to (Take id fs) begun) in
+      let c : At t = flown_after time (is_flown begun.state fs) b in
+      (spared_stays time (is_key_nearly_used_up a.state) (initial_left Client false time id c)).3 ∙ ap (λ (v : Life). v.reset_token) ((initial_stays time id c).3 ∙ (flown_stays time (is_flown begun.state fs) b).3)
 
   shut_plain : (time : ℕ) (close : Close) (ds : List Did) (s : View t) (b : Bool) → ds ≡ (if b then move_to (Shut time close) (at s []) else at s []).did
       → IsBelowLimit s.waiting → All IsDeedPlain ds × IsBelowLimit (if b then move_to (Shut time close) (at s []) else at s []).state.waiting
@@ -445,7 +529,7 @@ module _ {t : Types} where
   keeps_next a b c g h = record { deeds = λ p. h.deeds (g.deeds p); crypto = λ p. h.crypto (g.crypto p); path = h.path ∙ g.path; token = λ p k. h.token (subst IsPlainAddress (sym g.path) p) (g.token p k) }
 
   keeps_move : (x : Move t) → IsReceived x → (a : At t) → MayMove x a.state → Keeps a (move_to x a)
-  unfolding MayMove move_to state_move deeds_move waiting_move close_begun space_left packet_came came_in packets_settled settled_in crypto_written done_asked paths_move path_received path_accepted peer_fixed life_move data_ready life_established life_drained life_closed life_raised token_learned identifiers_wanted
+  unfolding MayMove move_to state_move deeds_move waiting_move close_begun space_left packet_came came_in crypto_written done_asked paths_move path_received path_accepted peer_fixed life_move data_ready life_established life_drained life_closed life_raised token_learned identifiers_wanted
   keeps_move (Forget id) r a h = record { deeds = λ p. p; crypto = set_below a.state.waiting id _ (nothing_below (space_of a.state.waiting.spaces id)); path = refl; token = λ p k. k }
   keeps_move (Enter id n v) r a h = record { deeds = one_more a.did _ tt; crypto = λ p. p; path = refl; token = λ p k. k }
   keeps_move (Expect token) r a h = record { deeds = λ p. p; crypto = λ p. p; path = refl; token = λ p k. k }
@@ -458,11 +542,11 @@ module _ {t : Types} where
   }
   keeps_move (Fix cid) r a h = record { deeds = λ p. p; crypto = λ p. p; path = refl; token = λ p k. k }
   keeps_move (Hear bytes) r a h = record { deeds = λ p. p; crypto = λ p. p; path = refl; token = λ p k. k }
-  keeps_move (Ack id n rs) r a h = record { deeds = λ p. p; crypto = set_below a.state.waiting id _ (λ p. p); path = refl; token = λ p k. k }
-  keeps_move Calm r a h = record { deeds = λ p. p; crypto = λ p. p; path = refl; token = λ p k. k }
+  keeps_move (Ack id n after) r a h = record { deeds = λ p. p; crypto = settled_below a.state.waiting id after.acked after.lost; path = refl; token = λ p k. k }
+  keeps_move (Arm time) r a h = record { deeds = λ p. p; crypto = λ p. p; path = refl; token = λ p k. k }
   keeps_move (Come id offset bytes) r a h = record { deeds = λ p. p; crypto = λ p. p; path = refl; token = λ p k. k }
   keeps_move (Read id count session) r a h = record { deeds = λ p. p; crypto = λ p. p; path = refl; token = λ p k. k }
-  keeps_move (Write bytes keys session) r a h = record { deeds = λ p. p; crypto = set_below a.state.waiting a.state.keys.highest _ (unsent_below (space_of a.state.waiting.spaces a.state.keys.highest) bytes); path = refl; token = λ p k. k }
+  keeps_move (Write bytes keys session) r a h = record { deeds = λ p. p; crypto = set_below a.state.waiting a.state.keys.highest _ (more_below (space_of a.state.waiting.spaces a.state.keys.highest) bytes); path = refl; token = λ p k. k }
   keeps_move Ready r a h = record { deeds = λ p. p; crypto = λ p. p; path = refl; token = λ p k. k }
   keeps_move (Token token) r a h = record { deeds = λ p. p; crypto = λ p. p; path = refl; token = λ p k. p }
   keeps_move (Learn parameters) r a h = record { deeds = λ p. p; crypto = λ p. p; path = refl; token = λ p k. k }
@@ -490,18 +574,19 @@ module _ {t : Types} where
   -- what a timer does keeps the same
   keeps_timed : (x : Move t) → IsTimed x → (a : At t) → MayMove x a.state → Keeps a (move_to x a)
   unfolding MayMove move_to state_move deeds_move waiting_move paths_move life_move life_raised
-  keeps_timed Calm r a h = record { deeds = λ p. p; crypto = λ p. p; path = refl; token = λ p k. k }
+  keeps_timed (Fire after) r a h = record { deeds = λ p. p; crypto = fired_below a.state.waiting after.fired; path = refl; token = λ p k. k }
+  keeps_timed (Arm time) r a h = record { deeds = λ p. p; crypto = λ p. p; path = refl; token = λ p k. k }
   keeps_timed (Raise to) r a h = record { deeds = one_more a.did _ tt; crypto = λ p. p; path = refl; token = λ p k. k }
   keeps_timed (Give why) r a h = record { deeds = one_more a.did _ tt; crypto = λ p. p; path = refl; token = λ p k. same_token a.state.life (reason_given a.state.life why) (given_token a.state.life why) k }
   keeps_timed _ r a h = absurd r
 
-  keeps_timeout : (time : ℕ) (a : At t) → Keeps a (timeout_after time a)
-  keeps_timeout time a = holds_timeout Keeps keeps_here keeps_next keeps_timed time a
+  keeps_timeout : (m : Meaning t) (time : ℕ) (a : At t) → Keeps a (timeout_after m time a)
+  keeps_timeout m time a = holds_timeout Keeps keeps_here keeps_next keeps_timed m time a
 
-  timeout_plain : (time : ℕ) (ds : List Did) (s : View t) → ds ≡ (timeout_after time (at s [])).did
-      → IsBelowLimit s.waiting → All IsDeedPlain ds × IsBelowLimit (timeout_after time (at s [])).state.waiting
-  timeout_plain time ds s told h =
-      let keeps = keeps_timeout time (at s []) in
+  timeout_plain : (m : Meaning t) (time : ℕ) (ds : List Did) (s : View t) → ds ≡ (timeout_after m time (at s [])).did
+      → IsBelowLimit s.waiting → All IsDeedPlain ds × IsBelowLimit (timeout_after m time (at s [])).state.waiting
+  timeout_plain m time ds s told h =
+      let keeps = keeps_timeout m time (at s []) in
       (subst (All IsDeedPlain) (sym told) (keeps.deeds (All-nil IsDeedPlain)), keeps.crypto h)
 
   -- what an input does
@@ -509,7 +594,7 @@ module _ {t : Types} where
       → IsBelowLimit s.waiting → All IsDeedPlain ds × IsBelowLimit (input_after m i ds (at s [])).state.waiting
   unfolding IsAllowed input_after close_after move_to state_move deeds_move waiting_move ping_asked
   input_plain m (input.Datagram time remote ecn bytes) ds s may told h = datagram_plain m time ecn remote bytes ds s told h
-  input_plain m (input.Timeout time) ds s may told h = timeout_plain time ds s told h
+  input_plain m (input.Timeout time) ds s may told h = timeout_plain m time ds s told h
   input_plain m (input.Transmit time max) ds s may told h = transmit_plain time ds (packets_of ds) s refl may told h
   input_plain m (input.Close time code reason) ds s may told h = shut_plain time _ ds s _ told h
   input_plain m (input.Ping time) ds s may told h = (subst (All IsDeedPlain) (sym told) (All-nil IsDeedPlain), set_below s.waiting s.keys.highest _ (λ p. p) h)
@@ -517,7 +602,7 @@ module _ {t : Types} where
   input_path : (m : Meaning t) (i : Input) (ds : List Did) (a : At t) → (input_after m i ds a).state.paths.remote ≡ a.state.paths.remote
   unfolding input_after close_after move_to state_move paths_move
   input_path m (input.Datagram time remote ecn bytes) ds a = (keeps_datagram m time ecn remote bytes a).path
-  input_path m (input.Timeout time) ds a = (keeps_timeout time a).path
+  input_path m (input.Timeout time) ds a = (keeps_timeout m time a).path
   input_path m (input.Transmit time max) ds a = transmit_path time (packets_of ds) a
   input_path m (input.Close time code reason) ds a = shut_path time _ a _
   input_path m (input.Ping time) ds a = refl
@@ -525,7 +610,7 @@ module _ {t : Types} where
   input_token : (m : Meaning t) (i : Input) (ds : List Did) (a : At t) → IsPlainAddress a.state.paths.remote → IsTokenPlain a.state.life → IsTokenPlain (input_after m i ds a).state.life
   unfolding input_after close_after move_to state_move life_move
   input_token m (input.Datagram time remote ecn bytes) ds a p k = (keeps_datagram m time ecn remote bytes a).token p k
-  input_token m (input.Timeout time) ds a p k = (keeps_timeout time a).token p k
+  input_token m (input.Timeout time) ds a p k = (keeps_timeout m time a).token p k
   input_token m (input.Transmit time max) ds a p k = same_token a.state.life (transmit_after time (packets_of ds) a).state.life (transmit_token time (packets_of ds) a) k
   input_token m (input.Close time code reason) ds a p k = same_token a.state.life (close_after time code reason a).state.life (shut_token time _ a _) k
   input_token m (input.Ping time) ds a p k = k
@@ -617,25 +702,24 @@ module _ {t : Types} where
 
 module _ {t : Types} {R : Type 0} where
   -- a client that was just made, and its hello
-  pub first_plain : (m : Meaning t) (session : t.S) (random : R) (fixed : Fixed) (remote : SocketAddr) (first_cid : List ℕ) (time : ℕ) (v : Held t R) → v ≡ first_view m session random fixed remote first_cid time
-      → length v.waiting.spaces.initial.crypto.bytes < 2 ^ 62 → IsPlainAddress remote → IsPlainStart v.waiting v.paths v.life
-  unfolding first_view
-  first_plain m session random fixed remote first_cid time v made hello plain =
-      let start : v.waiting.spaces.initial.crypto.offset ≡ 0 = ap (λ (v : Held t R). v.waiting.spaces.initial.crypto.offset) made in
-      let after : v.waiting.spaces.handshake.crypto.offset + length v.waiting.spaces.handshake.crypto.bytes ≡ 0 = ap (λ (v : Held t R). v.waiting.spaces.handshake.crypto.offset + length v.waiting.spaces.handshake.crypto.bytes) made in
-      let last : v.waiting.spaces.application.crypto.offset + length v.waiting.spaces.application.crypto.bytes ≡ 0 = ap (λ (v : Held t R). v.waiting.spaces.application.crypto.offset + length v.waiting.spaces.application.crypto.bytes) made in
+  pub first_plain : (m : Meaning t) (session : t.S) (random : R) (fixed : Fixed) (remote : SocketAddr) (first_cid : List ℕ) (transport : TransportValues) (congestion : t.C) (time : ℕ) (v : Held t R) → v ≡ first_view m session random fixed remote first_cid transport congestion time
+      → v.waiting.spaces.initial.crypto.written < 2 ^ 62 → IsPlainAddress remote → IsPlainStart v.waiting v.paths v.life
+  unfolding first_view bytes_written nothing
+  first_plain m session random fixed remote first_cid transport congestion time v made hello plain =
+      let after : v.waiting.spaces.handshake.crypto.written ≡ 0 = ap (λ (v : Held t R). v.waiting.spaces.handshake.crypto.written) made in
+      let last : v.waiting.spaces.application.crypto.written ≡ 0 = ap (λ (v : Held t R). v.waiting.spaces.application.crypto.written) made in
       let path : v.paths.remote ≡ remote = ap (λ (v : Held t R). v.paths.remote) made in
       let none : v.life.reset_token ≡ None = ap (λ (v : Held t R). v.life.reset_token) made in
-      record { crypto = (omega arith, omega arith, omega arith); address = subst IsPlainAddress (sym path) plain; token = subst (λ (o : Option PeerToken). IfSome o (λ peer. IsPlainAddress peer.remote)) (sym none) tt }
+      record { crypto = (hello, omega arith, omega arith); address = subst IsPlainAddress (sym path) plain; token = subst (λ (o : Option PeerToken). IfSome o (λ peer. IsPlainAddress peer.remote)) (sym none) tt }
 
   -- a server that was just made
-  pub server_plain : (m : Meaning t) (session : t.S) (random : R) (fixed : Fixed) (remote : SocketAddr) (remote_cid : List ℕ) (validated : Bool) (time : ℕ) (v : Held t R) → v ≡ server_view m session random fixed remote remote_cid validated time
+  pub server_plain : (m : Meaning t) (session : t.S) (random : R) (fixed : Fixed) (remote : SocketAddr) (remote_cid : List ℕ) (validated : Bool) (transport : TransportValues) (congestion : t.C) (time : ℕ) (v : Held t R) → v ≡ server_view m session random fixed remote remote_cid validated transport congestion time
       → IsPlainAddress remote → IsPlainStart v.waiting v.paths v.life
-  unfolding server_view
-  server_plain m session random fixed remote remote_cid validated time v made plain =
-      let before : v.waiting.spaces.initial.crypto.offset + length v.waiting.spaces.initial.crypto.bytes ≡ 0 = ap (λ (v : Held t R). v.waiting.spaces.initial.crypto.offset + length v.waiting.spaces.initial.crypto.bytes) made in
-      let after : v.waiting.spaces.handshake.crypto.offset + length v.waiting.spaces.handshake.crypto.bytes ≡ 0 = ap (λ (v : Held t R). v.waiting.spaces.handshake.crypto.offset + length v.waiting.spaces.handshake.crypto.bytes) made in
-      let last : v.waiting.spaces.application.crypto.offset + length v.waiting.spaces.application.crypto.bytes ≡ 0 = ap (λ (v : Held t R). v.waiting.spaces.application.crypto.offset + length v.waiting.spaces.application.crypto.bytes) made in
+  unfolding server_view bytes_written nothing
+  server_plain m session random fixed remote remote_cid validated transport congestion time v made plain =
+      let before : v.waiting.spaces.initial.crypto.written ≡ 0 = ap (λ (v : Held t R). v.waiting.spaces.initial.crypto.written) made in
+      let after : v.waiting.spaces.handshake.crypto.written ≡ 0 = ap (λ (v : Held t R). v.waiting.spaces.handshake.crypto.written) made in
+      let last : v.waiting.spaces.application.crypto.written ≡ 0 = ap (λ (v : Held t R). v.waiting.spaces.application.crypto.written) made in
       let path : v.paths.remote ≡ remote = ap (λ (v : Held t R). v.paths.remote) made in
       let none : v.life.reset_token ≡ None = ap (λ (v : Held t R). v.life.reset_token) made in
       record { crypto = (omega arith, omega arith, omega arith); address = subst IsPlainAddress (sym path) plain; token = subst (λ (o : Option PeerToken). IfSome o (λ peer. IsPlainAddress peer.remote)) (sym none) tt }

@@ -1,12 +1,13 @@
 //! A connection and its calls.
 
-ghost use Rattle.std.specs.Prelude.{◌≡◌, ◌<◌, ◌≤◌, [], true, false, length, Err, OnOk, OnErr, IfOk, IfSome};
+ghost use Rattle.std.specs.Prelude.{◌≡◌, ◌<◌, ◌≤◌, [], true, false, length, None, Err, OnOk, OnErr, IfOk, IfSome};
 ghost use Rattle.qc_text.specs.OneText.{IsPlainAddress, IsPlainStart};
 ghost use Rattle.qc_conn.specs.Opened.{OnDone, lost_of};
 ghost use Rattle.qc_conn.specs.Seen.{Sends};
 ghost use Rattle.qc_core.specs.Cutting.{rest_of};
 ghost use Rattle.qc_core.specs.Events.{LeavesBytes, handed_after, time_of_event};
 ghost use Rattle.qc_core.specs.FirstPacket.{IsFirstPacket, first_reason, size_of};
+ghost use Rattle.qc_recovery.specs.Paths.{first_size};
 ghost use Rattle.qc_state.specs.Receiving.{datagram_after, first_packet_after, is_taken};
 ghost use Rattle.qc_state.specs.Setup.{is_first_awaited};
 ghost use Rattle.qc_state.specs.First.{first_view, server_view, fixed_of};
@@ -52,7 +53,7 @@ pub enum FirstError {
 impl<U: Suite> Model for Connection<U> {
     ghost use Rattle.qc_conn.specs.Seen.{Seen};
 
-    ghost Value = { Seen (record { S = U.Session; H = U.Session.HeaderKey; P = U.Session.PacketKey; D = U.Session.HandshakeData; I = U.Session.PeerIdentity }) U.Random };
+    ghost Value = { Seen (record { S = U.Session; H = U.Session.HeaderKey; P = U.Session.PacketKey; D = U.Session.HandshakeData; I = U.Session.PeerIdentity; C = U.Control.Controller }) U.Random };
 
     ghost view = { λ c. record { core = c.core; failed = c.failed } };
 }
@@ -64,7 +65,6 @@ impl<U: Suite> Connection<U> {
     /// # Errors
     ///
     /// `AllocError` for want of memory alone.
-    #[tactic(auto, using(crate::proofs::RunsPlain::first_plain))]
     pub fn new_client<G: TokenStore>(
         alloc: Global,
         setup: ClientSetup<U>,
@@ -73,7 +73,7 @@ impl<U: Suite> Connection<U> {
     ) -> Result<Connection<U>, AllocError>
         requires fresh { U.Session.is_fresh setup.session }
         requires client { U.Session.side_of setup.session ≡ Side.Client }
-        ensures made { IfOk result (λ c. c.core ≡ first_view (meaning U.Session.Session U.Session.HeaderKey.HeaderMask U.Session.PacketKey.PacketKey) setup.session setup.random (fixed_of Side.Client setup.version setup.local_cid setup.first_cid setup.local_ip setup.transport.max_idle_timeout setup.transport.crypto_buffer_size setup.grease_quic_bit) setup.remote setup.first_cid now) }
+        ensures made { IfOk result (λ c. c.core ≡ first_view (meaning U.Session.Session U.Session.HeaderKey.HeaderMask U.Session.PacketKey.PacketKey U.Control.Controller.Controller) setup.session setup.random (fixed_of Side.Client setup.version setup.local_cid setup.first_cid setup.local_ip setup.transport.max_idle_timeout setup.transport.crypto_buffer_size setup.grease_quic_bit) setup.remote setup.first_cid setup.transport (U.Control.built setup.control now (first_size setup.transport None)) now) }
         ensures plain { IsPlainAddress setup.remote → IfOk result (λ c. IsPlainStart c.core.waiting c.core.paths c.core.life) }
         ensures alive { IfOk result (λ c. c.failed ≡ false) }
         ensures store { store.new ≡ store.old }
@@ -98,7 +98,7 @@ impl<U: Suite> Connection<U> {
         now: Instant,
     ) -> Result<Connection<U>, AllocError>
         requires fresh { U.Session.is_fresh setup.session }
-        ensures made { IfOk result (λ c. c.core ≡ server_view (meaning U.Session.Session U.Session.HeaderKey.HeaderMask U.Session.PacketKey.PacketKey) setup.session setup.random (fixed_of Side.Server setup.version setup.local_cid setup.first_cid setup.local_ip setup.transport.max_idle_timeout setup.transport.crypto_buffer_size setup.grease_quic_bit) setup.remote setup.remote_cid setup.validated now) }
+        ensures made { IfOk result (λ c. c.core ≡ server_view (meaning U.Session.Session U.Session.HeaderKey.HeaderMask U.Session.PacketKey.PacketKey U.Control.Controller.Controller) setup.session setup.random (fixed_of Side.Server setup.version setup.local_cid setup.first_cid setup.local_ip setup.transport.max_idle_timeout setup.transport.crypto_buffer_size setup.grease_quic_bit) setup.remote setup.remote_cid setup.validated setup.transport (U.Control.built setup.control now (first_size setup.transport None)) now) }
         ensures plain { IsPlainAddress setup.remote → IfOk result (λ c. IsPlainStart c.core.waiting c.core.paths c.core.life) }
         ensures alive { IfOk result (λ c. c.failed ≡ false) }
     {
@@ -128,8 +128,8 @@ impl<U: Suite> Connection<U> {
         bytes: BytesMut,
     ) -> Result<bool, Fault>
         requires awaited { is_first_awaited self.old.core.setup ≡ true }
-        ensures answer { IfOk result (λ taken. taken ≡ is_taken (meaning U.Session.Session U.Session.HeaderKey.HeaderMask U.Session.PacketKey.PacketKey) (began (ideal U.Random.stream self.old.core) now).state remote bytes.items) }
-        ensures leads { OnOk result ((ideal U.Random.stream self.new.core) ≡ (datagram_after (meaning U.Session.Session U.Session.HeaderKey.HeaderMask U.Session.PacketKey.PacketKey) now ecn remote bytes.items (began (ideal U.Random.stream self.old.core) now)).state) }
+        ensures answer { IfOk result (λ taken. taken ≡ is_taken (meaning U.Session.Session U.Session.HeaderKey.HeaderMask U.Session.PacketKey.PacketKey U.Control.Controller.Controller) (began (ideal U.Random.stream self.old.core) now).state remote bytes.items) }
+        ensures leads { OnOk result ((ideal U.Random.stream self.new.core) ≡ (datagram_after (meaning U.Session.Session U.Session.HeaderKey.HeaderMask U.Session.PacketKey.PacketKey U.Control.Controller.Controller) now ecn remote bytes.items (began (ideal U.Random.stream self.old.core) now)).state) }
         ensures alive { OnOk result (self.new.failed ≡ false) }
         ensures failed { self.old.failed ≡ true → (result ≡ Err Fault.Failed) × (self.new ≡ self.old) }
         ensures cause { result ≡ Err Fault.Failed → self.old.failed ≡ true }
@@ -163,7 +163,7 @@ impl<U: Suite> Connection<U> {
     ) -> Result<(), Fault>
         requires heard { is_first_awaited self.old.core.setup ≡ false }
         requires some { LeavesBytes event }
-        ensures leads { OnOk result ((ideal U.Random.stream self.new.core) ≡ (handed_after (meaning U.Session.Session U.Session.HeaderKey.HeaderMask U.Session.PacketKey.PacketKey) event (began (ideal U.Random.stream self.old.core) (time_of_event event))).state) }
+        ensures leads { OnOk result ((ideal U.Random.stream self.new.core) ≡ (handed_after (meaning U.Session.Session U.Session.HeaderKey.HeaderMask U.Session.PacketKey.PacketKey U.Control.Controller.Controller) event (began (ideal U.Random.stream self.old.core) (time_of_event event))).state) }
         ensures alive { OnOk result (self.new.failed ≡ false) }
         ensures failed { self.old.failed ≡ true → (result ≡ Err Fault.Failed) × (self.new ≡ self.old) }
         ensures cause { result ≡ Err Fault.Failed → self.old.failed ≡ true }
@@ -205,8 +205,8 @@ impl<U: Suite> Connection<U> {
     ) -> Result<(), FirstError>
         requires first { IsFirstPacket self.old.core remote packet_number packet (rest_of remaining) }
         requires some { IfSome remaining (λ b. 0 < length b.items) }
-        ensures answer { OnDone result (lost_of result ≡ first_reason (meaning U.Session.Session U.Session.HeaderKey.HeaderMask U.Session.PacketKey.PacketKey) now ecn packet.header.src_cid packet.header.token packet_number packet.payload.items (began (ideal U.Random.stream self.old.core) now)) }
-        ensures leads { OnDone result ((ideal U.Random.stream self.new.core) ≡ (first_packet_after (meaning U.Session.Session U.Session.HeaderKey.HeaderMask U.Session.PacketKey.PacketKey) now ecn packet.header.src_cid packet.header.token packet_number packet.payload.items (rest_of remaining) (size_of packet (rest_of remaining)) (began (ideal U.Random.stream self.old.core) now)).state) }
+        ensures answer { OnDone result (lost_of result ≡ first_reason (meaning U.Session.Session U.Session.HeaderKey.HeaderMask U.Session.PacketKey.PacketKey U.Control.Controller.Controller) now ecn packet.header.src_cid packet.header.token packet_number packet.payload.items (began (ideal U.Random.stream self.old.core) now)) }
+        ensures leads { OnDone result ((ideal U.Random.stream self.new.core) ≡ (first_packet_after (meaning U.Session.Session U.Session.HeaderKey.HeaderMask U.Session.PacketKey.PacketKey U.Control.Controller.Controller) now ecn packet.header.src_cid packet.header.token packet_number packet.payload.items (rest_of remaining) (size_of packet (rest_of remaining)) (began (ideal U.Random.stream self.old.core) now)).state) }
         ensures alive { OnDone result (self.new.failed ≡ false) }
         ensures failed { self.old.failed ≡ true → (result ≡ Err (FirstError.Fault Fault.Failed)) × (self.new ≡ self.old) }
         ensures cause { result ≡ Err (FirstError.Fault Fault.Failed) → self.old.failed ≡ true }
@@ -234,18 +234,20 @@ impl<U: Suite> Connection<U> {
         }
     }
 
-    /// Timers may have come by `now`: each that has, to that time or an earlier one, is stopped and does what it is for, in this
-    /// order. The loss timer: nothing so far. The idle timer: the connection ends at once, for `TimedOut`. The close timer: the
-    /// connection, which closed before, ends. Afterwards no timer is left that has come. In a connection that had ended nothing
-    /// happens.
+    /// Timers may have come by `now`: each that has, to that time or an earlier one, does what it is for, in this order. The loss
+    /// timer: packets are lost, whose frames wait again, or probes are due (RFC 9002, 6.1.2 and 6.2.4); it is set anew. The idle
+    /// timer: the connection ends at once, for `TimedOut`. The close timer: the connection, which closed before, ends. Afterwards
+    /// neither of these two is left that has come; the loss timer may stand at a time that has come again, as a probe timeout counts
+    /// from the last packet that was sent. In a connection that had ended nothing happens.
     ///
     /// # Errors
     ///
     /// `OutOfMemory` for want of memory; the connection is then marked as failed. `Failed` exactly where it was marked
     /// before; then nothing changes.
     pub fn handle_timeout(&mut self, alloc: Global, now: Instant) -> Result<(), Fault>
-        ensures leads { OnOk result ((ideal U.Random.stream self.new.core) ≡ (timeout_after now (began (ideal U.Random.stream self.old.core) now)).state) }
-        ensures later { OnOk result (is_drained self.old.core.life.state ≡ false → has_come (next_timeout self.new.core.timers) now ≡ false) }
+        ensures leads { OnOk result ((ideal U.Random.stream self.new.core) ≡ (timeout_after (meaning U.Session.Session U.Session.HeaderKey.HeaderMask U.Session.PacketKey.PacketKey U.Control.Controller.Controller) now (began (ideal U.Random.stream self.old.core) now)).state) }
+        ensures idle { OnOk result (is_drained self.old.core.life.state ≡ false → has_come self.new.core.timers.idle now ≡ false) }
+        ensures close { OnOk result (is_drained self.old.core.life.state ≡ false → has_come self.new.core.timers.close now ≡ false) }
         ensures alive { OnOk result (self.new.failed ≡ false) }
         ensures failed { self.old.failed ≡ true → (result ≡ Err Fault.Failed) × (self.new ≡ self.old) }
         ensures cause { result ≡ Err Fault.Failed → self.old.failed ≡ true }
@@ -281,7 +283,7 @@ impl<U: Suite> Connection<U> {
     ) -> Result<Option<Transmit>, Fault>
         requires some { 1 ≤ max_datagrams }
         requires empty { buf.old.items ≡ [] }
-        ensures sends { IfOk result (λ sent. Sends (meaning U.Session.Session U.Session.HeaderKey.HeaderMask U.Session.PacketKey.PacketKey) now (ideal U.Random.stream self.old.core) (ideal U.Random.stream self.new.core) sent buf.new.items) }
+        ensures sends { IfOk result (λ sent. Sends (meaning U.Session.Session U.Session.HeaderKey.HeaderMask U.Session.PacketKey.PacketKey U.Control.Controller.Controller) now (ideal U.Random.stream self.old.core) (ideal U.Random.stream self.new.core) sent buf.new.items) }
         ensures alive { OnOk result (self.new.failed ≡ false) }
         ensures failed { self.old.failed ≡ true → (result ≡ Err Fault.Failed) × (self.new ≡ self.old) }
         ensures cause { result ≡ Err Fault.Failed → self.old.failed ≡ true }
@@ -348,7 +350,7 @@ impl<U: Suite> Connection<U> {
     /// One input of `drive`: the call, and the reports after it.
     pub(crate) fn call(&mut self, alloc: Global, at: u64, input: &Input) -> Result<Step, Fault>
         requires { self.old.core.timers.greatest ≤ time_of input.now }
-        ensures step { IfOk result (λ x. IsStep (meaning U.Session.Session U.Session.HeaderKey.HeaderMask U.Session.PacketKey.PacketKey) at (ideal U.Random.stream self.old.core) input.now x (ideal U.Random.stream self.new.core)) }
+        ensures step { IfOk result (λ x. IsStep (meaning U.Session.Session U.Session.HeaderKey.HeaderMask U.Session.PacketKey.PacketKey U.Control.Controller.Controller) at (ideal U.Random.stream self.old.core) input.now x (ideal U.Random.stream self.new.core)) }
         ensures alive { OnOk result (self.new.failed ≡ false) }
         ensures failed { self.old.failed ≡ true → (result ≡ Err Fault.Failed) × (self.new ≡ self.old) }
         ensures cause { result ≡ Err Fault.Failed → self.old.failed ≡ true }
@@ -391,12 +393,10 @@ impl<U: Suite> Connection<U> {
 
 #[cfg(test)]
 impl<U: Suite> Connection<U> {
-    /// The connection, its next Initial packet having this number: for tests alone.
-    pub(crate) fn with_number(self, number: u64) -> Connection<U>
-        ensures { result.core.timers.greatest ≡ self.core.timers.greatest }
+    /// Gives its next Initial packet this number: for tests alone.
+    pub(crate) fn set_number(&mut self, number: u64)
+        ensures { self.new.core.timers.greatest ≡ self.old.core.timers.greatest }
     {
-        let mut connection = self;
-        connection.core.numbers.spaces.initial.next = number;
-        connection
+        self.core.numbers.spaces.initial.next = number;
     }
 }

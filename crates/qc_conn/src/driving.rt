@@ -70,7 +70,7 @@ fn add_step<U: Suite>(
 ) -> Result<(), AllocError>
     requires alive { connection.old.failed ≡ false }
     requires forward { connection.old.core.timers.greatest ≤ time_of input.now }
-    ensures adds { OnOk result (Adds (meaning U.Session.Session U.Session.HeaderKey.HeaderMask U.Session.PacketKey.PacketKey) at (ideal U.Random.stream connection.old.core) input.now (ideal U.Random.stream connection.new.core) trace.old trace.new) }
+    ensures adds { OnOk result (Adds (meaning U.Session.Session U.Session.HeaderKey.HeaderMask U.Session.PacketKey.PacketKey U.Control.Controller.Controller) at (ideal U.Random.stream connection.old.core) input.now (ideal U.Random.stream connection.new.core) trace.old trace.new) }
     ensures time { OnOk result (connection.new.core.timers.greatest ≡ time_of input.now) }
     ensures alive { OnOk result (connection.new.failed ≡ false) }
     ensures mark { OnErr result (connection.new.failed ≡ true) }
@@ -129,12 +129,12 @@ fn drive_all<U: Suite>(
     inputs: &[Input],
 ) -> Result<Trace, DriveError>
     requires alive { connection.old.failed ≡ false }
-    ensures run { IfOk result (λ trace. Run (meaning U.Session.Session U.Session.HeaderKey.HeaderMask U.Session.PacketKey.PacketKey) 0 (ideal U.Random.stream connection.old.core) inputs.now trace (ideal U.Random.stream connection.new.core)) }
+    ensures run { IfOk result (λ trace. Run (meaning U.Session.Session U.Session.HeaderKey.HeaderMask U.Session.PacketKey.PacketKey U.Control.Controller.Controller) 0 (ideal U.Random.stream connection.old.core) inputs.now trace (ideal U.Random.stream connection.new.core)) }
     ensures valid { OnOk result (first_refusal 0 connection.old.core.timers.greatest inputs.now ≡ None) }
-    ensures part { IfErr result (λ e. Ran (meaning U.Session.Session U.Session.HeaderKey.HeaderMask U.Session.PacketKey.PacketKey) 0 (ideal U.Random.stream connection.old.core) inputs.now e.done) }
+    ensures part { IfErr result (λ e. Ran (meaning U.Session.Session U.Session.HeaderKey.HeaderMask U.Session.PacketKey.PacketKey U.Control.Controller.Controller) 0 (ideal U.Random.stream connection.old.core) inputs.now e.done) }
     ensures alive { OnOk result (connection.new.failed ≡ false) }
     ensures memory { IfErr result (λ e. e.kind ≡ DriveKind.OutOfMemory → connection.new.failed ≡ true) }
-    ensures refused { IfErr result (λ e. NamesInput e.kind → RefusedAt (meaning U.Session.Session U.Session.HeaderKey.HeaderMask U.Session.PacketKey.PacketKey) (ideal U.Random.stream connection.old.core) inputs.now e.kind e.done (ideal U.Random.stream connection.new.core) connection.new.failed) }
+    ensures refused { IfErr result (λ e. NamesInput e.kind → RefusedAt (meaning U.Session.Session U.Session.HeaderKey.HeaderMask U.Session.PacketKey.PacketKey U.Control.Controller.Controller) (ideal U.Random.stream connection.old.core) inputs.now e.kind e.done (ideal U.Random.stream connection.new.core) connection.new.failed) }
     ensures failed { IfErr result (λ e. e.kind ≢ DriveKind.Failed) }
 {
     let mut trace = Trace::new(alloc);
@@ -174,8 +174,8 @@ pub fn drive<U: Suite, G: TokenStore>(
     store: &mut G,
 ) -> Result<Trace, DriveError>
     // The trace is a run from the connection's view at entry to its view at exit.
-    ensures run { IfOk result (λ trace. Run (meaning U.Session.Session U.Session.HeaderKey.HeaderMask U.Session.PacketKey.PacketKey) 0 (ideal U.Random.stream connection.old.core) inputs.now trace (ideal U.Random.stream connection.new.core)) }
-    ensures part { IfErr result (λ e. Ran (meaning U.Session.Session U.Session.HeaderKey.HeaderMask U.Session.PacketKey.PacketKey) 0 (ideal U.Random.stream connection.old.core) inputs.now e.done) }
+    ensures run { IfOk result (λ trace. Run (meaning U.Session.Session U.Session.HeaderKey.HeaderMask U.Session.PacketKey.PacketKey U.Control.Controller.Controller) 0 (ideal U.Random.stream connection.old.core) inputs.now trace (ideal U.Random.stream connection.new.core)) }
+    ensures part { IfErr result (λ e. Ran (meaning U.Session.Session U.Session.HeaderKey.HeaderMask U.Session.PacketKey.PacketKey U.Control.Controller.Controller) 0 (ideal U.Random.stream connection.old.core) inputs.now e.done) }
 
     // No packet number is used twice, only packets that were accepted are acknowledged, the life never falls, all that is
     // sent after a close is the close, no Initial or Handshake key seals more than it may, and at most one reason for the
@@ -203,7 +203,7 @@ pub fn drive<U: Suite, G: TokenStore>(
 
     // The first input that is to be refused is named, with the values that don't fit, and changes nothing.
     ensures valid { OnOk result (first_refusal 0 connection.old.core.timers.greatest inputs.now ≡ None) }
-    ensures refused { IfErr result (λ e. NamesInput e.kind → RefusedAt (meaning U.Session.Session U.Session.HeaderKey.HeaderMask U.Session.PacketKey.PacketKey) (ideal U.Random.stream connection.old.core) inputs.now e.kind e.done (ideal U.Random.stream connection.new.core) connection.new.failed) }
+    ensures refused { IfErr result (λ e. NamesInput e.kind → RefusedAt (meaning U.Session.Session U.Session.HeaderKey.HeaderMask U.Session.PacketKey.PacketKey U.Control.Controller.Controller) (ideal U.Random.stream connection.old.core) inputs.now e.kind e.done (ideal U.Random.stream connection.new.core) connection.new.failed) }
 
     ensures alive { OnOk result (connection.new.failed ≡ false) }
     ensures failed { connection.old.failed ≡ true → IfErr result (λ e. (e.kind ≡ DriveKind.Failed) × (e.done ≡ [])) × (connection.new ≡ connection.old) }

@@ -16,6 +16,7 @@ use qc_core::{ConnectionEvent, ServerSetup};
 use qc_crypto::{ServerConfig, Session};
 use qc_header::{InitialPacket, PartialDecode};
 use qc_packet::{OpenKeys, decrypt_packet_body, unprotect_header};
+use qc_path::NewRenoConfig;
 use qc_recovery::TransportConfig;
 use qc_state::paths::same_address;
 use qc_state::{ConnectionError, Event};
@@ -95,25 +96,26 @@ fn server_session(alloc: Global) -> Option<ToySession>
     server.start_session(alloc, 1, &params).ok()
 }
 
-/// A server made at 0 for a client whose first packet has these ids.
+/// A server made at 0 for a client whose first packet has these ids, on the heap as the clients are.
 #[tactic(auto, unfolding(qc_state::specs::First::server_view, qc_state::specs::Setup::is_first_awaited))]
 fn server(
     alloc: Global,
     remote: SocketAddr,
     first_cid: ConnectionId,
     remote_cid: ConnectionId,
-) -> Option<Connection<Toy>>
-    ensures awaited { IfSome result (λ s. is_first_awaited s.core.setup ≡ true) }
-    ensures shakes { IfSome result (λ s. is_handshake s.core.life.state ≡ true) }
-    ensures remote { IfSome result (λ s. s.core.paths.remote ≡ remote) }
-    ensures version { IfSome result (λ s. s.core.setup.fixed.version ≡ 1) }
-    ensures first { IfSome result (λ s. s.core.setup.fixed.first_cid ≡ first_cid) }
-    ensures source { IfSome result (λ s. s.core.paths.remote_cid ≡ remote_cid) }
+) -> Option<Box<Connection<Toy>>>
+    ensures awaited { IfSome result (λ s. is_first_awaited s.value.core.setup ≡ true) }
+    ensures shakes { IfSome result (λ s. is_handshake s.value.core.life.state ≡ true) }
+    ensures remote { IfSome result (λ s. s.value.core.paths.remote ≡ remote) }
+    ensures version { IfSome result (λ s. s.value.core.setup.fixed.version ≡ 1) }
+    ensures first { IfSome result (λ s. s.value.core.setup.fixed.first_cid ≡ first_cid) }
+    ensures source { IfSome result (λ s. s.value.core.paths.remote_cid ≡ remote_cid) }
 {
     let session = server_session(alloc)?;
     let setup = ServerSetup {
         session,
         random: ZeroRandom,
+        control: NewRenoConfig::default(),
         transport: TransportConfig::default(),
         grease_quic_bit: true,
         local_cid: ConnectionId::new(&[3; 8]),
@@ -130,7 +132,7 @@ fn server(
         validated: false,
     };
     let server = Connection::new_server(alloc, setup, Instant::from_nanos(0)).ok()?;
-    Some(server)
+    Box::new(alloc, server).ok()
 }
 
 /// What a transmit at 2 seals.
@@ -179,13 +181,13 @@ fn answer_to_whole(alloc: Global, bytes: &[u8]) -> Option<Vec<u8>> {
 /// What a server answers that is handed its first packet in front of these bytes.
 fn answer_of(
     alloc: Global,
-    server: Connection<Toy>,
+    server: Box<Connection<Toy>>,
     remote: SocketAddr,
     number: u64,
     packet: InitialPacket,
     remaining: Option<BytesMut>,
 ) -> Option<Vec<u8>>
-    requires first { IsFirstPacket server.core remote number packet (rest_of remaining) }
+    requires first { IsFirstPacket server.value.core remote number packet (rest_of remaining) }
     requires some { IfSome remaining (λ b. 0 < length b.items) }
 {
     let mut server = server;

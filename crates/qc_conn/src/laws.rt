@@ -8,8 +8,8 @@ ghost use Rattle.qc_state.specs.Types.{meaning};
 use qc_state::{Step, Suite};
 
 /// A law, which runs no code. Two traces of runs have two texts. This needs values in the range of
-/// their types, which each trace in memory has, CRYPTO bytes that wait at the start below 2^62 in
-/// their streams (RFC 9000, 19.6), and an address of the peer with neither flow label nor scope.
+/// their types, which each trace in memory has, CRYPTO bytes at the start below 2^62 in their
+/// streams (RFC 9000, 19.6), and an address of the peer with neither flow label nor scope.
 pub fn text_tells_run<U: Suite, V: Suite>()
-    ensures { (xs ys : List Step) → IsTellingRun (meaning U.Session.Session U.Session.HeaderKey.HeaderMask U.Session.PacketKey.PacketKey) xs → IsTellingRun (meaning V.Session.Session V.Session.HeaderKey.HeaderMask V.Session.PacketKey.PacketKey) ys → trace_text xs ≡ trace_text ys → xs ≡ ys }
+    ensures { (xs ys : List Step) → IsTellingRun (meaning U.Session.Session U.Session.HeaderKey.HeaderMask U.Session.PacketKey.PacketKey U.Control.Controller.Controller) xs → IsTellingRun (meaning V.Session.Session V.Session.HeaderKey.HeaderMask V.Session.PacketKey.PacketKey V.Control.Controller.Controller) ys → trace_text xs ≡ trace_text ys → xs ≡ ys }
 {}

@@ -8,6 +8,8 @@ mod event_tests;
 mod laws;
 #[cfg(test)]
 mod limit_tests;
+#[cfg(test)]
+mod probe_tests;
 mod steps;
 #[cfg(test)]
 mod tests;

@@ -11,7 +11,7 @@ ghost use Rattle.qc_state.specs.Receiving.{datagram_after, first_packet_after, i
 ghost use Rattle.qc_state.specs.Setup.{is_first_awaited};
 ghost use Rattle.qc_state.specs.Run.{began, time_of, word_of, out_of, close_after, Calls, IsStep};
 ghost use Rattle.qc_state.specs.Timeouts.{timeout_after};
-ghost use Rattle.qc_state.specs.Timers.{has_come, next_timeout};
+ghost use Rattle.qc_state.specs.Timers.{has_come};
 ghost use Rattle.qc_state.specs.Types.{meaning};
 ghost use Rattle.qc_state.specs.View.{ideal, held};
 
@@ -50,7 +50,7 @@ pub(crate) fn core_send<U: Suite>(
     buf: &mut Vec<u8>,
 ) -> Result<Option<Transmit>, AllocError>
     requires { buf.old.items ≡ [] }
-    ensures { IfOk result (λ sent. Sends (meaning U.Session.Session U.Session.HeaderKey.HeaderMask U.Session.PacketKey.PacketKey) now (ideal U.Random.stream core.old) (ideal U.Random.stream core.new) sent buf.new.items) }
+    ensures { IfOk result (λ sent. Sends (meaning U.Session.Session U.Session.HeaderKey.HeaderMask U.Session.PacketKey.PacketKey U.Control.Controller.Controller) now (ideal U.Random.stream core.old) (ideal U.Random.stream core.new) sent buf.new.items) }
 {
     let mut did = Dids::new(alloc);
     core.clock(now);
@@ -69,8 +69,8 @@ pub(crate) fn core_first<U: Suite>(
     bytes: BytesMut,
 ) -> Result<bool, AllocError>
     requires { is_first_awaited core.old.setup ≡ true }
-    ensures answer { IfOk result (λ taken. taken ≡ is_taken (meaning U.Session.Session U.Session.HeaderKey.HeaderMask U.Session.PacketKey.PacketKey) (began (ideal U.Random.stream core.old) now).state remote bytes.items) }
-    ensures leads { OnOk result ((ideal U.Random.stream core.new) ≡ (datagram_after (meaning U.Session.Session U.Session.HeaderKey.HeaderMask U.Session.PacketKey.PacketKey) now mark remote bytes.items (began (ideal U.Random.stream core.old) now)).state) }
+    ensures answer { IfOk result (λ taken. taken ≡ is_taken (meaning U.Session.Session U.Session.HeaderKey.HeaderMask U.Session.PacketKey.PacketKey U.Control.Controller.Controller) (began (ideal U.Random.stream core.old) now).state remote bytes.items) }
+    ensures leads { OnOk result ((ideal U.Random.stream core.new) ≡ (datagram_after (meaning U.Session.Session U.Session.HeaderKey.HeaderMask U.Session.PacketKey.PacketKey U.Control.Controller.Controller) now mark remote bytes.items (began (ideal U.Random.stream core.old) now)).state) }
 {
     let mut did = Dids::new(alloc);
     core.clock(now);
@@ -85,7 +85,7 @@ pub(crate) fn core_event<U: Suite>(
     event: ConnectionEvent,
 ) -> Result<(), AllocError>
     requires { LeavesBytes event }
-    ensures { OnOk result ((ideal U.Random.stream core.new) ≡ (handed_after (meaning U.Session.Session U.Session.HeaderKey.HeaderMask U.Session.PacketKey.PacketKey) event (began (ideal U.Random.stream core.old) (time_of_event event))).state) }
+    ensures { OnOk result ((ideal U.Random.stream core.new) ≡ (handed_after (meaning U.Session.Session U.Session.HeaderKey.HeaderMask U.Session.PacketKey.PacketKey U.Control.Controller.Controller) event (began (ideal U.Random.stream core.old) (time_of_event event))).state) }
 {
     let mut did = Dids::new(alloc);
     match event {
@@ -115,8 +115,8 @@ pub(crate) fn core_first_packet<U: Suite>(
     behind: Option<BytesMut>,
 ) -> Result<Option<ConnectionError>, AllocError>
     requires { IfSome behind (λ b. 0 < length b.items) }
-    ensures answer { IfOk result (λ why. why ≡ first_reason (meaning U.Session.Session U.Session.HeaderKey.HeaderMask U.Session.PacketKey.PacketKey) now mark packet.header.src_cid packet.header.token number packet.payload.items (began (ideal U.Random.stream core.old) now)) }
-    ensures leads { OnOk result ((ideal U.Random.stream core.new) ≡ (first_packet_after (meaning U.Session.Session U.Session.HeaderKey.HeaderMask U.Session.PacketKey.PacketKey) now mark packet.header.src_cid packet.header.token number packet.payload.items (rest_of behind) (size_of packet (rest_of behind)) (began (ideal U.Random.stream core.old) now)).state) }
+    ensures answer { IfOk result (λ why. why ≡ first_reason (meaning U.Session.Session U.Session.HeaderKey.HeaderMask U.Session.PacketKey.PacketKey U.Control.Controller.Controller) now mark packet.header.src_cid packet.header.token number packet.payload.items (began (ideal U.Random.stream core.old) now)) }
+    ensures leads { OnOk result ((ideal U.Random.stream core.new) ≡ (first_packet_after (meaning U.Session.Session U.Session.HeaderKey.HeaderMask U.Session.PacketKey.PacketKey U.Control.Controller.Controller) now mark packet.header.src_cid packet.header.token number packet.payload.items (rest_of behind) (size_of packet (rest_of behind)) (began (ideal U.Random.stream core.old) now)).state) }
 {
     let mut did = Dids::new(alloc);
     core.clock(now);
@@ -130,8 +130,9 @@ pub(crate) fn core_timeout<U: Suite>(
     alloc: Global,
     now: Instant,
 ) -> Result<(), AllocError>
-    ensures leads { OnOk result ((ideal U.Random.stream core.new) ≡ (timeout_after now (began (ideal U.Random.stream core.old) now)).state) }
-    ensures later { OnOk result (is_drained core.old.life.state ≡ false → has_come (next_timeout core.new.timers) now ≡ false) }
+    ensures leads { OnOk result ((ideal U.Random.stream core.new) ≡ (timeout_after (meaning U.Session.Session U.Session.HeaderKey.HeaderMask U.Session.PacketKey.PacketKey U.Control.Controller.Controller) now (began (ideal U.Random.stream core.old) now)).state) }
+    ensures idle { OnOk result (is_drained core.old.life.state ≡ false → has_come core.new.timers.idle now ≡ false) }
+    ensures close { OnOk result (is_drained core.old.life.state ≡ false → has_come core.new.timers.close now ≡ false) }
 {
     let mut did = Dids::new(alloc);
     core.clock(now);
@@ -148,7 +149,7 @@ fn transmit_call<U: Suite>(
     did: &mut Dids,
 ) -> Result<Answer, AllocError>
     requires { did.old ≡ [] }
-    ensures { IfOk result (λ answer. Calls (meaning U.Session.Session U.Session.HeaderKey.HeaderMask U.Session.PacketKey.PacketKey) (ideal U.Random.stream core.old) (Input.Transmit now max_datagrams) (held U.Random.stream core.new did.new) answer) }
+    ensures { IfOk result (λ answer. Calls (meaning U.Session.Session U.Session.HeaderKey.HeaderMask U.Session.PacketKey.PacketKey U.Control.Controller.Controller) (ideal U.Random.stream core.old) (Input.Transmit now max_datagrams) (held U.Random.stream core.new did.new) answer) }
 {
     let mut buf = Vec::new(alloc);
     core.clock(now);
@@ -184,7 +185,7 @@ fn close_call<U: Suite>(
     did: &mut Dids,
 ) -> Result<Answer, AllocError>
     requires { did.old ≡ [] }
-    ensures { IfOk result (λ answer. Calls (meaning U.Session.Session U.Session.HeaderKey.HeaderMask U.Session.PacketKey.PacketKey) (ideal U.Random.stream core.old) (Input.Close now code reason.now) (held U.Random.stream core.new did.new) answer) }
+    ensures { IfOk result (λ answer. Calls (meaning U.Session.Session U.Session.HeaderKey.HeaderMask U.Session.PacketKey.PacketKey U.Control.Controller.Controller) (ideal U.Random.stream core.old) (Input.Close now code reason.now) (held U.Random.stream core.new did.new) answer) }
 {
     let reason = Bytes::copy_from_slice(alloc, reason.as_slice())?;
     core.clock(now);
@@ -199,7 +200,7 @@ fn timeout_call<U: Suite>(
     did: &mut Dids,
 ) -> Result<Answer, AllocError>
     requires { did.old ≡ [] }
-    ensures { IfOk result (λ answer. Calls (meaning U.Session.Session U.Session.HeaderKey.HeaderMask U.Session.PacketKey.PacketKey) (ideal U.Random.stream core.old) (Input.Timeout now) (held U.Random.stream core.new did.new) answer) }
+    ensures { IfOk result (λ answer. Calls (meaning U.Session.Session U.Session.HeaderKey.HeaderMask U.Session.PacketKey.PacketKey U.Control.Controller.Controller) (ideal U.Random.stream core.old) (Input.Timeout now) (held U.Random.stream core.new did.new) answer) }
 {
     core.clock(now);
     core.handle_timeout(now, did)?;
@@ -210,7 +211,7 @@ fn timeout_call<U: Suite>(
 #[tactic(auto, using(qc_state::proofs::Steps::calls_ping))]
 fn ping_call<U: Suite>(core: &mut Core<U>, now: Instant, did: &Dids) -> Answer
     requires { did.now ≡ [] }
-    ensures { Calls (meaning U.Session.Session U.Session.HeaderKey.HeaderMask U.Session.PacketKey.PacketKey) (ideal U.Random.stream core.old) (Input.Ping now) (held U.Random.stream core.new did.now) result }
+    ensures { Calls (meaning U.Session.Session U.Session.HeaderKey.HeaderMask U.Session.PacketKey.PacketKey U.Control.Controller.Controller) (ideal U.Random.stream core.old) (Input.Ping now) (held U.Random.stream core.new did.now) result }
 {
     core.clock(now);
     core.ping();
@@ -228,7 +229,7 @@ fn datagram_call<U: Suite>(
     did: &mut Dids,
 ) -> Result<Answer, AllocError>
     requires { did.old ≡ [] }
-    ensures { IfOk result (λ answer. Calls (meaning U.Session.Session U.Session.HeaderKey.HeaderMask U.Session.PacketKey.PacketKey) (ideal U.Random.stream core.old) (Input.Datagram now remote ecn bytes.now) (held U.Random.stream core.new did.new) answer) }
+    ensures { IfOk result (λ answer. Calls (meaning U.Session.Session U.Session.HeaderKey.HeaderMask U.Session.PacketKey.PacketKey U.Control.Controller.Controller) (ideal U.Random.stream core.old) (Input.Datagram now remote ecn bytes.now) (held U.Random.stream core.new did.new) answer) }
 {
     let bytes = BytesMut::copy_from_slice(alloc, bytes.as_slice())?;
     core.clock(now);
@@ -246,7 +247,7 @@ fn call<U: Suite>(
     did: &mut Dids,
 ) -> Result<Answer, AllocError>
     requires { did.old ≡ [] }
-    ensures { IfOk result (λ answer. Calls (meaning U.Session.Session U.Session.HeaderKey.HeaderMask U.Session.PacketKey.PacketKey) (ideal U.Random.stream core.old) input.now (held U.Random.stream core.new did.new) answer) }
+    ensures { IfOk result (λ answer. Calls (meaning U.Session.Session U.Session.HeaderKey.HeaderMask U.Session.PacketKey.PacketKey U.Control.Controller.Controller) (ideal U.Random.stream core.old) input.now (held U.Random.stream core.new did.new) answer) }
 {
     match input {
         Input::Datagram {
@@ -371,7 +372,7 @@ pub(crate) fn core_step<U: Suite>(
     input: &Input,
 ) -> Result<Step, AllocError>
     requires { core.old.timers.greatest ≤ time_of input.now }
-    ensures { IfOk result (λ x. IsStep (meaning U.Session.Session U.Session.HeaderKey.HeaderMask U.Session.PacketKey.PacketKey) at (ideal U.Random.stream core.old) input.now x (ideal U.Random.stream core.new)) }
+    ensures { IfOk result (λ x. IsStep (meaning U.Session.Session U.Session.HeaderKey.HeaderMask U.Session.PacketKey.PacketKey U.Control.Controller.Controller) at (ideal U.Random.stream core.old) input.now x (ideal U.Random.stream core.new)) }
 {
     let mut did = Dids::new(alloc);
     let answer = call(core, alloc, input, &mut did)?;

@@ -11,6 +11,7 @@ use qc_base::{ConnectionId, Duration, Instant, Side, TransportErrorCode, VarInt}
 use qc_config::{NoneTokenStore, announced};
 use qc_core::ClientSetup;
 use qc_crypto::{ClientConfig, Session};
+use qc_path::NewRenoConfig;
 use qc_recovery::{IdleTimeout, TransportConfig};
 use qc_state::{ConnectionError, Event, Input, Suite, negotiate_max_idle_timeout};
 use qc_toy::{ToyClient, ToySession, ToySettings, ZeroRandom};
@@ -23,6 +24,8 @@ pub(crate) struct Toy;
 
 impl Suite for Toy {
     type Session = ToySession;
+
+    type Control = NewRenoConfig;
 
     type Random = ZeroRandom;
 }
@@ -55,6 +58,7 @@ fn setup(
     Some(ClientSetup {
         session,
         random: ZeroRandom,
+        control: NewRenoConfig::default(),
         transport,
         grease_quic_bit: true,
         local_cid,
@@ -69,36 +73,36 @@ fn setup(
     })
 }
 
-/// A client made at time 0.
+/// A client made at time 0, on the heap: a function that owns a whole connection is slow to check.
 #[tactic(auto, unfolding(qc_state::specs::First::first_view, qc_state::specs::Setup::is_first_awaited))]
-fn fresh(alloc: Global, setup: ClientSetup<Toy>) -> Result<Connection<Toy>, AllocError>
+fn fresh(alloc: Global, setup: ClientSetup<Toy>) -> Result<Box<Connection<Toy>>, AllocError>
     requires fresh { ⟦<ToySession as Session>⟧.is_fresh setup.session }
     requires client { setup.session.side ≡ Side.Client }
-    ensures greatest { IfOk result (λ client. client.core.timers.greatest ≡ 0) }
-    ensures heard { IfOk result (λ client. is_first_awaited client.core.setup ≡ false) }
+    ensures greatest { IfOk result (λ client. client.value.core.timers.greatest ≡ 0) }
+    ensures heard { IfOk result (λ client. is_first_awaited client.value.core.setup ≡ false) }
 {
     let start = Instant::from_nanos(0);
     let client = Connection::new_client(alloc, setup, &mut NoneTokenStore, start)?;
-    Ok(client)
+    Ok(Box::new(alloc, client)?)
 }
 
 /// A client made at time 0, which waits for no first packet.
-pub(crate) fn fresh_client(alloc: Global) -> Option<Connection<Toy>>
-    ensures { IfSome result (λ client. is_first_awaited client.core.setup ≡ false) }
+pub(crate) fn fresh_client(alloc: Global) -> Option<Box<Connection<Toy>>>
+    ensures { IfSome result (λ client. is_first_awaited client.value.core.setup ≡ false) }
 {
     client_with(alloc, ToySettings::default())
 }
 
 /// The same with a toy session of these settings.
-pub(crate) fn client_with(alloc: Global, settings: ToySettings) -> Option<Connection<Toy>>
-    ensures { IfSome result (λ client. is_first_awaited client.core.setup ≡ false) }
+pub(crate) fn client_with(alloc: Global, settings: ToySettings) -> Option<Box<Connection<Toy>>>
+    ensures { IfSome result (λ client. is_first_awaited client.value.core.setup ≡ false) }
 {
     let setup = setup(alloc, settings, TransportConfig::default())?;
     fresh(alloc, setup).ok()
 }
 
 /// A client made at time 0 that ends where it is idle for so many milliseconds.
-pub(crate) fn client_with_limit(alloc: Global, millis: u32) -> Option<Connection<Toy>> {
+pub(crate) fn client_with_limit(alloc: Global, millis: u32) -> Option<Box<Connection<Toy>>> {
     let mut transport = TransportConfig::default();
     let limit = IdleTimeout::from(VarInt::from_u32(millis));
     transport.max_idle_timeout(Some(limit));
@@ -107,14 +111,13 @@ pub(crate) fn client_with_limit(alloc: Global, millis: u32) -> Option<Connection
 }
 
 /// A client made at time 0 whose next Initial packet has this number.
-pub(crate) fn client_at(alloc: Global, number: u64) -> Option<Connection<Toy>>
-    ensures { IfSome result (λ client. client.core.timers.greatest ≡ 0) }
+pub(crate) fn client_at(alloc: Global, number: u64) -> Option<Box<Connection<Toy>>>
+    ensures { IfSome result (λ client. client.value.core.timers.greatest ≡ 0) }
 {
     let setup = setup(alloc, ToySettings::default(), TransportConfig::default())?;
-    match fresh(alloc, setup) {
-        Ok(client) => Some(client.with_number(number)),
-        Err(_) => None,
-    }
+    let mut client = fresh(alloc, setup).ok()?;
+    client.set_number(number);
+    Some(client)
 }
 
 /// How many bytes a transmit at this time seals; None where it seals nothing.
@@ -188,7 +191,11 @@ fn inputs() -> [Input; 4] {
 }
 
 /// The text of these inputs' trace; None where something refused.
-pub(crate) fn text_of(alloc: Global, client: Connection<Toy>, inputs: &[Input]) -> Option<Vec<u8>> {
+pub(crate) fn text_of(
+    alloc: Global,
+    client: Box<Connection<Toy>>,
+    inputs: &[Input],
+) -> Option<Vec<u8>> {
     let mut client = client;
     match drive(alloc, &mut client, inputs, &mut NoneTokenStore) {
         Ok(trace) => trace_text(alloc, &trace).ok(),

@@ -1,6 +1,6 @@
-//! Timers of a client that come. Expected times are computed by hand: the loss timer stands 999 ms after the packet, the idle
-//! timer after the limit or three times that, the longer one (RFC 9000, 10.1), and the close timer three times that after the
-//! close (10.2).
+//! Timers of a client that come. Expected times are computed by hand: the loss timer stands a probe timeout of 333 + 4 * 166.5 =
+//! 999 ms after the packet, and doubles each time that it fires (RFC 9002, 6.2.1 and 6.2.2); the idle timer stands after the limit
+//! or three probe timeouts, the longer one (RFC 9000, 10.1), and the close timer three probe timeouts after the close (10.2).
 
 use crate::connection::Connection;
 use crate::driving::drive;
@@ -46,6 +46,7 @@ fn drained(client: &mut Connection<Toy>) -> bool {
     matches!(&event, Some(EndpointEvent::Drained))
 }
 
+// The loss timer fires 999, 2 * 999 and 4 * 999 ms after the hello; 8 * 999 ms lie behind the end.
 #[test]
 fn an_idle_client_ends_once(rt: HostRuntime) -> Result<(), Fail> {
     let mut client = client_with_limit(rt.alloc(), 5_000).ok_or("no client")?;
@@ -57,6 +58,14 @@ fn an_idle_client_ends_once(rt: HostRuntime) -> Result<(), Fail> {
     );
     assert_eq!(rt;
         after(rt.alloc(), &mut client, 999_000_007),
+        Some(1_998_000_007)
+    );
+    assert_eq!(rt;
+        after(rt.alloc(), &mut client, 1_998_000_007),
+        Some(3_996_000_007)
+    );
+    assert_eq!(rt;
+        after(rt.alloc(), &mut client, 3_996_000_007),
         Some(5_000_000_007)
     );
     assert_eq!(rt;
@@ -75,13 +84,17 @@ fn an_idle_client_ends_once(rt: HostRuntime) -> Result<(), Fail> {
     Ok(())
 }
 
-// A limit below three probe timeouts.
+// A limit below three probe timeouts: the end stands before the third time that the loss timer would fire.
 #[test]
 fn a_short_limit_waits_for_three_probes(rt: HostRuntime) -> Result<(), Fail> {
     let mut client = client_with_limit(rt.alloc(), 100).ok_or("no client")?;
     assert_eq!(rt; sealed_len(rt.alloc(), &mut client, 7), Some(1200));
     assert_eq!(rt;
         after(rt.alloc(), &mut client, 999_000_007),
+        Some(1_998_000_007)
+    );
+    assert_eq!(rt;
+        after(rt.alloc(), &mut client, 1_998_000_007),
         Some(2_997_000_007)
     );
     assert!(rt; client.poll().is_none());

@@ -14,11 +14,10 @@ use Rattle.qc_header.specs.Pieces.{pieces_of}
 use Rattle.qc_header.specs.declared.protected.PacketDecodeError.{PacketDecodeError}
 use Rattle.qc_header.proofs.Datagrams.{pieces_none, pieces_first, pieces_fault}
 use Rattle.qc_header.proofs.FrontPiece.{piece_ends}
-use Rattle.qc_state.specs.declared.deeds.Did.{Did}
-use Rattle.qc_state.specs.Moves.{Hear, move_to, state_move, deeds_move}
-use Rattle.qc_state.specs.Receiving.{piece_after, pieces_after, lets_in, cut_of, is_readable, heard_after}
+use Rattle.qc_state.specs.Paths.{is_blocked}
+use Rattle.qc_state.specs.Receiving.{piece_after, pieces_after, lets_in, cut_of, is_readable, counted_after, heard_after}
 use Rattle.qc_state.specs.Types.{Types, Meaning}
-use Rattle.qc_state.specs.View.{View, At, at}
+use Rattle.qc_state.specs.View.{View, At}
 
 -- the bytes behind a packet are fewer
 pub fewer : (c : Cutting) (bytes : List ℕ) (p : Piece) (rest : List ℕ) → front_of c bytes ≡ Ok (p, rest) → length rest < length bytes
@@ -87,25 +86,25 @@ module _ {t : Types} where
   unreadable_is c s bytes h e = sym (err_is (front_of c bytes) e) ∙ ap is_ok (same_front c s bytes h)
 
   -- the bytes of a datagram are counted
-  pub hear_moved : (n k : ℕ) (s s' : View t) (ds : List Did) → n ≡ k → s' ≡ state_move (Hear n) s → at s' ds ≡ move_to (Hear k) (at s ds)
-  unfolding move_to deeds_move
-  hear_moved n k s s' ds same is = ap (λ (v : View t). at v ds) (is ∙ ap (λ (x : ℕ). state_move (Hear x) s) same)
+  pub counted_by : (time : ℕ) (blocked blocked' : Bool) (n k : ℕ) (a b d : At t) → blocked ≡ blocked' → n ≡ k → a ≡ b → d ≡ counted_after time blocked n a → d ≡ counted_after time blocked' k b
+  counted_by time blocked blocked' n k a b d as_stands is_n is_a is_d =
+      is_d ∙ ap (λ (x : Bool). counted_after time x n a) as_stands ∙ ap (λ (x : ℕ). counted_after time blocked' x a) is_n ∙ ap (λ (x : At t). counted_after time blocked' k x) is_a
 
   -- a datagram that counts
-  pub heard_is : (m : Meaning t) (time : ℕ) (mark : Option EcnCodepoint) (c : Cutting) (remote : SocketAddr) (bytes : List ℕ) (p : Piece) (rest : Option (BytesMut Global)) (a b d : At t) → Cuts a.state c → front_of c bytes ≡ Ok (p, rest_of rest) →
-      true ≡ lets_in a.state remote → b ≡ pieces_after m time mark (Ok p ∷ others_of c rest) a → d ≡ move_to (Hear (length bytes)) b → d ≡ heard_after m time mark remote bytes a
+  pub heard_is : (m : Meaning t) (time : ℕ) (mark : Option EcnCodepoint) (c : Cutting) (remote : SocketAddr) (bytes : List ℕ) (p : Piece) (rest : Option (BytesMut Global)) (len : ℕ) (blocked : Bool) (a b d : At t) → Cuts a.state c → front_of c bytes ≡ Ok (p, rest_of rest) →
+      true ≡ lets_in a.state remote → len ≡ length bytes → blocked ≡ is_blocked a.state.paths → b ≡ pieces_after m time mark (Ok p ∷ others_of c rest) a → d ≡ counted_after time blocked len b → d ≡ heard_after m time mark remote bytes a
   unfolding heard_after
-  heard_is m time mark c remote bytes p rest a b d h e lets is_b is_d =
+  heard_is m time mark c remote bytes p rest len blocked a b d h e lets is_len as_stands is_b is_d =
       let readable : is_readable a.state bytes ≡ true = sym (readable_is c a.state bytes p (rest_of rest) h e) in
       let inside : lets_in a.state remote ≡ true = sym lets in
-      rw (readable, inside) (is_d ∙ ap (λ (x : At t). move_to (Hear (length bytes)) x) (is_b ∙ ap (λ (items : List DatagramItem). pieces_after m time mark items a) (sym (front_first c bytes p (rest_of rest) e) ∙ same_cut c a.state bytes h)))
+      rw (readable, inside) (counted_by time blocked (is_blocked a.state.paths) len (length bytes) b _ d as_stands is_len (is_b ∙ ap (λ (items : List DatagramItem). pieces_after m time mark items a) (sym (front_first c bytes p (rest_of rest) e) ∙ same_cut c a.state bytes h)) is_d)
 
   -- a datagram that doesn't count
   pub unheard_is : (m : Meaning t) (time : ℕ) (mark : Option EcnCodepoint) (remote : SocketAddr) (bytes : List ℕ) (a : At t) → false ≡ lets_in a.state remote → a ≡ heard_after m time mark remote bytes a
   unfolding heard_after
   unheard_is m time mark remote bytes a lets = unheard_by (is_readable a.state bytes) (lets_in a.state remote) (sym lets)
     where
-      unheard_by : (x y : Bool) → y ≡ false → a ≡ (if x && y then move_to (Hear (length bytes)) (pieces_after m time mark (cut_of a.state bytes) a) else a)
+      unheard_by : (x y : Bool) → y ≡ false → a ≡ (if x && y then counted_after time (is_blocked a.state.paths) (length bytes) (pieces_after m time mark (cut_of a.state bytes) a) else a)
       unheard_by true true e = cc e
       unheard_by true false e = refl
       unheard_by false y e = refl

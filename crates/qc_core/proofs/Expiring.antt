@@ -1,17 +1,55 @@
--- Behind the timers that came none is left that has come.
-use Rattle.std.proofs.Common.{◌≡◌, ℕ, ap, sym, ◌∙◌, subst, Bool, false, if◌then◌else◌}
-use Rattle.qc_state.specs.Life.{is_drained}
-use Rattle.qc_state.specs.Timeouts.{loss_expired, idle_expired, close_expired, timeout_after}
-use Rattle.qc_state.specs.Timers.{has_come, next_timeout}
+-- Behind the timers that came neither the idle timer nor the close timer is left that has come.
+use Rattle.std.proofs.Common.{◌≡◌, ℕ, refl, ap, sym, ◌∙◌, subst, Bool, true, false, if◌then◌else◌}
+use Rattle.std.specs.Prelude.{is_none}
+use Rattle.qc_state.specs.declared.life.ConnectionError.{ConnectionError}
+use Rattle.qc_state.specs.declared.life.ConnectionError.TheVariants.{TimedOut}
+use Rattle.qc_state.specs.declared.life.State.TheVariants.{Drained}
+use Rattle.qc_state.specs.Moves.{Give, Raise, state_move, move_to, timers_move}
+use Rattle.qc_state.specs.Stopping.{given_after, killed_after}
+use Rattle.qc_state.specs.Timeouts.{idle_expired, close_expired}
+use Rattle.qc_state.specs.Timers.{has_come, timers_stopped}
 use Rattle.qc_state.specs.Types.{Types}
 use Rattle.qc_state.specs.View.{At}
-use Rattle.qc_state.proofs.Expired.{timeout_later}
 
 module _ {t : Types} where
-  pub none_left : (time : ℕ) (a b c d : At t) → is_drained a.state.life.state ≡ false → b ≡ loss_expired time a → c ≡ idle_expired time b → d ≡ close_expired time c → has_come (next_timeout d.state.timers) time ≡ false
-  unfolding timeout_after
-  none_left time a b c d alive is_b is_c is_d =
-      let e : At t = close_expired time (idle_expired time (loss_expired time a)) in
-      let same : d ≡ e = is_d ∙ ap (λ (x : At t). close_expired time x) (is_c ∙ ap (λ (x : At t). idle_expired time x) is_b) in
-      let later : has_come (next_timeout e.state.timers) time ≡ false = subst (λ (x : Bool). has_come (next_timeout (if x then a else e).state.timers) time ≡ false) alive (timeout_later time a alive) in
-      subst (λ (x : At t). has_come (next_timeout x.state.timers) time ≡ false) (sym same) later
+  -- a connection that was ended has no timer left
+  idle_stops : (why : ConnectionError) (time : ℕ) (a : At t) (b : Bool) → let c : At t = move_to (Raise Drained) a in has_come (if b then move_to (Give why) c else c).state.timers.idle time ≡ false
+  unfolding move_to state_move timers_move timers_stopped
+  idle_stops why time a true = refl
+  idle_stops why time a false = refl
+
+  -- the idle timer isn't left behind the end
+  idle_by : (time : ℕ) (a : At t) (b : Bool) → has_come a.state.timers.idle time ≡ b → has_come (if b then killed_after TimedOut a else a).state.timers.idle time ≡ false
+  unfolding killed_after given_after
+  idle_by time a true h = idle_stops TimedOut time a (is_none (move_to (Raise Drained) a).state.life.reason)
+  idle_by time a false h = h
+
+  idle_gone : (time : ℕ) (a : At t) → has_come (idle_expired time a).state.timers.idle time ≡ false
+  unfolding idle_expired
+  idle_gone time a = idle_by time a (has_come a.state.timers.idle time) refl
+
+  -- nor is it behind the close timer, nor that one itself
+  raised_idle : (time : ℕ) (a : At t) (b : Bool) → has_come a.state.timers.idle time ≡ false → has_come (if b then move_to (Raise Drained) a else a).state.timers.idle time ≡ false
+  unfolding move_to state_move timers_move timers_stopped
+  raised_idle time a true h = refl
+  raised_idle time a false h = h
+
+  raised_close : (time : ℕ) (a : At t) (b : Bool) → has_come a.state.timers.close time ≡ b → has_come (if b then move_to (Raise Drained) a else a).state.timers.close time ≡ false
+  unfolding move_to state_move timers_move timers_stopped
+  raised_close time a true h = refl
+  raised_close time a false h = h
+
+  still_idle : (time : ℕ) (a : At t) → has_come a.state.timers.idle time ≡ false → has_come (close_expired time a).state.timers.idle time ≡ false
+  unfolding close_expired
+  still_idle time a h = raised_idle time a (has_come a.state.timers.close time) h
+
+  close_gone : (time : ℕ) (a : At t) → has_come (close_expired time a).state.timers.close time ≡ false
+  unfolding close_expired
+  close_gone time a = raised_close time a (has_come a.state.timers.close time) refl
+
+  pub no_idle : (time : ℕ) (b c d : At t) → c ≡ idle_expired time b → d ≡ close_expired time c → has_come d.state.timers.idle time ≡ false
+  no_idle time b c d is_c is_d =
+      subst (λ (x : At t). has_come x.state.timers.idle time ≡ false) (sym (is_d ∙ ap (λ (x : At t). close_expired time x) is_c)) (still_idle time (idle_expired time b) (idle_gone time b))
+
+  pub no_close : (time : ℕ) (c d : At t) → d ≡ close_expired time c → has_come d.state.timers.close time ≡ false
+  no_close time c d is_d = subst (λ (x : At t). has_come x.state.timers.close time ≡ false) (sym is_d) (close_gone time c)

@@ -11,7 +11,7 @@ use Rattle.qc_base.specs.declared.side.SpaceId.TheVariants as space
 use Rattle.qc_core.specs.Cutting.{Cuts, front_of, rest_of, others_of}
 use Rattle.qc_core.specs.declared.receiving.Cutting.{Cutting}
 use Rattle.qc_core.specs.declared.receiving.First.{First}
-use Rattle.qc_core.proofs.Behind.{front_first, readable_is, same_cut}
+use Rattle.qc_core.proofs.Behind.{counted_by, front_first, readable_is, same_cut}
 use Rattle.qc_header.specs.HeaderGrammar.{DatagramItem}
 use Rattle.qc_header.specs.Piece.{Piece, space_of}
 use Rattle.qc_header.specs.Pieces.{pieces_of}
@@ -27,10 +27,10 @@ use Rattle.qc_state.specs.declared.opening.Opening.{Opening}
 use Rattle.qc_state.specs.declared.opening.Opening.TheVariants.{Opened}
 use Rattle.qc_state.specs.declared.transmit.TheConstants.{DATAGRAM_SIZE}
 use Rattle.qc_state.specs.Life.{is_handshake, is_over}
-use Rattle.qc_state.specs.Moves.{Expect, Hear, move_to, state_move, deeds_move, numbers_move, keys_move, life_move, paths_move, setup_move}
+use Rattle.qc_state.specs.Moves.{Expect, move_to, state_move, deeds_move, numbers_move, keys_move, life_move, paths_move, setup_move}
 use Rattle.qc_state.specs.Opening.{opening_of}
-use Rattle.qc_state.specs.Paths.{same_address}
-use Rattle.qc_state.specs.Receiving.{is_initial_with, has_first_ids, opened_token, token_in_first, token_in_items, first_token, first_after, is_taken, lets_in, cut_of, heard_after, datagram_after, opening_after, received_after, piece_told, piece_after, pieces_after}
+use Rattle.qc_state.specs.Paths.{is_blocked, same_address}
+use Rattle.qc_state.specs.Receiving.{is_initial_with, has_first_ids, opened_token, token_in_first, token_in_items, first_token, first_after, is_taken, lets_in, cut_of, counted_after, heard_after, datagram_after, opening_after, received_after, piece_told, piece_after, pieces_after}
 use Rattle.qc_state.specs.Setup.{is_first_awaited, ideal_setup, token_expected}
 use Rattle.qc_state.specs.declared.setup.Setup.{Setup}
 use Rattle.qc_state.specs.Types.{Types, Meaning}
@@ -154,19 +154,19 @@ module _ {t : Types} (m : Meaning t) where
   -- its packets do what they do
   heard_packets : (time : ℕ) (mark : Option EcnCodepoint) (c : Cutting) (remote : SocketAddr) (bytes : List ℕ) (p : Piece) (rest : Option (BytesMut Global)) (source token : List ℕ) (spin : Bool) (number : ℕ) (payload : List ℕ) (a : At t) → Cuts a.state c → front_of c bytes ≡ Ok (p, rest_of rest) →
       is_handshake a.state.life.state ≡ true → same_address a.state.paths.remote remote ≡ true → has_first_ids a.state p.header ≡ true → opening_of m a.state p ≡ Opened source token spin number payload →
-      heard_after m time mark remote bytes a ≡ move_to (Hear (length bytes)) (pieces_after m time mark (others_of c rest) (received_after m time space.Initial (record { mark = mark; spin = spin }) source token number payload a))
+      heard_after m time mark remote bytes a ≡ counted_after time (is_blocked a.state.paths) (length bytes) (pieces_after m time mark (others_of c rest) (received_after m time space.Initial (record { mark = mark; spin = spin }) source token number payload a))
   unfolding heard_after lets_in
   heard_packets time mark c remote bytes p rest source token spin number payload a h e shakes same ids opens =
-      let heard : At t = move_to (Hear (length bytes)) (pieces_after m time mark (cut_of a.state bytes) a) in
+      let heard : At t = counted_after time (is_blocked a.state.paths) (length bytes) (pieces_after m time mark (cut_of a.state bytes) a) in
       ap (λ (x : Bool). if x && lets_in a.state remote then heard else a) (sym (readable_is c a.state bytes p (rest_of rest) h e))
       ∙ ap (λ (x : Bool). if x then heard else a) (both_hold (is_over a.state.life.state) (same_address a.state.paths.remote remote) (handshake_not_over a.state.life.state shakes) same)
-      ∙ ap (λ (items : List DatagramItem). move_to (Hear (length bytes)) (pieces_after m time mark items a)) (cut_first c a.state bytes p rest h e)
-      ∙ ap (λ (x : At t). move_to (Hear (length bytes)) (pieces_after m time mark (others_of c rest) x)) (first_piece time mark p source token spin number payload a shakes ids opens)
+      ∙ ap (λ (items : List DatagramItem). counted_after time (is_blocked a.state.paths) (length bytes) (pieces_after m time mark items a)) (cut_first c a.state bytes p rest h e)
+      ∙ ap (λ (x : At t). counted_after time (is_blocked a.state.paths) (length bytes) (pieces_after m time mark (others_of c rest) x)) (first_piece time mark p source token spin number payload a shakes ids opens)
 
   -- that the token is expected changes nothing of that
   heard_first : (time : ℕ) (mark : Option EcnCodepoint) (c : Cutting) (remote : SocketAddr) (bytes : List ℕ) (p : Piece) (rest : Option (BytesMut Global)) (source token : List ℕ) (spin : Bool) (number : ℕ) (payload : List ℕ) (a : At t) → Cuts a.state c → front_of c bytes ≡ Ok (p, rest_of rest) →
       is_handshake a.state.life.state ≡ true → same_address a.state.paths.remote remote ≡ true → has_first_ids a.state p.header ≡ true → opening_of m a.state p ≡ Opened source token spin number payload →
-      heard_after m time mark remote bytes (move_to (Expect token) a) ≡ move_to (Hear (length bytes)) (pieces_after m time mark (others_of c rest) (received_after m time space.Initial (record { mark = mark; spin = spin }) source token number payload (move_to (Expect token) a)))
+      heard_after m time mark remote bytes (move_to (Expect token) a) ≡ counted_after time (is_blocked a.state.paths) (length bytes) (pieces_after m time mark (others_of c rest) (received_after m time space.Initial (record { mark = mark; spin = spin }) source token number payload (move_to (Expect token) a)))
   unfolding has_first_ids opening_of move_to state_move numbers_move keys_move life_move paths_move setup_move token_expected
   heard_first time mark c remote bytes p rest source token spin number payload a h e shakes same ids opens =
       heard_packets time mark c remote bytes p rest source token spin number payload (move_to (Expect token) a) (record { len = h.len; version = h.version; grease = h.grease }) e shakes same ids opens
@@ -175,16 +175,16 @@ module _ {t : Types} (m : Meaning t) where
   unfolding move_to deeds_move
   expect_moved token s s1 ds is = ap (λ (v : View t). at v ds) is
 
-  pub first_heard : (time : ℕ) (mark : Option EcnCodepoint) (c : Cutting) (remote : SocketAddr) (bytes : List ℕ) (len : ℕ) (may : Bool) (p : Piece) (rest : Option (BytesMut Global)) (source token copy : List ℕ) (spin : Bool) (number : ℕ) (payload : List ℕ) (s s1 : View t) (ds : List Did) (b d : At t) (e' : At t) →
+  pub first_heard : (time : ℕ) (mark : Option EcnCodepoint) (c : Cutting) (remote : SocketAddr) (bytes : List ℕ) (len : ℕ) (may : Bool) (p : Piece) (rest : Option (BytesMut Global)) (source token copy : List ℕ) (spin : Bool) (number : ℕ) (payload : List ℕ) (blocked : Bool) (s s1 : View t) (ds : List Did) (b d : At t) (e' : At t) →
       is_first_awaited s.setup ≡ true → Cuts s c → front_of c bytes ≡ Ok (p, rest_of rest) →
       may ≡ (is_handshake s.life.state && (nat_le DATAGRAM_SIZE len && same_address s.paths.remote remote)) → len ≡ length bytes → may ≡ true → has_first_ids s p.header ≡ true → opening_of m s p ≡ Opened source token spin number payload →
-      copy ≡ token → s1 ≡ state_move (Expect copy) s → b ≡ received_after m time space.Initial (record { mark = mark; spin = spin }) source token number payload (at s1 ds) → d ≡ pieces_after m time mark (others_of c rest) b → e' ≡ move_to (Hear (length bytes)) d →
+      copy ≡ token → s1 ≡ state_move (Expect copy) s → b ≡ received_after m time space.Initial (record { mark = mark; spin = spin }) source token number payload (at s1 ds) → d ≡ pieces_after m time mark (others_of c rest) b → blocked ≡ is_blocked s.paths → e' ≡ counted_after time blocked len d →
       e' ≡ datagram_after m time mark remote bytes (at s ds)
   unfolding datagram_after
-  first_heard time mark c remote bytes len may p rest source token copy spin number payload s s1 ds b d e' awaits h e is is_len holds ids opens is_copy is_s1 is_b is_d is_e =
+  first_heard time mark c remote bytes len may p rest source token copy spin number payload blocked s s1 ds b d e' awaits h e is is_len holds ids opens is_copy is_s1 is_b is_d free is_e =
       let whole : (is_handshake s.life.state && (nat_le DATAGRAM_SIZE (length bytes) && same_address s.paths.remote remote)) ≡ true = may_is s remote bytes len may is is_len ∙ holds in
       let moved : at s1 ds ≡ move_to (Expect token) (at s ds) = expect_moved copy s s1 ds is_s1 ∙ ap (λ (x : List ℕ). move_to (Expect x) (at s ds)) is_copy in
-      is_e ∙ ap (λ (x : At t). move_to (Hear (length bytes)) x) (is_d ∙ ap (λ (x : At t). pieces_after m time mark (others_of c rest) x) (is_b ∙ ap (λ (x : At t). received_after m time space.Initial (record { mark = mark; spin = spin }) source token number payload x) moved))
+      counted_by time blocked (is_blocked s.paths) len (length bytes) d _ e' free is_len (is_d ∙ ap (λ (x : At t). pieces_after m time mark (others_of c rest) x) (is_b ∙ ap (λ (x : At t). received_after m time space.Initial (record { mark = mark; spin = spin }) source token number payload x) moved)) is_e
       ∙ sym (heard_first time mark c remote bytes p rest source token spin number payload (at s ds) h e (first_of (is_handshake s.life.state) (nat_le DATAGRAM_SIZE (length bytes)) (same_address s.paths.remote remote) whole) (third_of (is_handshake s.life.state) (nat_le DATAGRAM_SIZE (length bytes)) (same_address s.paths.remote remote) whole) ids opens)
       ∙ sym (ap (λ (x : Bool). if x then first_after m time mark remote bytes (first_token m s remote bytes) (at s ds) else heard_after m time mark remote bytes (at s ds)) awaits
       ∙ ap (λ (x : Option (List ℕ)). first_after m time mark remote bytes x (at s ds)) (token_is c s remote bytes p rest source token spin number payload h e whole ids opens))

@@ -1,6 +1,6 @@
 -- Datagrams that were cut, and first packets that were opened.
-use Rattle.std.proofs.Common.{◌≡◌, ℕ, ◌+◌, List, ◌∷◌, length, refl, ap, sym, ◌∙◌, true, false, Option, Ok, arith}
-use Rattle.std.specs.Prelude.{min}
+use Rattle.std.proofs.Common.{◌≡◌, ℕ, ◌+◌, List, ◌∷◌, length, refl, ap, sym, ◌∙◌, Bool, true, false, Option, Ok, arith}
+use Rattle.std.specs.Prelude.{◌&&◌, if◌then◌else◌, min, not}
 use Rattle.std.specs.Global.{Global}
 use Rattle.std.specs.declared.net.SocketAddr.{SocketAddr}
 use Rattle.bytes.specs.declared.unique.BytesMut.{BytesMut}
@@ -10,14 +10,14 @@ use Rattle.qc_base.specs.Time.{plus}
 use Rattle.qc_core.specs.Cutting.{Cuts, rest_of, others_of}
 use Rattle.qc_core.specs.FirstPacket.{reason_between, first_reason}
 use Rattle.qc_core.specs.declared.receiving.Cutting.{Cutting}
-use Rattle.qc_core.proofs.Behind.{same_cut}
+use Rattle.qc_core.proofs.Behind.{counted_by, same_cut}
 use Rattle.qc_header.specs.HeaderGrammar.{DatagramItem}
 use Rattle.qc_header.specs.Piece.{Piece}
 use Rattle.qc_state.specs.declared.deeds.Did.{Did}
 use Rattle.qc_state.specs.declared.life.ConnectionError.{ConnectionError}
-use Rattle.qc_state.specs.Moves.{Expect, Hear, move_to, state_move, deeds_move, numbers_move, keys_move, life_move, paths_move, timers_move, waiting_move, setup_move, lower_move}
-use Rattle.qc_state.specs.Paths.{path_received}
-use Rattle.qc_state.specs.Receiving.{lets_in, piece_after, pieces_after, received_after, event_after, opened_first, first_packet_after}
+use Rattle.qc_state.specs.Moves.{Expect, Hear, move_to, state_move, deeds_move, numbers_move, keys_move, life_move, paths_move, timers_move, waiting_move, setup_move, lower_move, armed_after}
+use Rattle.qc_state.specs.Paths.{is_blocked, path_received}
+use Rattle.qc_state.specs.Receiving.{lets_in, piece_after, pieces_after, received_after, counted_after, event_after, opened_first, first_packet_after}
 use Rattle.qc_state.specs.Types.{Types, Meaning}
 use Rattle.qc_state.specs.View.{View, At, at}
 
@@ -30,21 +30,27 @@ pub sum_most : (head body behind : ℕ) → plus (plus (head + body) 16) behind 
 sum_most head body behind = omega arith
 
 module _ {t : Types} where
-  -- the bytes of a datagram are counted, also where their sum was cut off at the greatest number
-  pub hear_most : (n k : ℕ) (s s' : View t) (ds : List Did) → n ≡ min k 18446744073709551615 → s' ≡ state_move (Hear n) s → at s' ds ≡ move_to (Hear k) (at s ds)
+  -- the bytes of a datagram are heard, also where their sum was cut off at the greatest number
+  hear_most : (n k : ℕ) (a : At t) → n ≡ min k 18446744073709551615 → move_to (Hear n) a ≡ move_to (Hear k) a
   unfolding move_to deeds_move state_move numbers_move keys_move life_move paths_move timers_move waiting_move setup_move lower_move path_received
-  hear_most n k s s' ds same is =
+  hear_most n k a same =
+      let s : View t = a.state in
       let received : plus s.paths.received n ≡ plus s.paths.received k = ap (λ (x : ℕ). plus s.paths.received x) same ∙ min_more s.paths.received k in
-      ap (λ (v : View t). at v ds) (is ∙ ap (λ (x : ℕ). record s { paths = record s.paths { received = x } }) received)
+      ap (λ (x : ℕ). at (record s { paths = record s.paths { received = x } }) a.did) received
+
+  -- and so they are counted
+  pub counted_most : (time : ℕ) (blocked : Bool) (n k : ℕ) (a : At t) → n ≡ min k 18446744073709551615 → counted_after time blocked n a ≡ counted_after time blocked k a
+  unfolding counted_after
+  counted_most time blocked n k a same = ap (λ (b : At t). if blocked && not (is_blocked b.state.paths) then armed_after time b else b) (hear_most n k a same)
 
 module _ {t : Types} (m : Meaning t) (time : ℕ) (mark : Option EcnCodepoint) where
   -- a datagram that counts
-  pub event_is : (c : Cutting) (remote : SocketAddr) (p : Piece) (behind : Option (BytesMut Global)) (a b d : At t) → Cuts a.state c → true ≡ lets_in a.state remote →
-      b ≡ pieces_after m time mark (Ok p ∷ others_of c behind) a → d ≡ move_to (Hear (length p.bytes + length (rest_of behind))) b → d ≡ event_after m time mark remote p (rest_of behind) a
+  pub event_is : (c : Cutting) (remote : SocketAddr) (p : Piece) (behind : Option (BytesMut Global)) (len : ℕ) (blocked : Bool) (a b d : At t) → Cuts a.state c → true ≡ lets_in a.state remote → len ≡ length p.bytes + length (rest_of behind) → blocked ≡ is_blocked a.state.paths →
+      b ≡ pieces_after m time mark (Ok p ∷ others_of c behind) a → d ≡ counted_after time blocked len b → d ≡ event_after m time mark remote p (rest_of behind) a
   unfolding event_after
-  event_is c remote p behind a b d h lets is_b is_d =
+  event_is c remote p behind len blocked a b d h lets is_len as_stands is_b is_d =
       let inside : lets_in a.state remote ≡ true = sym lets in
-      rw inside (is_d ∙ ap (λ (x : At t). move_to (Hear (length p.bytes + length (rest_of behind))) x) (is_b ∙ ap (λ (items : List DatagramItem). pieces_after m time mark items (piece_after m time mark p a)) (same_cut c a.state (rest_of behind) h)))
+      rw inside (counted_by time blocked (is_blocked a.state.paths) len (length p.bytes + length (rest_of behind)) b _ d as_stands is_len (is_b ∙ ap (λ (items : List DatagramItem). pieces_after m time mark items (piece_after m time mark p a)) (same_cut c a.state (rest_of behind) h)) is_d)
 
   -- a datagram that doesn't count
   pub no_event : (remote : SocketAddr) (p : Piece) (behind : List ℕ) (a : At t) → false ≡ lets_in a.state remote → a ≡ event_after m time mark remote p behind a
@@ -64,9 +70,10 @@ module _ {t : Types} (m : Meaning t) (time : ℕ) (mark : Option EcnCodepoint) w
   reason_is source token number payload s ds mid es why is_why is_mid = is_why ∙ ap (λ (x : At t). reason_between s x.state) is_mid
 
   -- what is behind it
-  pub first_packet_is : (c : Cutting) (source token : List ℕ) (number : ℕ) (payload body : List ℕ) (behind : Option (BytesMut Global)) (size : ℕ) (a b d e : At t) → Cuts a.state c → body ≡ payload → b ≡ opened_first m time mark source token number body a →
-      d ≡ pieces_after m time mark (others_of c behind) b → e ≡ move_to (Hear size) d → e ≡ first_packet_after m time mark source token number payload (rest_of behind) size a
+  pub first_packet_is : (c : Cutting) (source token : List ℕ) (number : ℕ) (payload body : List ℕ) (behind : Option (BytesMut Global)) (len size : ℕ) (blocked : Bool) (a b d e : At t) → Cuts a.state c → body ≡ payload → len ≡ min size 18446744073709551615 → blocked ≡ is_blocked a.state.paths → b ≡ opened_first m time mark source token number body a →
+      d ≡ pieces_after m time mark (others_of c behind) b → e ≡ counted_after time blocked len d → e ≡ first_packet_after m time mark source token number payload (rest_of behind) size a
   unfolding first_packet_after
-  first_packet_is c source token number payload body behind size a b d e h same is_b is_d is_e =
+  first_packet_is c source token number payload body behind len size blocked a b d e h same is_len as_stands is_b is_d is_e =
       let opened : b ≡ opened_first m time mark source token number payload a = is_b ∙ ap (λ (x : List ℕ). opened_first m time mark source token number x a) same in
-      is_e ∙ ap (λ (x : At t). move_to (Hear size) x) (is_d ∙ ap (λ (x : At t). pieces_after m time mark (others_of c behind) x) opened ∙ ap (λ (items : List DatagramItem). pieces_after m time mark items (opened_first m time mark source token number payload a)) (same_cut c a.state (rest_of behind) h))
+      counted_by time blocked (is_blocked a.state.paths) size size d _ e as_stands refl (is_d ∙ ap (λ (x : At t). pieces_after m time mark (others_of c behind) x) opened ∙ ap (λ (items : List DatagramItem). pieces_after m time mark items (opened_first m time mark source token number payload a)) (same_cut c a.state (rest_of behind) h))
+      (is_e ∙ counted_most time blocked len size d is_len)

@@ -13,5 +13,7 @@ mod Established
 mod FirstDatagrams
 mod Elicits
 mod Accepts
+mod Acknowledges
+mod Fitting
 mod Handed
 mod Expiring

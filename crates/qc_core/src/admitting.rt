@@ -1,9 +1,10 @@
 //! What a packet does that opened, by its verdict, and what its frames do.
 
 ghost use Rattle.std.specs.Prelude.{◌≡◌, ◌∷◌, [], true, false, Option, Some, None, nat_le, if◌then◌else◌, OnOk, IfOk};
-ghost use Rattle.std.specs.List.{list_any};
+ghost use Rattle.std.specs.List.{All, list_any};
 ghost use Rattle.qc_core.specs.Behind.{Leads};
 ghost use Rattle.qc_frame.specs.Frame.{ack_map, borrowed, typed};
+ghost use Rattle.qc_frame.specs.FrameFits.{Fits};
 ghost use Rattle.qc_frame.specs.FrameSpelling.{spelling};
 ghost use Rattle.qc_frame.specs.Payload.{items_of};
 ghost use Rattle.qc_state.specs.Numbers.{next_number};
@@ -258,36 +259,38 @@ impl<U: Suite> Core<U> {
         self.give(did, why)
     }
 
-    /// Loss recovery is given an ACK: what it acknowledges is in flight no longer.
-    #[tactic(auto, unfolding(qc_state::specs::Receiving::acked_after, qc_state::specs::Moves::calmed, qc_state::specs::Moves::move_to, qc_state::specs::Moves::deeds_move))]
+    /// Loss recovery is given an ACK: what it acknowledges, and what is lost by it, is in flight no longer. Where it newly
+    /// acknowledges packets, the loss timer is set anew.
+    #[tactic(auto, unfolding(qc_state::specs::Receiving::acked_after, qc_state::specs::Receiving::settled_after, qc_state::specs::Moves::move_to, qc_state::specs::Moves::deeds_move))]
     fn acked(
         &mut self,
         alloc: Global,
         did: &mut Dids,
+        now: Instant,
         space: SpaceId,
         ack: &Ack<'_>,
         body: Body,
     ) -> Result<(), AllocError>
-        requires { body ≡ spelling (FrameOf.Ack (ack_map (λ bytes. bytes.now) ack.now)) }
-        ensures { OnOk result ((held U.Random.stream self.new did.new) ≡ acked_after space (ack_map (λ bytes. bytes.now) ack.now) (held U.Random.stream self.old did.old)) }
+        requires fits { Fits (FrameOf.Ack (ack_map (λ bytes. bytes.now) ack.now)) }
+        requires body { body ≡ spelling (FrameOf.Ack (ack_map (λ bytes. bytes.now) ack.now)) }
+        ensures { OnOk result ((held U.Random.stream self.new did.new) ≡ acked_after (meaning U.Session.Session U.Session.HeaderKey.HeaderMask U.Session.PacketKey.PacketKey U.Control.Controller.Controller) now space (ack_map (λ bytes. bytes.now) ack.now) (held U.Random.stream self.old did.old)) }
     {
         self.do_tell_gave(did, Layer::Recovery, body)?;
-        self.do_ack(alloc, space, ack)?;
-        if self.waiting.is_calm() {
-            self.do_calm();
+        if self.do_ack(alloc, now, space, ack)? {
+            self.arm(did, now);
         }
         Ok(())
     }
 
     /// The server has confirmed the handshake: the Handshake keys are dropped (RFC 9001, section 4.9.2).
     #[tactic(auto, unfolding(qc_state::specs::Receiving::confirmed_after, qc_state::specs::Moves::move_to, qc_state::specs::Moves::deeds_move))]
-    fn confirmed(&mut self, did: &mut Dids, body: Body) -> Result<(), AllocError>
+    fn confirmed(&mut self, did: &mut Dids, now: Instant, body: Body) -> Result<(), AllocError>
         requires { body ≡ spelling FrameOf.HandshakeDone }
-        ensures { OnOk result ((held U.Random.stream self.new did.new) ≡ confirmed_after (held U.Random.stream self.old did.old)) }
+        ensures { OnOk result ((held U.Random.stream self.new did.new) ≡ confirmed_after now (held U.Random.stream self.old did.old)) }
     {
         self.do_tell_gave(did, Layer::Life, body)?;
         self.do_forget(SpaceId::Handshake);
-        self.calm(did);
+        self.arm(did, now);
         Ok(())
     }
 
@@ -297,19 +300,21 @@ impl<U: Suite> Core<U> {
         &mut self,
         alloc: Global,
         did: &mut Dids,
+        now: Instant,
         space: SpaceId,
         frame: &Frame<'_>,
     ) -> Result<(), AllocError>
-        ensures { OnOk result ((held U.Random.stream self.new did.new) ≡ applied_after space (borrowed frame.now) (held U.Random.stream self.old did.old)) }
+        requires { Fits (borrowed frame.now) }
+        ensures { OnOk result ((held U.Random.stream self.new did.new) ≡ applied_after (meaning U.Session.Session U.Session.HeaderKey.HeaderMask U.Session.PacketKey.PacketKey U.Control.Controller.Controller) now space (borrowed frame.now) (held U.Random.stream self.old did.old)) }
     {
         match frame {
             FrameOf::Ack(ack) => {
                 let body = spelled(alloc, frame)?;
-                self.acked(alloc, did, space, ack, body)
+                self.acked(alloc, did, now, space, ack, body)
             }
             FrameOf::HandshakeDone => {
                 let body = spelled(alloc, frame)?;
-                self.confirmed(did, body)
+                self.confirmed(did, now, body)
             }
             _ => Ok(()),
         }
@@ -361,15 +366,16 @@ impl<U: Suite> Core<U> {
         space: SpaceId,
         read: &TypedFrame<'_>,
     ) -> Result<bool, AllocError>
-        ensures ends { IfOk result (λ ends. ends ≡ true → (others : At _ → At _) → (held U.Random.stream self.new did.new) ≡ taken_and (meaning U.Session.Session U.Session.HeaderKey.HeaderMask U.Session.PacketKey.PacketKey) now space (typed read.now) (borrowed read.now.frame) others (held U.Random.stream self.old did.old)) }
-        ensures goes { IfOk result (λ ends. ends ≡ false → (others : At _ → At _) → others (held U.Random.stream self.new did.new) ≡ taken_and (meaning U.Session.Session U.Session.HeaderKey.HeaderMask U.Session.PacketKey.PacketKey) now space (typed read.now) (borrowed read.now.frame) others (held U.Random.stream self.old did.old)) }
+        requires { Fits (borrowed read.now.frame) }
+        ensures ends { IfOk result (λ ends. ends ≡ true → (others : At _ → At _) → (held U.Random.stream self.new did.new) ≡ taken_and (meaning U.Session.Session U.Session.HeaderKey.HeaderMask U.Session.PacketKey.PacketKey U.Control.Controller.Controller) now space (typed read.now) (borrowed read.now.frame) others (held U.Random.stream self.old did.old)) }
+        ensures goes { IfOk result (λ ends. ends ≡ false → (others : At _ → At _) → others (held U.Random.stream self.new did.new) ≡ taken_and (meaning U.Session.Session U.Session.HeaderKey.HeaderMask U.Session.PacketKey.PacketKey U.Control.Controller.Controller) now space (typed read.now) (borrowed read.now.frame) others (held U.Random.stream self.old did.old)) }
     {
         match &read.frame {
             FrameOf::Crypto { offset, body } => {
                 self.crypto(alloc, did, now, space, read.ty, *offset, body)
             }
             frame => {
-                self.applied(alloc, did, space, frame)?;
+                self.applied(alloc, did, now, space, frame)?;
                 Ok(false)
             }
         }
@@ -384,7 +390,8 @@ impl<U: Suite> Core<U> {
         space: SpaceId,
         read: &TypedFrame<'_>,
     ) -> Result<Behind, AllocError>
-        ensures { IfOk result (λ behind. (close : Option ConnectionError) → Leads behind close (λ others. frame_and (meaning U.Session.Session U.Session.HeaderKey.HeaderMask U.Session.PacketKey.PacketKey) now space (typed read.now) (stop_in self.old.setup.fixed.side space (next_number self.old.numbers space) read.now.ty (borrowed read.now.frame)) (others close) (held U.Random.stream self.old did.old)) (held U.Random.stream self.new did.new)) }
+        requires { Fits (borrowed read.now.frame) }
+        ensures { IfOk result (λ behind. (close : Option ConnectionError) → Leads behind close (λ others. frame_and (meaning U.Session.Session U.Session.HeaderKey.HeaderMask U.Session.PacketKey.PacketKey U.Control.Controller.Controller) now space (typed read.now) (stop_in self.old.setup.fixed.side space (next_number self.old.numbers space) read.now.ty (borrowed read.now.frame)) (others close) (held U.Random.stream self.old did.old)) (held U.Random.stream self.new did.new)) }
     {
         let side = self.setup.fixed.side;
         if let Some(error) = stop_in(side, space, self.numbers.next(space), read.ty, &read.frame) {
@@ -406,7 +413,8 @@ impl<U: Suite> Core<U> {
         space: SpaceId,
         read: &TypedFrame<'_>,
     ) -> Result<Behind, AllocError>
-        ensures { IfOk result (λ behind. (close : Option ConnectionError) → Leads behind close (λ others. read_and (meaning U.Session.Session U.Session.HeaderKey.HeaderMask U.Session.PacketKey.PacketKey) now space (typed read.now) (reason_of (borrowed read.now.frame)) close others (held U.Random.stream self.old did.old)) (held U.Random.stream self.new did.new)) }
+        requires { Fits (borrowed read.now.frame) }
+        ensures { IfOk result (λ behind. (close : Option ConnectionError) → Leads behind close (λ others. read_and (meaning U.Session.Session U.Session.HeaderKey.HeaderMask U.Session.PacketKey.PacketKey U.Control.Controller.Controller) now space (typed read.now) (reason_of (borrowed read.now.frame)) close others (held U.Random.stream self.old did.old)) (held U.Random.stream self.new did.new)) }
     {
         match reason_of(alloc, &read.frame)? {
             Some(why) => self.closed(alloc, did, now, space, &read.frame, why),
@@ -442,7 +450,7 @@ impl<U: Suite> Core<U> {
         space: SpaceId,
         close: Option<ConnectionError>,
     ) -> Result<(), AllocError>
-        ensures { OnOk result ((held U.Random.stream self.new did.new) ≡ end_after (meaning U.Session.Session U.Session.HeaderKey.HeaderMask U.Session.PacketKey.PacketKey) now space close (held U.Random.stream self.old did.old)) }
+        ensures { OnOk result ((held U.Random.stream self.new did.new) ≡ end_after (meaning U.Session.Session U.Session.HeaderKey.HeaderMask U.Session.PacketKey.PacketKey U.Control.Controller.Controller) now space close (held U.Random.stream self.old did.old)) }
     {
         match close {
             None => self.progress(alloc, did, now, space),
@@ -459,7 +467,8 @@ impl<U: Suite> Core<U> {
         space: SpaceId,
         frames: Iter<'_>,
     ) -> Result<(), AllocError>
-        ensures { OnOk result ((held U.Random.stream self.new did.new) ≡ items_after (meaning U.Session.Session U.Session.HeaderKey.HeaderMask U.Session.PacketKey.PacketKey) now space (items_of frames.entry) None (held U.Random.stream self.old did.old)) }
+        requires { All (λ item. IfOk item (λ read. Fits read.frame)) (items_of frames) }
+        ensures { OnOk result ((held U.Random.stream self.new did.new) ≡ items_after (meaning U.Session.Session U.Session.HeaderKey.HeaderMask U.Session.PacketKey.PacketKey U.Control.Controller.Controller) now space (items_of frames.entry) None (held U.Random.stream self.old did.old)) }
     {
         let mut frames = frames;
         let mut close = None;
@@ -483,7 +492,8 @@ impl<U: Suite> Core<U> {
         }
     }
 
-    /// The frames of a payload; an empty one breaks a rule (RFC 9000, section 12.4).
+    /// The frames of a payload; an empty one breaks a rule (RFC 9000, section 12.4). Want of memory is the only refusal; there is
+    /// none for 2^62 bytes.
     #[tactic(auto, unfolding(qc_state::specs::Receiving::payload_after))]
     fn payload(
         &mut self,
@@ -493,8 +503,11 @@ impl<U: Suite> Core<U> {
         space: SpaceId,
         payload: &[u8],
     ) -> Result<(), AllocError>
-        ensures { OnOk result ((held U.Random.stream self.new did.new) ≡ payload_after (meaning U.Session.Session U.Session.HeaderKey.HeaderMask U.Session.PacketKey.PacketKey) now space payload.now (held U.Random.stream self.old did.old)) }
+        ensures { OnOk result ((held U.Random.stream self.new did.new) ≡ payload_after (meaning U.Session.Session U.Session.HeaderKey.HeaderMask U.Session.PacketKey.PacketKey U.Control.Controller.Controller) now space payload.now (held U.Random.stream self.old did.old)) }
     {
+        if payload.len() >= 1 << 62 {
+            return Err(AllocError);
+        }
         match Iter::new(payload) {
             Err(_) => self.violated(did, now),
             Ok(frames) => self.items(alloc, did, now, space, frames),
@@ -531,7 +544,8 @@ impl<U: Suite> Core<U> {
         ensures { OnOk result ((held U.Random.stream self.new did.new) ≡ accepted_after now space number eliciting signs verdict (held U.Random.stream self.old did.old)) }
     {
         self.do_accept(did, now, space, number, eliciting, signs, verdict)?;
-        self.leave_initial(Side::Server, space, did);
+        let blocked = self.is_blocked();
+        self.leave_initial(Side::Server, blocked, now, space, did);
         Ok(())
     }
 
@@ -548,7 +562,7 @@ impl<U: Suite> Core<U> {
         number: u64,
         payload: &[u8],
     ) -> Result<(), AllocError>
-        ensures { OnOk result ((held U.Random.stream self.new did.new) ≡ admitted_after (meaning U.Session.Session U.Session.HeaderKey.HeaderMask U.Session.PacketKey.PacketKey) now space signs source number payload.now (held U.Random.stream self.old did.old)) }
+        ensures { OnOk result ((held U.Random.stream self.new did.new) ≡ admitted_after (meaning U.Session.Session U.Session.HeaderKey.HeaderMask U.Session.PacketKey.PacketKey U.Control.Controller.Controller) now space signs source number payload.now (held U.Random.stream self.old did.old)) }
     {
         let eliciting = elicits(payload);
         self.accepted(did, now, space, number, eliciting, signs, Verdict::Admitted)?;
@@ -614,7 +628,7 @@ impl<U: Suite> Core<U> {
         number: u64,
         payload: Bytes,
     ) -> Result<(), AllocError>
-        ensures { OnOk result ((held U.Random.stream self.new did.new) ≡ received_after (meaning U.Session.Session U.Session.HeaderKey.HeaderMask U.Session.PacketKey.PacketKey) now space signs source token number payload (held U.Random.stream self.old did.old)) }
+        ensures { OnOk result ((held U.Random.stream self.new did.new) ≡ received_after (meaning U.Session.Session U.Session.HeaderKey.HeaderMask U.Session.PacketKey.PacketKey U.Control.Controller.Controller) now space signs source token number payload (held U.Random.stream self.old did.old)) }
     {
         match self.verdict(space, source, token.as_slice(), number) {
             Verdict::Seen => { self.do_tell_piece(did, Some(space), Some(number), Verdict::Seen) }

@@ -1,13 +1,15 @@
 //! A client's connection is made.
 
-ghost use Rattle.std.specs.Prelude.{◌≡◌, ◌<◌, ◌^◌, length, IfOk};
+ghost use Rattle.std.specs.Prelude.{◌≡◌, ◌<◌, ◌^◌, None, length, IfOk};
 ghost use Rattle.qc_state.specs.First.{first_view, fixed_of};
+ghost use Rattle.qc_recovery.specs.Paths.{first_size};
 ghost use Rattle.qc_state.specs.Types.{meaning};
 
 use crate::making::{fixed, made};
 use crate::state::Core;
 use qc_base::{ConnectionId, Duration, Instant, Side};
-use qc_recovery::TransportConfig;
+use qc_path::ControllerFactory;
+use qc_recovery::{TransportConfig, first_mtu};
 use qc_state::{Paths, SoundSession, SpaceKeys, Suite};
 use std::alloc::{AllocError, Global};
 use std::net::{IpAddr, SocketAddr};
@@ -19,6 +21,8 @@ pub struct ClientSetup<U: Suite> {
     pub session: U::Session,
     /// The source of random words.
     pub random: U::Random,
+    /// What makes the congestion controller of the path (RFC 9002, 7).
+    pub control: U::Control,
     /// The configuration of the transport.
     pub transport: TransportConfig,
     /// Whether this end takes packets whose fixed bit isn't set (RFC 9287).
@@ -53,8 +57,8 @@ impl<U: Suite> Core<U> {
     ) -> Result<Core<U>, AllocError>
         requires fresh { U.Session.is_fresh setup.session }
         requires client { U.Session.side_of setup.session ≡ Side.Client }
-        ensures made { IfOk result (λ core. core ≡ first_view (meaning U.Session.Session U.Session.HeaderKey.HeaderMask U.Session.PacketKey.PacketKey) setup.session setup.random (fixed_of Side.Client setup.version setup.local_cid setup.first_cid setup.local_ip setup.transport.max_idle_timeout setup.transport.crypto_buffer_size setup.grease_quic_bit) setup.remote setup.first_cid now) }
-        ensures hello { IfOk result (λ core. length core.waiting.spaces.initial.crypto.bytes < 2 ^ 62) }
+        ensures made { IfOk result (λ core. core ≡ first_view (meaning U.Session.Session U.Session.HeaderKey.HeaderMask U.Session.PacketKey.PacketKey U.Control.Controller.Controller) setup.session setup.random (fixed_of Side.Client setup.version setup.local_cid setup.first_cid setup.local_ip setup.transport.max_idle_timeout setup.transport.crypto_buffer_size setup.grease_quic_bit) setup.remote setup.first_cid setup.transport (U.Control.built setup.control now (first_size setup.transport None)) now) }
+        ensures hello { IfOk result (λ core. core.waiting.spaces.initial.crypto.written < 2 ^ 62) }
     {
         let mut session = SoundSession::new(setup.session);
         let keys = SpaceKeys::new(session.initial_keys(&setup.first_cid, Side::Client));
@@ -69,6 +73,7 @@ impl<U: Suite> Core<U> {
             &setup.transport,
             setup.grease_quic_bit,
         );
+        let congestion = setup.control.build(now, first_mtu(&setup.transport, None));
         let paths = Paths {
             remote: setup.remote,
             remote_cid: setup.first_cid,
@@ -77,7 +82,19 @@ impl<U: Suite> Core<U> {
             spin: false,
             sent: 0,
             received: 0,
+            app_limited: false,
         };
-        Ok(made(alloc, keys, session, hello, setup.random, fixed, paths, now))
+        made(
+            alloc,
+            keys,
+            session,
+            hello,
+            setup.random,
+            fixed,
+            paths,
+            &setup.transport,
+            congestion,
+            now,
+        )
     }
 }

@@ -70,13 +70,14 @@ impl<U: Suite> Core<U> {
         behind: Option<BytesMut>,
     ) -> Result<(), AllocError>
         requires some { IfSome behind (λ b. 0 < length b.items) }
-        ensures { OnOk result ((held U.Random.stream self.new did.new) ≡ event_after (meaning U.Session.Session U.Session.HeaderKey.HeaderMask U.Session.PacketKey.PacketKey) now mark remote first (rest_of behind) (held U.Random.stream self.old did.old)) }
+        ensures { OnOk result ((held U.Random.stream self.new did.new) ≡ event_after (meaning U.Session.Session U.Session.HeaderKey.HeaderMask U.Session.PacketKey.PacketKey U.Control.Controller.Controller) now mark remote first (rest_of behind) (held U.Random.stream self.old did.old)) }
     {
         if self.lets_in(remote) {
             let len = first.len() as u64 + len_behind(&behind) as u64;
+            let blocked = self.is_blocked();
             let cutting = self.cutting();
             self.pieces(alloc, did, now, mark, cutting, first, behind)?;
-            self.do_hear(len);
+            self.counted(did, now, blocked, len);
         }
         Ok(())
     }
@@ -111,7 +112,7 @@ impl<U: Suite> Core<U> {
         payload: Bytes,
     ) -> Result<Option<ConnectionError>, AllocError>
         ensures answer { IfOk result (λ why. why ≡ reason_between (ideal U.Random.stream self.old) (ideal U.Random.stream self.new)) }
-        ensures leads { OnOk result ((held U.Random.stream self.new did.new) ≡ opened_first (meaning U.Session.Session U.Session.HeaderKey.HeaderMask U.Session.PacketKey.PacketKey) now mark source token number payload (held U.Random.stream self.old did.old)) }
+        ensures leads { OnOk result ((held U.Random.stream self.new did.new) ≡ opened_first (meaning U.Session.Session U.Session.HeaderKey.HeaderMask U.Session.PacketKey.PacketKey U.Control.Controller.Controller) now mark source token number payload (held U.Random.stream self.old did.old)) }
     {
         let stood = self.life.reason.is_some();
         let expected = token.clone()?;
@@ -145,10 +146,11 @@ impl<U: Suite> Core<U> {
         behind: Option<BytesMut>,
     ) -> Result<Option<ConnectionError>, AllocError>
         requires some { IfSome behind (λ b. 0 < length b.items) }
-        ensures answer { IfOk result (λ why. why ≡ first_reason (meaning U.Session.Session U.Session.HeaderKey.HeaderMask U.Session.PacketKey.PacketKey) now mark packet.header.src_cid packet.header.token number packet.payload.items (held U.Random.stream self.old did.old)) }
-        ensures leads { OnOk result ((held U.Random.stream self.new did.new) ≡ first_packet_after (meaning U.Session.Session U.Session.HeaderKey.HeaderMask U.Session.PacketKey.PacketKey) now mark packet.header.src_cid packet.header.token number packet.payload.items (rest_of behind) (size_of packet (rest_of behind)) (held U.Random.stream self.old did.old)) }
+        ensures answer { IfOk result (λ why. why ≡ first_reason (meaning U.Session.Session U.Session.HeaderKey.HeaderMask U.Session.PacketKey.PacketKey U.Control.Controller.Controller) now mark packet.header.src_cid packet.header.token number packet.payload.items (held U.Random.stream self.old did.old)) }
+        ensures leads { OnOk result ((held U.Random.stream self.new did.new) ≡ first_packet_after (meaning U.Session.Session U.Session.HeaderKey.HeaderMask U.Session.PacketKey.PacketKey U.Control.Controller.Controller) now mark packet.header.src_cid packet.header.token number packet.payload.items (rest_of behind) (size_of packet (rest_of behind)) (held U.Random.stream self.old did.old)) }
     {
         let len = opened_len(&packet, &behind);
+        let blocked = self.is_blocked();
         let cutting = self.cutting();
         let InitialPacket {
             header,
@@ -162,7 +164,7 @@ impl<U: Suite> Core<U> {
         };
         let why = self.opened_first(alloc, did, now, mark, src_cid, token, number, payload)?;
         self.others(alloc, did, now, mark, cutting, behind)?;
-        self.do_hear(len);
+        self.counted(did, now, blocked, len);
         Ok(why)
     }
 }

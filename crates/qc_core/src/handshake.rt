@@ -8,7 +8,7 @@ ghost use Rattle.qc_state.specs.Keys.{new_keys};
 ghost use Rattle.qc_state.specs.Lower.{ready_bytes, stream_of};
 ghost use Rattle.qc_state.specs.Progress.{ended_after, ids_fit, is_end, is_server_start, is_written, learned_after, learned_with, names_id, over_after, parameters_and, progress_after, token_after, written_after};
 ghost use Rattle.qc_state.specs.Life.{is_handshake};
-ghost use Rattle.qc_state.specs.Moves.{Confirm, Establish, Forget, calmed, move_to};
+ghost use Rattle.qc_state.specs.Moves.{Confirm, Establish, Forget, armed_after, move_to};
 ghost use Rattle.qc_base.specs.declared.side.SpaceId.TheVariants.{Handshake};
 ghost use Rattle.qc_state.specs.Receiving.{answered_and, crypto_and, crypto_stop, expected_below, expected_space, given_and, is_below};
 ghost use Rattle.qc_state.specs.Stopping.{internal_error_at};
@@ -189,7 +189,7 @@ impl<U: Suite> Core<U> {
         did: &mut Dids,
         space: SpaceId,
     ) -> Result<Option<Result<bool, TransportError>>, AllocError>
-        ensures { IfOk result (λ told. HasRead (meaning U.Session.Session U.Session.HeaderKey.HeaderMask U.Session.PacketKey.PacketKey) space (ready_bytes (stream_of self.old.lower space)) told (held U.Random.stream self.old did.old) (held U.Random.stream self.new did.new)) }
+        ensures { IfOk result (λ told. HasRead (meaning U.Session.Session U.Session.HeaderKey.HeaderMask U.Session.PacketKey.PacketKey U.Control.Controller.Controller) space (ready_bytes (stream_of self.old.lower space)) told (held U.Random.stream self.old did.old) (held U.Random.stream self.new did.new)) }
     {
         let bytes = self.lower.take_ready(alloc, space)?;
         if bytes.as_slice().is_empty() {
@@ -233,8 +233,8 @@ impl<U: Suite> Core<U> {
         now: Instant,
         space: SpaceId,
     ) -> Result<bool, AllocError>
-        ensures ends { IfOk result (λ ends. ends ≡ true → (others : At _ → At _) → (held U.Random.stream self.new did.new) ≡ given_and (meaning U.Session.Session U.Session.HeaderKey.HeaderMask U.Session.PacketKey.PacketKey) now space (ready_bytes (stream_of self.old.lower space)) others (held U.Random.stream self.old did.old)) }
-        ensures goes { IfOk result (λ ends. ends ≡ false → (others : At _ → At _) → others (held U.Random.stream self.new did.new) ≡ given_and (meaning U.Session.Session U.Session.HeaderKey.HeaderMask U.Session.PacketKey.PacketKey) now space (ready_bytes (stream_of self.old.lower space)) others (held U.Random.stream self.old did.old)) }
+        ensures ends { IfOk result (λ ends. ends ≡ true → (others : At _ → At _) → (held U.Random.stream self.new did.new) ≡ given_and (meaning U.Session.Session U.Session.HeaderKey.HeaderMask U.Session.PacketKey.PacketKey U.Control.Controller.Controller) now space (ready_bytes (stream_of self.old.lower space)) others (held U.Random.stream self.old did.old)) }
+        ensures goes { IfOk result (λ ends. ends ≡ false → (others : At _ → At _) → others (held U.Random.stream self.new did.new) ≡ given_and (meaning U.Session.Session U.Session.HeaderKey.HeaderMask U.Session.PacketKey.PacketKey U.Control.Controller.Controller) now space (ready_bytes (stream_of self.old.lower space)) others (held U.Random.stream self.old did.old)) }
     {
         match self.do_read(alloc, did, space)? {
             None => Ok(false),
@@ -254,8 +254,8 @@ impl<U: Suite> Core<U> {
         offset: u64,
         body: &[u8],
     ) -> Result<bool, AllocError>
-        ensures ends { IfOk result (λ ends. ends ≡ true → (others : At _ → At _) → (held U.Random.stream self.new did.new) ≡ crypto_and (meaning U.Session.Session U.Session.HeaderKey.HeaderMask U.Session.PacketKey.PacketKey) now space offset body.now (crypto_stop (ideal U.Random.stream self.old) space ty offset body.now) others (held U.Random.stream self.old did.old)) }
-        ensures goes { IfOk result (λ ends. ends ≡ false → (others : At _ → At _) → others (held U.Random.stream self.new did.new) ≡ crypto_and (meaning U.Session.Session U.Session.HeaderKey.HeaderMask U.Session.PacketKey.PacketKey) now space offset body.now (crypto_stop (ideal U.Random.stream self.old) space ty offset body.now) others (held U.Random.stream self.old did.old)) }
+        ensures ends { IfOk result (λ ends. ends ≡ true → (others : At _ → At _) → (held U.Random.stream self.new did.new) ≡ crypto_and (meaning U.Session.Session U.Session.HeaderKey.HeaderMask U.Session.PacketKey.PacketKey U.Control.Controller.Controller) now space offset body.now (crypto_stop (ideal U.Random.stream self.old) space ty offset body.now) others (held U.Random.stream self.old did.old)) }
+        ensures goes { IfOk result (λ ends. ends ≡ false → (others : At _ → At _) → others (held U.Random.stream self.new did.new) ≡ crypto_and (meaning U.Session.Session U.Session.HeaderKey.HeaderMask U.Session.PacketKey.PacketKey U.Control.Controller.Controller) now space offset body.now (crypto_stop (ideal U.Random.stream self.old) space ty offset body.now) others (held U.Random.stream self.old did.old)) }
     {
         if let Some(error) = self.crypto_refusal(space, ty, offset, body) {
             self.stopped(did, now, error)?;
@@ -279,21 +279,22 @@ impl<U: Suite> Core<U> {
     /// The session writes once. Answers whether it wrote something or gave keys; otherwise nothing changes. Want of memory
     /// is the only refusal.
     fn write_once(&mut self, alloc: Global, did: &Dids) -> Result<bool, AllocError>
-        ensures { IfOk result (λ wrote. HasWritten (meaning U.Session.Session U.Session.HeaderKey.HeaderMask U.Session.PacketKey.PacketKey) wrote (held U.Random.stream self.old did.now) (held U.Random.stream self.new did.now)) }
+        ensures { IfOk result (λ wrote. HasWritten (meaning U.Session.Session U.Session.HeaderKey.HeaderMask U.Session.PacketKey.PacketKey U.Control.Controller.Controller) wrote (held U.Random.stream self.old did.now) (held U.Random.stream self.new did.now)) }
     {
         let mut bytes = Vec::new(alloc);
         let keys = self.lower.session.write(&mut bytes)?;
         if is_nothing(bytes.as_slice(), &keys) {
             return Ok(false);
         }
-        self.waiting.write(self.keys.highest, bytes.as_slice())?;
+        let bytes = Bytes::from_vec(bytes)?;
+        self.waiting.write(self.keys.highest, bytes)?;
         self.keys.give(unused(keys));
         Ok(true)
     }
 
     /// The session writes until nothing is left. Want of memory is the only refusal.
     fn written(&mut self, alloc: Global, did: &Dids) -> Result<(), AllocError>
-        ensures { OnOk result ((held U.Random.stream self.new did.now) ≡ written_after (meaning U.Session.Session U.Session.HeaderKey.HeaderMask U.Session.PacketKey.PacketKey) (held U.Random.stream self.old did.now)) }
+        ensures { OnOk result ((held U.Random.stream self.new did.now) ≡ written_after (meaning U.Session.Session U.Session.HeaderKey.HeaderMask U.Session.PacketKey.PacketKey U.Control.Controller.Controller) (held U.Random.stream self.old did.now)) }
     {
         loop {
             if !self.write_once(alloc, did)? {
@@ -374,7 +375,7 @@ impl<U: Suite> Core<U> {
     /// wrote.
     #[tactic(auto, unfolding(qc_state::specs::Progress::learned_after, qc_state::specs::Setup::ideal_setup))]
     fn learn(&mut self, did: &mut Dids, now: Instant, before: SpaceId) -> Result<(), AllocError>
-        ensures { OnOk result ((held U.Random.stream self.new did.new) ≡ learned_after (meaning U.Session.Session U.Session.HeaderKey.HeaderMask U.Session.PacketKey.PacketKey) now before (held U.Random.stream self.old did.old)) }
+        ensures { OnOk result ((held U.Random.stream self.new did.new) ≡ learned_after (meaning U.Session.Session U.Session.HeaderKey.HeaderMask U.Session.PacketKey.PacketKey U.Control.Controller.Controller) now before (held U.Random.stream self.old did.old)) }
     {
         if !is_server_start(self.setup.fixed.side, before, self.keys.highest) {
             return Ok(());
@@ -386,19 +387,19 @@ impl<U: Suite> Core<U> {
 
     /// A server confirms the handshake, and drops the Handshake keys (RFC 9001, sections 4.1.2 and 4.9.2).
     #[tactic(auto, unfolding(qc_state::specs::Moves::move_to, qc_state::specs::Moves::deeds_move))]
-    fn confirm(&mut self, did: &mut Dids) -> Result<(), AllocError>
-        ensures { OnOk result ((held U.Random.stream self.new did.new) ≡ move_to Establish (calmed (move_to (Forget Handshake) (move_to Confirm (held U.Random.stream self.old did.old))))) }
+    fn confirm(&mut self, did: &mut Dids, now: Instant) -> Result<(), AllocError>
+        ensures { OnOk result ((held U.Random.stream self.new did.new) ≡ move_to Establish (armed_after now (move_to (Forget Handshake) (move_to Confirm (held U.Random.stream self.old did.old))))) }
     {
         self.do_confirm();
         self.do_forget(SpaceId::Handshake);
-        self.calm(did);
+        self.arm(did, now);
         self.do_establish(did)
     }
 
     /// The handshake is over: a client reads the server's parameters, a server confirms it.
     #[tactic(auto, unfolding(qc_state::specs::Setup::ideal_setup))]
     fn over(&mut self, did: &mut Dids, now: Instant) -> Result<(), AllocError>
-        ensures { OnOk result ((held U.Random.stream self.new did.new) ≡ over_after (meaning U.Session.Session U.Session.HeaderKey.HeaderMask U.Session.PacketKey.PacketKey) now self.old.setup.fixed.side (held U.Random.stream self.old did.old)) }
+        ensures { OnOk result ((held U.Random.stream self.new did.new) ≡ over_after (meaning U.Session.Session U.Session.HeaderKey.HeaderMask U.Session.PacketKey.PacketKey U.Control.Controller.Controller) now self.old.setup.fixed.side (held U.Random.stream self.old did.old)) }
     {
         match self.setup.fixed.side {
             Side::Client => {
@@ -408,7 +409,7 @@ impl<U: Suite> Core<U> {
                 }
                 Ok(())
             }
-            Side::Server => self.confirm(did),
+            Side::Server => self.confirm(did, now),
         }
     }
 
@@ -422,7 +423,7 @@ impl<U: Suite> Core<U> {
     /// Behind a Handshake packet, where the handshake goes on no longer, the connection is established.
     #[tactic(auto, unfolding(qc_state::specs::Progress::ended_after, qc_state::specs::Setup::ideal_setup))]
     fn ended(&mut self, did: &mut Dids, now: Instant, space: SpaceId) -> Result<(), AllocError>
-        ensures { OnOk result ((held U.Random.stream self.new did.new) ≡ ended_after (meaning U.Session.Session U.Session.HeaderKey.HeaderMask U.Session.PacketKey.PacketKey) now space (held U.Random.stream self.old did.old)) }
+        ensures { OnOk result ((held U.Random.stream self.new did.new) ≡ ended_after (meaning U.Session.Session U.Session.HeaderKey.HeaderMask U.Session.PacketKey.PacketKey U.Control.Controller.Controller) now space (held U.Random.stream self.old did.old)) }
     {
         if !self.is_ended(space) {
             return Ok(());
@@ -440,7 +441,7 @@ impl<U: Suite> Core<U> {
         now: Instant,
         space: SpaceId,
     ) -> Result<(), AllocError>
-        ensures { OnOk result ((held U.Random.stream self.new did.new) ≡ progress_after (meaning U.Session.Session U.Session.HeaderKey.HeaderMask U.Session.PacketKey.PacketKey) now space (held U.Random.stream self.old did.old)) }
+        ensures { OnOk result ((held U.Random.stream self.new did.new) ≡ progress_after (meaning U.Session.Session U.Session.HeaderKey.HeaderMask U.Session.PacketKey.PacketKey U.Control.Controller.Controller) now space (held U.Random.stream self.old did.old)) }
     {
         let before = self.keys.highest;
         self.written(alloc, did)?;

@@ -10,6 +10,7 @@ mod making;
 mod moves;
 mod opening;
 mod receiving;
+mod recovering;
 mod sending;
 mod server;
 pub mod state;

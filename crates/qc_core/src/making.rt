@@ -1,22 +1,25 @@
 //! What clients and servers are made of.
 
-ghost use Rattle.std.specs.Prelude.{◌≡◌, ◌<◌, ◌^◌, [], length};
-ghost use Rattle.qc_state.specs.First.{fixed_of, just_made, nothing_waits};
+ghost use Rattle.std.specs.Prelude.{◌≡◌, ◌<◌, ◌^◌, [], length, IfOk};
+ghost use Rattle.qc_path.specs.Acks.{no_marks};
+ghost use Rattle.qc_send_stream.specs.Buffer.{bytes_written, nothing};
+ghost use Rattle.qc_state.specs.First.{first_path, fixed_of, just_made, nothing_waits};
 ghost use Rattle.qc_state.specs.Setup.{idle_limit_of};
 
 use crate::state::Core;
+use bytes::Bytes;
 use qc_assembler::Assembler;
 use qc_base::{ConnectionId, Duration, Instant, Side, SpaceId, VarInt};
 use qc_crypto::Session;
 use qc_frame::EcnCounts;
-use qc_path::PendingAcks;
-use qc_recovery::{IdleTimeout, TransportConfig};
+use qc_path::{ControllerFactory, PendingAcks};
+use qc_recovery::{IdleTimeout, PathData, Recovery, TransportConfig};
 use qc_state::setup::limit_of_millis;
 use qc_state::{
-    CryptoQueue, Fixed, Flight, KeyGroup, Life, Lower, Numbers, Paths, Setup, SoundSession,
-    SpaceKeys, SpaceNumbers, SpaceWaiting, Spaces, State, Suite, Timers, Waiting,
+    CryptoQueue, Fixed, KeyGroup, Life, Lower, Numbers, Paths, Setup, SoundSession, SpaceKeys,
+    SpaceNumbers, SpaceWaiting, Spaces, State, Suite, Timers, Waiting,
 };
-use std::alloc::Global;
+use std::alloc::{AllocError, Global};
 use std::net::IpAddr;
 
 /// The limit on idle time that a configuration gives: none where it has none or 0 (RFC 9000, 10.1).
@@ -54,39 +57,58 @@ pub(crate) fn fixed(
 }
 
 /// A space in which nothing waits but these CRYPTO bytes.
-fn nothing_waits(alloc: Global, crypto: Vec<u8>) -> SpaceWaiting
-    requires { length crypto.items < 2 ^ 62 }
-    ensures { result ≡ nothing_waits crypto.items }
+fn space_with(crypto: CryptoQueue) -> SpaceWaiting
+    ensures { result ≡ record { done = false; ping = false; crypto = crypto; acks = record { ranges = []; marks = no_marks }; marks = record { ect0 = 0; ect1 = 0; ce = 0 }; probes = 0; told = false } }
 {
     SpaceWaiting {
         done: false,
         ping: false,
-        crypto: CryptoQueue::from_vec(crypto),
+        crypto,
         acks: PendingAcks::new(),
         marks: EcnCounts {
             ect0: 0,
             ect1: 0,
             ce: 0,
         },
-        flight: Flight::new(alloc),
+        probes: 0,
         told: false,
     }
 }
 
-/// What waits of a connection that was just made: what its session wrote.
-fn waiting(alloc: Global, hello: Vec<u8>) -> Waiting
-    requires { length hello.items < 2 ^ 62 }
-    ensures spaces { result.spaces ≡ record { initial = nothing_waits hello.items; handshake = nothing_waits []; application = nothing_waits [] } }
-    ensures close { result.close_owed ≡ false }
+/// A space in which nothing waits.
+#[tactic(auto, unfolding(qc_send_stream::specs::Buffer::bytes_written, qc_send_stream::specs::Buffer::nothing, qc_send_stream::specs::Buffer::row))]
+fn nothing_waits(alloc: Global) -> SpaceWaiting
+    ensures { result ≡ nothing_waits [] }
 {
-    Waiting {
+    space_with(CryptoQueue::new(alloc))
+}
+
+/// The CRYPTO bytes of a space in which the session wrote these first. Want of memory is the only refusal.
+#[tactic(auto, unfolding(qc_state::specs::Waiting::crypto_more, qc_send_stream::specs::Buffer::nothing))]
+fn first_bytes(alloc: Global, bytes: Vec<u8>) -> Result<CryptoQueue, AllocError>
+    requires { length bytes.items < 2 ^ 62 }
+    ensures { IfOk result (λ queue. queue ≡ bytes_written bytes.items nothing) }
+{
+    let bytes = Bytes::from_vec(bytes)?;
+    let mut queue = CryptoQueue::new(alloc);
+    queue.write(bytes)?;
+    Ok(queue)
+}
+
+/// What waits of a connection that was just made: what its session wrote. Want of memory is the only refusal.
+fn waiting(alloc: Global, hello: Vec<u8>) -> Result<Waiting, AllocError>
+    requires { length hello.items < 2 ^ 62 }
+    ensures { IfOk result (λ waiting. waiting ≡ record { spaces = record { initial = nothing_waits hello.items; handshake = nothing_waits []; application = nothing_waits [] }; close_owed = false }) }
+{
+    let crypto = first_bytes(alloc, hello)?;
+    Ok(Waiting {
         spaces: Spaces {
-            initial: nothing_waits(alloc, hello),
-            handshake: nothing_waits(alloc, Vec::new(alloc)),
-            application: nothing_waits(alloc, Vec::new(alloc)),
+            initial: space_with(crypto),
+            handshake: nothing_waits(alloc),
+            application: nothing_waits(alloc),
         },
         close_owed: false,
-    }
+    })
 }
 
 /// The life of a connection that was just made.
@@ -109,8 +131,8 @@ fn life() -> Life
 ghost use Rattle.std.specs.Prelude.{false, None};
 ghost use Rattle.qc_state.specs.declared.spaces.Spaces.{Spaces};
 
-/// A connection that was just made at `now`: it has these keys of the Initial space, and nothing waits but what its session
-/// wrote.
+/// A connection that was just made at `now`: it has these keys of the Initial space, nothing waits but what its session wrote,
+/// and its path has this congestion controller. Want of memory is the only refusal.
 pub(crate) fn made<U: Suite>(
     alloc: Global,
     keys: SpaceKeys<<U::Session as Session>::HeaderKey, <U::Session as Session>::PacketKey>,
@@ -119,17 +141,20 @@ pub(crate) fn made<U: Suite>(
     random: U::Random,
     fixed: Fixed,
     paths: Paths,
+    transport: &TransportConfig,
+    congestion: <U::Control as ControllerFactory>::Controller,
     now: Instant,
-) -> Core<U>
+) -> Result<Core<U>, AllocError>
     requires { length hello.items < 2 ^ 62 }
-    ensures { result ≡ just_made keys session hello.items random fixed paths now }
+    ensures { IfOk result (λ core. core ≡ just_made keys session hello.items random fixed paths transport.now (first_path U.Control.Controller.Controller transport.now congestion now) now) }
 {
-    Core {
+    let waiting = waiting(alloc, hello)?;
+    Ok(Core {
         numbers: Numbers {
             spaces: Spaces {
-                initial: SpaceNumbers::new(),
-                handshake: SpaceNumbers::new(),
-                application: SpaceNumbers::new(),
+                initial: SpaceNumbers::new(now),
+                handshake: SpaceNumbers::new(now),
+                application: SpaceNumbers::new(now),
             },
         },
         keys: KeyGroup {
@@ -150,7 +175,7 @@ pub(crate) fn made<U: Suite>(
             sets_idle: true,
             greatest: now,
         },
-        waiting: waiting(alloc, hello),
+        waiting,
         setup: Setup {
             fixed,
             peer: None,
@@ -164,6 +189,8 @@ pub(crate) fn made<U: Suite>(
                 handshake: Assembler::new(alloc),
                 application: Assembler::new(alloc),
             },
+            recovery: Recovery::new(alloc, transport),
+            path: PathData::new(now, transport, congestion, false, None),
         },
-    }
+    })
 }

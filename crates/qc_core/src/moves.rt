@@ -1,17 +1,26 @@
 //! The moves of a connection, one function each.
 
-ghost use Rattle.std.specs.Prelude.{◌≡◌, ◌+◌, ◌<◌, ◌≤◌, ◌^◌, Err, length, OnOk, OnErr, IfOk};
+ghost use Rattle.std.specs.Prelude.{◌≡◌, ◌+◌, ◌<◌, ◌≤◌, ◌^◌, ◌==◌, Err, length, not, if◌then◌else◌, OnOk, OnErr, IfOk};
 ghost use Rattle.qc_assembler.specs.Assembly.{inserted, part_count};
 ghost use Rattle.qc_state.specs.Acks.{AckPart, may_acknowledge};
 ghost use Rattle.qc_state.specs.Life.{ready_event, connected_event, lost_event, token_event, wanted_event, drained_event};
-ghost use Rattle.qc_state.specs.Lower.{ready_bytes, stream_of};
-ghost use Rattle.qc_frame.specs.AckRanges.{ranges_of};
+ghost use Rattle.qc_state.specs.Lower.{packet_flown, ready_bytes, stream_of};
 ghost use Rattle.qc_frame.specs.Frame.{ack_map};
-ghost use Rattle.qc_state.specs.Moves.{Clock, Ask, Take, Seal, Forget, Expect, Enter, Fail, Accept, Fix, Hear, Ack, Calm, Come, Ready, Token, Learn, Want, Confirm, Establish, Tell, Drain, Leave, Owe, Shut, Raise, Give, Say, ReportReady, ReportConnected, ReportLost, ReportToken, ReportWanted, ReportDrained, move_to, state_move};
+ghost use Rattle.qc_frame.specs.FrameFits.{Fits};
+ghost use Rattle.qc_frame.specs.FrameSpelling.{elicits};
+ghost use Rattle.qc_frame.specs.declared.frames.FrameOf.TheVariants as frames;
+ghost use Rattle.std.specs.List.{list_any};
+ghost use Rattle.qc_state.specs.Flight.{flown_packet};
+ghost use Rattle.qc_state.specs.Moves.{Clock, Ask, Take, Seal, Forget, Expect, Enter, Fail, Accept, Fix, Hear, Ack, Fire, Arm, Begin, Come, Ready, Token, Learn, Want, Confirm, Establish, Tell, Drain, Leave, Owe, Shut, Raise, Give, Say, ReportReady, ReportConnected, ReportLost, ReportToken, ReportWanted, ReportDrained, move_to, state_move};
+ghost use Rattle.qc_state.specs.Recovering.{fired_by, probe_timeout_now, settled_by};
+ghost use Rattle.qc_state.specs.Setup.{idle_limit_now};
 ghost use Rattle.qc_state.specs.Spaces.{space_of};
+ghost use Rattle.qc_state.specs.Timers.{timers_sealed};
+ghost use Rattle.qc_state.specs.Types.{meaning};
 ghost use Rattle.qc_state.specs.View.{ideal, held};
 ghost use Rattle.qc_state.specs.Waiting.{TakenPart};
 
+use crate::recovering::shows_validated;
 use crate::state::Core;
 use bytes::Bytes;
 use qc_assembler::InsertError;
@@ -19,6 +28,7 @@ use qc_base::{ConnectionId, Instant, ResetToken, SpaceId};
 use qc_frame::{Ack, FrameList};
 use qc_params::TransportParameters;
 use qc_path::Arrival;
+use qc_state::flight::flown_packet;
 use qc_state::spaces::is_space;
 use qc_state::{
     Body, Close, ConnectionError, Did, Dids, EndpointEvent, Event, Layer, Quiet, Signs, State,
@@ -26,7 +36,7 @@ use qc_state::{
 };
 use std::alloc::{AllocError, Global};
 
-#[tactic(auto, unfolding(qc_state::specs::Moves::move_to, qc_state::specs::Moves::state_move, qc_state::specs::Moves::numbers_move, qc_state::specs::Moves::keys_move, qc_state::specs::Moves::life_move, qc_state::specs::Moves::paths_move, qc_state::specs::Moves::timers_move, qc_state::specs::Moves::waiting_move, qc_state::specs::Moves::setup_move, qc_state::specs::Moves::lower_move, qc_state::specs::Moves::deeds_move, qc_state::specs::Setup::ideal_setup, qc_state::specs::Setup::idle_limit_now, qc_state::specs::Setup::probe_timeout_now, qc_state::specs::Setup::parameters_known, qc_state::specs::Setup::token_expected, qc_state::specs::Lower::session_wrote), using(qc_state::proofs::Arrivals::came_accepted))]
+#[tactic(auto, unfolding(qc_state::specs::Moves::move_to, qc_state::specs::Moves::state_move, qc_state::specs::Moves::numbers_move, qc_state::specs::Moves::keys_move, qc_state::specs::Moves::life_move, qc_state::specs::Moves::paths_move, qc_state::specs::Moves::timers_move, qc_state::specs::Moves::waiting_move, qc_state::specs::Moves::setup_move, qc_state::specs::Moves::lower_move, qc_state::specs::Moves::deeds_move, qc_state::specs::Setup::ideal_setup, qc_state::specs::Setup::idle_limit_now, qc_state::specs::Setup::parameters_known, qc_state::specs::Setup::token_expected, qc_state::specs::Lower::session_wrote), using(qc_state::proofs::Arrivals::came_accepted))]
 impl<U: Suite> Core<U> {
     /// The connection is told a time.
     pub(crate) fn do_clock(&mut self, now: Instant)
@@ -71,9 +81,39 @@ impl<U: Suite> Core<U> {
         self.waiting.take_ack(alloc, now, space)
     }
 
+    /// A packet with these frames is to be sealed: one that elicits an acknowledgement sets the idle timer.
+    fn time_packet(&mut self, now: Instant, space: SpaceId, frames: &FrameList)
+        ensures { self.new ≡ record self.old { timers = if list_any elicits frames.now then timers_sealed self.old.timers (idle_limit_now self.old.setup) (probe_timeout_now (ideal U.Random.stream self.old) space) now else self.old.timers } }
+    {
+        if frames.elicits() {
+            let probe = self.probe_timeout(space);
+            self.timers.sealed(self.setup.idle_limit(), probe, now);
+        }
+    }
+
+    /// A packet with these frames is in flight from now on, unless a close is owed. Want of memory is the only refusal.
+    fn fly(
+        &mut self,
+        alloc: Global,
+        now: Instant,
+        space: SpaceId,
+        number: u64,
+        size: u64,
+        frames: &FrameList,
+    ) -> Result<(), AllocError>
+        ensures { OnOk result (self.new ≡ record self.old { lower = if self.old.waiting.close_owed then self.old.lower else packet_flown self.old.lower space number (flown_packet now size frames.now) }) }
+    {
+        if self.waiting.close_owed {
+            return Ok(());
+        }
+        let packet = flown_packet(alloc, now, size, frames)?;
+        self.lower.fly(space, number, packet)
+    }
+
     /// A packet is sealed.
     pub(crate) fn do_seal(
         &mut self,
+        alloc: Global,
         did: &mut Dids,
         now: Instant,
         space: SpaceId,
@@ -84,16 +124,13 @@ impl<U: Suite> Core<U> {
         requires { number < 2 ^ 62 }
         ensures { OnOk result ((held U.Random.stream self.new did.new) ≡ move_to (Seal now space number size frames) (held U.Random.stream self.old did.old)) }
     {
+        self.time_packet(now, space, &frames);
+        self.fly(alloc, now, space, number, size, &frames)?;
         let last = is_space(space, self.keys.highest);
         self.numbers.used(space, number);
         self.keys.used(space);
         self.paths.sent(size);
         self.waiting.tell(space, last);
-        if frames.elicits() {
-            self.waiting.fly(space, number)?;
-            let probe = self.setup.probe_timeout(space);
-            self.timers.sealed(self.setup.idle_limit(), probe, now);
-        }
         did.push_sealed(space, number, frames)
     }
 
@@ -103,6 +140,7 @@ impl<U: Suite> Core<U> {
     {
         self.keys.forget(space);
         self.waiting.forget(space);
+        self.lower.drop_flight(space);
     }
 
     /// A server's first packet came, with this token.
@@ -146,6 +184,7 @@ impl<U: Suite> Core<U> {
     ) -> Result<(), AllocError>
         ensures { OnOk result ((held U.Random.stream self.new did.new) ≡ move_to (Accept now space number eliciting signs verdict) (held U.Random.stream self.old did.old)) }
     {
+        let probe = self.probe_timeout(space);
         let greatest = self.numbers.received(space) <= number;
         self.numbers.accepted(space, number);
         let packet = Arrival {
@@ -158,7 +197,6 @@ impl<U: Suite> Core<U> {
         self.waiting.came(space, came, &packet, signs.mark);
         self.paths.accepted(space, verdict);
         self.paths.spun(self.setup.fixed.side, greatest, signs.spin);
-        let probe = self.setup.probe_timeout(space);
         self.timers.accepted(self.setup.idle_limit(), probe, now);
         did.push_piece(Some(space), Some(number), verdict)
     }
@@ -177,24 +215,55 @@ impl<U: Suite> Core<U> {
         self.paths.received(bytes);
     }
 
-    /// The peer acknowledged packets.
+    /// The peer acknowledged packets. Answers whether some of them are newly acknowledged. Want of memory is the only refusal.
     pub(crate) fn do_ack(
         &mut self,
         alloc: Global,
+        now: Instant,
         space: SpaceId,
         ack: &Ack<'_>,
-    ) -> Result<(), AllocError>
-        ensures { OnOk result ((ideal U.Random.stream self.new) ≡ state_move (Ack space ack.now.largest (ranges_of (ack_map (λ bytes. bytes.now) ack.now))) (ideal U.Random.stream self.old)) }
+    ) -> Result<bool, AllocError>
+        requires { Fits (frames.Ack (ack_map (λ bytes. bytes.now) ack.now)) }
+        ensures newly { IfOk result (λ newly. newly ≡ not (length (settled_by (meaning U.Session.Session U.Session.HeaderKey.HeaderMask U.Session.PacketKey.PacketKey U.Control.Controller.Controller) now space (ack_map (λ bytes. bytes.now) ack.now) (ideal U.Random.stream self.old)).acked == 0)) }
+        ensures leads { OnOk result ((ideal U.Random.stream self.new) ≡ state_move (Ack space ack.now.largest (settled_by (meaning U.Session.Session U.Session.HeaderKey.HeaderMask U.Session.PacketKey.PacketKey U.Control.Controller.Controller) now space (ack_map (λ bytes. bytes.now) ack.now) (ideal U.Random.stream self.old))) (ideal U.Random.stream self.old)) }
     {
+        let blocked = self.is_blocked();
+        let around = self.around(blocked, shows_validated(space));
+        let next = self.numbers.next(space);
+        let began = self.numbers.began(space);
+        let mut settled = self
+            .lower
+            .settle(alloc, now, space, next, began, ack, &around)?;
+        let newly = !settled.acked.is_empty();
         self.numbers.acked(space, ack.largest);
-        self.waiting.settle(alloc, space, ack)
+        self.waiting.acknowledge(space, &mut settled.acked);
+        self.waiting.lose(space, &mut settled.lost)?;
+        Ok(newly)
     }
 
-    /// Nothing that elicits an acknowledgement is in flight any more.
-    pub(crate) fn do_calm(&mut self)
-        ensures { (ideal U.Random.stream self.new) ≡ state_move Calm (ideal U.Random.stream self.old) }
+    /// The loss timer fires: packets are lost, or probes are due. Want of memory is the only refusal.
+    pub(crate) fn do_fire(&mut self, now: Instant) -> Result<(), AllocError>
+        ensures { OnOk result ((ideal U.Random.stream self.new) ≡ state_move (Fire (fired_by (meaning U.Session.Session U.Session.HeaderKey.HeaderMask U.Session.PacketKey.PacketKey U.Control.Controller.Controller) now (ideal U.Random.stream self.old))) (ideal U.Random.stream self.old)) }
     {
-        self.timers.settled();
+        let blocked = self.is_blocked();
+        let around = self.around(blocked, false);
+        let fired = self.lower.fire(now, &around)?;
+        self.waiting.fire(fired)
+    }
+
+    /// The loss timer is set to a time, or stopped.
+    pub(crate) fn do_arm(&mut self, at: Option<Instant>)
+        ensures { (ideal U.Random.stream self.new) ≡ state_move (Arm at) (ideal U.Random.stream self.old) }
+    {
+        self.timers.arm(at);
+    }
+
+    /// A datagram is begun for a space: a probe that is due there is spent. Want of memory is the only refusal.
+    pub(crate) fn do_begin(&mut self, space: SpaceId) -> Result<(), AllocError>
+        ensures { OnOk result ((ideal U.Random.stream self.new) ≡ state_move (Begin space) (ideal U.Random.stream self.old)) }
+    {
+        let oldest = self.lower.recovery.oldest(space);
+        self.waiting.begin(space, oldest)
     }
 
     /// Bytes of a CRYPTO stream came. `TooManyParts` exactly where too many separate parts would stand.
@@ -293,7 +362,7 @@ impl<U: Suite> Core<U> {
     pub(crate) fn do_leave(&mut self, did: &mut Dids, now: Instant) -> Result<(), AllocError>
         ensures { OnOk result ((held U.Random.stream self.new did.new) ≡ move_to (Leave now) (held U.Random.stream self.old did.old)) }
     {
-        let probe = self.setup.probe_timeout(self.keys.highest);
+        let probe = self.probe_timeout(self.keys.highest);
         self.life.drain();
         self.timers.closing(probe, now);
         did.push_rose(3)
@@ -310,7 +379,7 @@ impl<U: Suite> Core<U> {
     pub(crate) fn do_shut(&mut self, now: Instant, close: Close)
         ensures { (ideal U.Random.stream self.new) ≡ state_move (Shut now close) (ideal U.Random.stream self.old) }
     {
-        let probe = self.setup.probe_timeout(self.keys.highest);
+        let probe = self.probe_timeout(self.keys.highest);
         self.life.shut(close);
         self.timers.closing(probe, now);
         self.waiting.owe_close();
@@ -336,9 +405,10 @@ impl<U: Suite> Core<U> {
     }
 
     /// A transmit sends nothing, for this cause.
-    pub(crate) fn do_say(&self, did: &mut Dids, quiet: Quiet) -> Result<(), AllocError>
-        ensures { OnOk result ((held U.Random.stream self.now did.new) ≡ move_to (Say quiet) (held U.Random.stream self.now did.old)) }
+    pub(crate) fn do_say(&mut self, did: &mut Dids, quiet: Quiet) -> Result<(), AllocError>
+        ensures { OnOk result ((held U.Random.stream self.new did.new) ≡ move_to (Say quiet) (held U.Random.stream self.old did.old)) }
     {
+        self.paths.idle();
         did.push_quiet(quiet)
     }
 

@@ -179,7 +179,7 @@ impl<U: Suite> Core<U> {
     /// What comes of taking the protection off a packet. Want of memory is the only refusal.
     #[tactic(auto, unfolding(qc_state::specs::Opening::opening_of))]
     pub(crate) fn open(&self, partial: PartialDecode) -> Result<Opening, AllocError>
-        ensures { IfOk result (λ o. o ≡ opening_of (meaning U.Session.Session U.Session.HeaderKey.HeaderMask U.Session.PacketKey.PacketKey) (ideal U.Random.stream self.now) partial) }
+        ensures { IfOk result (λ o. o ≡ opening_of (meaning U.Session.Session U.Session.HeaderKey.HeaderMask U.Session.PacketKey.PacketKey U.Control.Controller.Controller) (ideal U.Random.stream self.now) partial) }
     {
         let space = match opened_space(partial.header()) {
             None => return Ok(Opening::Unreadable),

@@ -4,7 +4,7 @@ ghost use Rattle.std.specs.Prelude.{◌≡◌, ◌<◌, ◌≤◌, ◌++◌, ◌
 ghost use Rattle.qc_core.specs.Cutting.{Cuts, front_of, rest_of, others_of};
 ghost use Rattle.qc_frame.specs.Frame.{borrowed, typed};
 ghost use Rattle.qc_frame.specs.Payload.{items_of};
-ghost use Rattle.qc_state.specs.Receiving.{is_readable, is_taken, lets_in, has_first_ids, token_in_first, heard_after, datagram_after, failed_after, opening_after, pieces_after, piece_after};
+ghost use Rattle.qc_state.specs.Receiving.{is_readable, is_taken, lets_in, has_first_ids, token_in_first, counted_after, heard_after, datagram_after, failed_after, opening_after, pieces_after, piece_after};
 ghost use Rattle.qc_state.specs.Types.{meaning};
 ghost use Rattle.qc_state.specs.View.{ideal, held};
 
@@ -109,7 +109,7 @@ impl<U: Suite> Core<U> {
         space: Option<SpaceId>,
         opening: Opening,
     ) -> Result<(), AllocError>
-        ensures { OnOk result ((held U.Random.stream self.new did.new) ≡ opening_after (meaning U.Session.Session U.Session.HeaderKey.HeaderMask U.Session.PacketKey.PacketKey) now mark space opening (held U.Random.stream self.old did.old)) }
+        ensures { OnOk result ((held U.Random.stream self.new did.new) ≡ opening_after (meaning U.Session.Session U.Session.HeaderKey.HeaderMask U.Session.PacketKey.PacketKey U.Control.Controller.Controller) now mark space opening (held U.Random.stream self.old did.old)) }
     {
         match opening {
             Opening::Unreadable => self.do_tell_piece(did, space, None, Verdict::Ignored),
@@ -146,7 +146,7 @@ impl<U: Suite> Core<U> {
         mark: Option<EcnCodepoint>,
         partial: PartialDecode,
     ) -> Result<(), AllocError>
-        ensures { OnOk result ((held U.Random.stream self.new did.new) ≡ piece_after (meaning U.Session.Session U.Session.HeaderKey.HeaderMask U.Session.PacketKey.PacketKey) now mark partial (held U.Random.stream self.old did.old)) }
+        ensures { OnOk result ((held U.Random.stream self.new did.new) ≡ piece_after (meaning U.Session.Session U.Session.HeaderKey.HeaderMask U.Session.PacketKey.PacketKey U.Control.Controller.Controller) now mark partial (held U.Random.stream self.old did.old)) }
     {
         let space = partial.space();
         if self.life.is_over() {
@@ -168,7 +168,7 @@ impl<U: Suite> Core<U> {
     ) -> Result<(), AllocError>
         requires fits { cutting.local_cid_len ≤ 20 }
         requires some { IfSome behind (λ b. 0 < length b.items) }
-        ensures { OnOk result ((held U.Random.stream self.new did.new) ≡ pieces_after (meaning U.Session.Session U.Session.HeaderKey.HeaderMask U.Session.PacketKey.PacketKey) now mark (others_of cutting behind) (held U.Random.stream self.old did.old)) }
+        ensures { OnOk result ((held U.Random.stream self.new did.new) ≡ pieces_after (meaning U.Session.Session U.Session.HeaderKey.HeaderMask U.Session.PacketKey.PacketKey U.Control.Controller.Controller) now mark (others_of cutting behind) (held U.Random.stream self.old did.old)) }
     {
         let mut rest = behind;
         while let Some(bytes) = rest {
@@ -196,10 +196,22 @@ impl<U: Suite> Core<U> {
     ) -> Result<(), AllocError>
         requires fits { cutting.local_cid_len ≤ 20 }
         requires some { IfSome behind (λ b. 0 < length b.items) }
-        ensures { OnOk result ((held U.Random.stream self.new did.new) ≡ pieces_after (meaning U.Session.Session U.Session.HeaderKey.HeaderMask U.Session.PacketKey.PacketKey) now mark (Ok first ∷ others_of cutting behind) (held U.Random.stream self.old did.old)) }
+        ensures { OnOk result ((held U.Random.stream self.new did.new) ≡ pieces_after (meaning U.Session.Session U.Session.HeaderKey.HeaderMask U.Session.PacketKey.PacketKey U.Control.Controller.Controller) now mark (Ok first ∷ others_of cutting behind) (held U.Random.stream self.old did.old)) }
     {
         self.piece(alloc, did, now, mark, first)?;
         self.others(alloc, did, now, mark, cutting, behind)
+    }
+
+    /// A datagram of so many bytes has come, all of which count as received on the path. Where no datagram could be begun before
+    /// it, as `blocked` says, and one can now, the loss timer is set anew.
+    #[tactic(auto, unfolding(qc_state::specs::Receiving::counted_after, qc_state::specs::Moves::move_to, qc_state::specs::Moves::deeds_move))]
+    pub(crate) fn counted(&mut self, did: &Dids, now: Instant, blocked: bool, len: u64)
+        ensures { (held U.Random.stream self.new did.now) ≡ counted_after now blocked len (held U.Random.stream self.old did.now) }
+    {
+        self.do_hear(len);
+        if blocked && !self.is_blocked() {
+            self.arm(did, now);
+        }
     }
 
     /// A datagram came from `remote` at `now` to an end that doesn't wait for its first packet. Answers whether it begins with a
@@ -215,7 +227,7 @@ impl<U: Suite> Core<U> {
         bytes: BytesMut,
     ) -> Result<bool, AllocError>
         ensures answer { IfOk result (λ read. read ≡ is_readable (ideal U.Random.stream self.old) bytes.items) }
-        ensures leads { OnOk result ((held U.Random.stream self.new did.new) ≡ heard_after (meaning U.Session.Session U.Session.HeaderKey.HeaderMask U.Session.PacketKey.PacketKey) now mark remote bytes.items (held U.Random.stream self.old did.old)) }
+        ensures leads { OnOk result ((held U.Random.stream self.new did.new) ≡ heard_after (meaning U.Session.Session U.Session.HeaderKey.HeaderMask U.Session.PacketKey.PacketKey U.Control.Controller.Controller) now mark remote bytes.items (held U.Random.stream self.old did.old)) }
     {
         let len = bytes.len() as u64;
         let cutting = self.cutting();
@@ -223,8 +235,9 @@ impl<U: Suite> Core<U> {
             None => Ok(false),
             Some((first, behind)) => {
                 if self.lets_in(remote) {
+                    let blocked = self.is_blocked();
                     self.pieces(alloc, did, now, mark, cutting, first, behind)?;
-                    self.do_hear(len);
+                    self.counted(did, now, blocked, len);
                 }
                 Ok(true)
             }
@@ -262,8 +275,8 @@ impl<U: Suite> Core<U> {
     /// has another form or other ids, it doesn't open, or its reserved bits aren't 0. Want of memory is the only refusal.
     #[tactic(auto, unfolding(qc_state::specs::Receiving::token_in_first))]
     fn first_opened(&self, first: PartialDecode) -> Result<Option<First>, AllocError>
-        ensures some { IfOk result (λ r. IfSome r (λ x. (has_first_ids (ideal U.Random.stream self.now) first.header ≡ true) × (opening_of (meaning U.Session.Session U.Session.HeaderKey.HeaderMask U.Session.PacketKey.PacketKey) (ideal U.Random.stream self.now) first ≡ Opening.Opened x.source x.token x.spin x.number x.payload))) }
-        ensures none { IfOk result (λ r. IfNone r (token_in_first (meaning U.Session.Session U.Session.HeaderKey.HeaderMask U.Session.PacketKey.PacketKey) (ideal U.Random.stream self.now) first ≡ None)) }
+        ensures some { IfOk result (λ r. IfSome r (λ x. (has_first_ids (ideal U.Random.stream self.now) first.header ≡ true) × (opening_of (meaning U.Session.Session U.Session.HeaderKey.HeaderMask U.Session.PacketKey.PacketKey U.Control.Controller.Controller) (ideal U.Random.stream self.now) first ≡ Opening.Opened x.source x.token x.spin x.number x.payload))) }
+        ensures none { IfOk result (λ r. IfNone r (token_in_first (meaning U.Session.Session U.Session.HeaderKey.HeaderMask U.Session.PacketKey.PacketKey U.Control.Controller.Controller) (ideal U.Random.stream self.now) first ≡ None)) }
     {
         if !self.has_first_ids(first.header()) {
             return Ok(None);
@@ -299,8 +312,8 @@ impl<U: Suite> Core<U> {
         bytes: BytesMut,
     ) -> Result<bool, AllocError>
         requires { is_first_awaited self.old.setup ≡ true }
-        ensures answer { IfOk result (λ taken. taken ≡ is_taken (meaning U.Session.Session U.Session.HeaderKey.HeaderMask U.Session.PacketKey.PacketKey) (ideal U.Random.stream self.old) remote bytes.items) }
-        ensures leads { OnOk result ((held U.Random.stream self.new did.new) ≡ datagram_after (meaning U.Session.Session U.Session.HeaderKey.HeaderMask U.Session.PacketKey.PacketKey) now mark remote bytes.items (held U.Random.stream self.old did.old)) }
+        ensures answer { IfOk result (λ taken. taken ≡ is_taken (meaning U.Session.Session U.Session.HeaderKey.HeaderMask U.Session.PacketKey.PacketKey U.Control.Controller.Controller) (ideal U.Random.stream self.old) remote bytes.items) }
+        ensures leads { OnOk result ((held U.Random.stream self.new did.new) ≡ datagram_after (meaning U.Session.Session U.Session.HeaderKey.HeaderMask U.Session.PacketKey.PacketKey U.Control.Controller.Controller) now mark remote bytes.items (held U.Random.stream self.old did.old)) }
     {
         let len = bytes.len();
         if !self.may_begin(remote, len) {
@@ -314,6 +327,7 @@ impl<U: Suite> Core<U> {
         match self.first_opened(first)? {
             None => Ok(false),
             Some(first) => {
+                let blocked = self.is_blocked();
                 let token = first.token.clone()?;
                 self.do_expect(token);
                 let signs = Signs {
@@ -332,7 +346,7 @@ impl<U: Suite> Core<U> {
                     first.payload,
                 )?;
                 self.others(alloc, did, now, mark, cutting, behind)?;
-                self.do_hear(len as u64);
+                self.counted(did, now, blocked, len as u64);
                 Ok(true)
             }
         }
@@ -350,8 +364,8 @@ impl<U: Suite> Core<U> {
         remote: SocketAddr,
         bytes: BytesMut,
     ) -> Result<bool, AllocError>
-        ensures answer { IfOk result (λ taken. taken ≡ is_taken (meaning U.Session.Session U.Session.HeaderKey.HeaderMask U.Session.PacketKey.PacketKey) (ideal U.Random.stream self.old) remote bytes.items) }
-        ensures leads { OnOk result ((held U.Random.stream self.new did.new) ≡ datagram_after (meaning U.Session.Session U.Session.HeaderKey.HeaderMask U.Session.PacketKey.PacketKey) now mark remote bytes.items (held U.Random.stream self.old did.old)) }
+        ensures answer { IfOk result (λ taken. taken ≡ is_taken (meaning U.Session.Session U.Session.HeaderKey.HeaderMask U.Session.PacketKey.PacketKey U.Control.Controller.Controller) (ideal U.Random.stream self.old) remote bytes.items) }
+        ensures leads { OnOk result ((held U.Random.stream self.new did.new) ≡ datagram_after (meaning U.Session.Session U.Session.HeaderKey.HeaderMask U.Session.PacketKey.PacketKey U.Control.Controller.Controller) now mark remote bytes.items (held U.Random.stream self.old did.old)) }
     {
         if self.setup.is_first_awaited() {
             return self.first_datagram(alloc, did, now, mark, remote, bytes);

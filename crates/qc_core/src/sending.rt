@@ -1,6 +1,6 @@
 //! The calls that sending needs.
 
-ghost use Rattle.std.specs.Prelude.{◌≡◌, ◌+◌, ◌-◌, ◌<◌, ◌≤◌, ◌^◌, ◌++◌, [], ◌∷◌, true, Some, IsSome, length, replicate, OnOk, IfOk};
+ghost use Rattle.std.specs.Prelude.{◌≡◌, ◌+◌, ◌-◌, ◌<◌, ◌≤◌, ◌^◌, ◌++◌, [], ◌∷◌, true, Some, None, IsSome, if◌then◌else◌, length, replicate, OnOk, IfOk};
 ghost use Rattle.qc_frame.specs.Frame.{owned};
 ghost use Rattle.qc_frame.specs.FrameSpelling.{frames_spelling};
 ghost use Rattle.qc_frame.specs.declared.frames.FrameOf.TheVariants.{Padding};
@@ -8,7 +8,7 @@ ghost use Rattle.qc_packet.specs.Building.{padded_size};
 ghost use Rattle.qc_packet.specs.PacketSpelling.{padding_len};
 ghost use Rattle.qc_header.specs.HeaderSpelling.{header_spelling, header_number};
 ghost use Rattle.qc_state.specs.Keys.{keys_of, reaches_limit};
-ghost use Rattle.qc_state.specs.Moves.{Take, Seal, move_to, calmed, state_move};
+ghost use Rattle.qc_state.specs.Moves.{Take, Seal, Begin, move_to, state_move};
 ghost use Rattle.qc_state.specs.Numbers.{next_number, acked_number};
 ghost use Rattle.qc_state.specs.Sending.{internal_error, told_code, told_type, told_application_code, application_close, closing_frame, IsKeptReason, TakenNow, close_frame, is_silent, owes, owes_in, sending_space, is_used_up, limited_keys, is_key_used_up, is_key_nearly_used_up, limit_met, spared_after, may_be_quiet, owed_quiet_after, quiet_after, header_in, fills, least_size, leaves_initial, drops_initial, initial_left, sealed_with, transmit_with};
 ghost use Rattle.qc_state.specs.Stopping.{given_after, key_limit_error, killed_after};
@@ -437,9 +437,17 @@ impl<U: Suite> Core<U> {
         0
     }
 
-    /// A packet of this size was sealed.
+    /// A datagram is begun for the space: a probe that is due there is spent. Want of memory is the only refusal.
+    pub fn begin_datagram(&mut self, space: SpaceId) -> Result<(), AllocError>
+        ensures { OnOk result ((ideal U.Random.stream self.new) ≡ state_move (Begin space) (ideal U.Random.stream self.old)) }
+    {
+        self.do_begin(space)
+    }
+
+    /// A packet of this size was sealed. Want of memory is the only refusal.
     pub fn sealed(
         &mut self,
+        alloc: Global,
         did: &mut Dids,
         now: Instant,
         space: SpaceId,
@@ -450,17 +458,7 @@ impl<U: Suite> Core<U> {
         requires { number < 2 ^ 62 }
         ensures { OnOk result ((held U.Random.stream self.new did.new) ≡ move_to (Seal now space number size frames) (held U.Random.stream self.old did.old)) }
     {
-        self.do_seal(did, now, space, number, size, frames)
-    }
-
-    /// Nothing more may be in flight that elicits an acknowledgement.
-    #[tactic(auto, unfolding(qc_state::specs::Moves::calmed, qc_state::specs::Moves::move_to, qc_state::specs::Moves::deeds_move))]
-    pub(crate) fn calm(&mut self, did: &Dids)
-        ensures { (held U.Random.stream self.new did.now) ≡ calmed (held U.Random.stream self.old did.now) }
-    {
-        if self.waiting.is_calm() {
-            self.do_calm();
-        }
+        self.do_seal(alloc, did, now, space, number, size, frames)
     }
 
     /// Whether an end of this side leaves the Initial space with a packet of this space, and has keys of the Initial space still.
@@ -473,14 +471,22 @@ impl<U: Suite> Core<U> {
     }
 
     /// The keys of the Initial space are dropped with a packet of this space, where this end is of the side that leaves it so: a
-    /// client as it seals a Handshake packet, a server as it accepts one (RFC 9001, section 4.9.1).
+    /// client as it seals a Handshake packet, a server as it accepts one (RFC 9001, section 4.9.1). The loss timer is set anew then;
+    /// `blocked` says that no datagram may be begun.
     #[tactic(auto, unfolding(qc_state::specs::Sending::initial_left, qc_state::specs::Moves::move_to, qc_state::specs::Moves::deeds_move))]
-    pub fn leave_initial(&mut self, side: Side, space: SpaceId, did: &Dids)
-        ensures { (held U.Random.stream self.new did.now) ≡ initial_left side space (held U.Random.stream self.old did.now) }
+    pub fn leave_initial(
+        &mut self,
+        side: Side,
+        blocked: bool,
+        now: Instant,
+        space: SpaceId,
+        did: &Dids,
+    )
+        ensures { (held U.Random.stream self.new did.now) ≡ initial_left side blocked now space (held U.Random.stream self.old did.now) }
     {
         if self.drops_initial(side, space) {
             self.do_forget(SpaceId::Initial);
-            self.calm(did);
+            self.arm_with(did, blocked, now);
         }
     }
 
@@ -496,6 +502,16 @@ impl<U: Suite> Core<U> {
         Ok(())
     }
 
+    /// The mark of ECN that datagrams go with: ECT(0) while the path is taken to pass it on (RFC 9000, section 13.4.2).
+    fn mark(&self) -> Option<EcnCodepoint>
+        ensures { result ≡ (if self.now.lower.path.sending_ecn then Some EcnCodepoint.Ect0 else None) }
+    {
+        if self.lower.path.sending_ecn {
+            return Some(EcnCodepoint::Ect0);
+        }
+        None
+    }
+
     /// Where a datagram of this size goes.
     #[tactic(auto, unfolding(qc_state::specs::Sending::transmit_with, qc_state::specs::Setup::ideal_setup))]
     pub fn transmit_to(&self, size: usize) -> Transmit
@@ -503,7 +519,7 @@ impl<U: Suite> Core<U> {
     {
         Transmit {
             destination: self.paths.remote,
-            ecn: Some(EcnCodepoint::Ect0),
+            ecn: self.mark(),
             size,
             segment_size: None,
             src_ip: self.setup.fixed.local_ip,
@@ -527,7 +543,7 @@ impl<U: Suite> Core<U> {
         requires room { length (header_spelling header.now 0) + length (frames_spelling frames.old) + 20 ≤ DATAGRAM_SIZE }
         requires small { least ≤ DATAGRAM_SIZE }
         ensures frames { OnOk result (frames.new ≡ frames.old ++ replicate (padding_len header.now frames.old (padded_size header.now frames.old least)) Padding) }
-        ensures bytes { OnOk result (buf.new.items ≡ sealed_with (meaning U.Session.Session U.Session.HeaderKey.HeaderMask U.Session.PacketKey.PacketKey) (keys_of self.now.keys space) header.now number (frames_spelling frames.new)) }
+        ensures bytes { OnOk result (buf.new.items ≡ sealed_with (meaning U.Session.Session U.Session.HeaderKey.HeaderMask U.Session.PacketKey.PacketKey U.Control.Controller.Controller) (keys_of self.now.keys space) header.now number (frames_spelling frames.new)) }
         ensures full { OnOk result (length buf.new.items ≡ padded_size header.now frames.old least) }
     {
         match self.keys.get(space) {

@@ -1,13 +1,15 @@
 //! A server's connection is made.
 
-ghost use Rattle.std.specs.Prelude.{◌≡◌, IfOk};
+ghost use Rattle.std.specs.Prelude.{◌≡◌, None, IfOk};
 ghost use Rattle.qc_state.specs.First.{server_view, fixed_of};
+ghost use Rattle.qc_recovery.specs.Paths.{first_size};
 ghost use Rattle.qc_state.specs.Types.{meaning};
 
 use crate::making::{fixed, made};
 use crate::state::Core;
 use qc_base::{ConnectionId, Duration, Instant, Side};
-use qc_recovery::TransportConfig;
+use qc_path::ControllerFactory;
+use qc_recovery::{TransportConfig, first_mtu};
 use qc_state::{Paths, SoundSession, SpaceKeys, Suite};
 use std::alloc::{AllocError, Global};
 use std::net::{IpAddr, SocketAddr};
@@ -19,6 +21,8 @@ pub struct ServerSetup<U: Suite> {
     pub session: U::Session,
     /// The source of random words.
     pub random: U::Random,
+    /// What makes the congestion controller of the path (RFC 9002, 7).
+    pub control: U::Control,
     /// The configuration of the transport.
     pub transport: TransportConfig,
     /// Whether this end takes packets whose fixed bit isn't set (RFC 9287).
@@ -58,7 +62,7 @@ impl<U: Suite> Core<U> {
         now: Instant,
     ) -> Result<Core<U>, AllocError>
         requires fresh { U.Session.is_fresh setup.session }
-        ensures { IfOk result (λ core. core ≡ server_view (meaning U.Session.Session U.Session.HeaderKey.HeaderMask U.Session.PacketKey.PacketKey) setup.session setup.random (fixed_of Side.Server setup.version setup.local_cid setup.first_cid setup.local_ip setup.transport.max_idle_timeout setup.transport.crypto_buffer_size setup.grease_quic_bit) setup.remote setup.remote_cid setup.validated now) }
+        ensures { IfOk result (λ core. core ≡ server_view (meaning U.Session.Session U.Session.HeaderKey.HeaderMask U.Session.PacketKey.PacketKey U.Control.Controller.Controller) setup.session setup.random (fixed_of Side.Server setup.version setup.local_cid setup.first_cid setup.local_ip setup.transport.max_idle_timeout setup.transport.crypto_buffer_size setup.grease_quic_bit) setup.remote setup.remote_cid setup.validated setup.transport (U.Control.built setup.control now (first_size setup.transport None)) now) }
     {
         let session = SoundSession::new(setup.session);
         let keys = SpaceKeys::new(session.initial_keys(&setup.first_cid, Side::Server));
@@ -71,6 +75,7 @@ impl<U: Suite> Core<U> {
             &setup.transport,
             setup.grease_quic_bit,
         );
+        let congestion = setup.control.build(now, first_mtu(&setup.transport, None));
         let paths = Paths {
             remote: setup.remote,
             remote_cid: setup.remote_cid,
@@ -79,8 +84,9 @@ impl<U: Suite> Core<U> {
             spin: false,
             sent: 0,
             received: 0,
+            app_limited: false,
         };
-        Ok(made(
+        made(
             alloc,
             keys,
             session,
@@ -88,7 +94,9 @@ impl<U: Suite> Core<U> {
             setup.random,
             fixed,
             paths,
+            &setup.transport,
+            congestion,
             now,
-        ))
+        )
     }
 }

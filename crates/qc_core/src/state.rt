@@ -1,6 +1,7 @@
 //! The state of a connection.
 
 use qc_crypto::Session;
+use qc_path::ControllerFactory;
 use qc_state::{
     KeyGroup, Life, Lower, Numbers, Paths, Setup, SoundSession, Suite, Timers, Waiting,
 };
@@ -23,14 +24,14 @@ pub struct Core<U: Suite> {
     pub waiting: Waiting,
     /// What the connection was made of.
     pub setup: Setup<U::Random>,
-    /// The session.
-    pub lower: Lower<SoundSession<U::Session>>,
+    /// The session, and loss recovery.
+    pub lower: Lower<SoundSession<U::Session>, <U::Control as ControllerFactory>::Controller>,
 }
 
 impl<U: Suite> Model for Core<U> {
     ghost use Rattle.qc_state.specs.View.{Held};
 
-    ghost Value = { Held (record { S = U.Session; H = U.Session.HeaderKey; P = U.Session.PacketKey; D = U.Session.HandshakeData; I = U.Session.PeerIdentity }) U.Random };
+    ghost Value = { Held (record { S = U.Session; H = U.Session.HeaderKey; P = U.Session.PacketKey; D = U.Session.HandshakeData; I = U.Session.PeerIdentity; C = U.Control.Controller }) U.Random };
 
     ghost view = { λ c. record {
       numbers = c.numbers;

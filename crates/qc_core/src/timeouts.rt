@@ -3,7 +3,8 @@
 ghost use Rattle.std.specs.Prelude.{◌≡◌, false, OnOk};
 ghost use Rattle.qc_state.specs.Life.{is_drained};
 ghost use Rattle.qc_state.specs.Timeouts.{loss_expired, idle_expired, close_expired, timeout_after};
-ghost use Rattle.qc_state.specs.Timers.{has_come, next_timeout};
+ghost use Rattle.qc_state.specs.Timers.{has_come};
+ghost use Rattle.qc_state.specs.Types.{meaning};
 ghost use Rattle.qc_state.specs.View.{held};
 
 use crate::state::Core;
@@ -13,14 +14,17 @@ use qc_state::{ConnectionError, Dids, State, Suite};
 use std::alloc::AllocError;
 
 impl<U: Suite> Core<U> {
-    /// Packets were in flight for so long that they are to be taken up again: the timer stops, and so far nothing is sent again.
+    /// Packets were in flight for so long that some are lost, or probes are due; the loss timer is set anew. Want of memory is the
+    /// only refusal.
     #[tactic(auto, unfolding(qc_state::specs::Timeouts::loss_expired, qc_state::specs::Moves::move_to, qc_state::specs::Moves::deeds_move))]
-    fn expire_loss(&mut self, now: Instant, did: &Dids)
-        ensures { (held U.Random.stream self.new did.now) ≡ loss_expired now (held U.Random.stream self.old did.now) }
+    fn expire_loss(&mut self, now: Instant, did: &Dids) -> Result<(), AllocError>
+        ensures { OnOk result ((held U.Random.stream self.new did.now) ≡ loss_expired (meaning U.Session.Session U.Session.HeaderKey.HeaderMask U.Session.PacketKey.PacketKey U.Control.Controller.Controller) now (held U.Random.stream self.old did.now)) }
     {
         if has_come(self.timers.loss_detection, now) {
-            self.do_calm();
+            self.do_fire(now)?;
+            self.arm(did, now);
         }
+        Ok(())
     }
 
     /// The peer gave no sign for too long: the connection ends without a word.
@@ -45,22 +49,24 @@ impl<U: Suite> Core<U> {
         Ok(())
     }
 
-    /// Timers may have come by `now`: each that has, to that time or an earlier one, is stopped and does what it is for, in this
-    /// order. The loss timer: nothing so far. The idle timer: the connection ends for `TimedOut`. The close timer: the connection,
-    /// which closed before, ends. Afterwards no timer is left that has come. In a connection that has ended nothing happens.
+    /// Timers may have come by `now`: each that has, to that time or an earlier one, does what it is for, in this order. The loss
+    /// timer: packets are lost, or probes are due, and it is set anew, perhaps to a time that has come. The idle timer: the
+    /// connection ends for `TimedOut`. The close timer: the connection, which closed before, ends. Afterwards neither of these two
+    /// is left that has come. In a connection that has ended nothing happens.
     ///
     /// # Errors
     ///
     /// `AllocError` for want of memory.
     #[tactic(auto, unfolding(qc_state::specs::Timeouts::timeout_after))]
     pub fn handle_timeout(&mut self, now: Instant, did: &mut Dids) -> Result<(), AllocError>
-        ensures leads { OnOk result ((held U.Random.stream self.new did.new) ≡ timeout_after now (held U.Random.stream self.old did.old)) }
-        ensures later { OnOk result (is_drained self.old.life.state ≡ false → has_come (next_timeout self.new.timers) now ≡ false) }
+        ensures leads { OnOk result ((held U.Random.stream self.new did.new) ≡ timeout_after (meaning U.Session.Session U.Session.HeaderKey.HeaderMask U.Session.PacketKey.PacketKey U.Control.Controller.Controller) now (held U.Random.stream self.old did.old)) }
+        ensures idle { OnOk result (is_drained self.old.life.state ≡ false → has_come self.new.timers.idle now ≡ false) }
+        ensures close { OnOk result (is_drained self.old.life.state ≡ false → has_come self.new.timers.close now ≡ false) }
     {
         if self.life.is_drained() {
             return Ok(());
         }
-        self.expire_loss(now, did);
+        self.expire_loss(now, did)?;
         self.expire_idle(now, did)?;
         self.expire_close(now, did)
     }

@@ -15,7 +15,8 @@ use std::alloc::{AllocError, Global};
 /// make sure that there is a sample for header protection (RFC 9001, section 5.4.2).
 const RESERVED: usize = 20;
 
-/// Seals one packet into an empty buffer. This end closes behind it where its key may seal only one more.
+/// Seals one packet into an empty buffer, in a datagram that is begun for it. This end closes behind it where its key may seal only
+/// one more.
 fn seal_one<U: Suite>(
     core: &mut Core<U>,
     did: &mut Dids,
@@ -25,18 +26,21 @@ fn seal_one<U: Suite>(
 ) -> Result<(), AllocError>
     requires loud { may_be_quiet (ideal U.Random.stream core.old) ≡ false }
     requires empty { buf.old.items ≡ [] }
-    ensures { OnOk result (SealsOne (meaning U.Session.Session U.Session.HeaderKey.HeaderMask U.Session.PacketKey.PacketKey) now (held U.Random.stream core.old did.old) (held U.Random.stream core.new did.new) buf.new.items) }
+    ensures { OnOk result (SealsOne (meaning U.Session.Session U.Session.HeaderKey.HeaderMask U.Session.PacketKey.PacketKey U.Control.Controller.Controller) now (held U.Random.stream core.old did.old) (held U.Random.stream core.new did.new) buf.new.items) }
 {
     let space = core.sending_space();
     let nearly = core.is_key_nearly_used_up();
+    core.begin_datagram(space)?;
     let number = core.next_number(space);
     let header = core.header(space);
     let room = DATAGRAM_SIZE as usize - RESERVED - header.encoded_len();
     let mut frames = core.take(alloc, now, space, room)?;
     let least = core.least_size(space, &frames);
     core.seal(space, number, &header, &mut frames, least, buf)?;
-    core.sealed(did, now, space, number, buf.len() as u64, frames)?;
-    core.leave_initial(Side::Client, space, did);
+    let counts = core.is_flown(&frames);
+    core.sealed(alloc, did, now, space, number, buf.len() as u64, frames)?;
+    core.fly_after(did, now, counts);
+    core.leave_initial(Side::Client, false, now, space, did);
     core.spare(did, now, nearly)?;
     Ok(())
 }
@@ -52,7 +56,7 @@ pub fn transmit<U: Suite>(
     did: &mut Dids,
 ) -> Result<Option<Transmit>, AllocError>
     requires { buf.old.items ≡ [] }
-    ensures { IfOk result (λ sent. Transmits (meaning U.Session.Session U.Session.HeaderKey.HeaderMask U.Session.PacketKey.PacketKey) now (held U.Random.stream core.old did.old) (held U.Random.stream core.new did.new) sent buf.new.items) }
+    ensures { IfOk result (λ sent. Transmits (meaning U.Session.Session U.Session.HeaderKey.HeaderMask U.Session.PacketKey.PacketKey U.Control.Controller.Controller) now (held U.Random.stream core.old did.old) (held U.Random.stream core.new did.new) sent buf.new.items) }
 {
     if core.may_be_quiet() {
         core.quiet(did)?;

@@ -1,6 +1,5 @@
 -- Each number that a run acknowledges is that of a packet which was accepted before.
 use Rattle.std.proofs.Common.{◌≡◌, ℕ, ◌+◌, ◌⊎◌, inl, inr, List, [], ◌∷◌, ◌++◌, length, take, refl, ap, sym, ◌∙◌, subst, Bool, true, false, Option, Some, None, if◌then◌else◌, append_assoc, append-nil}
-use Rattle.std.specs.List.{list_any}
 use Rattle.std.specs.Prelude.{is_none}
 use Rattle.std.specs.declared.net.SocketAddr.{SocketAddr}
 use Rattle.qc_base.specs.RangeSet.{Member}
@@ -9,7 +8,8 @@ use Rattle.qc_base.specs.declared.side.Side.TheVariants.{Client}
 use Rattle.qc_base.specs.declared.side.SpaceId.{SpaceId}
 use Rattle.qc_base.specs.declared.side.SpaceId.TheVariants.{Initial, Handshake, «Data»}
 use Rattle.qc_frame.specs.Frame.{FrameValue}
-use Rattle.qc_frame.specs.FrameSpelling.{elicits}
+use Rattle.qc_flight.specs.Packets.{Entry, first_of}
+use Rattle.qc_flight.specs.declared.sent.SentPacket.{SentPacket}
 use Rattle.qc_path.specs.Arrived.{Window, arrived}
 use Rattle.qc_path.specs.declared.pending_acks.Arrival.{Arrival}
 use Rattle.qc_state.specs.declared.deeds.Did.{Did}
@@ -25,40 +25,75 @@ use Rattle.qc_state.specs.declared.trace.Step.{Step}
 use Rattle.qc_state.specs.declared.waiting.SpaceWaiting.{SpaceWaiting}
 use Rattle.qc_state.specs.declared.waiting.Waiting.{Waiting}
 use Rattle.qc_state.specs.Headline.{deeds_of, KnownBehind, AcksOnly, SealsKnown, AcksKnown, IsKept, EachAcksKnown}
-use Rattle.qc_state.specs.Life.{is_open, is_drained}
-use Rattle.qc_state.specs.Moves.{Move, Clock, Ask, Take, Seal, Forget, Enter, Expect, Fail, Accept, Fix, Hear, Ack, Calm, Come, Read, Write, Ready, Token, Learn, Want, Confirm, Establish, Tell, Drain, Leave, Owe, Shut, Raise, Give, Say, ReportReady, ReportConnected, ReportLost, ReportToken, ReportWanted, ReportDrained, accepts, state_move, move_to, deeds_move, waiting_move, numbers_move, life_move, MayMove, IsTold, calmed, told}
+use Rattle.qc_state.specs.Life.{is_open, is_drained, rank_of}
+use Rattle.qc_state.specs.Moves.{Move, ClosesOnly, Clock, Ask, Take, Seal, Forget, Enter, Expect, Fail, Accept, Fix, Hear, Ack, Fire, Arm, Begin, Come, Read, Write, Ready, Token, Learn, Want, Confirm, Establish, Tell, Drain, Leave, Owe, Shut, Raise, Give, Say, ReportReady, ReportConnected, ReportLost, ReportToken, ReportWanted, ReportDrained, accepts, state_move, move_to, deeds_move, waiting_move, numbers_move, life_move, MayMove, IsTold, told}
 use Rattle.qc_state.specs.Numbers.{next_number}
 use Rattle.qc_state.specs.Numbers as numbers
 use Rattle.qc_state.specs.Run.{time_of, packets_of, began, close_after, input_after, called, reported, step_after, IsAllowed, IsStep, Run, Ran}
 use Rattle.qc_state.specs.Paths.{is_blocked}
-use Rattle.qc_state.specs.Sending.{is_silent, owes, sending_space, is_key_nearly_used_up, limit_met, quiet_after, drops_initial, initial_left, packet_size, sealed_in, spared_after, packet_after, transmit_after, MaySeal, MayTransmit, owed_quiet_after}
+use Rattle.qc_state.specs.Sending.{is_silent, owes, sending_space, is_key_nearly_used_up, limit_met, quiet_after, begun_view, is_flown, flown_after, packet_size, sealed_in, spared_after, packet_after, transmit_after, MaySeal, MayTransmit, owed_quiet_after}
 use Rattle.qc_state.specs.Stopping.{given_after, key_limit_error, killed_after}
 use Rattle.qc_state.specs.Spaces.{space_of, with_space, is_space}
 use Rattle.qc_state.specs.Receiving.{datagram_after}
 use Rattle.qc_state.specs.Timeouts.{timeout_after}
 use Rattle.qc_state.specs.Types.{Types, Meaning}
 use Rattle.qc_state.specs.View.{View, At}
-use Rattle.qc_state.specs.Waiting.{done_asked, ping_asked, waiting_without, close_begun, packet_told, untold, flown_in, packet_flown, settled_in, packets_settled, came_in, packet_came, crypto_written, nothing_left, space_left}
-use Rattle.qc_state.proofs.AcksKnown.{received_has, KnownSince, known_more, since_more, known_append, since_append, only_more, without_all_keeps, carries_known}
-use Rattle.qc_state.proofs.Receives.{IsReceived, holds_datagram, holds_stopped, in_packet_received}
+use Rattle.qc_state.specs.Waiting.{done_asked, ping_asked, waiting_without, close_begun, packet_told, untold, lost_in, packets_lost, acked_in, packets_acked, fired_in, probes_added, begun_in, datagram_begun, came_in, packet_came, crypto_written, nothing_left, space_left}
+use Rattle.qc_state.proofs.AcksKnown.{acked_had, begun_keeps, lost_keeps, received_has, KnownSince, known_more, since_more, known_append, since_append, only_more, without_all_keeps, carries_known}
+use Rattle.qc_recovery.specs.Steps as recovery
+use Rattle.qc_recovery.specs.declared.calls.Fired.{Fired}
+use Rattle.qc_recovery.specs.declared.calls.Fired.TheVariants as fired
+use Rattle.qc_path.specs.Acks.{PendingValues}
+use Rattle.qc_state.proofs.Receives.{IsReceived, holds_armed, holds_datagram, holds_initial, holds_stopped, in_packet_received}
 use Rattle.qc_state.proofs.Expired.{IsTimed, holds_timeout}
 use Rattle.qc_state.proofs.Telling.{is_none_none, low_rank, open_rank}
 use Rattle.qc_state.proofs.Told.{loud_alive, closes_only}
 
 -- ---- what is kept in a space, where one space changes
 
+-- a space where no number more is kept
+fewer_kept : (id space : SpaceId) (v : Waiting) (w : SpaceWaiting) (owed : Bool) → ((n : ℕ) → Member n w.acks.ranges → Member n (space_of v.spaces space).acks.ranges)
+    → (n : ℕ) → IsKept id (record { spaces = with_space v.spaces space w; close_owed = owed }) n → IsKept id v n
+fewer_kept Initial Initial v w owed fewer n m = fewer n m
+fewer_kept Initial Handshake v w owed fewer n m = m
+fewer_kept Initial Data v w owed fewer n m = m
+fewer_kept Handshake Initial v w owed fewer n m = m
+fewer_kept Handshake Handshake v w owed fewer n m = fewer n m
+fewer_kept Handshake Data v w owed fewer n m = m
+fewer_kept Data Initial v w owed fewer n m = m
+fewer_kept Data Handshake v w owed fewer n m = m
+fewer_kept Data Data v w owed fewer n m = fewer n m
+
 -- a space whose numbers to acknowledge stay
 same_kept : (id space : SpaceId) (v : Waiting) (w : SpaceWaiting) (owed : Bool) → w.acks.ranges ≡ (space_of v.spaces space).acks.ranges
     → (n : ℕ) → IsKept id (record { spaces = with_space v.spaces space w; close_owed = owed }) n → IsKept id v n
-same_kept Initial Initial v w owed same n m = subst (Member n) same m
-same_kept Initial Handshake v w owed same n m = m
-same_kept Initial Data v w owed same n m = m
-same_kept Handshake Initial v w owed same n m = m
-same_kept Handshake Handshake v w owed same n m = subst (Member n) same m
-same_kept Handshake Data v w owed same n m = m
-same_kept Data Initial v w owed same n m = m
-same_kept Data Handshake v w owed same n m = m
-same_kept Data Data v w owed same n m = subst (Member n) same m
+same_kept id space v w owed same = fewer_kept id space v w owed (λ n m. subst (Member n) same m)
+
+-- packets were lost
+lost_kept : (id space : SpaceId) (v : Waiting) (es : List Entry) (n : ℕ) → IsKept id (packets_lost v space es) n → IsKept id v n
+unfolding packets_lost
+lost_kept id space v es = same_kept id space v (lost_in (space_of v.spaces space) es) v.close_owed (ap (λ (p : PendingValues). p.ranges) (lost_keeps (space_of v.spaces space) es))
+
+-- packets were acknowledged
+acked_kept : (id space : SpaceId) (v : Waiting) (es : List Entry) (n : ℕ) → IsKept id (packets_acked v space es) n → IsKept id v n
+unfolding packets_acked
+acked_kept id space v es = fewer_kept id space v (acked_in (space_of v.spaces space) es) v.close_owed (λ n m. acked_had n (space_of v.spaces space) es m)
+
+-- both
+settled_kept : (id space : SpaceId) (v : Waiting) (acked lost : List Entry) (n : ℕ) → IsKept id (packets_lost (packets_acked v space acked) space lost) n → IsKept id v n
+settled_kept id space v acked lost n m = acked_kept id space v acked n (lost_kept id space (packets_acked v space acked) lost n m)
+
+-- the loss timer fired
+fired_kept : (id : SpaceId) (v : Waiting) (f : Fired) (n : ℕ) → IsKept id (fired_in v f) n → IsKept id v n
+unfolding probes_added
+fired_kept id v (fired.Lost space es) n m = lost_kept id space v es n m
+fired_kept id v (fired.Probe space count) n m = same_kept id space v _ v.close_owed refl n m
+fired_kept id v fired.Nothing n m = m
+
+-- a datagram was begun
+datagram_kept : (id space : SpaceId) (v : Waiting) (oldest : Option SentPacket) (n : ℕ) → IsKept id (datagram_begun v space oldest) n → IsKept id v n
+unfolding datagram_begun
+datagram_kept id space v oldest = same_kept id space v (begun_in (space_of v.spaces space) oldest) v.close_owed (ap (λ (p : PendingValues). p.ranges) (begun_keeps (space_of v.spaces space) oldest))
 
 -- the frames of a packet were taken
 taken_kept : (space : SpaceId) (v : Waiting) (fs : List FrameValue) (n : ℕ) → IsKept space v n → IsKept space (waiting_without v space fs) n
@@ -75,14 +110,10 @@ begun_kept Initial v false n m = m
 begun_kept Handshake v false n m = m
 begun_kept Data v false n m = m
 
--- a packet was sealed, which may elicit an acknowledgement
-sealed_kept : (id space : SpaceId) (v : Waiting) (last : Bool) (number : ℕ) (b : Bool) (n : ℕ)
-    → IsKept id (if b then packet_flown (packet_told v space last) space number else packet_told v space last) n → IsKept id v n
-unfolding packet_flown packet_told flown_in
-sealed_kept id space v last number true n m =
-    same_kept id space v (record (space_of v.spaces space) { told = true }) (packet_told v space last).close_owed refl n
-    (same_kept id space (packet_told v space last) (flown_in number (space_of (packet_told v space last).spaces space)) (packet_told v space last).close_owed refl n m)
-sealed_kept id space v last number false n m = same_kept id space v (record (space_of v.spaces space) { told = true }) (packet_told v space last).close_owed refl n m
+-- a packet was sealed
+sealed_kept : (id space : SpaceId) (v : Waiting) (last : Bool) (n : ℕ) → IsKept id (packet_told v space last) n → IsKept id v n
+unfolding packet_told
+sealed_kept id space v last n m = same_kept id space v (record (space_of v.spaces space) { told = true }) (packet_told v space last).close_owed refl n m
 
 -- a packet was accepted: what is kept is its number, or was kept before
 accepted_by : (number n : ℕ) (v : Verdict) (K : Type 0) → accepts v ≡ true → (number ≡ n) ⊎ K → ((if accepts v then Some number else None) ≡ Some n) ⊎ K
@@ -166,13 +197,13 @@ module _ {t : Types} where
 
   -- over each move
   pub knows_move : (id : SpaceId) (x : Move t) (a : At t) → MayMove x a.state → IsKnowing x a.state → Knows id a (move_to x a)
-  unfolding MayMove deeds_move waiting_move ping_asked waiting_without packets_settled settled_in crypto_written done_asked space_left nothing_left close_begun
+  unfolding MayMove deeds_move waiting_move ping_asked waiting_without crypto_written done_asked space_left nothing_left close_begun
   knows_move id (Clock time) a h k = absurd h
   knows_move id (Ask space) a h k = silent_knows id (Ask space) a refl (same_kept id space a.state.waiting _ a.state.waiting.close_owed refl)
   knows_move id (Take space fs) a h k = silent_knows id (Take space fs) a refl (same_kept id space a.state.waiting _ a.state.waiting.close_owed (without_all_keeps (space_of a.state.waiting.spaces space) fs))
   knows_move id (Seal time space n size fs) a h k =
       deed_knows id (Seal time space n size fs) (did.Sealed space n 0 false fs) a refl (said_there id space a.state.waiting fs k)
-      (sealed_kept id space a.state.waiting (is_space space a.state.keys.highest) n (list_any elicits fs))
+      (sealed_kept id space a.state.waiting (is_space space a.state.keys.highest))
   knows_move id (Forget space) a h k = silent_knows id (Forget space) a refl (same_kept id space a.state.waiting _ a.state.waiting.close_owed refl)
   knows_move id (Enter space n v) a h k = deed_knows id (Enter space n v) _ a refl tt (λ n m. inr m)
   knows_move id (Expect token) a h k = silent_knows id (Expect token) a refl (λ n m. m)
@@ -182,8 +213,10 @@ module _ {t : Types} where
       (came_kept id space a.state.waiting (arrived n (numbers.came_in a.state.numbers space)) (record { number = n; at = time; ack_eliciting = e; ce = false }) g.mark v k)
   knows_move id (Fix cid) a h k = silent_knows id (Fix cid) a refl (λ n m. m)
   knows_move id (Hear bytes) a h k = silent_knows id (Hear bytes) a refl (λ n m. m)
-  knows_move id (Ack space n rs) a h k = silent_knows id (Ack space n rs) a refl (same_kept id space a.state.waiting _ a.state.waiting.close_owed refl)
-  knows_move id Calm a h k = silent_knows id Calm a refl (λ n m. m)
+  knows_move id (Ack space n r) a h k = silent_knows id (Ack space n r) a refl (settled_kept id space a.state.waiting r.acked r.lost)
+  knows_move id (Fire r) a h k = silent_knows id (Fire r) a refl (fired_kept id a.state.waiting r.fired)
+  knows_move id (Arm at) a h k = silent_knows id (Arm at) a refl (λ n m. m)
+  knows_move id (Begin space) a h k = silent_knows id (Begin space) a refl (datagram_kept id space a.state.waiting (first_of (recovery.space_of space a.state.lower.recovery).flight))
   knows_move id (Come space offset bytes) a h k = silent_knows id (Come space offset bytes) a refl (λ n m. m)
   knows_move id (Read space count session) a h k = silent_knows id (Read space count session) a refl (λ n m. m)
   knows_move id (Write bytes keys session) a h k = silent_knows id (Write bytes keys session) a refl (same_kept id a.state.keys.highest a.state.waiting _ a.state.waiting.close_owed refl)
@@ -229,18 +262,6 @@ module _ {t : Types} where
   quiet_by id why a false true false h = knows_next id a (killed_after why a) _ (knows_killed id why a (loud_alive a.state.life.state a.state.waiting.close_owed h)) (knows_move id (Say Killed) (killed_after why a) tt tt)
   quiet_by id why a false false z h = knows_move id (Say NothingOwed) a tt tt
 
-  -- nothing more may be in flight
-  calm_by : (id : SpaceId) (a : At t) (b : Bool) → Knows id a (if b then move_to Calm a else a)
-  unfolding MayMove
-  calm_by id a true = knows_move id Calm a tt tt
-  calm_by id a false = knows_here id a
-
-  -- the Initial keys are dropped, or not
-  left_by : (id : SpaceId) (a : At t) (b : Bool) → Knows id a (if b then calmed (move_to (Forget Initial) a) else a)
-  unfolding calmed MayMove
-  left_by id a true = knows_next id a (move_to (Forget Initial) a) _ (knows_move id (Forget Initial) a tt tt) (calm_by id (move_to (Forget Initial) a) _)
-  left_by id a false = knows_here id a
-
   -- what is received seals nothing, and accepts what it says that it accepts
   received_knows : (x : Move t) (s : View t) → IsReceived x → IsKnowing x s
   received_knows (Forget id) s r = tt
@@ -250,8 +271,8 @@ module _ {t : Types} where
   received_knows (Accept time id n e g v) s r = r
   received_knows (Fix cid) s r = tt
   received_knows (Hear bytes) s r = tt
-  received_knows (Ack id n rs) s r = tt
-  received_knows Calm s r = tt
+  received_knows (Ack id n after) s r = tt
+  received_knows (Arm at) s r = tt
   received_knows (Come id offset bytes) s r = tt
   received_knows (Read id count session) s r = tt
   received_knows (Write bytes keys session) s r = tt
@@ -276,25 +297,35 @@ module _ {t : Types} where
   knows_spared id time true a = holds_stopped (Knows id) (knows_here id) (knows_next id) (λ x r b may. knows_move id x b may (received_knows x b.state (in_packet_received x r))) time key_limit_error a
   knows_spared id time false a = knows_here id a
 
+  -- the loss timer is set anew behind a packet in flight, or not
+  knows_flown : (id : SpaceId) (time : ℕ) (counts : Bool) (a : At t) → Knows id a (flown_after time counts a)
+  knows_flown id time true a = holds_armed (Knows id) (knows_here id) (knows_next id) (λ x r b may. knows_move id x b may (received_knows x b.state (in_packet_received x r))) false time a
+  knows_flown id time false a = knows_here id a
+
   -- a packet is sealed
-  knows_sealed : (id : SpaceId) (time : ℕ) (fs : List FrameValue) (a : At t) → MaySeal time a.state fs → Knows id a (sealed_in time (sending_space a.state) fs a)
-  unfolding sealed_in initial_left MayMove move_to state_move numbers_move life_move waiting_move
-  knows_sealed id time fs a may =
-      let space : SpaceId = sending_space a.state in
+  knows_sealed : (id space : SpaceId) (time : ℕ) (fs : List FrameValue) (a : At t) → ClosesOnly (rank_of a.state.life.state) fs → AcksOnly (IsKept space a.state.waiting) fs → Knows id a (sealed_in time space fs a)
+  unfolding sealed_in MayMove move_to state_move numbers_move life_move waiting_move
+  knows_sealed id space time fs a closes_now known =
       let b : At t = move_to (Take space fs) a in
       let n : ℕ = next_number a.state.numbers space in
       let size : ℕ = packet_size a.state space fs in
       let c : At t = move_to (Seal time space n size fs) b in
+      let d : At t = flown_after time (is_flown a.state fs) c in
       let said : AcksOnly (IsKept space (waiting_without a.state.waiting space fs)) fs =
-      only_more (IsKept space a.state.waiting) (IsKept space (waiting_without a.state.waiting space fs)) (taken_kept space a.state.waiting fs) fs (carries_known time a.state space fs may.carries) in
+      only_more (IsKept space a.state.waiting) (IsKept space (waiting_without a.state.waiting space fs)) (taken_kept space a.state.waiting fs) fs known in
       knows_next id a b _ (knows_move id (Take space fs) a tt tt)
-      (knows_next id b c _ (knows_move id (Seal time space n size fs) b (refl, closes_only time a.state fs may) said) (left_by id c (drops_initial Client c.state space)))
+      (knows_next id b c _ (knows_move id (Seal time space n size fs) b (refl, closes_now) said)
+      (knows_next id c d _ (knows_flown id time (is_flown a.state fs) c)
+      (holds_initial (Knows id) (knows_here id) (knows_next id) (λ x r e may. knows_move id x e may (received_knows x e.state (in_packet_received x r))) Client false time space d)))
 
   knows_packet : (id : SpaceId) (time : ℕ) (fs : List FrameValue) (a : At t) → MaySeal time a.state fs → Knows id a (packet_after time fs a)
-  unfolding packet_after
+  unfolding packet_after begun_view MayMove move_to state_move life_move
   knows_packet id time fs a may =
-      let b : At t = sealed_in time (sending_space a.state) fs a in
-      knows_next id a b _ (knows_sealed id time fs a may) (knows_spared id time (is_key_nearly_used_up a.state) b)
+      let space : SpaceId = sending_space a.state in
+      let b : At t = move_to (Begin space) a in
+      let c : At t = sealed_in time space fs b in
+      knows_next id a b _ (knows_move id (Begin space) a tt tt)
+      (knows_next id b c _ (knows_sealed id space time fs b (closes_only time a.state fs may) (carries_known time (begun_view a.state) space fs may.carries)) (knows_spared id time (is_key_nearly_used_up a.state) c))
 
   -- a transmit seals a packet or none
   knows_transmit : (id : SpaceId) (time : ℕ) (ps : List (List FrameValue)) (a : At t) → MayTransmit time a.state ps → Knows id a (transmit_after time ps a)
@@ -316,20 +347,21 @@ module _ {t : Types} where
 
   -- what a timer does seals nothing, and accepts nothing
   timed_knows : (x : Move t) (s : View t) → IsTimed x → IsKnowing x s
-  timed_knows Calm s r = tt
+  timed_knows (Fire after) s r = tt
+  timed_knows (Arm at) s r = tt
   timed_knows (Raise to) s r = tt
   timed_knows (Give why) s r = tt
   timed_knows _ s r = absurd r
 
   -- a timeout
-  knows_timeout : (id : SpaceId) (time : ℕ) (a : At t) → Knows id a (timeout_after time a)
-  knows_timeout id time a = holds_timeout (Knows id) (knows_here id) (knows_next id) (λ x timed b may. knows_move id x b may (timed_knows x b.state timed)) time a
+  knows_timeout : (id : SpaceId) (m : Meaning t) (time : ℕ) (a : At t) → Knows id a (timeout_after m time a)
+  knows_timeout id m time a = holds_timeout (Knows id) (knows_here id) (knows_next id) (λ x timed b may. knows_move id x b may (timed_knows x b.state timed)) m time a
 
   -- each input
   knows_input : (id : SpaceId) (m : Meaning t) (i : Input) (ds : List Did) (a : At t) → IsAllowed i ds a.state → Knows id a (input_after m i ds a)
   unfolding IsAllowed input_after close_after MayMove
   knows_input id m (input.Datagram time remote ecn bytes) ds a h = knows_datagram id m time ecn remote bytes a
-  knows_input id m (input.Timeout time) ds a h = knows_timeout id time a
+  knows_input id m (input.Timeout time) ds a h = knows_timeout id m time a
   knows_input id m (input.Transmit time max) ds a h = knows_transmit id time (packets_of ds) a h
   knows_input id m (input.Close time code reason) ds a h = closed_by id time _ a _ refl
   knows_input id m (input.Ping time) ds a h = knows_move id (Ask a.state.keys.highest) a tt tt

@@ -9,11 +9,15 @@ use Rattle.qc_frame.specs.Frame.{FrameValue, AckValue}
 use Rattle.qc_frame.specs.AckRanges.{Acknowledges}
 use Rattle.qc_frame.specs.declared.frames.FrameOf.TheVariants as frames
 use Rattle.qc_frame.proofs.RangesUp.{reverse_member}
-use Rattle.qc_path.specs.AckRanges.{raised_to, with_number}
-use Rattle.qc_path.specs.Acks.{PendingValues, acks_received}
+use Rattle.qc_flight.specs.Packets.{Entry}
+use Rattle.qc_flight.specs.declared.sent.SentPacket.{SentPacket}
+use Rattle.qc_path.specs.AckRanges.{from_number, raised_to, with_number}
+use Rattle.qc_path.specs.Acks.{PendingValues, acks_confirmed, acks_received}
+use Rattle.qc_base.specs.Time.{plus}
 use Rattle.qc_path.specs.Arrived.{Window}
 use Rattle.qc_path.specs.declared.pending_acks.Arrival.{Arrival}
 use Rattle.qc_state.specs.Acks.{AckPart, SaysAck, ack_sent}
+use Rattle.qc_send_stream.specs.Buffer.{range_sealed}
 use Rattle.qc_state.specs.declared.deeds.Did.{Did}
 use Rattle.qc_state.specs.declared.deeds.Did.TheVariants as did
 use Rattle.qc_state.specs.declared.life.Close.{Close}
@@ -24,9 +28,8 @@ use Rattle.qc_state.specs.Life.{is_closed}
 use Rattle.qc_state.specs.Sending.{Carries, Closes, application_close, close_frame, closing_frame, told_close, padding_of, padded}
 use Rattle.qc_state.specs.Spaces.{space_of}
 use Rattle.qc_state.specs.Types.{Types}
-use Rattle.qc_state.specs.Unsent.{unsent_after}
 use Rattle.qc_state.specs.View.{View}
-use Rattle.qc_state.specs.Waiting.{without, Waits, WaitAll, without_all}
+use Rattle.qc_state.specs.Waiting.{without, Waits, WaitAll, without_all, again, all_again, lost_in, confirmed, all_confirmed, acked_in, packet_again, probe_sent, begun_in, wants_sending}
 
 -- ---- one number more among those to acknowledge
 
@@ -90,6 +93,73 @@ with_has n k (r ∷ rs) m = by_order (with_has n k rs) (nat_lt (r.last + 1) n) (
 pub received_has : (in_data : Bool) (seen : Window) (p : Arrival) (v : PendingValues) (k : ℕ) → Member k (acks_received in_data seen p v).ranges → (p.number ≡ k) ⊎ Member k v.ranges
 unfolding acks_received
 received_has in_data seen p v k m = with_has p.number k v.ranges (dropped (length (with_number p.number v.ranges) - 64) k (with_number p.number v.ranges) m)
+
+-- ---- fewer numbers to acknowledge
+
+-- the numbers from one on were kept before
+from_had : (n k : ℕ) (rs : List NumberRange) → Member k (from_number n rs) → Member k rs
+from_had n k [] m = m
+from_had n k (r ∷ rs) m = by_place (from_had n k rs) (nat_lt r.last n) (nat_lt r.first n) refl m
+  where
+    by_place : (Member k (from_number n rs) → Member k rs) → (a b : Bool) → nat_lt r.first n ≡ b → Member k (if a then from_number n rs else if b then record { first = n; last = r.last } ∷ rs else r ∷ rs) → Member k (r ∷ rs)
+    by_place rest true b q m = inr (rest m)
+    by_place rest false true q (inl here) = let low = here.0 in inl (grind (arith, nat_tests), here.1)
+    by_place rest false true q (inr there) = inr there
+    by_place rest false false q m = m
+
+-- what is kept once an acknowledgement of this end's was acknowledged was kept before
+confirmed_had : (k : ℕ) (w : SpaceWaiting) (f : FrameValue) → Member k (confirmed w f).acks.ranges → Member k w.acks.ranges
+unfolding acks_confirmed
+confirmed_had k w (frames.Ack ack) m = from_had (plus ack.largest 1) k w.acks.ranges m
+confirmed_had k w _ m = m
+
+all_confirmed_had : (k : ℕ) (w : SpaceWaiting) (fs : List FrameValue) → Member k (all_confirmed w fs).acks.ranges → Member k w.acks.ranges
+all_confirmed_had k w [] m = m
+all_confirmed_had k w (f ∷ fs) m = confirmed_had k w f (all_confirmed_had k (confirmed w f) fs m)
+
+-- so it is with packets
+pub acked_had : (k : ℕ) (w : SpaceWaiting) (es : List Entry) → Member k (acked_in w es).acks.ranges → Member k w.acks.ranges
+acked_had k w [] m = m
+acked_had k w (e ∷ es) m = all_confirmed_had k w e.1.frames (acked_had k (all_confirmed w e.1.frames) es m)
+
+-- frames that wait again leave the numbers to acknowledge
+again_keeps : (w : SpaceWaiting) (f : FrameValue) → (again w f).acks ≡ w.acks
+again_keeps w frames.HandshakeDone = refl
+again_keeps w (frames.Crypto offset body) = refl
+again_keeps w _ = refl
+
+all_again_keeps : (w : SpaceWaiting) (fs : List FrameValue) → (all_again w fs).acks ≡ w.acks
+all_again_keeps w [] = refl
+all_again_keeps w (f ∷ fs) = all_again_keeps (again w f) fs ∙ again_keeps w f
+
+-- so do lost packets
+pub lost_keeps : (w : SpaceWaiting) (es : List Entry) → (lost_in w es).acks ≡ w.acks
+lost_keeps w [] = refl
+lost_keeps w (e ∷ es) = lost_keeps (all_again w e.1.frames) es ∙ all_again_keeps w e.1.frames
+
+-- and a datagram that is begun
+pinged_keeps : (w : SpaceWaiting) (b : Bool) → (if b then w else record w { ping = true }).acks ≡ w.acks
+pinged_keeps w true = refl
+pinged_keeps w false = refl
+
+oldest_keeps : (w : SpaceWaiting) (oldest : Option SentPacket) (b : Bool) → (if b then w else packet_again w oldest).acks ≡ w.acks
+oldest_keeps w oldest true = refl
+oldest_keeps w None false = refl
+oldest_keeps w (Some packet) false = all_again_keeps w packet.frames
+
+probed_keeps : (w : SpaceWaiting) (oldest : Option SentPacket) → (probe_sent w oldest).acks ≡ w.acks
+unfolding probe_sent
+probed_keeps w oldest =
+    let v : SpaceWaiting = if wants_sending w then w else packet_again w oldest in
+    pinged_keeps v (wants_sending v) ∙ oldest_keeps w oldest (wants_sending w)
+
+begun_by : (w : SpaceWaiting) (oldest : Option SentPacket) (b : Bool) → (if b then w else probe_sent (record w { probes = w.probes - 1 }) oldest).acks ≡ w.acks
+begun_by w oldest true = refl
+begun_by w oldest false = probed_keeps (record w { probes = w.probes - 1 }) oldest
+
+pub begun_keeps : (w : SpaceWaiting) (oldest : Option SentPacket) → (begun_in w oldest).acks ≡ w.acks
+unfolding begun_in
+begun_keeps w oldest = begun_by w oldest (w.probes == 0)
 
 -- ---- what is known behind deeds
 
@@ -184,7 +254,7 @@ wait_known time w [] h = tt
 wait_known time w (frames.HandshakeDone ∷ fs) h = wait_known time (record w { done = false }) fs h.1
 wait_known time w (frames.Ping ∷ fs) h = wait_known time (record w { ping = false }) fs h.1
 wait_known time w (frames.Ack ack ∷ fs) h = (says_known time w ack h.0.1, wait_known time (record w { acks = ack_sent w.acks }) fs h.1)
-wait_known time w (frames.Crypto offset body ∷ fs) h = wait_known time (record w { crypto = unsent_after w.crypto (length body) }) fs h.1
+wait_known time w (frames.Crypto offset body ∷ fs) h = wait_known time (record w { crypto = range_sealed offset (offset + length body) w.crypto }) fs h.1
 wait_known time w (_ ∷ fs) h = absurd h.0
 
 -- frames that are sealed leave the numbers to acknowledge

@@ -1,5 +1,6 @@
 -- Datagrams none of whose packets opened change only counts.
-use Rattle.std.proofs.Common.{◌≡◌, ℕ, ◌+◌, List, [], ◌∷◌, ◌++◌, length, refl, ap, sym, ◌∙◌, subst, Bool, true, false, Option, Some, None, if◌then◌else◌, append_assoc, append-nil}
+use Rattle.std.proofs.Common.{◌≡◌, ℕ, ◌+◌, ◌*◌, ◌<◌, ◌≤◌, List, [], ◌∷◌, ◌++◌, length, refl, ap, sym, ◌∙◌, subst, Bool, true, false, Option, Some, None, if◌then◌else◌, append_assoc, append-nil, arith}
+use Rattle.std.proofs.lemmas.Bool.Decides.{nat_tests}
 use Rattle.std.proofs.lemmas.List.Elements.{All-head, All-tail}
 use Rattle.std.proofs.lemmas.List.Folds.{list_all-append}
 use Rattle.std.specs.Prelude.{zero, suc, ◌&&◌, not, nat_le, is_ok, Result, Ok, Err}
@@ -39,18 +40,19 @@ use Rattle.qc_state.specs.declared.transmit.TheConstants.{DATAGRAM_SIZE}
 use Rattle.qc_state.specs.Headline.{deeds_of, is_harmless, is_datagram, OnlyCounts, Harmless}
 use Rattle.qc_state.specs.Keys.{fails_too_often, failure_counted}
 use Rattle.qc_state.specs.Life.{is_handshake, is_over, ready_reported, connected_reported, lost_reported, token_reported, wanted_reported, drained_reported}
-use Rattle.qc_state.specs.Moves.{Move, Accept, Clock, Drain, Enter, Expect, Fail, Hear, Owe, Raise, Tell, deeds_move, keys_move, life_move, lower_move, move_to, numbers_move, paths_move, setup_move, state_move, timers_move, waiting_move}
+use Rattle.qc_state.specs.Moves.{Move, Accept, Clock, Drain, Enter, Expect, Fail, Hear, Owe, Raise, Tell, deeds_move, keys_move, life_move, lower_move, move_to, numbers_move, paths_move, setup_move, state_move, timers_move, waiting_move, armed_after, armed_with}
 use Rattle.qc_state.specs.Opening.{opening_of}
-use Rattle.qc_state.specs.Paths.{path_received, same_address}
-use Rattle.qc_state.specs.Receiving.{accepted_after, admitted_after, cut_of, datagram_after, failed_after, first_after, first_token, fixed_after, has_first_ids, heard_after, is_close_item, is_eliciting_item, is_initial_with, is_readable, lets_in, opened_token, opening_after, piece_after, piece_told, pieces_after, read_for_close, received_after, token_in_first, token_in_items, verdict_after}
+use Rattle.qc_state.specs.Paths.{is_blocked, path_received, same_address}
+use Rattle.qc_state.specs.Receiving.{accepted_after, admitted_after, counted_after, cut_of, datagram_after, failed_after, first_after, first_token, fixed_after, has_first_ids, heard_after, is_close_item, is_eliciting_item, is_initial_with, is_readable, lets_in, opened_token, opening_after, piece_after, piece_told, pieces_after, read_for_close, received_after, token_in_first, token_in_items, verdict_after}
 use Rattle.qc_state.specs.Run.{IsStep, Run, began, called, input_after, reported, step_after}
 use Rattle.qc_state.specs.Setup.{is_first_awaited, token_expected}
 use Rattle.qc_state.specs.Stopping.{key_limit_error, killed_after, stopped_after, violation_at}
-use Rattle.qc_state.specs.Timers.{clock_set}
+use Rattle.qc_state.specs.Timers.{clock_set, timers_armed}
 use Rattle.qc_state.specs.Types.{Types, Meaning}
 use Rattle.qc_state.specs.Verdicts.{first_row, verdict_of}
 use Rattle.qc_state.specs.View.{View, At}
-use Rattle.qc_state.proofs.Receives.{holds_fixed, holds_given, holds_initial, holds_payload, holds_stopped}
+use Rattle.qc_state.specs.Recovering.{loss_time}
+use Rattle.qc_state.proofs.Receives.{holds_counted, holds_fixed, holds_given, holds_initial, holds_payload, holds_stopped}
 use Rattle.qc_state.proofs.Telling.{told_appends}
 
 -- of two tests that hold each holds
@@ -143,6 +145,20 @@ reported_again : (v : Life) → life_reported (life_reported v) ≡ life_reporte
 unfolding drained_reported wanted_reported token_reported lost_reported connected_reported ready_reported
 reported_again v = refl
 
+-- a path that isn't blocked isn't blocked either once more bytes came
+freed_by : (v b c : Bool) (sent less more : ℕ) → less ≤ more → nat_le (3 * less) sent ≡ b → nat_le (3 * more) sent ≡ c → (not v && b) ≡ false → (not v && c) ≡ false
+freed_by true b c sent less more up is_b is_c f = refl
+freed_by false true c sent less more up is_b is_c f = cc f
+freed_by false false c sent less more up is_b is_c f =
+    let few : sent < 3 * less = grind (arith, nat_tests) in
+    grind (arith, nat_tests)
+
+stays_free : (p q : Paths) → q ≡ record p { received = q.received } → p.received ≤ q.received → is_blocked p ≡ false → is_blocked q ≡ false
+unfolding is_blocked
+stays_free p q is more free =
+    ap (λ (x : Paths). not x.validated && nat_le (3 * x.received) x.sent) is
+    ∙ freed_by p.validated (nat_le (3 * p.received) p.sent) (nat_le (3 * q.received) p.sent) p.sent p.received q.received more refl refl free
+
 module _ {t : Types} where
   -- only counts changed, and nothing was reported
   pub record Same (s s' : View t) : Type 0 where
@@ -150,13 +166,16 @@ module _ {t : Types} where
     pub keys : s'.keys ≡ record s.keys { failures = s'.keys.failures }
     pub life : s'.life ≡ s.life
     pub paths : s'.paths ≡ record s.paths { received = s'.paths.received }
-    pub timers : s'.timers ≡ record s.timers { greatest = s'.timers.greatest }
+    pub ranged : s.paths.received ≤ 18446744073709551615 → s'.paths.received ≤ 18446744073709551615
+    pub more : s.paths.received ≤ 18446744073709551615 → s.paths.received ≤ s'.paths.received
+    pub timers : s'.timers ≡ record s.timers { greatest = s'.timers.greatest; loss_detection = s'.timers.loss_detection }
+    pub still : s.paths.received ≤ 18446744073709551615 → is_blocked s.paths ≡ false → s'.timers.loss_detection ≡ s.timers.loss_detection
     pub waiting : s'.waiting ≡ s.waiting
     pub setup : s'.setup ≡ s.setup
     pub lower : s'.lower ≡ s.lower
 
   same_here : (s : View t) → Same s s
-  same_here s = record { numbers = refl; keys = refl; life = refl; paths = refl; timers = refl; waiting = refl; setup = refl; lower = refl }
+  same_here s = record { numbers = refl; keys = refl; life = refl; paths = refl; ranged = λ r. r; more = λ r. omega arith; timers = refl; still = λ r f. refl; waiting = refl; setup = refl; lower = refl }
 
   same_next : (r s u : View t) → Same r s → Same s u → Same r u
   same_next r s u g h = record {
@@ -164,7 +183,10 @@ module _ {t : Types} where
     keys = h.keys ∙ ap (λ (k : KeyGroup t.H t.P). record k { failures = u.keys.failures }) g.keys;
     life = h.life ∙ g.life;
     paths = h.paths ∙ ap (λ (p : Paths). record p { received = u.paths.received }) g.paths;
-    timers = h.timers ∙ ap (λ (x : Timers). record x { greatest = u.timers.greatest }) g.timers;
+    ranged = λ k. h.ranged (g.ranged k);
+    more = λ k. let first : r.paths.received ≤ s.paths.received = g.more k in let second : s.paths.received ≤ u.paths.received = h.more (g.ranged k) in omega (arith, first, second);
+    timers = h.timers ∙ ap (λ (x : Timers). record x { greatest = u.timers.greatest; loss_detection = u.timers.loss_detection }) g.timers;
+    still = λ k f. h.still (g.ranged k) (stays_free r.paths s.paths g.paths (g.more k) f) ∙ g.still k f;
     waiting = h.waiting ∙ g.waiting;
     setup = h.setup ∙ g.setup;
     lower = h.lower ∙ g.lower;
@@ -172,11 +194,11 @@ module _ {t : Types} where
 
   -- the same where what waited to be reported was reported
   counts_here : (s : View t) → OnlyCounts s s
-  counts_here s = record { numbers = refl; keys = refl; life = refl; paths = refl; timers = refl; waiting = refl; setup = refl; lower = refl }
+  counts_here s = record { numbers = refl; keys = refl; life = refl; paths = refl; ranged = λ r. r; more = λ r. omega arith; timers = refl; still = λ r f. refl; waiting = refl; setup = refl; lower = refl }
 
   pub same_counts : (s s' : View t) → Same s s' → OnlyCounts s s'
   unfolding reported state_move numbers_move keys_move life_move paths_move timers_move waiting_move setup_move lower_move
-  same_counts s s' h = record { numbers = h.numbers; keys = h.keys; life = ap life_reported h.life; paths = h.paths; timers = h.timers; waiting = h.waiting; setup = h.setup; lower = h.lower }
+  same_counts s s' h = record { numbers = h.numbers; keys = h.keys; life = ap life_reported h.life; paths = h.paths; ranged = h.ranged; more = h.more; timers = h.timers; still = h.still; waiting = h.waiting; setup = h.setup; lower = h.lower }
 
   counts_next : (r s u : View t) → OnlyCounts r s → OnlyCounts s u → OnlyCounts r u
   counts_next r s u g h = record {
@@ -184,7 +206,10 @@ module _ {t : Types} where
     keys = h.keys ∙ ap (λ (k : KeyGroup t.H t.P). record k { failures = u.keys.failures }) g.keys;
     life = h.life ∙ g.life;
     paths = h.paths ∙ ap (λ (p : Paths). record p { received = u.paths.received }) g.paths;
-    timers = h.timers ∙ ap (λ (x : Timers). record x { greatest = u.timers.greatest }) g.timers;
+    ranged = λ k. h.ranged (g.ranged k);
+    more = λ k. let first : r.paths.received ≤ s.paths.received = g.more k in let second : s.paths.received ≤ u.paths.received = h.more (g.ranged k) in omega (arith, first, second);
+    timers = h.timers ∙ ap (λ (x : Timers). record x { greatest = u.timers.greatest; loss_detection = u.timers.loss_detection }) g.timers;
+    still = λ k f. h.still (g.ranged k) (stays_free r.paths s.paths g.paths (g.more k) f) ∙ g.still k f;
     waiting = h.waiting ∙ g.waiting;
     setup = h.setup ∙ g.setup;
     lower = h.lower ∙ g.lower;
@@ -263,15 +288,15 @@ module _ {t : Types} where
 
   same_fail : (s : View t) → Same s (state_move Fail s)
   unfolding state_move numbers_move keys_move life_move paths_move timers_move waiting_move setup_move lower_move failure_counted
-  same_fail s = record { numbers = refl; keys = refl; life = refl; paths = refl; timers = refl; waiting = refl; setup = refl; lower = refl }
+  same_fail s = record { numbers = refl; keys = refl; life = refl; paths = refl; ranged = λ r. r; more = λ r. omega arith; timers = refl; still = λ r f. refl; waiting = refl; setup = refl; lower = refl }
 
   same_hear : (n : ℕ) (s : View t) → Same s (state_move (Hear n) s)
   unfolding state_move numbers_move keys_move life_move paths_move timers_move waiting_move setup_move lower_move path_received
-  same_hear n s = record { numbers = refl; keys = refl; life = refl; paths = refl; timers = refl; waiting = refl; setup = refl; lower = refl }
+  same_hear n s = record { numbers = refl; keys = refl; life = refl; paths = refl; ranged = λ r. omega arith; more = λ r. omega arith; timers = refl; still = λ r f. refl; waiting = refl; setup = refl; lower = refl }
 
   same_clock : (time : ℕ) (s : View t) → Same s (state_move (Clock time) s)
   unfolding state_move numbers_move keys_move life_move paths_move timers_move waiting_move setup_move lower_move clock_set
-  same_clock time s = record { numbers = refl; keys = refl; life = refl; paths = refl; timers = refl; waiting = refl; setup = refl; lower = refl }
+  same_clock time s = record { numbers = refl; keys = refl; life = refl; paths = refl; ranged = λ r. r; more = λ r. omega arith; timers = refl; still = λ r f. refl; waiting = refl; setup = refl; lower = refl }
 
   -- ---- a packet that opened
 
@@ -280,7 +305,7 @@ module _ {t : Types} where
   unfolding accepted_after deeds_move
   harmed_accepted time id number e signs v a h =
       let b : At t = move_to (Accept time id number e signs v) a in
-      harmed_next a b _ (harmed_move (Accept time id number e signs v) a (deed_harms v h)) (holds_initial Grown grown_here grown_next (λ x r c k. grown_move x c) Server id b)
+      harmed_next a b _ (harmed_move (Accept time id number e signs v) a (deed_harms v h)) (holds_initial Grown grown_here grown_next (λ x r c k. grown_move x c) Server (is_blocked b.state.paths) time id b)
     where
       deed_harms : (v : Verdict) → is_opened v ≡ true → list_all is_harmless (did.Piece (Some id) (Some number) v ∷ []) ≡ false
       deed_harms verdict.Ignored k = cc
@@ -315,7 +340,7 @@ module _ {t : Types} where
       harmed_next a b _ (harmed_move (Enter id number verdict.ReadForClose) a refl) (closing_grown b (list_any is_close_item (items_of payload)))
 
   harmed_verdict : (m : Meaning t) (time : ℕ) (id : SpaceId) (signs : Signs) (source : List ℕ) (number : ℕ) (payload : List ℕ) (v : Verdict) (a : At t) → is_opened v ≡ true → Harmed a (verdict_after m time id signs source number payload v a)
-  unfolding verdict_after deeds_move
+  unfolding deeds_move
   harmed_verdict m time id signs source number payload verdict.Ignored a h = cc
   harmed_verdict m time id signs source number payload verdict.Failure a h = cc
   harmed_verdict m time id signs source number payload verdict.BadBits a h = cc
@@ -379,11 +404,46 @@ module _ {t : Types} where
   tame_pieces m time mark (Err fault ∷ items) a = tame_here a
   tame_pieces m time mark (Ok p ∷ items) a = tame_next a (piece_after m time mark p a) _ (piece_by m time mark p a (is_over a.state.life.state)) (tame_pieces m time mark items (piece_after m time mark p a))
 
+  -- the loss timer is set anew where no datagram could be begun before
+  armed_same : (time : ℕ) (s : View t) (a : At t) (b : Bool) → (b ≡ true → is_blocked s.paths ≡ true) → Same s a.state → Same s (if b then armed_after time a else a).state
+  unfolding armed_after armed_with move_to state_move numbers_move keys_move life_move paths_move timers_move waiting_move setup_move lower_move timers_armed
+  armed_same time s a true blocked h = record {
+    numbers = h.numbers;
+    keys = h.keys;
+    life = h.life;
+    paths = h.paths;
+    ranged = h.ranged;
+    more = h.more;
+    timers = ap (λ (x : Timers). record x { loss_detection = loss_time a.state (is_blocked a.state.paths) time }) h.timers;
+    still = λ r free. cc (blocked refl, free);
+    waiting = h.waiting;
+    setup = h.setup;
+    lower = h.lower;
+  }
+  armed_same time s a false blocked h = h
+
+  -- which tells nothing
+  armed_did : (time : ℕ) (a : At t) (b : Bool) → (if b then armed_after time a else a).did ≡ a.did
+  unfolding armed_after armed_with move_to deeds_move
+  armed_did time a true = refl
+  armed_did time a false = refl
+
+  -- the bytes of a datagram count
+  tame_counted : (time : ℕ) (n : ℕ) (a b : At t) → Tame a b → Tame a (counted_after time (is_blocked a.state.paths) n b)
+  unfolding counted_after
+  tame_counted time n a b h =
+      let c : At t = move_to (Hear n) b in
+      let counts : Tame a c = tame_next a b c h (tame_move (Hear n) b (same_hear n b.state)) in
+      let x : Bool = is_blocked a.state.paths && not (is_blocked c.state.paths) in
+      record {
+        since = counts.since;
+        appended = armed_did time c x ∙ counts.appended;
+        same = λ k. armed_same time a.state c x (λ e. first_holds (is_blocked a.state.paths) (not (is_blocked c.state.paths)) e) (counts.same k);
+      }
+
   -- a datagram that is heard, or dropped
-  heard_by : (m : Meaning t) (time : ℕ) (mark : Option EcnCodepoint) (n : ℕ) (items : List DatagramItem) (a : At t) (b : Bool) → Tame a (if b then move_to (Hear n) (pieces_after m time mark items a) else a)
-  heard_by m time mark n items a true =
-      let b : At t = pieces_after m time mark items a in
-      tame_next a b _ (tame_pieces m time mark items a) (tame_move (Hear n) b (same_hear n b.state))
+  heard_by : (m : Meaning t) (time : ℕ) (mark : Option EcnCodepoint) (n : ℕ) (items : List DatagramItem) (a : At t) (b : Bool) → Tame a (if b then counted_after time (is_blocked a.state.paths) n (pieces_after m time mark items a) else a)
+  heard_by m time mark n items a true = tame_counted time n a (pieces_after m time mark items a) (tame_pieces m time mark items a)
   heard_by m time mark n items a false = tame_here a
 
   tame_heard : (m : Meaning t) (time : ℕ) (mark : Option EcnCodepoint) (remote : SocketAddr) (bytes : List ℕ) (a : At t) → Tame a (heard_after m time mark remote bytes a)
@@ -471,7 +531,7 @@ module _ {t : Types} where
       let readable : is_readable b.state bytes ≡ true = expected_readable a.state token bytes ∙ items_read m a.state bytes token (cut_of a.state bytes) refl h in
       let lets : lets_in b.state remote ≡ true = expected_lets a.state token remote ∙ let_in a.state remote going same in
       rw (both (is_readable b.state bytes) (lets_in b.state remote) readable lets)
-      (harmed_next a c _ (harmed_first m time mark token (cut_of a.state bytes) a going h) (grown_move (Hear (length bytes)) c))
+      (harmed_next a c _ (harmed_first m time mark token (cut_of a.state bytes) a going h) (holds_counted Grown grown_here grown_next (λ x r d k. grown_move x d) time (is_blocked b.state.paths) (length bytes) c))
 
   -- it isn't harmless
   harmed_token : (m : Meaning t) (time : ℕ) (mark : Option EcnCodepoint) (remote : SocketAddr) (bytes token : List ℕ) (a : At t) → first_token m a.state remote bytes ≡ Some token →
@@ -521,7 +581,10 @@ module _ {t : Types} where
         keys = h.keys ∙ same.keys ∙ ap (λ (y : KeyGroup t.H t.P). record s.keys { failures = y.failures }) (sym h.keys);
         life = ap life_reported h.life ∙ reported_again b.state.life ∙ ap life_reported same.life;
         paths = h.paths ∙ same.paths ∙ ap (λ (y : Paths). record s.paths { received = y.received }) (sym h.paths);
-        timers = h.timers ∙ same.timers ∙ ap (λ (y : Timers). record s.timers { greatest = y.greatest }) (sym h.timers);
+        ranged = λ r. subst (λ (p : Paths). p.received ≤ 18446744073709551615) (sym h.paths) (same.ranged r);
+        more = λ r. subst (λ (p : Paths). s.paths.received ≤ p.received) (sym h.paths) (same.more r);
+        timers = h.timers ∙ same.timers ∙ ap (λ (y : Timers). record s.timers { greatest = y.greatest; loss_detection = y.loss_detection }) (sym h.timers);
+        still = λ r free. ap (λ (y : Timers). y.loss_detection) h.timers ∙ same.still r free;
         waiting = h.waiting ∙ same.waiting;
         setup = h.setup ∙ same.setup;
         lower = h.lower ∙ same.lower;

@@ -20,16 +20,16 @@ use Rattle.qc_state.specs.declared.trace.Step.{Step}
 use Rattle.qc_state.specs.KeyLaws.{IsWithinLimit, KeysHold}
 use Rattle.qc_state.specs.Keys.{count_one, failure_counted, key_used, keys_behind, keys_dropped, keys_given, keys_of, reaches_limit}
 use Rattle.qc_state.specs.Life.{is_open}
-use Rattle.qc_state.specs.Moves.{Move, Ask, Fail, Forget, Give, Raise, Say, Seal, Shut, Take, Write, keys_move, move_to, state_move}
+use Rattle.qc_state.specs.Moves.{Move, Ask, Begin, Fail, Forget, Give, Raise, Say, Seal, Shut, Take, Write, keys_move, move_to, state_move}
 use Rattle.qc_state.specs.Numbers.{next_number}
 use Rattle.qc_state.specs.Paths.{is_blocked}
 use Rattle.qc_state.specs.Run.{IsAllowed, IsStep, Run, began, called, close_after, input_after, packets_of, reported, step_after, time_of}
-use Rattle.qc_state.specs.Sending.{MaySeal, MayTransmit, initial_left, is_key_nearly_used_up, is_key_used_up, is_silent, limit_met, limited_keys, owed_quiet_after, owes, packet_after, packet_size, quiet_after, sealed_in, sending_space, spared_after, transmit_after}
+use Rattle.qc_state.specs.Sending.{MayTransmit, flown_after, initial_left, is_flown, is_key_nearly_used_up, is_key_used_up, is_silent, limit_met, limited_keys, owed_quiet_after, owes, packet_after, packet_size, quiet_after, sealed_in, sending_space, spared_after, transmit_after}
 use Rattle.qc_state.specs.Stopping.{given_after, key_limit_error, killed_after}
 use Rattle.qc_state.specs.Types.{Types, Meaning}
 use Rattle.qc_state.specs.View.{View, At}
 use Rattle.qc_state.proofs.Expired.{IsTimed, holds_timeout}
-use Rattle.qc_state.proofs.Receives.{AreUnused, IsReceived, holds_datagram, holds_initial, holds_stopped, in_packet_received}
+use Rattle.qc_state.proofs.Receives.{AreUnused, IsReceived, holds_armed, holds_datagram, holds_initial, holds_stopped, in_packet_received}
 
 module _ {H P : Type 0} where
   -- a key that may seal one packet more has sealed no more than it may behind it
@@ -69,6 +69,13 @@ module _ {t : Types} where
   IsSpare (Seal time id n size fs) s = reaches_limit 0 (limited_keys s id) ≡ false
   IsSpare (Write bytes keys session) s = AreUnused keys
   IsSpare _ s = Unit {0}
+
+  -- the limit of a key is that of the keys alone
+  same_limit : (id : SpaceId) (s s' : View t) → s'.keys ≡ s.keys → reaches_limit 0 (limited_keys s id) ≡ false → reaches_limit 0 (limited_keys s' id) ≡ false
+  unfolding keys_of
+  same_limit Initial s s' e h = subst (λ (k : KeyGroup t.H t.P). reaches_limit 0 k.spaces.initial ≡ false) (sym e) h
+  same_limit Handshake s s' e h = subst (λ (k : KeyGroup t.H t.P). reaches_limit 0 k.spaces.handshake ≡ false) (sym e) h
+  same_limit Data s s' e h = h
 
   -- what holds of the keys at one moment holds at another
   abbrev Keeps : At t → At t → Type 0
@@ -115,17 +122,23 @@ module _ {t : Types} where
   unfolding quiet_after owed_quiet_after killed_after given_after
   quiet_keeps a = λ h. subst KeysHold (sym (quiet_by (limit_met a.state) a (is_silent a.state) (owes a.state) (is_blocked a.state.paths) (is_none (move_to (Raise Drained) a).state.life.reason))) h
 
+  -- the loss timer is set anew behind a packet in flight, or not
+  flown_keeps : (time : ℕ) (counts : Bool) (a : At t) → Keeps a (flown_after time counts a)
+  flown_keeps time true a = holds_armed Keeps here next (λ x r d k. move_keeps x d (received_spare x d.state (in_packet_received x r))) false time a
+  flown_keeps time false a = here a
+
   -- a packet is sealed
-  sealed_keeps : (time : ℕ) (fs : List FrameValue) (a : At t) → MaySeal time a.state fs → Keeps a (sealed_in time (sending_space a.state) fs a)
-  unfolding sealed_in is_key_used_up move_to state_move keys_move
-  sealed_keeps time fs a may =
-      let id : SpaceId = sending_space a.state in
+  sealed_keeps : (time : ℕ) (id : SpaceId) (fs : List FrameValue) (a : At t) → reaches_limit 0 (limited_keys a.state id) ≡ false → Keeps a (sealed_in time id fs a)
+  unfolding sealed_in move_to state_move keys_move
+  sealed_keeps time id fs a fresh =
       let b : At t = move_to (Take id fs) a in
       let seal : Move t = Seal time id (next_number a.state.numbers id) (packet_size a.state id fs) fs in
       let c : At t = move_to seal b in
-      let d : At t = initial_left Client id c in
-      next a b d (move_keeps (Take id fs) a tt)
-      (next b c d (move_keeps seal b may.fresh) (holds_initial Keeps here next (λ x r d k. move_keeps x d (received_spare x d.state (in_packet_received x r))) Client id c))
+      let d : At t = flown_after time (is_flown a.state fs) c in
+      let e : At t = initial_left Client false time id d in
+      next a b e (move_keeps (Take id fs) a tt)
+      (next b c e (move_keeps seal b (same_limit id a.state b.state refl fresh))
+      (next c d e (flown_keeps time (is_flown a.state fs) c) (holds_initial Keeps here next (λ x r f k. move_keeps x f (received_spare x f.state (in_packet_received x r))) Client false time id d)))
 
   -- this end closes behind a packet, or not
   spared_keeps : (time : ℕ) (nearly : Bool) (a : At t) → Keeps a (spared_after time nearly a)
@@ -133,12 +146,21 @@ module _ {t : Types} where
   spared_keeps time true a = holds_stopped Keeps here next (λ x r d k. move_keeps x d (received_spare x d.state (in_packet_received x r))) time key_limit_error a
   spared_keeps time false a = here a
 
+  -- beginning a datagram leaves the keys
+  begun_keys : (id : SpaceId) (a : At t) → (move_to (Begin id) a).state.keys ≡ a.state.keys
+  unfolding move_to state_move keys_move
+  begun_keys id a = refl
+
   transmit_keeps : (time : ℕ) (ps : List (List FrameValue)) (a : At t) → MayTransmit time a.state ps → Keeps a (transmit_after time ps a)
-  unfolding MayTransmit transmit_after packet_after
+  unfolding MayTransmit transmit_after packet_after is_key_used_up
   transmit_keeps time [] a may = quiet_keeps a
   transmit_keeps time (fs ∷ []) a may =
-      let b : At t = sealed_in time (sending_space a.state) fs a in
-      next a b (spared_after time (is_key_nearly_used_up a.state) b) (sealed_keeps time fs a may) (spared_keeps time (is_key_nearly_used_up a.state) b)
+      let id : SpaceId = sending_space a.state in
+      let b : At t = move_to (Begin id) a in
+      let c : At t = sealed_in time id fs b in
+      let d : At t = spared_after time (is_key_nearly_used_up a.state) c in
+      next a b d (move_keeps (Begin id) a tt)
+      (next b c d (sealed_keeps time id fs b (same_limit id a.state b.state (begun_keys id a) may.fresh)) (spared_keeps time (is_key_nearly_used_up a.state) c))
   transmit_keeps time (fs ∷ gs ∷ rest) a may = absurd may
 
   -- the application closes, or has closed before
@@ -150,7 +172,7 @@ module _ {t : Types} where
   input_keeps : (m : Meaning t) (i : Input) (ds : List Did) (a : At t) → IsAllowed i ds a.state → Keeps a (input_after m i ds a)
   unfolding IsAllowed input_after close_after
   input_keeps m (input.Datagram time remote ecn bytes) ds a may = holds_datagram Keeps here next (λ x r d k. move_keeps x d (received_spare x d.state r)) m time ecn remote bytes a
-  input_keeps m (input.Timeout time) ds a may = holds_timeout Keeps here next (λ x r d k. move_keeps x d (timed_spare x d.state r)) time a
+  input_keeps m (input.Timeout time) ds a may = holds_timeout Keeps here next (λ x r d k. move_keeps x d (timed_spare x d.state r)) m time a
   input_keeps m (input.Transmit time max) ds a may = transmit_keeps time (packets_of ds) a may
   input_keeps m (input.Close time code reason) ds a may = closed_by time _ a (is_open a.state.life.state)
   input_keeps m (input.Ping time) ds a may = move_keeps (Ask a.state.keys.highest) a tt

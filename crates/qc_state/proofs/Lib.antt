@@ -1,5 +1,7 @@
 pub mod Addresses
 pub mod Arrivals
+pub mod CryptoBytes
+pub mod KeptFrames
 pub mod AckLemmas
 pub mod AcksAccepted
 pub mod AcksBefore

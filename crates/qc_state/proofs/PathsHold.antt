@@ -29,20 +29,19 @@ use Rattle.qc_state.specs.declared.paths.Paths.{Paths}
 use Rattle.qc_state.specs.declared.trace.Step.{Step}
 use Rattle.qc_state.specs.declared.transmit.TheConstants.{DATAGRAM_SIZE}
 use Rattle.qc_state.specs.Life.{is_open}
-use Rattle.qc_state.specs.Moves.{Accept, Ack, Calm, Come, Confirm, Drain, Enter, Establish, Expect, Fail, Fix, Forget, Give, Hear, Learn, Leave, MayMove, Move, Owe, Raise, Read, Ready, Say, Seal, Shut, Take, Tell, Token, Want, Write, calmed, deeds_move, move_to, paths_move, state_move, told}
+use Rattle.qc_state.specs.Moves.{Accept, Ack, Arm, Begin, Come, Confirm, Drain, Enter, Establish, Expect, Fail, Fire, Fix, Forget, Give, Hear, Learn, Leave, MayMove, Move, Owe, Raise, Read, Ready, Say, Seal, Shut, Take, Tell, Token, Want, Write, armed_after, armed_with, deeds_move, move_to, paths_move, state_move, told}
 use Rattle.qc_state.specs.Numbers.{next_number, received_number}
 use Rattle.qc_state.specs.Headline.{deeds_of}
 use Rattle.qc_state.specs.PathLaws.{PathHolds, all_from, bytes_from, is_handshake_admitted}
-use Rattle.qc_state.specs.Paths.{is_blocked, path_accepted, path_received, path_sent, path_spun, peer_fixed, same_address, spun_by}
-use Rattle.qc_state.specs.Receiving.{cut_of, datagram_after, first_after, first_token, heard_after, is_readable, lets_in, pieces_after}
+use Rattle.qc_state.specs.Paths.{is_blocked, path_accepted, path_idle, path_received, path_sent, path_spun, peer_fixed, same_address, spun_by}
+use Rattle.qc_state.specs.Receiving.{counted_after, cut_of, datagram_after, first_after, first_token, heard_after, is_readable, lets_in, pieces_after}
 use Rattle.qc_state.specs.Run.{IsAllowed, IsStep, Run, began, called, close_after, input_after, packets_of, reported, step_after, time_of}
-use Rattle.qc_state.specs.Sending.{MaySeal, MayTransmit, drops_initial, initial_left, is_key_nearly_used_up, is_silent, limit_met, owed_quiet_after, owes, packet_after, packet_size, quiet_after, sealed_in, sending_space, spared_after, transmit_after}
+use Rattle.qc_state.specs.Sending.{MaySeal, MayTransmit, begun_view, drops_initial, flown_after, initial_left, is_flown, is_key_nearly_used_up, is_silent, limit_met, owed_quiet_after, owes, packet_after, packet_size, quiet_after, sealed_in, sending_space, spared_after, transmit_after}
 use Rattle.qc_state.specs.Stopping.{given_after, key_limit_error, killed_after, stopped_after}
 use Rattle.qc_state.specs.Setup.{is_first_awaited}
 use Rattle.qc_state.specs.Timeouts.{timeout_after}
 use Rattle.qc_state.specs.Types.{Types, Meaning}
 use Rattle.qc_state.specs.View.{View, At, at}
-use Rattle.qc_state.specs.Waiting.{is_calm}
 use Rattle.qc_state.proofs.Expired.{IsTimed, holds_timeout}
 use Rattle.qc_state.proofs.Receives.{IsInPacket, holds_pieces}
 
@@ -159,6 +158,11 @@ heard_path came ds p q h shown = record {
   limited = λ r l not_yet. let few : p.sent < 3 * p.received + DATAGRAM_SIZE = l (was_not p.validated q.validated h.kept not_yet) in omega (arith, few, h.received, h.sent, r);
 }
 
+-- what there is to send holds sending back
+idle_path : (came : ℕ) (ds : List Did) (p : Paths) → PathHolds came ds p (path_idle p)
+unfolding path_idle
+idle_path came ds p = still_holds came ds p (path_idle p) (record { same = refl; received = refl; sent = refl; kept = λ v. v }) (λ v. inl v)
+
 -- of two tests that hold the second holds
 second_holds : (a b : Bool) → (a && b) ≡ true → b ≡ true
 second_holds true b h = h
@@ -223,8 +227,8 @@ module _ {t : Types} where
       let side : Side = a.state.setup.fixed.side in
       deed_at (Accept time id n e g v) (did.Piece (Some id) (Some n) v) a refl (accepted_spun a.state.paths id v side greatest g.spin) (spun_after a.state.paths id n v side greatest g.spin)
   still_move (Fix cid) r a h = silent_at (Fix cid) a refl (record { same = refl; received = refl; sent = refl; kept = λ v. v }) (λ v. inl v)
-  still_move (Ack id n rs) r a h = silent_at (Ack id n rs) a refl (still_here a.state.paths) (λ v. inl v)
-  still_move Calm r a h = silent_at Calm a refl (still_here a.state.paths) (λ v. inl v)
+  still_move (Ack id n after) r a h = silent_at (Ack id n after) a refl (still_here a.state.paths) (λ v. inl v)
+  still_move (Arm at) r a h = silent_at (Arm at) a refl (still_here a.state.paths) (λ v. inl v)
   still_move (Come id offset bytes) r a h = silent_at (Come id offset bytes) a refl (still_here a.state.paths) (λ v. inl v)
   still_move (Read id count session) r a h = silent_at (Read id count session) a refl (still_here a.state.paths) (λ v. inl v)
   still_move (Write bytes keys session) r a h = silent_at (Write bytes keys session) a refl (still_here a.state.paths) (λ v. inl v)
@@ -247,16 +251,37 @@ module _ {t : Types} where
   still_pieces : (m : Meaning t) (time : ℕ) (mark : Option EcnCodepoint) (items : List DatagramItem) (a : At t) → StillAt a (pieces_after m time mark items a)
   still_pieces m time mark items a = holds_pieces StillAt at_here at_next still_move m time mark items a
 
+  -- setting the loss timer leaves the path, and tells nothing
+  freed_paths : (time : ℕ) (a : At t) (b : Bool) → (if b then armed_after time a else a).state.paths ≡ a.state.paths
+  unfolding armed_after armed_with move_to state_move paths_move
+  freed_paths time a true = refl
+  freed_paths time a false = refl
+
+  freed_did : (time : ℕ) (a : At t) (b : Bool) → (if b then armed_after time a else a).did ≡ a.did
+  unfolding armed_after armed_with move_to deeds_move
+  freed_did time a true = refl
+  freed_did time a false = refl
+
+  -- so many bytes count as received
+  counted_paths : (time : ℕ) (blocked : Bool) (n : ℕ) (a : At t) → (counted_after time blocked n a).state.paths ≡ path_received a.state.paths n
+  unfolding counted_after move_to state_move paths_move
+  counted_paths time blocked n a = let b : At t = move_to (Hear n) a in freed_paths time b (blocked && not (is_blocked b.state.paths))
+
+  counted_did : (time : ℕ) (blocked : Bool) (n : ℕ) (a : At t) → (counted_after time blocked n a).did ≡ a.did
+  unfolding counted_after move_to deeds_move
+  counted_did time blocked n a = let b : At t = move_to (Hear n) a in freed_did time b (blocked && not (is_blocked b.state.paths))
+
   -- a datagram, where its bytes are those that count, or none
-  heard_by : (m : Meaning t) (time : ℕ) (mark : Option EcnCodepoint) (came : ℕ) (bytes : List ℕ) (items : List DatagramItem) (s : View t) (b : Bool) → (b ≡ true → came ≡ length bytes) →
-      let r : At t = if b then move_to (Hear (length bytes)) (pieces_after m time mark items (at s [])) else at s [] in PathHolds came r.did s.paths r.state.paths
-  unfolding move_to state_move paths_move deeds_move
-  heard_by m time mark came bytes items s true h =
+  heard_by : (m : Meaning t) (time : ℕ) (mark : Option EcnCodepoint) (blocked : Bool) (came : ℕ) (bytes : List ℕ) (items : List DatagramItem) (s : View t) (b : Bool) → (b ≡ true → came ≡ length bytes) →
+      let r : At t = if b then counted_after time blocked (length bytes) (pieces_after m time mark items (at s [])) else at s [] in PathHolds came r.did s.paths r.state.paths
+  heard_by m time mark blocked came bytes items s true h =
       let q : At t = pieces_after m time mark items (at s []) in
+      let r : At t = counted_after time blocked (length bytes) q in
       let pieces = still_pieces m time mark items (at s []) in
-      subst (λ (n : ℕ). PathHolds n q.did s.paths (path_received q.state.paths (length bytes))) (sym (h refl))
-      (subst (λ (ds : List Did). PathHolds (length bytes) ds s.paths (path_received q.state.paths (length bytes))) (sym pieces.appended) (heard_path (length bytes) pieces.since s.paths q.state.paths pieces.still pieces.shown))
-  heard_by m time mark came bytes items s false h = unchanged came [] s.paths
+      subst (λ (n : ℕ). PathHolds n r.did s.paths r.state.paths) (sym (h refl))
+      (subst (λ (ds : List Did). PathHolds (length bytes) ds s.paths r.state.paths) (sym (counted_did time blocked (length bytes) q ∙ pieces.appended))
+      (subst (λ (p : Paths). PathHolds (length bytes) pieces.since s.paths p) (sym (counted_paths time blocked (length bytes) q)) (heard_path (length bytes) pieces.since s.paths q.state.paths pieces.still pieces.shown)))
+  heard_by m time mark blocked came bytes items s false h = unchanged came [] s.paths
 
   lets_same : (s : View t) (from : SocketAddr) → lets_in s from ≡ true → same_address s.paths.remote from ≡ true
   unfolding lets_in
@@ -266,7 +291,7 @@ module _ {t : Types} where
       let r : At t = heard_after m time mark from bytes (at s []) in PathHolds (if same_address s.paths.remote from then length bytes else 0) r.did s.paths r.state.paths
   unfolding heard_after
   holds_heard m time mark from bytes s =
-      heard_by m time mark _ bytes (cut_of s bytes) s (is_readable s bytes && lets_in s from)
+      heard_by m time mark (is_blocked s.paths) _ bytes (cut_of s bytes) s (is_readable s bytes && lets_in s from)
       (λ h. came_length s.paths.remote from bytes (lets_same s from (second_holds (is_readable s bytes) (lets_in s from) h)))
 
   -- that a token is expected changes nothing of the path
@@ -294,7 +319,7 @@ module _ {t : Types} where
   -- a transmit that sends nothing
   quiet_paths : (why : ConnectionError) (a : At t) (x y u z : Bool) →
       let b : At t = move_to (Raise Drained) a in
-      (if x then move_to (Say Silent) a else if y then (if u then move_to (Say Amplification) a else move_to (Say Killed) (if z then move_to (Give why) b else b)) else move_to (Say NothingOwed) a).state.paths ≡ a.state.paths
+      (if x then move_to (Say Silent) a else if y then (if u then move_to (Say Amplification) a else move_to (Say Killed) (if z then move_to (Give why) b else b)) else move_to (Say NothingOwed) a).state.paths ≡ path_idle a.state.paths
   unfolding move_to state_move paths_move
   quiet_paths why a true y u z = refl
   quiet_paths why a false true true z = refl
@@ -302,21 +327,25 @@ module _ {t : Types} where
   quiet_paths why a false true false false = refl
   quiet_paths why a false false u z = refl
 
-  path_quiet : (a : At t) → (quiet_after a).state.paths ≡ a.state.paths
+  path_quiet : (a : At t) → (quiet_after a).state.paths ≡ path_idle a.state.paths
   unfolding quiet_after owed_quiet_after killed_after given_after
   path_quiet a = quiet_paths (limit_met a.state) a (is_silent a.state) (owes a.state) (is_blocked a.state.paths) (is_none (move_to (Raise Drained) a).state.life.reason)
 
   -- leaving the Initial space
-  left_paths : (a : At t) (x y : Bool) → let b : At t = move_to (Forget Initial) a in
-      (if x then (if y then move_to Calm b else b) else a).state.paths ≡ a.state.paths
-  unfolding move_to state_move paths_move
-  left_paths a true true = refl
-  left_paths a true false = refl
-  left_paths a false y = refl
+  left_paths : (time : ℕ) (a : At t) (x : Bool) → (if x then armed_with false time (move_to (Forget Initial) a) else a).state.paths ≡ a.state.paths
+  unfolding armed_with move_to state_move paths_move
+  left_paths time a true = refl
+  left_paths time a false = refl
 
-  path_left : (id : SpaceId) (a : At t) → (initial_left Client id a).state.paths ≡ a.state.paths
-  unfolding initial_left calmed
-  path_left id a = left_paths a (drops_initial Client a.state id) (is_calm (move_to (Forget Initial) a).state.waiting)
+  path_left : (time : ℕ) (id : SpaceId) (a : At t) → (initial_left Client false time id a).state.paths ≡ a.state.paths
+  unfolding initial_left
+  path_left time id a = left_paths time a (drops_initial Client a.state id)
+
+  -- setting the loss timer behind a packet in flight
+  path_flown : (time : ℕ) (counts : Bool) (a : At t) → (flown_after time counts a).state.paths ≡ a.state.paths
+  unfolding armed_with move_to state_move paths_move
+  path_flown time true a = refl
+  path_flown time false a = refl
 
   -- this end closes behind a packet, or not
   stopped_paths : (time : ℕ) (as_told : Close) (why : ConnectionError) (a : At t) (x y : Bool) → let b : At t = move_to (Shut time as_told) a in
@@ -334,15 +363,18 @@ module _ {t : Types} where
   path_spared time false a = refl
 
   path_packet : (time : ℕ) (fs : List FrameValue) (ds : List Did) (a : At t) → MaySeal time a.state fs → PathHolds 0 ds a.state.paths (packet_after time fs a).state.paths
-  unfolding packet_after sealed_in move_to state_move paths_move
+  unfolding packet_after sealed_in begun_view move_to state_move paths_move
   path_packet time fs ds a may =
       let id : SpaceId = sending_space a.state in
-      let b : At t = move_to (Seal time id (next_number a.state.numbers id) (packet_size a.state id fs) fs) (move_to (Take id fs) a) in
-      subst (λ (p : Paths). PathHolds 0 ds a.state.paths p) (sym (path_spared time (is_key_nearly_used_up a.state) (initial_left Client id b) ∙ path_left id b)) (sent_path 0 ds a.state.paths (packet_size a.state id fs) may.fits may.free)
+      let b : At t = move_to (Begin id) a in
+      let c : At t = move_to (Seal time id (next_number b.state.numbers id) (packet_size b.state id fs) fs) (move_to (Take id fs) b) in
+      let d : At t = flown_after time (is_flown b.state fs) c in
+      subst (λ (p : Paths). PathHolds 0 ds a.state.paths p) (sym (path_spared time (is_key_nearly_used_up a.state) (initial_left Client false time id d) ∙ path_left time id d ∙ path_flown time (is_flown b.state fs) c))
+      (sent_path 0 ds a.state.paths (packet_size b.state id fs) may.fits may.free)
 
   path_transmit : (time : ℕ) (ps : List (List FrameValue)) (ds : List Did) (a : At t) → MayTransmit time a.state ps → PathHolds 0 ds a.state.paths (transmit_after time ps a).state.paths
   unfolding MayTransmit transmit_after
-  path_transmit time [] ds a may = subst (λ (p : Paths). PathHolds 0 ds a.state.paths p) (sym (path_quiet a)) (unchanged 0 ds a.state.paths)
+  path_transmit time [] ds a may = subst (λ (p : Paths). PathHolds 0 ds a.state.paths p) (sym (path_quiet a)) (idle_path 0 ds a.state.paths)
   path_transmit time (fs ∷ []) ds a may = path_packet time fs ds a may
   path_transmit time (fs ∷ gs ∷ rest) ds a may = absurd may
 
@@ -355,21 +387,22 @@ module _ {t : Types} where
   -- what a timer does leaves the path
   timed_paths : (x : Move t) → IsTimed x → (a : At t) → MayMove x a.state → (move_to x a).state.paths ≡ a.state.paths
   unfolding move_to state_move paths_move
-  timed_paths Calm r a h = refl
+  timed_paths (Fire after) r a h = refl
+  timed_paths (Arm at) r a h = refl
   timed_paths (Raise to) r a h = refl
   timed_paths (Give why) r a h = refl
   timed_paths _ r a h = absurd r
 
   -- and so does a timeout
-  path_timeout : (time : ℕ) (ds : List Did) (a : At t) → PathHolds 0 ds a.state.paths (timeout_after time a).state.paths
-  path_timeout time ds a =
-      subst (λ (p : Paths). PathHolds 0 ds a.state.paths p) (sym (holds_timeout (λ (b c : At t). c.state.paths ≡ b.state.paths) (λ b. refl) (λ b c d g h. h ∙ g) timed_paths time a)) (unchanged 0 ds a.state.paths)
+  path_timeout : (m : Meaning t) (time : ℕ) (ds : List Did) (a : At t) → PathHolds 0 ds a.state.paths (timeout_after m time a).state.paths
+  path_timeout m time ds a =
+      subst (λ (p : Paths). PathHolds 0 ds a.state.paths p) (sym (holds_timeout (λ (b c : At t). c.state.paths ≡ b.state.paths) (λ b. refl) (λ b c d g h. h ∙ g) timed_paths m time a)) (unchanged 0 ds a.state.paths)
 
   -- each input
   path_input : (m : Meaning t) (i : Input) (ds : List Did) (s : View t) → IsAllowed i ds s → let r : At t = input_after m i ds (at s []) in PathHolds (bytes_from s.paths.remote i) r.did s.paths r.state.paths
   unfolding IsAllowed input_after close_after move_to state_move paths_move
   path_input m (input.Datagram time from ecn bytes) ds s may = path_datagram m time ecn from bytes s
-  path_input m (input.Timeout time) ds s may = path_timeout time _ (at s [])
+  path_input m (input.Timeout time) ds s may = path_timeout m time _ (at s [])
   path_input m (input.Transmit time max) ds s may = path_transmit time (packets_of ds) _ (at s []) may
   path_input m (input.Close time code reason) ds s may = path_close time _ _ (at s []) (is_open s.life.state)
   path_input m (input.Ping time) ds s may = unchanged 0 _ s.paths

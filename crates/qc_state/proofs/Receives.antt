@@ -9,9 +9,9 @@ use Rattle.qc_base.specs.declared.side.Side.{Side}
 use Rattle.qc_base.specs.declared.side.Side.TheVariants.{Client, Server}
 use Rattle.qc_base.specs.declared.side.SpaceId.{SpaceId}
 use Rattle.qc_base.specs.declared.side.SpaceId.TheVariants.{Initial, Handshake, «Data»}
-use Rattle.qc_frame.specs.Frame.{FrameValue, TypedValue}
+use Rattle.qc_flight.specs.Packets.{Entry}
+use Rattle.qc_frame.specs.Frame.{AckValue, FrameValue, TypedValue}
 use Rattle.qc_frame.specs.FrameSpelling.{spelling}
-use Rattle.qc_frame.specs.AckRanges.{ranges_of}
 use Rattle.qc_frame.specs.Payload.{Item, items_of}
 use Rattle.qc_frame.specs.declared.frames.FrameOf.TheVariants as frames
 use Rattle.qc_header.specs.HeaderGrammar.{DatagramItem}
@@ -34,17 +34,19 @@ use Rattle.qc_state.specs.declared.opening.Opening.TheVariants.{Unreadable, Unop
 use Rattle.qc_state.specs.Keys.{fails_too_often, new_keys}
 use Rattle.qc_state.specs.Life.{rank_of, is_open, is_closed, is_handshake, is_over, token_learned, identifiers_wanted}
 use Rattle.qc_state.specs.Lower.{ready_bytes, stream_of}
-use Rattle.qc_state.specs.Moves.{Move, Give, Forget, Enter, Expect, Fail, Accept, Fix, Hear, Ack, Calm, Come, Read, Write, Ready, Token, Learn, Want, Confirm, Establish, Tell, Drain, Leave, Owe, Shut, Raise, move_to, state_move, life_move, MayMove, accepts, enters, calmed}
+use Rattle.qc_state.specs.Moves.{Move, Give, Forget, Enter, Expect, Fail, Accept, Fix, Hear, Ack, Arm, Come, Read, Write, Ready, Token, Learn, Want, Confirm, Establish, Tell, Drain, Leave, Owe, Shut, Raise, move_to, state_move, life_move, MayMove, accepts, enters, armed_after, armed_with}
 use Rattle.qc_state.specs.Numbers.{is_new_in}
 use Rattle.qc_state.specs.Opening.{opening_of}
 use Rattle.qc_state.specs.Progress.{is_written, write_after, writes_after, written_after, ids_fit, token_after, learned_with, parameters_and, is_end, ended_after, progress_after, learned_after, over_after}
-use Rattle.qc_state.specs.Receiving.{reason_of, is_close_item, is_eliciting_item, left_after, acked_after, confirmed_after, applied_after, close_given, closed_in_data, close_and, end_after, crypto_stop, answered_and, given_and, kept_and, crypto_and, taken_and, frame_and, read_and, items_after, payload_after, fixes_peer, fixed_after, piece_told, read_for_close, admitted_after, verdict_after, received_after, failed_after, opening_after, piece_after, pieces_after, cut_of, datagram_after, accepted_after, heard_after, first_token, first_after}
+use Rattle.qc_state.specs.Receiving.{reason_of, is_close_item, is_eliciting_item, left_after, rearmed_after, settled_after, acked_after, confirmed_after, applied_after, close_given, closed_in_data, close_and, end_after, crypto_stop, answered_and, given_and, kept_and, crypto_and, taken_and, frame_and, read_and, items_after, payload_after, fixes_peer, fixed_after, piece_told, read_for_close, admitted_after, verdict_after, received_after, failed_after, opening_after, piece_after, pieces_after, cut_of, datagram_after, accepted_after, counted_after, heard_after, first_token, first_after}
+use Rattle.qc_state.specs.Paths.{is_blocked}
+use Rattle.qc_recovery.specs.Steps.{After}
+use Rattle.qc_state.specs.Recovering.{loss_time, settled_by}
 use Rattle.qc_state.specs.Sending.{initial_left, drops_initial}
 use Rattle.qc_state.specs.Stopping.{given_after, key_limit_error, killed_after, missing_parameters, parameter_error, stopped_after, violation_at}
 use Rattle.qc_state.specs.Types.{Types, Meaning}
 use Rattle.qc_state.specs.Verdicts.{first_row, verdict_of}
 use Rattle.qc_state.specs.View.{At}
-use Rattle.qc_state.specs.Waiting.{is_calm}
 use Rattle.qc_state.proofs.Telling.{open_rank, is_none_none}
 
 -- what a verdict on a packet that opened says of the view
@@ -109,8 +111,8 @@ IsInPacket (Enter id n v) = Unit {0}
 IsInPacket Fail = Unit {0}
 IsInPacket (Accept time id n e g v) = accepts v ≡ true
 IsInPacket (Fix cid) = Unit {0}
-IsInPacket (Ack id n rs) = Unit {0}
-IsInPacket Calm = Unit {0}
+IsInPacket (Ack id n r) = Unit {0}
+IsInPacket (Arm at) = Unit {0}
 IsInPacket (Come id offset bytes) = Unit {0}
 IsInPacket (Read id count session) = Unit {0}
 IsInPacket (Write bytes keys session) = AreUnused keys
@@ -186,10 +188,15 @@ module _ {t : Types} (R : At t → At t → Type 0) (here : (a : At t) → R a a
   left_by time why a true h = next a (move_to (Leave time) a) _ (move (Leave time) tt a (open_low a.state.life.state h)) (holds_given why (move_to (Leave time) a))
   left_by time why a false h = here a
 
-  calmed_by : (a : At t) (b : Bool) → R a (if b then move_to Calm a else a)
-  unfolding MayMove
-  calmed_by a true = move Calm tt a tt
-  calmed_by a false = here a
+  -- the loss timer is set anew
+  pub holds_armed : (blocked : Bool) (time : ℕ) (a : At t) → R a (armed_with blocked time a)
+  unfolding armed_with MayMove
+  holds_armed blocked time a = move (Arm (loss_time a.state blocked time)) tt a tt
+
+  -- so it is as the path stands
+  holds_armed_now : (time : ℕ) (a : At t) → R a (armed_after time a)
+  unfolding armed_after
+  holds_armed_now time a = holds_armed (is_blocked a.state.paths) time a
 
   -- the peer closed: the connection drains, if it was open
   holds_left : (time : ℕ) (why : ConnectionError) (a : At t) → R a (left_after time why a)
@@ -197,23 +204,37 @@ module _ {t : Types} (R : At t → At t → Type 0) (here : (a : At t) → R a a
   holds_left time why a = left_by time why a _ refl
 
   -- the server has confirmed the handshake
-  holds_confirmed : (a : At t) → R a (confirmed_after a)
-  unfolding confirmed_after calmed MayMove
-  holds_confirmed a =
+  holds_confirmed : (time : ℕ) (a : At t) → R a (confirmed_after time a)
+  unfolding confirmed_after MayMove
+  holds_confirmed time a =
       let b : At t = move_to (Tell (did.Gave layer.Life (spelling frames.HandshakeDone))) a in
       let c : At t = move_to (Forget Handshake) b in
       next a b _ (move (Tell (did.Gave layer.Life (spelling frames.HandshakeDone))) tt a tt)
-      (next b c _ (move (Forget Handshake) tt b tt) (calmed_by c (is_calm c.state.waiting)))
+      (next b c _ (move (Forget Handshake) tt b tt) (holds_armed_now time c))
 
-  holds_applied : (space : SpaceId) (f : FrameValue) (a : At t) → R a (applied_after space f a)
-  unfolding applied_after acked_after calmed MayMove
-  holds_applied space (frames.Ack ack) a =
+  -- the loss timer is set anew where packets were newly acknowledged
+  holds_rearmed : (time : ℕ) (acked : List Entry) (a : At t) → R a (rearmed_after time acked a)
+  holds_rearmed time [] a = here a
+  holds_rearmed time (e ∷ es) a = holds_armed_now time a
+
+  holds_settled : (time : ℕ) (space : SpaceId) (largest : ℕ) (after : After t.C) (a : At t) → R a (settled_after time space largest after a)
+  unfolding settled_after MayMove
+  holds_settled time space largest after a =
+      let b : At t = move_to (Ack space largest after) a in
+      next a b _ (move (Ack space largest after) tt a tt) (holds_rearmed time after.acked b)
+
+  holds_acked : (m : Meaning t) (time : ℕ) (space : SpaceId) (ack : AckValue) (a : At t) → R a (acked_after m time space ack a)
+  unfolding acked_after MayMove
+  holds_acked m time space ack a =
       let b : At t = move_to (Tell (did.Gave layer.Recovery (spelling (frames.Ack ack)))) a in
-      let c : At t = move_to (Ack space ack.largest (ranges_of ack)) b in
       next a b _ (move (Tell (did.Gave layer.Recovery (spelling (frames.Ack ack)))) tt a tt)
-      (next b c _ (move (Ack space ack.largest (ranges_of ack)) tt b tt) (calmed_by c (is_calm c.state.waiting)))
-  holds_applied space frames.HandshakeDone a = holds_confirmed a
-  holds_applied space _ a = here a
+      (holds_settled time space ack.largest (settled_by m time space ack a.state) b)
+
+  holds_applied : (m : Meaning t) (time : ℕ) (space : SpaceId) (f : FrameValue) (a : At t) → R a (applied_after m time space f a)
+  unfolding applied_after
+  holds_applied m time space (frames.Ack ack) a = holds_acked m time space ack a
+  holds_applied m time space frames.HandshakeDone a = holds_confirmed time a
+  holds_applied m time space _ a = here a
 
   -- a close of the peer's is given to the life
   holds_given_close : (f : FrameValue) (a : At t) → R a (close_given f a)
@@ -303,18 +324,15 @@ module _ {t : Types} (R : At t → At t → Type 0) (here : (a : At t) → R a a
 
   -- the handshake is over, which went on before
   holds_over : (m : Meaning t) (time : ℕ) (side : Side) (a : At t) → rank_of a.state.life.state < 1 → R a (over_after m time side a)
-  unfolding MayMove calmed move_to state_move life_move
+  unfolding MayMove armed_after armed_with move_to state_move life_move
   holds_over m time Client a low = holds_parameters time (m.parameters a.state.lower.session) (move_to Establish) a
       (λ p. let b : At t = token_after a.state.setup.fixed.side p.stateless_reset_token a in
       move Establish tt (learned_with time p b) (subst (λ (s : State). rank_of s < 1) (sym (known_state time p b ∙ token_state a.state.setup.fixed.side p.stateless_reset_token a)) low))
   holds_over m time Server a low =
       let b : At t = move_to Confirm a in
       let c : At t = move_to (Forget Handshake) b in
-      next a b _ (move Confirm tt a tt) (next b c _ (move (Forget Handshake) tt b tt) (confirmed_by c (is_calm c.state.waiting) low))
-    where
-      confirmed_by : (c : At t) (b : Bool) → rank_of c.state.life.state < 1 → R c (move_to Establish (if b then move_to Calm c else c))
-      confirmed_by c true below = let d : At t = move_to Calm c in next c d _ (move Calm tt c tt) (move Establish tt d below)
-      confirmed_by c false below = move Establish tt c below
+      let d : At t = armed_after time c in
+      next a b _ (move Confirm tt a tt) (next b c _ (move (Forget Handshake) tt b tt) (next c d _ (holds_armed_now time c) (move Establish tt d low)))
 
   -- the handshake has ended, or goes on
   ended_by : (m : Meaning t) (time : ℕ) (side : Side) (a : At t) (over b : Bool) → (is_handshake a.state.life.state && over) ≡ b → R a (if b then over_after m time side a else a)
@@ -362,7 +380,7 @@ module _ {t : Types} (R : At t → At t → Type 0) (here : (a : At t) → R a a
   -- a frame that stops nothing by its kind
   holds_taken : (m : Meaning t) (time : ℕ) (space : SpaceId) (read : TypedValue) (f : FrameValue) (others : At t → At t) (a : At t) → ((b : At t) → R b (others b)) → R a (taken_and m time space read f others a)
   holds_taken m time space read (frames.Crypto offset body) others a h = holds_crypto m time space offset body (crypto_stop a.state space read.ty offset body) others a h
-  holds_taken m time space read f others a h = next a (applied_after space f a) _ (holds_applied space f a) (h (applied_after space f a))
+  holds_taken m time space read f others a h = next a (applied_after m time space f a) _ (holds_applied m time space f a) (h (applied_after m time space f a))
 
   -- a frame that isn't a close
   holds_frame : (m : Meaning t) (time : ℕ) (space : SpaceId) (read : TypedValue) (stop : Option TransportError) (others : At t → At t) (a : At t) → ((b : At t) → R b (others b)) → R a (frame_and m time space read stop others a)
@@ -412,21 +430,21 @@ module _ {t : Types} (R : At t → At t → Type 0) (here : (a : At t) → R a a
       next a b _ (move (Enter space number verdict.ReadForClose) tt a (new, refl)) (closing_by b (list_any is_close_item (items_of payload)) (closed_rank a.state.life.state closed))
 
   -- the Initial keys are dropped, or not
-  initial_by : (a : At t) (b : Bool) → R a (if b then calmed (move_to (Forget Initial) a) else a)
-  unfolding calmed MayMove
-  initial_by a true = let b : At t = move_to (Forget Initial) a in next a b _ (move (Forget Initial) tt a tt) (calmed_by b (is_calm b.state.waiting))
-  initial_by a false = here a
+  initial_by : (blocked : Bool) (time : ℕ) (a : At t) (b : Bool) → R a (if b then armed_with blocked time (move_to (Forget Initial) a) else a)
+  unfolding MayMove
+  initial_by blocked time a true = let b : At t = move_to (Forget Initial) a in next a b _ (move (Forget Initial) tt a tt) (holds_armed blocked time b)
+  initial_by blocked time a false = here a
 
-  pub holds_initial : (side : Side) (space : SpaceId) (a : At t) → R a (initial_left side space a)
+  pub holds_initial : (side : Side) (blocked : Bool) (time : ℕ) (space : SpaceId) (a : At t) → R a (initial_left side blocked time space a)
   unfolding initial_left
-  holds_initial side space a = initial_by a (drops_initial side a.state space)
+  holds_initial side blocked time space a = initial_by blocked time a (drops_initial side a.state space)
 
   -- a packet is accepted
   holds_accepted : (time : ℕ) (space : SpaceId) (number : ℕ) (e : Bool) (signs : Signs) (v : Verdict) (a : At t) → is_new_in a.state.numbers space number ≡ true → enters v ≡ true → accepts v ≡ true → R a (accepted_after time space number e signs v a)
   unfolding accepted_after MayMove
   holds_accepted time space number e signs v a new enters_v accepts_v =
       let b : At t = move_to (Accept time space number e signs v) a in
-      next a b _ (move (Accept time space number e signs v) accepts_v a (new, enters_v)) (holds_initial Server space b)
+      next a b _ (move (Accept time space number e signs v) accepts_v a (new, enters_v)) (holds_initial Server (is_blocked b.state.paths) time space b)
 
   holds_admitted : (m : Meaning t) (time : ℕ) (space : SpaceId) (signs : Signs) (source : List ℕ) (number : ℕ) (payload : List ℕ) (a : At t) → is_new_in a.state.numbers space number ≡ true → R a (admitted_after m time space signs source number payload a)
   unfolding admitted_after
@@ -439,7 +457,7 @@ module _ {t : Types} (R : At t → At t → Type 0) (here : (a : At t) → R a a
   verdict_by : (m : Meaning t) (time : ℕ) (space : SpaceId) (signs : Signs) (source : List ℕ) (number : ℕ) (payload : List ℕ) (v : Verdict) (a : At t) →
       (enters v ≡ true → is_new_in a.state.numbers space number ≡ true) → (v ≡ verdict.ReadForClose → is_closed a.state.life.state ≡ true) →
       R a (verdict_after m time space signs source number payload v a)
-  unfolding verdict_after MayMove
+  unfolding MayMove
   verdict_by m time space signs source number payload verdict.Ignored a new closed = here a
   verdict_by m time space signs source number payload verdict.Failure a new closed = here a
   verdict_by m time space signs source number payload verdict.BadBits a new closed = here a
@@ -495,16 +513,27 @@ module _ {t : Types} (R : At t → At t → Type 0) (here : (a : At t) → R a a
 -- what holds of these, and of each move that receiving makes, holds of a datagram
 module _ {t : Types} (R : At t → At t → Type 0) (here : (a : At t) → R a a) (next : (a b c : At t) → R a b → R b c → R a c)
     (move : (x : Move t) → IsReceived x → (a : At t) → MayMove x a.state → R a (move_to x a)) where
-  datagram_by : (m : Meaning t) (time : ℕ) (mark : Option EcnCodepoint) (bytes : List ℕ) (items : List DatagramItem) (a : At t) (b : Bool) (n : ℕ) → R a (if b then move_to (Hear n) (pieces_after m time mark items a) else a)
-  unfolding MayMove
-  datagram_by m time mark bytes items a true n =
+  -- the loss timer is set anew where a datagram can be begun again
+  freed_by : (time : ℕ) (a : At t) (b : Bool) → R a (if b then armed_after time a else a)
+  freed_by time a true = holds_armed_now R here next (λ x h. move x (in_packet_received x h)) time a
+  freed_by time a false = here a
+
+  pub holds_counted : (time : ℕ) (blocked : Bool) (n : ℕ) (a : At t) → R a (counted_after time blocked n a)
+  unfolding counted_after MayMove
+  holds_counted time blocked n a =
+      let b : At t = move_to (Hear n) a in
+      next a b _ (move (Hear n) tt a tt) (freed_by time b (blocked && not (is_blocked b.state.paths)))
+
+  datagram_by : (m : Meaning t) (time : ℕ) (mark : Option EcnCodepoint) (items : List DatagramItem) (a : At t) (b : Bool) (n : ℕ) →
+      R a (if b then counted_after time (is_blocked a.state.paths) n (pieces_after m time mark items a) else a)
+  datagram_by m time mark items a true n =
       let b : At t = pieces_after m time mark items a in
-      next a b _ (holds_pieces R here next (λ x h. move x (in_packet_received x h)) m time mark items a) (move (Hear n) tt b tt)
-  datagram_by m time mark bytes items a false n = here a
+      next a b _ (holds_pieces R here next (λ x h. move x (in_packet_received x h)) m time mark items a) (holds_counted time (is_blocked a.state.paths) n b)
+  datagram_by m time mark items a false n = here a
 
   holds_heard : (m : Meaning t) (time : ℕ) (mark : Option EcnCodepoint) (remote : SocketAddr) (bytes : List ℕ) (a : At t) → R a (heard_after m time mark remote bytes a)
   unfolding heard_after
-  holds_heard m time mark remote bytes a = datagram_by m time mark bytes (cut_of a.state bytes) a _ _
+  holds_heard m time mark remote bytes a = datagram_by m time mark (cut_of a.state bytes) a _ _
 
   -- a datagram that may be a server's first one, or not
   holds_first : (m : Meaning t) (time : ℕ) (mark : Option EcnCodepoint) (remote : SocketAddr) (bytes : List ℕ) (token : Option (List ℕ)) (a : At t) → R a (first_after m time mark remote bytes token a)

@@ -22,19 +22,22 @@ use Rattle.qc_header.specs.declared.header.Header.{Header}
 use Rattle.qc_header.specs.HeaderSpelling.{header_spelling, header_number, header_most, initial_spelling, short_spelling, long_start}
 use Rattle.qc_packet.specs.Building.{dst_cid_of, min_size_of, padded_size}
 use Rattle.qc_packet.specs.PacketSpelling.{padding_len}
+use Rattle.qc_state.specs.declared.deeds.Did.{Did}
 use Rattle.qc_state.specs.declared.transmit.TheConstants.{DATAGRAM_SIZE}
 use Rattle.qc_state.specs.declared.transmit.Transmit.{Transmit}
 use Rattle.qc_state.specs.declared.waiting.SpaceWaiting.{SpaceWaiting}
 use Rattle.qc_state.specs.Keys.{keys_of}
-use Rattle.qc_state.specs.Moves.{Take, Seal, state_move, move_to, numbers_move, keys_move, life_move, paths_move, timers_move, waiting_move, setup_move, lower_move, deeds_move}
+use Rattle.qc_state.specs.Moves.{Begin, Take, Seal, state_move, move_to, numbers_move, keys_move, life_move, paths_move, timers_move, waiting_move, setup_move, lower_move, deeds_move}
 use Rattle.qc_state.specs.Numbers.{next_number, acked_number}
 use Rattle.qc_state.specs.Paths.{is_blocked}
-use Rattle.qc_state.specs.Sending.{close_frame, told_code, told_type, told_application_code, application_close, told_close, closing_frame, IsKeptReason, close_room, Closes, Carries, TakenNow, owes_in, sending_space, owes, is_past_limit, is_used_up, is_key_used_up, is_key_nearly_used_up, may_be_quiet, header_in, header_of, sealed_with, packet_bytes, initial_left, sealed_in, spared_after, packet_after, quiet_after, transmit_after, MayTransmit, transmit_bytes, transmit_with, transmit_of, SealsOne, Transmits, is_silent, fills, packet_size, least_size, padding_of, padded}
+use Rattle.qc_state.specs.Sending.{close_frame, told_code, told_type, told_application_code, application_close, told_close, closing_frame, IsKeptReason, close_room, Closes, Carries, TakenNow, owes_in, sending_space, owes, is_past_limit, is_used_up, is_key_used_up, is_key_nearly_used_up, may_be_quiet, header_in, sealed_with, packet_bytes, begun_view, initial_left, is_flown, flown_after, sealed_in, spared_after, packet_after, quiet_after, transmit_after, MayTransmit, transmit_bytes, transmit_with, transmit_of, SealsOne, Transmits, is_silent, fills, packet_size, least_size, padding_of, padded}
 use Rattle.qc_state.specs.Spaces.{space_of, with_space}
 use Rattle.qc_state.specs.Types.{Types, Meaning}
 use Rattle.qc_state.specs.View.{View, At, at}
-use Rattle.qc_state.specs.Waiting.{waits_in, waits_here, waiting_without, without, without_all, TakenPart}
-use Rattle.qc_state.proofs.WaitingLemmas.{without_all_append, taken_waits, taken_some, taken_fits, acks_fit, bytes_append, without_padded}
+use Rattle.qc_state.specs.Waiting.{waits_in, waits_here, waiting_without, without, without_all, begun_in, datagram_begun, TakenPart}
+use Rattle.qc_flight.specs.Packets.{first_of}
+use Rattle.qc_recovery.specs.Steps as recovery
+use Rattle.qc_state.proofs.WaitingLemmas.{without_all_append, begun_wanted, is_wanted, taken_waits, taken_some, taken_fits, acks_fit, bytes_append, without_padded}
 
 -- of two tests that hold the second holds
 and_right : (a b : Bool) → (a && b) ≡ true → b ≡ true
@@ -168,12 +171,32 @@ module _ {t : Types} where
   unfolding owes owes_in waits_in
   owed_waits s e h = owed_by (space_of s.waiting.spaces (sending_space s)) s.waiting.close_owed _ e (and_right _ _ h)
 
-  -- the frames that are taken, with the PADDING that they need behind them, are what a packet may carry
-  carries : (time : ℕ) (s : View t) (room : ℕ) (fs gs : List FrameValue) → owes s ≡ true → 20 ≤ room → TakenNow time s (sending_space s) room fs → gs ≡ padded s (sending_space s) fs → Carries time s (sending_space s) gs
+  -- what waits in the space of a datagram that is begun
+  begun_space : (s : View t) (id : SpaceId) → space_of (state_move (Begin id) s).waiting.spaces id ≡ begun_in (space_of s.waiting.spaces id) (first_of (recovery.space_of id s.lower.recovery).flight)
+  unfolding state_move waiting_move datagram_begun
+  begun_space s Initial = refl
+  begun_space s Handshake = refl
+  begun_space s Data = refl
+
+  -- a frame waits there, where something is owed that is no close
+  begun_waits : (s : View t) → s.waiting.close_owed ≡ false → owes s ≡ true → is_wanted (space_of (begun_view s).waiting.spaces (sending_space s)) ≡ true
+  unfolding begun_view
+  begun_waits s e h =
+      let id : SpaceId = sending_space s in
+      subst (λ (w : SpaceWaiting). is_wanted w ≡ true) (sym (begun_space s id)) (begun_wanted (space_of s.waiting.spaces id) (first_of (recovery.space_of id s.lower.recovery).flight) (owed_waits s e h))
+
+  -- a begun datagram owes no close
+  unowed : (s : View t) → (begun_view s).waiting.close_owed ≡ false → s.waiting.close_owed ≡ false
+  unfolding begun_view state_move waiting_move datagram_begun
+  unowed s h = h
+
+  -- the frames that are taken once a datagram is begun, with the PADDING that they need behind them, are what a packet may carry
+  carries : (time : ℕ) (s : View t) (room : ℕ) (fs gs : List FrameValue) → owes s ≡ true → 20 ≤ room → TakenNow time (begun_view s) (sending_space s) room fs → gs ≡ padded (begun_view s) (sending_space s) fs →
+      Carries time (begun_view s) (sending_space s) gs
   carries time s room fs gs owed wide (TakenNow.a_close e closes) is_gs = Carries.a_close e fs closes is_gs
   carries time s room fs gs owed wide (TakenNow.what_waits e taken) is_gs =
-      let w : SpaceWaiting = space_of s.waiting.spaces (sending_space s) in
-      Carries.what_waits e fs (taken_waits time w room fs taken) (taken_some time w room fs taken (owed_waits s e owed) wide) is_gs
+      let w : SpaceWaiting = space_of (begun_view s).waiting.spaces (sending_space s) in
+      Carries.what_waits e fs (taken_waits time w room fs taken) (taken_some time w room fs taken (begun_waits s (unowed s e) owed) wide) is_gs
 
   -- a header in each space has its destination id
   dst_within : (s : View t) (id : SpaceId) → length (dst_cid_of (header_in s id)) ≤ length (header_spelling (header_in s id) 0)
@@ -223,22 +246,51 @@ module _ {t : Types} where
   padded_size_now s mid id h least size fs gs is_h is_mid is_least is_gs is_size =
       is_size ∙ ap (λ (x : ℕ). padded_size h fs x) (is_least ∙ least_kept s mid id fs is_mid) ∙ padded_size_is s id h fs is_h ∙ ap (λ (x : List FrameValue). packet_size s id x) (sym is_gs)
 
-  -- frames are taken, filled up with the PADDING that they need, sealed, and counted; the Initial space is left, and this end
-  -- closes, where these say so
-  pub seals_one : (m : Meaning t) (time room number size : ℕ) (space : SpaceId) (nearly : Bool) (a : At t) (mid : View t) (b c d : At t) (buffer : List ℕ) (fs gs : List FrameValue) (h : Header) →
-      may_be_quiet a.state ≡ false → space ≡ sending_space a.state → 20 ≤ room →
-      TakenNow time a.state space room fs → gs ≡ padded a.state space fs →
-      mid ≡ state_move (Take space fs) a.state → number ≡ next_number a.state.numbers space → size ≡ packet_size a.state space gs → size ≤ DATAGRAM_SIZE →
-      b ≡ move_to (Seal time space number size gs) (at mid a.did) → c ≡ initial_left Client space b → nearly ≡ is_key_nearly_used_up a.state → d ≡ spared_after time nearly c →
-      h ≡ header_in a.state space → buffer ≡ sealed_with m (keys_of mid.keys space) h number (frames_spelling gs) →
+  -- taking frames leaves whether a packet with these counts as in flight
+  flown_taken : (s mid : View t) (id : SpaceId) (fs : List FrameValue) → mid ≡ state_move (Take id fs) s → is_flown mid fs ≡ is_flown s fs
+  unfolding is_flown state_move waiting_move waiting_without
+  flown_taken s mid id fs is = ap (λ (x : View t). is_flown x fs) is
+
+  -- a packet of the space is sealed, where its frames are taken first
+  sealed_now : (time number size : ℕ) (space : SpaceId) (ds : List Did) (e mid : View t) (b f c : At t) (gs : List FrameValue) → mid ≡ state_move (Take space gs) e →
+      number ≡ next_number e.numbers space → size ≡ packet_size e space gs → b ≡ move_to (Seal time space number size gs) (at mid ds) → f ≡ flown_after time (is_flown mid gs) b → c ≡ initial_left Client false time space f →
+      c ≡ sealed_in time space gs (at e ds)
+  unfolding sealed_in move_to deeds_move
+  sealed_now time number size space ds e mid b f c gs same is_number is_size is_b is_f is_c =
+      is_c ∙ ap (λ (x : At t). initial_left Client false time space x)
+      (is_f ∙ ap (λ (x : Bool). flown_after time x b) (flown_taken e mid space gs same)
+      ∙ ap (λ (x : At t). flown_after time (is_flown e gs) x)
+      (is_b ∙ ap (λ (x : View t). move_to (Seal time space number size gs) (at x ds)) same
+      ∙ ap (λ (x : ℕ). move_to (Seal time space x size gs) (move_to (Take space gs) (at e ds))) is_number
+      ∙ ap (λ (x : ℕ). move_to (Seal time space (next_number e.numbers space) x gs) (move_to (Take space gs) (at e ds))) is_size))
+
+  -- these are its bytes
+  sealed_bytes : (m : Meaning t) (number : ℕ) (space : SpaceId) (e mid : View t) (buffer : List ℕ) (gs : List FrameValue) (h : Header) → mid ≡ state_move (Take space gs) e →
+      number ≡ next_number e.numbers space → h ≡ header_in e space → buffer ≡ sealed_with m (keys_of mid.keys space) h number (frames_spelling gs) → buffer ≡ packet_bytes m e space gs
+  unfolding packet_bytes state_move keys_of keys_move
+  sealed_bytes m number space e mid buffer gs h same is_number is_h is_buffer =
+      is_buffer ∙ ap (λ (x : Header). sealed_with m (keys_of mid.keys space) x number (frames_spelling gs)) is_h
+      ∙ ap (λ (x : View t). sealed_with m (keys_of x.keys space) (header_in e space) number (frames_spelling gs)) same
+      ∙ ap (λ (x : ℕ). sealed_with m (keys_of e.keys space) (header_in e space) x (frames_spelling gs)) is_number
+
+  -- a datagram is begun; frames are taken, filled up with the PADDING that they need, sealed, and counted; the Initial space is
+  -- left, and this end closes, where these say so
+  pub seals_one : (m : Meaning t) (time room number size : ℕ) (space : SpaceId) (nearly : Bool) (a : At t) (e mid : View t) (b f c d : At t) (buffer : List ℕ) (fs gs : List FrameValue) (h : Header) →
+      may_be_quiet a.state ≡ false → space ≡ sending_space a.state → e ≡ state_move (Begin space) a.state → 20 ≤ room →
+      TakenNow time e space room fs → gs ≡ padded e space fs →
+      mid ≡ state_move (Take space fs) e → number ≡ next_number e.numbers space → size ≡ packet_size e space gs → size ≤ DATAGRAM_SIZE →
+      b ≡ move_to (Seal time space number size gs) (at mid a.did) → f ≡ flown_after time (is_flown mid gs) b → c ≡ initial_left Client false time space f → nearly ≡ is_key_nearly_used_up a.state → d ≡ spared_after time nearly c →
+      h ≡ header_in e space → buffer ≡ sealed_with m (keys_of mid.keys space) h number (frames_spelling gs) →
       length buffer ≡ size → SealsOne m time a d buffer
-  unfolding may_be_quiet packet_after sealed_in packet_bytes header_of move_to deeds_move state_move keys_of keys_move
-  seals_one m time room number size space nearly a mid b c d buffer fs gs h loud is_space wide taken is_gs is_mid is_number is_size fits is_b is_c is_nearly is_d is_h is_buffer full =
+  unfolding may_be_quiet packet_after begun_view move_to deeds_move
+  seals_one m time room number size space nearly a e mid b f c d buffer fs gs h loud is_space is_e wide taken is_gs is_mid is_number is_size fits is_b is_f is_c is_nearly is_d is_h is_buffer full =
       let owed : owes a.state ≡ true = not_quiet_2 (is_silent a.state) (owes a.state) (is_blocked a.state.paths) (is_key_used_up a.state) (is_used_up a.state) loud in
-      let same : mid ≡ state_move (Take space gs) a.state = is_mid ∙ sym (ap (λ (x : List FrameValue). state_move (Take space x) a.state) is_gs ∙ take_padded space fs a.state) in
-      let now : TakenNow time a.state (sending_space a.state) room fs = subst (λ (id : SpaceId). TakenNow time a.state id room fs) is_space taken in
-      let filled : gs ≡ padded a.state (sending_space a.state) fs = is_gs ∙ ap (λ (id : SpaceId). padded a.state id fs) is_space in
-      let whole : size ≡ packet_size a.state (sending_space a.state) gs = is_size ∙ ap (λ (id : SpaceId). packet_size a.state id gs) is_space in
+      let first : SpaceId = sending_space a.state in
+      let begun : e ≡ begun_view a.state = is_e ∙ ap (λ (id : SpaceId). state_move (Begin id) a.state) is_space in
+      let same : mid ≡ state_move (Take space gs) e = is_mid ∙ sym (ap (λ (x : List FrameValue). state_move (Take space x) e) is_gs ∙ take_padded space fs e) in
+      let now : TakenNow time (begun_view a.state) first room fs = subst (λ (v : View t). TakenNow time v first room fs) begun (subst (λ (id : SpaceId). TakenNow time e id room fs) is_space taken) in
+      let filled : gs ≡ padded (begun_view a.state) first fs = is_gs ∙ ap (λ (id : SpaceId). padded e id fs) is_space ∙ ap (λ (v : View t). padded v first fs) begun in
+      let whole : size ≡ packet_size (begun_view a.state) first gs = is_size ∙ ap (λ (id : SpaceId). packet_size e id gs) is_space ∙ ap (λ (v : View t). packet_size v first gs) begun in
       record {
         frames = gs;
         may = record {
@@ -250,16 +302,11 @@ module _ {t : Types} where
           carries = carries time a.state room fs gs owed wide now filled;
           fits = subst (λ (x : ℕ). x ≤ DATAGRAM_SIZE) whole fits;
         };
-        leads = is_d ∙ ap (λ (x : At t). spared_after time nearly x) (is_c ∙ ap (λ (x : At t). initial_left Client space x) is_b
-            ∙ ap (λ (x : View t). initial_left Client space (move_to (Seal time space number size gs) (at x a.did))) same
-            ∙ ap (λ (x : ℕ). initial_left Client space (move_to (Seal time space x size gs) (move_to (Take space gs) a))) is_number
-            ∙ ap (λ (x : ℕ). initial_left Client space (move_to (Seal time space (next_number a.state.numbers space) x gs) (move_to (Take space gs) a))) is_size
-            ∙ ap (λ (id : SpaceId). sealed_in time id gs a) is_space)
-            ∙ ap (λ (x : Bool). spared_after time x (sealed_in time (sending_space a.state) gs a)) is_nearly;
-        bytes = is_buffer ∙ ap (λ (x : Header). sealed_with m (keys_of mid.keys space) x number (frames_spelling gs)) is_h
-            ∙ ap (λ (x : View t). sealed_with m (keys_of x.keys space) (header_in a.state space) number (frames_spelling gs)) same
-            ∙ ap (λ (x : ℕ). sealed_with m (keys_of a.state.keys space) (header_in a.state space) x (frames_spelling gs)) is_number
-            ∙ ap (λ (id : SpaceId). sealed_with m (keys_of a.state.keys id) (header_in a.state id) (next_number a.state.numbers id) (frames_spelling gs)) is_space;
+        leads = is_d ∙ ap (λ (x : At t). spared_after time nearly x)
+            (sealed_now time number size space a.did e mid b f c gs same is_number is_size is_b is_f is_c ∙ ap (λ (id : SpaceId). sealed_in time id gs (at e a.did)) is_space
+            ∙ ap (λ (v : View t). sealed_in time first gs (at v a.did)) begun)
+            ∙ ap (λ (x : Bool). spared_after time x (sealed_in time first gs (at (begun_view a.state) a.did))) is_nearly;
+        bytes = sealed_bytes m number space e mid buffer gs h same is_number is_h is_buffer ∙ ap (λ (id : SpaceId). packet_bytes m e id gs) is_space ∙ ap (λ (v : View t). packet_bytes m v first gs) begun;
         full = full ∙ whole;
       }
 
@@ -281,30 +328,28 @@ module _ {t : Types} where
   unfolding MayTransmit transmit_after transmit_of transmit_bytes
   transmits_quiet m time a b buffer q l e = record { packets = []; may = q; leads = l; answer = refl; bytes = e; full = ap length e }
 
-  -- where a packet may be sealed, its number is below the greatest
-  pub loud_low : (s : View t) (space : SpaceId) → space ≡ sending_space s → may_be_quiet s ≡ false → next_number s.numbers space < 2 ^ 62 - 1
-  unfolding may_be_quiet is_used_up
-  loud_low s space is_space h =
-      subst (λ (id : SpaceId). next_number s.numbers id < 2 ^ 62 - 1) (sym is_space)
-      (number_low (next_number s.numbers (sending_space s)) (acked_number s.numbers (sending_space s)) (not_quiet_3 (is_silent s) (owes s) (is_blocked s.paths) (is_key_used_up s) (is_used_up s) h))
+  -- where a packet may be sealed, its number is below the greatest once a datagram is begun for it
+  pub loud_low : (s e : View t) (space : SpaceId) → space ≡ sending_space s → may_be_quiet s ≡ false → e ≡ state_move (Begin space) s → next_number e.numbers space < 2 ^ 62 - 1
+  unfolding may_be_quiet is_used_up state_move numbers_move
+  loud_low s e space is_space h begun =
+      subst (λ (v : View t). next_number v.numbers space < 2 ^ 62 - 1) (sym begun)
+      (subst (λ (id : SpaceId). next_number s.numbers id < 2 ^ 62 - 1) (sym is_space)
+      (number_low (next_number s.numbers (sending_space s)) (acked_number s.numbers (sending_space s)) (not_quiet_3 (is_silent s) (owes s) (is_blocked s.paths) (is_key_used_up s) (is_used_up s) h)))
 
   -- and it is near the greatest acknowledged one
-  pub loud_near : (s : View t) (space : SpaceId) → space ≡ sending_space s → may_be_quiet s ≡ false → next_number s.numbers space - acked_number s.numbers space < 2 ^ 31
-  unfolding may_be_quiet is_used_up
-  loud_near s space is_space h =
-      subst (λ (id : SpaceId). next_number s.numbers id - acked_number s.numbers id < 2 ^ 31) (sym is_space)
-      (number_near (next_number s.numbers (sending_space s)) (acked_number s.numbers (sending_space s)) (not_quiet_3 (is_silent s) (owes s) (is_blocked s.paths) (is_key_used_up s) (is_used_up s) h))
+  pub loud_near : (s e : View t) (space : SpaceId) → space ≡ sending_space s → may_be_quiet s ≡ false → e ≡ state_move (Begin space) s → next_number e.numbers space - acked_number e.numbers space < 2 ^ 31
+  unfolding may_be_quiet is_used_up state_move numbers_move
+  loud_near s e space is_space h begun =
+      subst (λ (v : View t). next_number v.numbers space - acked_number v.numbers space < 2 ^ 31) (sym begun)
+      (subst (λ (id : SpaceId). next_number s.numbers id - acked_number s.numbers id < 2 ^ 31) (sym is_space)
+      (number_near (next_number s.numbers (sending_space s)) (acked_number s.numbers (sending_space s)) (not_quiet_3 (is_silent s) (owes s) (is_blocked s.paths) (is_key_used_up s) (is_used_up s) h)))
 
   -- and its space has keys, once frames were taken too
-  pub loud_keyed : (s mid : View t) (space : SpaceId) (fs : List FrameValue) → space ≡ sending_space s → may_be_quiet s ≡ false → mid ≡ state_move (Take space fs) s → IsSome (keys_of mid.keys space)
+  pub loud_keyed : (s e mid : View t) (space : SpaceId) (fs : List FrameValue) → space ≡ sending_space s → may_be_quiet s ≡ false → e ≡ state_move (Begin space) s → mid ≡ state_move (Take space fs) e → IsSome (keys_of mid.keys space)
   unfolding may_be_quiet owes owes_in state_move keys_move
-  loud_keyed s mid space fs is_space h e =
-      ap (λ (x : View t). is_some (keys_of x.keys space)) e ∙ ap (λ (id : SpaceId). is_some (keys_of s.keys id)) is_space ∙ and_left _ _ (not_quiet_2 (is_silent s) (owes s) (is_blocked s.paths) (is_key_used_up s) (is_used_up s) h)
-
-  -- the header of the next packet is that of its space
-  pub header_now : (s : View t) (space : SpaceId) (h : Header) → space ≡ sending_space s → h ≡ header_of s → h ≡ header_in s space
-  unfolding header_of
-  header_now s space h is_space e = e ∙ ap (λ (id : SpaceId). header_in s id) (sym is_space)
+  loud_keyed s e mid space fs is_space h begun is_mid =
+      ap (λ (x : View t). is_some (keys_of x.keys space)) (is_mid ∙ ap (λ (x : View t). state_move (Take space fs) x) begun) ∙ ap (λ (id : SpaceId). is_some (keys_of s.keys id)) is_space
+      ∙ and_left _ _ (not_quiet_2 (is_silent s) (owes s) (is_blocked s.paths) (is_key_used_up s) (is_used_up s) h)
 
   -- a header in each space has at most 61 bytes
   most_by : (s : View t) (space : SpaceId) → header_most (header_in s space) ≡ 61
@@ -374,18 +419,18 @@ taken_room time s space h fs n room is_h is_n most is_room taken few =
     let fits : length (frames_spelling fs) ≤ room = now_fits time s space room fs taken few (omega arith) (room_behind s space h n room is_h is_n is_room) in
     omega arith
 
--- the same, from what the calls say that take the frames, fill them up to as many bytes as are asked for, seal them, and count
--- what was sealed
-pub seals_taken : {t : Types} (m : Meaning t) (time n room number least size : ℕ) (space : SpaceId) (nearly : Bool) (a : At t) (mid : View t) (b c d : At t) (buffer : List ℕ) (fs gs : List FrameValue) (h : Header) →
-    may_be_quiet a.state ≡ false → space ≡ sending_space a.state → h ≡ header_in a.state space → n ≡ length (header_spelling h 0) → n ≤ 61 → room ≡ 1180 - n →
-    TakenNow time a.state space room fs → length (space_of a.state.waiting.spaces space).acks.ranges ≤ 64 → mid ≡ state_move (Take space fs) a.state → least ≡ least_size mid space fs →
-    gs ≡ fs ++ replicate (padding_len h fs (padded_size h fs least)) Padding → number ≡ next_number a.state.numbers space → size ≡ length buffer →
-    b ≡ move_to (Seal time space number size gs) (at mid a.did) → c ≡ initial_left Client space b → nearly ≡ is_key_nearly_used_up a.state → d ≡ spared_after time nearly c →
+-- the same, from what the calls say that begin a datagram, take the frames, fill them up to as many bytes as are asked for, seal
+-- them, and count what was sealed
+pub seals_taken : {t : Types} (m : Meaning t) (time n room number least size : ℕ) (space : SpaceId) (nearly : Bool) (a : At t) (e mid : View t) (b f c d : At t) (buffer : List ℕ) (fs gs : List FrameValue) (h : Header) →
+    may_be_quiet a.state ≡ false → space ≡ sending_space a.state → e ≡ state_move (Begin space) a.state → h ≡ header_in e space → n ≡ length (header_spelling h 0) → n ≤ 61 → room ≡ 1180 - n →
+    TakenNow time e space room fs → length (space_of e.waiting.spaces space).acks.ranges ≤ 64 → mid ≡ state_move (Take space fs) e → least ≡ least_size mid space fs →
+    gs ≡ fs ++ replicate (padding_len h fs (padded_size h fs least)) Padding → number ≡ next_number e.numbers space → size ≡ length buffer →
+    b ≡ move_to (Seal time space number size gs) (at mid a.did) → f ≡ flown_after time (is_flown mid gs) b → c ≡ initial_left Client false time space f → nearly ≡ is_key_nearly_used_up a.state → d ≡ spared_after time nearly c →
     buffer ≡ sealed_with m (keys_of mid.keys space) h number (frames_spelling gs) → length buffer ≡ padded_size h fs least → SealsOne m time a d buffer
-seals_taken m time n room number least size space nearly a mid b c d buffer fs gs h loud is_space is_h is_n most is_room taken few is_mid is_least is_gs is_number is_size is_b is_c is_nearly is_d is_buffer full =
-    let filled : gs ≡ padded a.state space fs = padded_now a.state mid space h least fs gs is_h is_mid is_least is_gs in
-    let whole : size ≡ packet_size a.state space gs = padded_size_now a.state mid space h least size fs gs is_h is_mid is_least filled (is_size ∙ full) in
-    let behind : length (header_spelling h 0) + length (frames_spelling fs) + 20 ≤ DATAGRAM_SIZE = taken_room time a.state space h fs n room is_h is_n most is_room taken few in
-    let fits : packet_size a.state space (padded a.state space fs) ≤ DATAGRAM_SIZE = padded_fits a.state space h fs is_h (omega (arith, is_n, most)) behind in
-    seals_one m time room number size space nearly a mid b c d buffer fs gs h loud is_space (omega (arith, most, is_room)) taken filled is_mid is_number whole
-    (omega (arith, whole, fits, ap (λ (x : List FrameValue). packet_size a.state space x) filled)) is_b is_c is_nearly is_d is_h is_buffer (sym is_size)
+seals_taken m time n room number least size space nearly a e mid b f c d buffer fs gs h loud is_space is_e is_h is_n most is_room taken few is_mid is_least is_gs is_number is_size is_b is_f is_c is_nearly is_d is_buffer full =
+    let filled : gs ≡ padded e space fs = padded_now e mid space h least fs gs is_h is_mid is_least is_gs in
+    let whole : size ≡ packet_size e space gs = padded_size_now e mid space h least size fs gs is_h is_mid is_least filled (is_size ∙ full) in
+    let behind : length (header_spelling h 0) + length (frames_spelling fs) + 20 ≤ DATAGRAM_SIZE = taken_room time e space h fs n room is_h is_n most is_room taken few in
+    let fits : packet_size e space (padded e space fs) ≤ DATAGRAM_SIZE = padded_fits e space h fs is_h (omega (arith, is_n, most)) behind in
+    seals_one m time room number size space nearly a e mid b f c d buffer fs gs h loud is_space is_e (omega (arith, most, is_room)) taken filled is_mid is_number whole
+    (omega (arith, whole, fits, ap (λ (x : List FrameValue). packet_size e space x) filled)) is_b is_f is_c is_nearly is_d is_h is_buffer (sym is_size)

@@ -26,18 +26,17 @@ use Rattle.qc_state.specs.declared.trace.Answer.TheVariants.{Done, Dropped}
 use Rattle.qc_state.specs.declared.trace.Step.{Step}
 use Rattle.qc_state.specs.declared.transmit.Transmit.{Transmit}
 use Rattle.qc_state.specs.Life.{is_open, ready_event, connected_event, lost_event, waiting_events, ready_reported, connected_reported, lost_reported, token_event, wanted_event, drained_event, token_reported, wanted_reported, endpoint_events}
-use Rattle.qc_state.specs.Moves.{Ask, Clock, Take, Seal, Forget, Calm, Shut, Raise, Give, Say, ReportReady, ReportConnected, ReportLost, ReportToken, ReportWanted, ReportDrained, state_move, move_to, deeds_move, life_move, calmed}
+use Rattle.qc_state.specs.Moves.{Ask, Begin, Clock, Take, Seal, Forget, Shut, Raise, Give, Say, ReportReady, ReportConnected, ReportLost, ReportToken, ReportWanted, ReportDrained, state_move, move_to, deeds_move, life_move, armed_with}
 use Rattle.qc_state.specs.Run.{time_of, word_of, packets_of, began, close_after, input_after, called, reported, step_after, IsAllowed, out_of, answer_of, IsStep, Run, Calls, Ran, Adds}
 use Rattle.qc_state.specs.Numbers.{next_number}
 use Rattle.qc_state.specs.Receiving.{is_taken, datagram_after}
 use Rattle.qc_state.specs.Paths.{is_blocked}
-use Rattle.qc_state.specs.Sending.{is_key_nearly_used_up, limit_met, spared_after, quiet_after, packet_size, sending_space, drops_initial, initial_left, sealed_in, packet_after, transmit_after, MayTransmit, transmit_bytes, transmit_of, Transmits, owed_quiet_after, is_silent, owes}
+use Rattle.qc_state.specs.Sending.{is_key_nearly_used_up, limit_met, spared_after, quiet_after, packet_size, sending_space, drops_initial, initial_left, is_flown, flown_after, sealed_in, packet_after, transmit_after, MayTransmit, transmit_bytes, transmit_of, Transmits, owed_quiet_after, is_silent, owes}
 use Rattle.qc_state.specs.Stopping.{given_after, key_limit_error, killed_after, stopped_after}
 use Rattle.qc_state.specs.Timeouts.{timeout_after}
 use Rattle.qc_state.specs.Timers.{next_timeout}
 use Rattle.qc_state.specs.Types.{Types, Meaning}
 use Rattle.qc_state.specs.View.{View, At, at}
-use Rattle.qc_state.specs.Waiting.{is_calm}
 
 -- a deed behind others that seals nothing names no packet
 packets_behind : (ds : List Did) (d : Did) → packets_of (d ∷ []) ≡ [] → packets_of (ds ++ d ∷ []) ≡ packets_of ds
@@ -61,17 +60,17 @@ module _ {t : Types} where
   quiet_told s why false true false false = refl
   quiet_told s why false false u z = refl
 
-  -- dropping keys tells nothing
-  calm_did : (a : At t) (b : Bool) → (if b then move_to Calm a else a).did ≡ a.did
-  unfolding move_to deeds_move
-  calm_did a true = refl
-  calm_did a false = refl
+  -- setting the loss timer tells nothing
+  flown_did : (time : ℕ) (b : Bool) (a : At t) → (flown_after time b a).did ≡ a.did
+  unfolding armed_with move_to deeds_move
+  flown_did time true a = refl
+  flown_did time false a = refl
 
-  -- and so it is where they may be dropped
-  left_did : (a : At t) (b : Bool) → (if b then calmed (move_to (Forget Initial) a) else a).did ≡ a.did
-  unfolding calmed move_to deeds_move
-  left_did a true = calm_did (move_to (Forget Initial) a) (is_calm (move_to (Forget Initial) a).state.waiting)
-  left_did a false = refl
+  -- nor does dropping keys
+  left_did : (time : ℕ) (a : At t) (b : Bool) → (if b then armed_with false time (move_to (Forget Initial) a) else a).did ≡ a.did
+  unfolding armed_with move_to deeds_move
+  left_did time a true = refl
+  left_did time a false = refl
 
   -- that this end closes behind a packet names none
   stopped_told : (time : ℕ) (as_told : Close) (why : ConnectionError) (a : At t) (x y : Bool) → let b : At t = move_to (Shut time as_told) a in
@@ -93,13 +92,16 @@ module _ {t : Types} where
   unfolding sealed_in initial_left move_to deeds_move
   packet_told time s id fs =
       let b : At t = move_to (Seal time id (next_number s.numbers id) (packet_size s id fs) fs) (move_to (Take id fs) (at s [])) in
-      ap packets_of (left_did b (drops_initial Client b.state id))
+      let c : At t = flown_after time (is_flown s fs) b in
+      ap packets_of (left_did time c (drops_initial Client c.state id) ∙ flown_did time (is_flown s fs) b)
 
   -- a transmit's deeds name the packets that it sealed
   packets_told : (time : ℕ) (s : View t) (packets : List (List FrameValue)) → MayTransmit time s packets → packets_of (transmit_after time packets (at s [])).did ≡ packets
-  unfolding MayTransmit transmit_after quiet_after owed_quiet_after killed_after given_after packet_after move_to state_move
+  unfolding MayTransmit transmit_after quiet_after owed_quiet_after killed_after given_after packet_after move_to state_move deeds_move
   packets_told time s [] may = quiet_told s (limit_met s) (is_silent s) (owes s) (is_blocked s.paths) (is_none (state_move (Raise Drained) s).life.reason)
-  packets_told time s (fs ∷ []) may = spared_told time (is_key_nearly_used_up s) (sealed_in time (sending_space s) fs (at s [])) ∙ packet_told time s (sending_space s) fs
+  packets_told time s (fs ∷ []) may =
+      let begun : View t = state_move (Begin (sending_space s)) s in
+      spared_told time (is_key_nearly_used_up s) (sealed_in time (sending_space s) fs (at begun [])) ∙ packet_told time begun (sending_space s) fs
   packets_told time s (fs ∷ gs ∷ rest) may = absurd may
 
   pub calls_transmit : (m : Meaning t) (s : View t) (time max : ℕ) (b : At t) (sent : Option Transmit) (buffer : List ℕ) (answer : Answer) →
@@ -115,10 +117,10 @@ module _ {t : Types} where
       }
 
   pub calls_timeout : (m : Meaning t) (s mid : View t) (time : ℕ) (ds : List Did) (b : At t) (answer : Answer) →
-      mid ≡ state_move (Clock time) s → ds ≡ [] → b ≡ timeout_after time (at mid ds) → answer ≡ Done → Calls m s (input.Timeout time) b answer
+      mid ≡ state_move (Clock time) s → ds ≡ [] → b ≡ timeout_after m time (at mid ds) → answer ≡ Done → Calls m s (input.Timeout time) b answer
   unfolding began input_after called IsAllowed answer_of
   calls_timeout m s mid time ds b answer is_mid is_ds is_b e = record {
-    leads = is_b ∙ ap (λ (x : List Did). timeout_after time (at mid x)) is_ds ∙ ap (λ (x : View t). timeout_after time (at x [])) is_mid;
+    leads = is_b ∙ ap (λ (x : List Did). timeout_after m time (at mid x)) is_ds ∙ ap (λ (x : View t). timeout_after m time (at x [])) is_mid;
     allowed = tt;
     answers = e;
   }

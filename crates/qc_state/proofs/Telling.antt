@@ -14,13 +14,14 @@ use Rattle.qc_path.specs.Arrived.{Window, is_new, arrived}
 use Rattle.qc_state.specs.declared.deeds.Verdict.{Verdict}
 use Rattle.qc_state.specs.Headline.{sealed_in, reasons_in, lives_in, entered_number, entered_in, EachNew, came_with, CloseFrom, RisesFrom, Kernel, kernel_of, kernel_after, Tells}
 use Rattle.qc_state.specs.Life.{rank_of, is_open, is_drained, reason_given, life_raised, life_closed, life_drained, life_established, data_ready, token_learned, identifiers_wanted, ready_reported, connected_reported, lost_reported, token_reported, wanted_reported, drained_reported}
-use Rattle.qc_state.specs.Moves.{Move, ClosesOnly, Clock, Ask, Take, Seal, Forget, Enter, Expect, Fail, Accept, Fix, Hear, Ack, Calm, Come, Read, Write, Ready, Token, Learn, Want, Confirm, Establish, Tell, Drain, Leave, Owe, IsTold, enters, Shut, Raise, Give, Say, ReportReady, ReportConnected, ReportLost, ReportToken, ReportWanted, ReportDrained, state_move, move_to, deeds_move, MayMove, told, numbers_move, life_move, timers_move}
+use Rattle.qc_state.specs.Moves.{Move, ClosesOnly, Clock, Ask, Take, Seal, Forget, Enter, Expect, Fail, Accept, Fix, Hear, Ack, Fire, Arm, Begin, Come, Read, Write, Ready, Token, Learn, Want, Confirm, Establish, Tell, Drain, Leave, Owe, IsTold, enters, Shut, Raise, Give, Say, ReportReady, ReportConnected, ReportLost, ReportToken, ReportWanted, ReportDrained, state_move, move_to, deeds_move, MayMove, told, numbers_move, life_move, timers_move}
 use Rattle.qc_state.specs.Numbers.{next_number, came_in, is_new_in, number_used, used_in, number_entered, number_accepted, number_acked}
 use Rattle.qc_state.specs.Numbers as numbers
-use Rattle.qc_state.specs.Setup.{idle_limit_now, probe_timeout_now}
+use Rattle.qc_state.specs.Recovering.{probe_timeout_now}
+use Rattle.qc_state.specs.Setup.{idle_limit_now}
 use Rattle.qc_state.specs.Spaces.{is_space, space_of, with_space}
 use Rattle.qc_state.specs.declared.numbers.SpaceNumbers.{SpaceNumbers}
-use Rattle.qc_state.specs.Timers.{timers_sealed, timers_accepted, timers_settled, timers_stopped, timers_closing}
+use Rattle.qc_state.specs.Timers.{timers_sealed, timers_accepted, timers_armed, timers_stopped, timers_closing}
 use Rattle.qc_state.specs.declared.timers.Timers.{Timers}
 use Rattle.qc_frame.specs.FrameSpelling.{elicits}
 use Rattle.qc_state.specs.Types.{Types}
@@ -224,8 +225,10 @@ module _ {t : Types} where
   move_tells id (Accept time space n e g v) s h = enter_tells id space s n v (λ w. numbers.accepted_in n w) h.0 h.1 (λ w. refl) (λ w. refl)
   move_tells id (Fix cid) s h = refl
   move_tells id (Hear bytes) s h = refl
-  move_tells id (Ack space n rs) s h = next_same id space s (λ w. numbers.acked_in n w) refl refl
-  move_tells id Calm s h = refl
+  move_tells id (Ack space n r) s h = next_same id space s (λ w. numbers.acked_in n w) refl refl
+  move_tells id (Fire r) s h = refl
+  move_tells id (Arm at) s h = refl
+  move_tells id (Begin space) s h = refl
   move_tells id (Come space offset bytes) s h = refl
   move_tells id (Read space count session) s h = refl
   move_tells id (Write bytes keys session) s h = refl
@@ -253,7 +256,7 @@ module _ {t : Types} where
 
   -- no move but the first of a call sets the clock
   clock_kept : (x : Move t) (s : View t) → MayMove x s → (state_move x s).timers.greatest ≡ s.timers.greatest
-  unfolding MayMove state_move timers_move timers_accepted timers_settled timers_stopped timers_closing
+  unfolding MayMove state_move timers_move timers_accepted timers_armed timers_stopped timers_closing
   clock_kept (Clock time) s h = absurd h
   clock_kept (Ask space) s h = refl
   clock_kept (Take space fs) s h = refl
@@ -264,8 +267,10 @@ module _ {t : Types} where
   clock_kept (Accept time space n e g v) s h = refl
   clock_kept (Fix cid) s h = refl
   clock_kept (Hear bytes) s h = refl
-  clock_kept (Ack space n rs) s h = refl
-  clock_kept Calm s h = refl
+  clock_kept (Ack space n r) s h = refl
+  clock_kept (Fire r) s h = refl
+  clock_kept (Arm at) s h = refl
+  clock_kept (Begin space) s h = refl
   clock_kept (Come space offset bytes) s h = refl
   clock_kept (Read space count session) s h = refl
   clock_kept (Write bytes keys session) s h = refl
@@ -279,7 +284,7 @@ module _ {t : Types} where
   clock_kept Drain s h = refl
   clock_kept (Leave time) s h = refl
   clock_kept Owe s h = refl
-  clock_kept (Seal time space n size fs) s h = sealed_clock s.timers (idle_limit_now s.setup) (probe_timeout_now s.setup space) time (list_any elicits fs)
+  clock_kept (Seal time space n size fs) s h = sealed_clock s.timers (idle_limit_now s.setup) (probe_timeout_now s space) time (list_any elicits fs)
   clock_kept (Shut time close) s h = refl
   clock_kept (Raise to) s h = refl
   clock_kept (Give why) s h = refl

@@ -21,18 +21,19 @@ use Rattle.qc_state.specs.declared.trace.Step.{Step}
 use Rattle.qc_state.specs.Headline as headline
 use Rattle.qc_state.specs.Headline.{deeds_of, reasons_in, lives_in, entered_in, EachNew, CloseFrom, RisesFrom, Kernel, Tells, EachRises, EachAdmitted, LifeRises, OnlyCloses, LosesOnce}
 use Rattle.qc_state.specs.Life.{rank_of, is_open, is_closed, is_drained, ready_reported, connected_reported, lost_reported, token_reported, wanted_reported, drained_reported}
-use Rattle.qc_state.specs.Moves.{Move, ClosesOnly, is_close, Ask, Take, Seal, Forget, Calm, Shut, Raise, Say, state_move, move_to, MayMove, numbers_move, life_move, timers_move, calmed}
+use Rattle.qc_state.specs.Moves.{Move, ClosesOnly, is_close, Ask, Begin, Take, Seal, Shut, Raise, Say, state_move, move_to, MayMove, numbers_move, life_move, timers_move, waiting_move}
 use Rattle.qc_state.specs.Numbers.{next_number, came_in}
 use Rattle.qc_state.specs.Run.{time_of, packets_of, began, close_after, input_after, called, reported, step_after, IsAllowed, IsStep, Run, Ran}
 use Rattle.qc_state.specs.Paths.{is_blocked}
-use Rattle.qc_state.specs.Sending.{close_frame, application_close, told_close, closing_frame, Closes, is_silent, owes, sending_space, is_key_nearly_used_up, limit_met, quiet_after, drops_initial, initial_left, sealed_in, spared_after, packet_after, transmit_after, Carries, MaySeal, MayTransmit, owed_quiet_after, packet_size, padding_of, padded}
+use Rattle.qc_state.specs.Sending.{close_frame, application_close, told_close, closing_frame, Closes, is_silent, owes, sending_space, is_key_nearly_used_up, limit_met, quiet_after, begun_view, is_flown, flown_after, sealed_in, spared_after, packet_after, transmit_after, Carries, MaySeal, MayTransmit, owed_quiet_after, packet_size, padding_of, padded}
 use Rattle.qc_state.specs.Stopping.{given_after, key_limit_error, killed_after}
 use Rattle.qc_state.specs.Timers.{clock_set}
 use Rattle.qc_state.specs.Types.{Types, Meaning}
 use Rattle.qc_state.specs.View.{View, At}
 use Rattle.qc_state.proofs.Telling.{tells_append, rises, reasons, lives, closes, admits, one_at_most, low_rank, open_rank, kernel, Told, told_here, told_next, told_move, given_by}
 use Rattle.qc_state.proofs.Expired.{holds_timeout}
-use Rattle.qc_state.proofs.Receives.{holds_stopped}
+use Rattle.qc_state.specs.Waiting.{datagram_begun}
+use Rattle.qc_state.proofs.Receives.{holds_armed, holds_initial, holds_stopped}
 use Rattle.qc_state.proofs.ToldReceiving.{told_datagram}
 
 -- a connection that isn't silent has not ended, and it owes a close once it has closed
@@ -102,24 +103,17 @@ module _ {t : Types} where
 
   -- a packet that may be sealed holds a close, once the connection has closed
   pub closes_only : (time : ℕ) (s : View t) (fs : List FrameValue) → MaySeal time s fs → ClosesOnly (rank_of s.life.state) fs
-  unfolding is_silent
+  unfolding is_silent begun_view state_move life_move waiting_move datagram_begun
   closes_only time s fs may = carried_closes may.carries
     where
-      carried_closes : Carries time s (sending_space s) fs → ClosesOnly (rank_of s.life.state) fs
-      carried_closes (Carries.a_close owed gs holds is) = λ r. padded_closes s (sending_space s) fs gs is (closes_close time s (sending_space s) gs holds)
-      carried_closes (Carries.what_waits free gs wait some is) = λ r. cc (loud_owes s.life.state s.waiting.close_owed may.alive r, free)
+      carried_closes : Carries time (begun_view s) (sending_space s) fs → ClosesOnly (rank_of s.life.state) fs
+      carried_closes (Carries.a_close owed gs holds is) = λ r. padded_closes (begun_view s) (sending_space s) fs gs is (closes_close time (begun_view s) (sending_space s) gs holds)
+      carried_closes (Carries.what_waits free gs wait some is) = λ r. let owes_none : s.waiting.close_owed ≡ false = free in cc (loud_owes s.life.state s.waiting.close_owed may.alive r, owes_none)
 
-  -- nothing more may be in flight
-  told_calm_by : (id : SpaceId) (a : At t) (b : Bool) → Told id a (if b then move_to Calm a else a)
-  unfolding MayMove
-  told_calm_by id a true = told_move id Calm a tt
-  told_calm_by id a false = told_here id a
-
-  -- the Initial keys are dropped, or not
-  told_left_by : (id : SpaceId) (a : At t) (b : Bool) → Told id a (if b then calmed (move_to (Forget Initial) a) else a)
-  unfolding calmed MayMove
-  told_left_by id a true = told_next id a (move_to (Forget Initial) a) _ (told_move id (Forget Initial) a tt) (told_calm_by id (move_to (Forget Initial) a) _)
-  told_left_by id a false = told_here id a
+  -- the loss timer is set anew behind a packet in flight, or not
+  told_flown : (id : SpaceId) (time : ℕ) (counts : Bool) (a : At t) → Told id a (flown_after time counts a)
+  told_flown id time true a = holds_armed (Told id) (told_here id) (told_next id) (λ x received b may. told_move id x b may) false time a
+  told_flown id time false a = told_here id a
 
   -- this end closes behind a packet, or not
   told_spared : (id : SpaceId) (time : ℕ) (nearly : Bool) (a : At t) → Told id a (spared_after time nearly a)
@@ -128,21 +122,26 @@ module _ {t : Types} where
   told_spared id time false a = told_here id a
 
   -- a packet is sealed
-  told_sealed : (id : SpaceId) (time : ℕ) (fs : List FrameValue) (a : At t) → MaySeal time a.state fs → Told id a (sealed_in time (sending_space a.state) fs a)
-  unfolding sealed_in initial_left MayMove move_to state_move numbers_move life_move
-  told_sealed id time fs a may =
-      let space : SpaceId = sending_space a.state in
+  told_sealed : (id space : SpaceId) (time : ℕ) (fs : List FrameValue) (a : At t) → ClosesOnly (rank_of a.state.life.state) fs → Told id a (sealed_in time space fs a)
+  unfolding sealed_in MayMove move_to state_move numbers_move life_move
+  told_sealed id space time fs a closes_now =
       let b : At t = move_to (Take space fs) a in
       let seal : Move t = Seal time space (next_number a.state.numbers space) (packet_size a.state space fs) fs in
       let c : At t = move_to seal b in
+      let d : At t = flown_after time (is_flown a.state fs) c in
       told_next id a b _ (told_move id (Take space fs) a tt)
-      (told_next id b c _ (told_move id seal b (refl, closes_only time a.state fs may)) (told_left_by id c (drops_initial Client c.state space)))
+      (told_next id b c _ (told_move id seal b (refl, closes_now))
+      (told_next id c d _ (told_flown id time (is_flown a.state fs) c)
+      (holds_initial (Told id) (told_here id) (told_next id) (λ x received e may. told_move id x e may) Client false time space d)))
 
   told_packet : (id : SpaceId) (time : ℕ) (fs : List FrameValue) (a : At t) → MaySeal time a.state fs → Told id a (packet_after time fs a)
-  unfolding packet_after
+  unfolding packet_after MayMove move_to state_move life_move
   told_packet id time fs a may =
-      let b : At t = sealed_in time (sending_space a.state) fs a in
-      told_next id a b _ (told_sealed id time fs a may) (told_spared id time (is_key_nearly_used_up a.state) b)
+      let space : SpaceId = sending_space a.state in
+      let b : At t = move_to (Begin space) a in
+      let c : At t = sealed_in time space fs b in
+      told_next id a b _ (told_move id (Begin space) a tt)
+      (told_next id b c _ (told_sealed id space time fs b (closes_only time a.state fs may)) (told_spared id time (is_key_nearly_used_up a.state) c))
 
   told_transmit : (id : SpaceId) (time : ℕ) (ps : List (List FrameValue)) (a : At t) → MayTransmit time a.state ps → Told id a (transmit_after time ps a)
   unfolding MayTransmit transmit_after quiet_after owed_quiet_after
@@ -158,7 +157,7 @@ module _ {t : Types} where
   told_input : (id : SpaceId) (m : Meaning t) (i : Input) (ds : List Did) (a : At t) → IsAllowed i ds a.state → Told id a (input_after m i ds a)
   unfolding IsAllowed input_after close_after MayMove
   told_input id m (input.Datagram time remote ecn bytes) ds a h = told_datagram id m time ecn remote bytes a
-  told_input id m (input.Timeout time) ds a h = holds_timeout (Told id) (told_here id) (told_next id) (λ x timed b may. told_move id x b may) time a
+  told_input id m (input.Timeout time) ds a h = holds_timeout (Told id) (told_here id) (told_next id) (λ x timed b may. told_move id x b may) m time a
   told_input id m (input.Transmit time max) ds a h = told_transmit id time (packets_of ds) a h
   told_input id m (input.Close time code reason) ds a h = closed_by id time _ a _ refl
   told_input id m (input.Ping time) ds a h = told_move id (Ask a.state.keys.highest) a tt

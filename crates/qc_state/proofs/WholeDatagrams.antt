@@ -29,11 +29,11 @@ use Rattle.qc_state.specs.declared.opening.Opening.TheVariants.{Unreadable, Rese
 use Rattle.qc_state.specs.declared.transmit.TheConstants.{DATAGRAM_SIZE}
 use Rattle.qc_state.specs.Keys.{keys_of}
 use Rattle.qc_state.specs.Life.{is_handshake, is_over}
-use Rattle.qc_state.specs.Moves.{Expect, Hear, life_move, move_to, setup_move, state_move}
+use Rattle.qc_state.specs.Moves.{Expect, life_move, move_to, paths_move, setup_move, state_move}
 use Rattle.qc_state.specs.Numbers.{received_number}
 use Rattle.qc_state.specs.Opening.{is_other_phase, judged, opened_at, opened_by, opened_in, opened_space, opened_under, opening_of, source_of, spin_of, token_of}
-use Rattle.qc_state.specs.Paths.{same_address}
-use Rattle.qc_state.specs.Receiving.{cut_of, datagram_after, event_after, first_after, first_packet_after, first_token, has_first_ids, heard_after, is_readable, lets_in, opened_first, opening_after, piece_after, piece_told, pieces_after, received_after, token_in_first, token_in_items}
+use Rattle.qc_state.specs.Paths.{is_blocked, same_address}
+use Rattle.qc_state.specs.Receiving.{counted_after, cut_of, datagram_after, event_after, first_after, first_packet_after, first_token, has_first_ids, heard_after, is_readable, lets_in, opened_first, opening_after, piece_after, piece_told, pieces_after, received_after, token_in_first, token_in_items}
 use Rattle.qc_state.specs.Setup.{is_first_awaited, token_expected}
 use Rattle.qc_state.specs.Types.{Types, Meaning}
 use Rattle.qc_state.specs.View.{View, At}
@@ -126,9 +126,9 @@ module _ {t : Types} (m : Meaning t) where
   unfolding event_after heard_after is_readable
   event_heard time mark remote p behind bytes a e =
       let size : length p.bytes + length behind ≡ length bytes = cut_whole (length a.state.setup.fixed.local_cid) (a.state.setup.fixed.version ∷ []) a.state.setup.fixed.grease_quic_bit bytes p behind e in
-      ap (λ (n : ℕ). if lets_in a.state remote then move_to (Hear n) (pieces_after m time mark (cut_of a.state behind) (piece_after m time mark p a)) else a) size
-      ∙ ap (λ (items : List DatagramItem). if lets_in a.state remote then move_to (Hear (length bytes)) (pieces_after m time mark items a) else a) (sym (cut_first a.state bytes p behind e))
-      ∙ ap (λ (x : Bool). if x && lets_in a.state remote then move_to (Hear (length bytes)) (pieces_after m time mark (cut_of a.state bytes) a) else a) (sym (ap is_ok e))
+      ap (λ (n : ℕ). if lets_in a.state remote then counted_after time (is_blocked a.state.paths) n (pieces_after m time mark (cut_of a.state behind) (piece_after m time mark p a)) else a) size
+      ∙ ap (λ (items : List DatagramItem). if lets_in a.state remote then counted_after time (is_blocked a.state.paths) (length bytes) (pieces_after m time mark items a) else a) (sym (cut_first a.state bytes p behind e))
+      ∙ ap (λ (x : Bool). if x && lets_in a.state remote then counted_after time (is_blocked a.state.paths) (length bytes) (pieces_after m time mark (cut_of a.state bytes) a) else a) (sym (ap is_ok e))
 
   pub event_whole : (time : ℕ) (mark : Option EcnCodepoint) (remote : SocketAddr) (p : Piece) (behind bytes : List ℕ) (a : At t) →
       piece_at (length a.state.setup.fixed.local_cid) (a.state.setup.fixed.version ∷ []) a.state.setup.fixed.grease_quic_bit bytes ≡ Ok (p, behind) → is_first_awaited a.state.setup ≡ false →
@@ -163,18 +163,18 @@ module _ {t : Types} (m : Meaning t) where
   first_event : (time : ℕ) (mark : Option EcnCodepoint) (remote : SocketAddr) (p : Piece) (source token : List ℕ) (spin : Bool) (number : ℕ) (payload behind : List ℕ) (a : At t) →
       lets_in a.state remote ≡ true → is_over a.state.life.state ≡ false → space_of p.header ≡ Some space.Initial → opening_of m a.state p ≡ Opened source token spin number payload →
       event_after m time mark remote p behind a
-      ≡ move_to (Hear (length p.bytes + length behind)) (pieces_after m time mark (cut_of a.state behind) (received_after m time space.Initial (record { mark = mark; spin = false }) source token number payload a))
+      ≡ counted_after time (is_blocked a.state.paths) (length p.bytes + length behind) (pieces_after m time mark (cut_of a.state behind) (received_after m time space.Initial (record { mark = mark; spin = false }) source token number payload a))
   unfolding event_after
   first_event time mark remote p source token spin number payload behind a lets over is_initial opens =
-      ap (λ (x : Bool). if x then move_to (Hear (length p.bytes + length behind)) (pieces_after m time mark (cut_of a.state behind) (piece_after m time mark p a)) else a) lets
-      ∙ ap (λ (x : At t). move_to (Hear (length p.bytes + length behind)) (pieces_after m time mark (cut_of a.state behind) x)) (first_piece time mark p source token spin number payload a over is_initial opens)
+      ap (λ (x : Bool). if x then counted_after time (is_blocked a.state.paths) (length p.bytes + length behind) (pieces_after m time mark (cut_of a.state behind) (piece_after m time mark p a)) else a) lets
+      ∙ ap (λ (x : At t). counted_after time (is_blocked a.state.paths) (length p.bytes + length behind) (pieces_after m time mark (cut_of a.state behind) x)) (first_piece time mark p source token spin number payload a over is_initial opens)
 
   -- that its token is expected changes nothing of how its datagram is cut, nor of whether it is let in
   expected_heard : (time : ℕ) (mark : Option EcnCodepoint) (remote : SocketAddr) (p : Piece) (source token : List ℕ) (spin : Bool) (number : ℕ) (payload behind bytes : List ℕ) (a : At t) →
       piece_at (length a.state.setup.fixed.local_cid) (a.state.setup.fixed.version ∷ []) a.state.setup.fixed.grease_quic_bit bytes ≡ Ok (p, behind) →
       first_token m a.state remote bytes ≡ Some token → opening_of m a.state p ≡ Opened source token spin number payload →
       first_packet_after m time mark source token number payload behind (length p.bytes + length behind) a ≡ heard_after m time mark remote bytes (move_to (Expect token) a)
-  unfolding first_packet_after opened_first move_to state_move life_move setup_move token_expected
+  unfolding first_packet_after opened_first move_to state_move life_move paths_move setup_move token_expected
   expected_heard time mark remote p source token spin number payload behind bytes a e is_token opens =
       let says = token_says remote p behind bytes token a.state e is_token in
       let b : At t = move_to (Expect token) a in

@@ -13,7 +13,7 @@ use Rattle.qc_state.specs.View.{View}
 module _ {t : Types} where
   -- From one view to another, between which a datagram of which so many bytes count did these deeds: in each space, no packet number
   -- counts twice, as far as they are remembered; the life doesn't fall; at most one reason for the end is given; the path holds; and
-  -- where no packet opened, only counts changed.
+  -- where no packet opened, only counts changed, and the loss timer where no datagram could be begun before.
   pub record DatagramHolds (came : ℕ) (ds : List Did) (s s' : View t) : Type 0 where
     pub admitted : (id : SpaceId) → EachNew (came_in s.numbers id) (entered_in id ds)
     pub life : RisesFrom (rank_of s.life.state + 1) (lives_in ds)

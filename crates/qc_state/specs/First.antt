@@ -15,7 +15,12 @@ use Rattle.qc_state.specs.declared.waiting.SpaceWaiting.{SpaceWaiting}
 use Rattle.qc_state.specs.Numbers.{no_numbers}
 use Rattle.qc_state.specs.Setup.{idle_limit_of}
 use Rattle.qc_state.specs.Types.{Types, Meaning}
-use Rattle.qc_state.specs.Unsent.{from_start}
+use Rattle.qc_path.specs.declared.controller.Controller.{Ghosts as Control}
+use Rattle.qc_recovery.specs.Calls.{begun_recovery}
+use Rattle.qc_recovery.specs.Paths.{begun_path}
+use Rattle.qc_recovery.specs.TransportValues.{TransportValues}
+use Rattle.qc_recovery.specs.declared.path.PathData.{PathData}
+use Rattle.qc_send_stream.specs.Buffer.{bytes_written, nothing as nothing_written}
 use Rattle.qc_state.specs.View.{Held}
 use Rattle.std.specs.declared.net.SocketAddr.{SocketAddr}
 
@@ -34,14 +39,18 @@ fixed_of side version local_cid first_cid local_ip max_idle_timeout crypto_buffe
 
 -- a space in which nothing waits but these CRYPTO bytes
 abbrev pub nothing_waits : List ℕ → SpaceWaiting
-nothing_waits crypto = record { done = false; ping = false; crypto = from_start crypto; acks = record { ranges = []; marks = no_marks }; marks = record { ect0 = 0; ect1 = 0; ce = 0 }; flight = []; told = false }
+nothing_waits crypto = record { done = false; ping = false; crypto = bytes_written crypto nothing_written; acks = record { ranges = []; marks = no_marks }; marks = record { ect0 = 0; ect1 = 0; ce = 0 }; probes = 0; told = false }
+
+-- what loss recovery keeps of a path that begins at a time, with this controller; no larger datagrams are looked for so far
+abbrev pub first_path : {C : Type 0} → Control C → TransportValues → C → (time : ℕ) → PathData C
+first_path m transport congestion time = begun_path m time transport congestion false None
 
 module _ {t : Types} {R : Type 0} where
   -- a connection that was just made at this time: it has the keys of the Initial space, and nothing waits but what its session
   -- wrote, from the start of that space's CRYPTO stream
-  abbrev pub just_made : SpaceKeys t.H t.P → t.S → (hello : List ℕ) → R → Fixed → Paths → ℕ → Held t R
-  just_made keys session hello random fixed paths time = record {
-    numbers = record { spaces = record { initial = no_numbers; handshake = no_numbers; application = no_numbers } };
+  abbrev pub just_made : SpaceKeys t.H t.P → t.S → (hello : List ℕ) → R → Fixed → Paths → TransportValues → PathData t.C → ℕ → Held t R
+  just_made keys session hello random fixed paths transport path time = record {
+    numbers = record { spaces = record { initial = no_numbers time; handshake = no_numbers time; application = no_numbers time } };
     keys = record { spaces = record { initial = Some keys; handshake = None; application = None }; highest = space.Initial; failures = 0 };
     life = record { state = Handshake; reason = None; ready = false; connected = false; lost = None; reset_token = None; wanted = None; drained = false; close = None };
     paths = paths;
@@ -55,19 +64,19 @@ module _ {t : Types} {R : Type 0} where
       close_owed = false;
     };
     setup = record { fixed = fixed; peer = None; token = None; random = random };
-    lower = record { session = session; streams = record { initial = nothing; handshake = nothing; application = nothing } };
+    lower = record { session = session; streams = record { initial = nothing; handshake = nothing; application = nothing }; recovery = begun_recovery transport; path = path };
   }
 
   -- a client that was just made: its keys are those of the destination id of its first packets, which packets to the server carry
   -- until the server chooses one, and its hello waits
-  unfoldable pub first_view : Meaning t → t.S → R → Fixed → SocketAddr → List ℕ → ℕ → Held t R
-  first_view m session random fixed remote first_cid time =
+  unfoldable pub first_view : Meaning t → t.S → R → Fixed → SocketAddr → List ℕ → TransportValues → t.C → ℕ → Held t R
+  first_view m session random fixed remote first_cid transport congestion time =
       just_made (new_keys m.seal_limit m.failure_limit (m.initial session first_cid Client)) (m.after_write session) (m.writes session) random fixed
-      (record { remote = remote; remote_cid = first_cid; peer_fixed = false; validated = true; spin = false; sent = 0; received = 0 }) time
+      (record { remote = remote; remote_cid = first_cid; peer_fixed = false; validated = true; spin = false; sent = 0; received = 0; app_limited = false }) transport (first_path m.control transport congestion time) time
 
   -- a server that was just made: its keys are those of the destination id of the client's first packets, it knows the client's
   -- id, and it waits for the first packet
-  unfoldable pub server_view : Meaning t → t.S → R → Fixed → SocketAddr → (remote_cid : List ℕ) → (validated : Bool) → ℕ → Held t R
-  server_view m session random fixed remote remote_cid validated time =
+  unfoldable pub server_view : Meaning t → t.S → R → Fixed → SocketAddr → (remote_cid : List ℕ) → (validated : Bool) → TransportValues → t.C → ℕ → Held t R
+  server_view m session random fixed remote remote_cid validated transport congestion time =
       just_made (new_keys m.seal_limit m.failure_limit (m.initial session fixed.first_cid Server)) session [] random fixed
-      (record { remote = remote; remote_cid = remote_cid; peer_fixed = true; validated = validated; spin = false; sent = 0; received = 0 }) time
+      (record { remote = remote; remote_cid = remote_cid; peer_fixed = true; validated = validated; spin = false; sent = 0; received = 0; app_limited = false }) transport (first_path m.control transport congestion time) time

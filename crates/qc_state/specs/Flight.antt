@@ -1,17 +1,37 @@
--- The packets in flight that elicit an acknowledgement (RFC 9002, section 2), and what an acknowledgement leaves of them.
-use Rattle.std.specs.Prelude.{ℕ, ◌||◌, nat_lt, if◌then◌else◌, Bool, List, [], ◌∷◌}
-use Rattle.qc_base.specs.declared.range_set.NumberRange.{NumberRange}
+-- Packets in flight (RFC 9002, section 2): what is kept of a packet that was sealed.
+use Rattle.std.specs.Prelude.{ℕ, Bool, true, false, ◌||◌, List, [], ◌∷◌, ◌++◌, None}
+use Rattle.std.specs.List.{list_any}
+use Rattle.qc_flight.specs.declared.sent.SentPacket.{SentPacket}
+use Rattle.qc_frame.specs.Frame.{FrameValue, AckValue}
+use Rattle.qc_frame.specs.FrameSpelling.{elicits}
+use Rattle.qc_frame.specs.declared.frames.FrameOf.TheVariants as frames
 
--- the range doesn't have the number
-unfoldable pub is_outside : NumberRange → ℕ → Bool
-is_outside r n = nat_lt n r.first || nat_lt r.last n
+-- of an ACK its greatest number alone is kept
+abbrev pub greatest_alone : AckValue → AckValue
+greatest_alone ack = record { largest = ack.largest; delay = 0; additional = []; ecn = None }
 
--- the numbers that an acknowledgement of the range leaves in flight
-abbrev pub kept_of : NumberRange → List ℕ → List ℕ
-kept_of r [] = []
-kept_of r (n ∷ ns) = if is_outside r n then n ∷ kept_of r ns else kept_of r ns
+-- what is kept of a frame while its packet is in flight: frames that are sent again where it is lost, and which numbers an ACK
+-- acknowledged
+abbrev pub kept_of : FrameValue → List FrameValue
+kept_of frames.HandshakeDone = frames.HandshakeDone ∷ []
+kept_of (frames.Crypto offset body) = frames.Crypto offset body ∷ []
+kept_of (frames.Ack ack) = frames.Ack (greatest_alone ack) ∷ []
+kept_of _ = []
 
--- the numbers that an acknowledgement of the ranges leaves in flight
-abbrev pub kept_of_all : List NumberRange → List ℕ → List ℕ
-kept_of_all [] ns = ns
-kept_of_all (r ∷ rs) ns = kept_of_all rs (kept_of r ns)
+-- what is kept of frames
+abbrev pub kept_frames : List FrameValue → List FrameValue
+kept_frames [] = []
+kept_frames (f ∷ fs) = kept_of f ++ kept_frames fs
+
+-- whether a frame is PADDING
+abbrev pub is_padding : FrameValue → Bool
+is_padding frames.Padding = true
+is_padding _ = false
+
+-- a packet with these frames counts as in flight: one elicits an acknowledgement, or is PADDING
+unfoldable pub counts_in_flight : List FrameValue → Bool
+counts_in_flight fs = list_any elicits fs || list_any is_padding fs
+
+-- what is kept of a packet of this size with these frames, which was sealed at this time
+unfoldable pub flown_packet : (time size : ℕ) → List FrameValue → SentPacket
+flown_packet time size fs = record { at = time; size = size; counted = counts_in_flight fs; ack_eliciting = list_any elicits fs; frames = kept_frames fs }

@@ -21,6 +21,7 @@ use Rattle.qc_state.specs.declared.deeds.Verdict.{Verdict}
 use Rattle.qc_state.specs.declared.deeds.Verdict.TheVariants as verdict
 use Rattle.qc_state.specs.Moves.{ClosesOnly, accepts, enters}
 use Rattle.qc_state.specs.Numbers.{next_number, came_in}
+use Rattle.qc_state.specs.Paths.{is_blocked}
 use Rattle.qc_state.specs.Run.{reported}
 use Rattle.qc_state.specs.Spaces.{is_space, space_of}
 use Rattle.qc_state.specs.Types.{Types}
@@ -219,13 +220,17 @@ module _ {t : Types} where
   LosesOnce s xs = length (option_to_list s.life.reason) + length (reasons_in (deeds_of xs)) ≤ 1
 
   -- From one view to another only counts changed: that of the packets which didn't open, that of the bytes which came, and the
-  -- greatest time. What waited to be reported may have been reported.
+  -- greatest time; and the loss timer, where no datagram could be begun before. What waited to be reported may have been reported.
+  -- Where the count of bytes has the range of its type, it keeps it, and doesn't fall.
   pub record OnlyCounts (s s' : View t) : Type 0 where
     pub numbers : s'.numbers ≡ s.numbers
     pub keys : s'.keys ≡ record s.keys { failures = s'.keys.failures }
     pub life : (reported s').life ≡ (reported s).life
     pub paths : s'.paths ≡ record s.paths { received = s'.paths.received }
-    pub timers : s'.timers ≡ record s.timers { greatest = s'.timers.greatest }
+    pub ranged : s.paths.received ≤ 18446744073709551615 → s'.paths.received ≤ 18446744073709551615
+    pub more : s.paths.received ≤ 18446744073709551615 → s.paths.received ≤ s'.paths.received
+    pub timers : s'.timers ≡ record s.timers { greatest = s'.timers.greatest; loss_detection = s'.timers.loss_detection }
+    pub still : s.paths.received ≤ 18446744073709551615 → is_blocked s.paths ≡ false → s'.timers.loss_detection ≡ s.timers.loss_detection
     pub waiting : s'.waiting ≡ s.waiting
     pub setup : s'.setup ≡ s.setup
     pub lower : s'.lower ≡ s.lower

@@ -16,6 +16,7 @@ pub mod Paths
 pub mod Polls
 pub mod Progress
 pub mod Receiving
+pub mod Recovering
 pub mod Run
 pub mod Sending
 pub mod Setup
@@ -24,7 +25,6 @@ pub mod Stopping
 pub mod Timeouts
 pub mod Timers
 pub mod Types
-pub mod Unsent
 pub mod Verdicts
 pub mod View
 pub mod Waiting

@@ -27,18 +27,22 @@ use Rattle.qc_state.specs.declared.deeds.Did.TheVariants as did
 use Rattle.qc_state.specs.declared.deeds.Quiet.{Quiet}
 use Rattle.qc_state.specs.declared.deeds.Verdict.{Verdict}
 use Rattle.qc_state.specs.declared.deeds.Verdict.TheVariants as verdict
-use Rattle.qc_base.specs.declared.range_set.NumberRange.{NumberRange}
+use Rattle.qc_flight.specs.Packets.{first_of}
+use Rattle.qc_recovery.specs.Steps.{After, FiredAfter}
+use Rattle.qc_recovery.specs.Steps as recovery
 use Rattle.qc_state.specs.Life.{rank_of, reason_given, life_raised, life_closed, life_drained, life_established, data_ready, token_learned, identifiers_wanted, ready_reported, connected_reported, lost_reported, token_reported, wanted_reported, drained_reported}
 use Rattle.qc_state.specs.Numbers.{next_number, received_number, number_used, is_new_in, came_in, number_entered, number_accepted, number_acked}
 use Rattle.qc_state.specs.Keys.{key_used, failure_counted, keys_given, keys_dropped}
-use Rattle.qc_state.specs.Lower.{bytes_came, session_read, session_wrote}
-use Rattle.qc_state.specs.Paths.{path_sent, path_received, path_accepted, path_spun, peer_fixed}
-use Rattle.qc_state.specs.Setup.{idle_limit_now, probe_timeout_now, parameters_known, token_expected}
+use Rattle.qc_state.specs.Flight.{flown_packet}
+use Rattle.qc_state.specs.Lower.{bytes_came, session_read, session_wrote, flight_dropped, packet_flown, packets_settled, timer_fired}
+use Rattle.qc_state.specs.Paths.{is_blocked, path_idle, path_sent, path_received, path_accepted, path_spun, peer_fixed}
+use Rattle.qc_state.specs.Recovering.{loss_time, probe_timeout_now}
+use Rattle.qc_state.specs.Setup.{idle_limit_now, parameters_known, token_expected}
 use Rattle.qc_state.specs.Spaces.{is_space}
-use Rattle.qc_state.specs.Timers.{timers_sealed, timers_stopped, timers_closing, timers_accepted, timers_settled, clock_set}
+use Rattle.qc_state.specs.Timers.{timers_sealed, timers_stopped, timers_closing, timers_accepted, timers_armed, clock_set}
 use Rattle.qc_state.specs.Types.{Types}
 use Rattle.qc_state.specs.View.{View, At, at}
-use Rattle.qc_state.specs.Waiting.{ping_asked, done_asked, waiting_without, close_begun, packet_told, packet_came, packet_flown, packets_settled, crypto_written, space_left, is_calm}
+use Rattle.qc_state.specs.Waiting.{ping_asked, done_asked, waiting_without, close_begun, packet_told, packet_came, packets_acked, packets_lost, fired_in, datagram_begun, crypto_written, space_left}
 
 -- whether a frame closes the connection (RFC 9000, section 19.19)
 abbrev pub is_close : FrameValue → Bool
@@ -91,8 +95,10 @@ pub data Move (t : Types) : Type 0 where
   Accept : (time : ℕ) → (id : SpaceId) → (number : ℕ) → (eliciting : Bool) → (signs : Signs) → (verdict : Verdict) → Move t  -- a packet was accepted
   Fix : (cid : List ℕ) → Move t  -- the peer has chosen its id
   Hear : (bytes : ℕ) → Move t  -- so many bytes came from the path's address
-  Ack : (id : SpaceId) → (largest : ℕ) → (ranges : List NumberRange) → Move t  -- the peer acknowledged packets
-  Calm : Move t  -- nothing in flight elicits an acknowledgement any more
+  Ack : (id : SpaceId) → (largest : ℕ) → (after : After t.C) → Move t  -- the peer acknowledged packets, which leaves this of loss recovery
+  Fire : (after : FiredAfter t.C) → Move t  -- the loss timer fired, which leaves this of loss recovery
+  Arm : (at : Option ℕ) → Move t  -- the loss timer is set, or stopped
+  Begin : (id : SpaceId) → Move t  -- a datagram is begun for a space, which spends a probe that is due there
   Come : (id : SpaceId) → (offset : ℕ) → (bytes : List ℕ) → Move t  -- bytes of a CRYPTO stream came
   Read : (id : SpaceId) → (count : ℕ) → (session : t.S) → Move t  -- the session was given so many of them
   Write : (bytes : List ℕ) → (keys : Option (SpaceKeys t.H t.P)) → (session : t.S) → Move t  -- the session wrote bytes, and gave keys
@@ -122,7 +128,7 @@ module _ {t : Types} where
   numbers_move (Seal time id n size fs) s = number_used s.numbers id n
   numbers_move (Enter id n v) s = number_entered s.numbers id n
   numbers_move (Accept time id n e g v) s = number_accepted s.numbers id n
-  numbers_move (Ack id n rs) s = number_acked s.numbers id n
+  numbers_move (Ack id n r) s = number_acked s.numbers id n
   numbers_move _ s = s.numbers
 
   unfoldable pub keys_move : Move t → View t → KeyGroup t.H t.P
@@ -155,29 +161,30 @@ module _ {t : Types} where
   paths_move (Fix cid) s = peer_fixed s.paths cid
   paths_move (Accept time id n e g v) s = path_spun (path_accepted s.paths id v) s.setup.fixed.side (nat_le (received_number s.numbers id) n) g.spin
   paths_move (Hear bytes) s = path_received s.paths bytes
+  paths_move (Say q) s = path_idle s.paths
   paths_move _ s = s.paths
 
   unfoldable pub timers_move : Move t → View t → Timers
   timers_move (Clock time) s = clock_set s.timers time
-  timers_move (Seal time id n size fs) s = if list_any elicits fs then timers_sealed s.timers (idle_limit_now s.setup) (probe_timeout_now s.setup id) time else s.timers
-  timers_move (Accept time id n e g v) s = timers_accepted s.timers (idle_limit_now s.setup) (probe_timeout_now s.setup id) time
-  timers_move Calm s = timers_settled s.timers
-  timers_move (Shut time close) s = timers_closing s.timers (probe_timeout_now s.setup s.keys.highest) time
-  timers_move (Leave time) s = timers_closing s.timers (probe_timeout_now s.setup s.keys.highest) time
+  timers_move (Seal time id n size fs) s = if list_any elicits fs then timers_sealed s.timers (idle_limit_now s.setup) (probe_timeout_now s id) time else s.timers
+  timers_move (Accept time id n e g v) s = timers_accepted s.timers (idle_limit_now s.setup) (probe_timeout_now s id) time
+  timers_move (Arm at) s = timers_armed s.timers at
+  timers_move (Shut time close) s = timers_closing s.timers (probe_timeout_now s s.keys.highest) time
+  timers_move (Leave time) s = timers_closing s.timers (probe_timeout_now s s.keys.highest) time
   timers_move (Raise to) s = timers_stopped s.timers
   timers_move _ s = s.timers
 
   unfoldable pub waiting_move : Move t → View t → Waiting
   waiting_move (Ask id) s = ping_asked s.waiting id
   waiting_move (Take id fs) s = waiting_without s.waiting id fs
-  waiting_move (Seal time id n size fs) s =
-      let told : Waiting = packet_told s.waiting id (is_space id s.keys.highest) in
-      if list_any elicits fs then packet_flown told id n else told
+  waiting_move (Begin id) s = datagram_begun s.waiting id (first_of (recovery.space_of id s.lower.recovery).flight)
+  waiting_move (Seal time id n size fs) s = packet_told s.waiting id (is_space id s.keys.highest)
   waiting_move (Forget id) s = space_left s.waiting id
   waiting_move (Accept time id n e g v) s = packet_came s.waiting id (arrived n (came_in s.numbers id)) (record { number = n; at = time; ack_eliciting = e; ce = false }) g.mark
   waiting_move (Write bytes keys session) s = crypto_written s.waiting s.keys.highest bytes
   waiting_move Confirm s = done_asked s.waiting
-  waiting_move (Ack id n rs) s = packets_settled s.waiting id rs
+  waiting_move (Ack id n r) s = packets_lost (packets_acked s.waiting id r.acked) id r.lost
+  waiting_move (Fire r) s = fired_in s.waiting r.fired
   waiting_move Owe s = close_begun s.waiting
   waiting_move (Shut time close) s = close_begun s.waiting
   waiting_move _ s = s.waiting
@@ -187,7 +194,11 @@ module _ {t : Types} where
   setup_move (Learn parameters) s = parameters_known s.setup parameters
   setup_move _ s = s.setup
 
-  unfoldable pub lower_move : Move t → View t → Lower t.S
+  unfoldable pub lower_move : Move t → View t → Lower t.S t.C
+  lower_move (Seal time id n size fs) s = if s.waiting.close_owed then s.lower else packet_flown s.lower id n (flown_packet time size fs)
+  lower_move (Forget id) s = flight_dropped s.lower id
+  lower_move (Ack id n r) s = packets_settled s.lower r
+  lower_move (Fire r) s = timer_fired s.lower r
   lower_move (Come id offset bytes) s = bytes_came s.lower id offset bytes
   lower_move (Read id count session) s = session_read s.lower id count session
   lower_move (Write bytes keys session) s = session_wrote s.lower session
@@ -237,6 +248,10 @@ module _ {t : Types} where
   unfoldable pub move_to : Move t → At t → At t
   move_to x a = at (state_move x a.state) (told a.did (deeds_move x a.state))
 
-  -- nothing more may be in flight that elicits an acknowledgement
-  unfoldable pub calmed : At t → At t
-  calmed a = if is_calm a.state.waiting then move_to Calm a else a
+  -- the loss timer is set anew at a time; `blocked` says that no datagram may be begun
+  unfoldable pub armed_with : (blocked : Bool) → (time : ℕ) → At t → At t
+  armed_with blocked time a = move_to (Arm (loss_time a.state blocked time)) a
+
+  -- so it is, as the path stands
+  unfoldable pub armed_after : (time : ℕ) → At t → At t
+  armed_after time a = armed_with (is_blocked a.state.paths) time a

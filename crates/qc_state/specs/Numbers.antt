@@ -6,13 +6,17 @@ use Rattle.qc_state.specs.declared.numbers.Numbers.{Numbers}
 use Rattle.qc_state.specs.declared.numbers.SpaceNumbers.{SpaceNumbers}
 use Rattle.qc_state.specs.Spaces.{space_of, with_space}
 
--- a space in which no packet was sealed, and none came
-abbrev pub no_numbers : SpaceNumbers
-no_numbers = record { next = 0; largest_acked = 0; rx = 0; came = nothing_came }
+-- a space that began at this time, in which no packet was sealed, and none came
+abbrev pub no_numbers : (time : ℕ) → SpaceNumbers
+no_numbers time = record { next = 0; largest_acked = 0; rx = 0; came = nothing_came; began = time }
 
 -- the number of the next packet that is sealed in the space
 unfoldable pub next_number : Numbers → SpaceId → ℕ
 next_number v id = (space_of v.spaces id).next
+
+-- when the space began
+unfoldable pub began_at : Numbers → SpaceId → ℕ
+began_at v id = (space_of v.spaces id).began
 
 -- the number from which the next one is spelled (RFC 9000, section 17.1): the greatest acknowledged one, which was sealed
 unfoldable pub acked_number : Numbers → SpaceId → ℕ

@@ -16,7 +16,11 @@ use Rattle.qc_state.specs.declared.paths.Paths.{Paths}
 
 -- so many bytes were sent to the path's address
 unfoldable pub path_sent : Paths → ℕ → Paths
-path_sent v bytes = record v { sent = plus v.sent bytes }
+path_sent v bytes = record v { sent = plus v.sent bytes; app_limited = false }
+
+-- a transmit sent nothing: what there is to send holds sending back, not the window of the congestion controller
+unfoldable pub path_idle : Paths → Paths
+path_idle v = record v { app_limited = true }
 
 -- so many bytes came from the path's address
 unfoldable pub path_received : Paths → ℕ → Paths

@@ -9,7 +9,7 @@ use Rattle.qc_base.specs.declared.transport_error.TransportError.{TransportError
 use Rattle.qc_params.specs.declared.params.TransportParameters.{TransportParameters}
 use Rattle.qc_state.specs.Keys.{new_keys}
 use Rattle.qc_state.specs.Life.{is_handshake}
-use Rattle.qc_state.specs.Moves.{Write, Token, Learn, Want, Confirm, Forget, Establish, calmed, move_to}
+use Rattle.qc_state.specs.Moves.{Write, Token, Learn, Want, Confirm, Forget, Establish, armed_after, move_to}
 use Rattle.qc_state.specs.Stopping.{missing_parameters, parameter_error, stopped_after}
 use Rattle.qc_state.specs.Types.{Types, Meaning}
 use Rattle.qc_state.specs.View.{View, At}
@@ -92,7 +92,7 @@ module _ {t : Types} where
   -- drops the Handshake keys (RFC 9001, sections 4.1.2 and 4.9.2)
   abbrev pub over_after : Meaning t → (time : ℕ) → Side → At t → At t
   over_after m time Client a = parameters_and time (m.parameters a.state.lower.session) (move_to Establish) a
-  over_after m time Server a = move_to Establish (calmed (move_to (Forget Handshake) (move_to Confirm a)))
+  over_after m time Server a = move_to Establish (armed_after time (move_to (Forget Handshake) (move_to Confirm a)))
 
   -- behind a Handshake packet, where the handshake goes on no longer, the connection is established
   unfoldable pub ended_after : Meaning t → (time : ℕ) → SpaceId → At t → At t

@@ -11,7 +11,7 @@ use Rattle.qc_base.specs.declared.side.Side.{Side}
 use Rattle.qc_base.specs.declared.side.Side.TheVariants.{Client, Server}
 use Rattle.qc_base.specs.declared.side.SpaceId.{SpaceId}
 use Rattle.qc_base.specs.declared.side.SpaceId.TheVariants.{Initial, Handshake, «Data»}
-use Rattle.qc_frame.specs.AckRanges.{ranges_of}
+use Rattle.qc_flight.specs.Packets.{Entry}
 use Rattle.qc_frame.specs.Frame.{FrameValue, AckValue, TypedValue}
 use Rattle.qc_frame.specs.FrameSpelling.{elicits, spelling}
 use Rattle.qc_frame.specs.Payload.{Item, items_of}
@@ -35,11 +35,13 @@ use Rattle.qc_state.specs.declared.opening.Opening.TheVariants.{Unreadable, Unop
 use Rattle.qc_state.specs.Keys.{fails_too_often}
 use Rattle.qc_state.specs.Life.{is_open, is_over, is_handshake, is_established}
 use Rattle.qc_state.specs.Lower.{ready_bytes, stream_of}
-use Rattle.qc_state.specs.Moves.{is_close, Forget, Expect, Enter, Fail, Accept, Fix, Hear, Ack, Come, Read, Ready, Tell, Drain, Leave, Owe, move_to, calmed}
+use Rattle.qc_state.specs.Moves.{is_close, Forget, Expect, Enter, Fail, Accept, Fix, Hear, Ack, Come, Read, Ready, Tell, Drain, Leave, Owe, move_to, armed_after}
 use Rattle.qc_state.specs.Numbers.{next_number}
 use Rattle.qc_state.specs.Opening.{opening_of}
-use Rattle.qc_state.specs.Paths.{same_address}
+use Rattle.qc_recovery.specs.Steps.{After}
+use Rattle.qc_state.specs.Paths.{is_blocked, same_address}
 use Rattle.qc_state.specs.Progress.{progress_after}
+use Rattle.qc_state.specs.Recovering.{settled_by}
 use Rattle.qc_state.specs.Sending.{initial_left}
 use Rattle.qc_state.specs.Setup.{is_first_awaited}
 use Rattle.qc_state.specs.Stopping.{buffer_error_at, encoding_error_at, given_after, internal_error_at, key_limit_error, killed_after, stopped_after, violation_at}
@@ -134,19 +136,29 @@ module _ {t : Types} where
   unfoldable pub left_after : (time : ℕ) → ConnectionError → At t → At t
   left_after time why a = if is_open a.state.life.state then given_after why (move_to (Leave time) a) else a
 
-  -- the layer of loss recovery is given an ACK of this space: what it acknowledges is in flight no longer
-  unfoldable pub acked_after : SpaceId → AckValue → At t → At t
-  acked_after id ack a = calmed (move_to (Ack id ack.largest (ranges_of ack)) (move_to (Tell (did.Gave layer.Recovery (spelling (frames.Ack ack)))) a))
+  -- where packets were newly acknowledged, the loss timer is set anew
+  abbrev pub rearmed_after : (time : ℕ) → (acked : List Entry) → At t → At t
+  rearmed_after time [] a = a
+  rearmed_after time (e ∷ es) a = armed_after time a
+
+  -- this is what an ACK leaves of loss recovery: packets are in flight no longer, and the frames of lost ones wait again
+  unfoldable pub settled_after : (time : ℕ) → SpaceId → (largest : ℕ) → After t.C → At t → At t
+  settled_after time id largest after a = rearmed_after time after.acked (move_to (Ack id largest after) a)
+
+  -- the layer of loss recovery is given an ACK of this space
+  unfoldable pub acked_after : Meaning t → (time : ℕ) → SpaceId → AckValue → At t → At t
+  acked_after m time id ack a =
+      settled_after time id ack.largest (settled_by m time id ack a.state) (move_to (Tell (did.Gave layer.Recovery (spelling (frames.Ack ack)))) a)
 
   -- the server has confirmed the handshake: the Handshake keys are dropped (RFC 9001, section 4.9.2)
-  unfoldable pub confirmed_after : At t → At t
-  confirmed_after a = calmed (move_to (Forget Handshake) (move_to (Tell (did.Gave layer.Life (spelling frames.HandshakeDone))) a))
+  unfoldable pub confirmed_after : (time : ℕ) → At t → At t
+  confirmed_after time a = armed_after time (move_to (Forget Handshake) (move_to (Tell (did.Gave layer.Life (spelling frames.HandshakeDone))) a))
 
   -- a frame that stops nothing is applied
-  unfoldable pub applied_after : SpaceId → FrameValue → At t → At t
-  applied_after id (frames.Ack ack) a = acked_after id ack a
-  applied_after id frames.HandshakeDone a = confirmed_after a
-  applied_after id _ a = a
+  unfoldable pub applied_after : Meaning t → (time : ℕ) → SpaceId → FrameValue → At t → At t
+  applied_after m time id (frames.Ack ack) a = acked_after m time id ack a
+  applied_after m time id frames.HandshakeDone a = confirmed_after time a
+  applied_after m time id _ a = a
 
   -- a close of the peer's is given to the life
   unfoldable pub close_given : FrameValue → At t → At t
@@ -214,7 +226,7 @@ module _ {t : Types} where
   -- a frame that stops nothing by its kind, and behind it what `others` makes of the frames that are left
   abbrev pub taken_and : Meaning t → (time : ℕ) → SpaceId → TypedValue → FrameValue → (At t → At t) → At t → At t
   taken_and m time id read (frames.Crypto offset body) others a = crypto_and m time id offset body (crypto_stop a.state id read.ty offset body) others a
-  taken_and m time id read frame others a = others (applied_after id frame a)
+  taken_and m time id read frame others a = others (applied_after m time id frame a)
 
   -- a frame that isn't a close stops its packet by its kind, or is taken
   abbrev pub frame_and : Meaning t → (time : ℕ) → SpaceId → TypedValue → Option TransportError → (At t → At t) → At t → At t
@@ -260,7 +272,9 @@ module _ {t : Types} where
   -- a packet is accepted: its number counts, it is to be acknowledged, a Handshake packet that is admitted validates the path (RFC
   -- 9000, section 8.1), and with a Handshake packet a server leaves the Initial space
   unfoldable pub accepted_after : (time : ℕ) → SpaceId → (number : ℕ) → (eliciting : Bool) → Signs → Verdict → At t → At t
-  accepted_after time id number eliciting signs v a = initial_left Server id (move_to (Accept time id number eliciting signs v) a)
+  accepted_after time id number eliciting signs v a =
+      let b : At t = move_to (Accept time id number eliciting signs v) a in
+      initial_left Server (is_blocked b.state.paths) time id b
 
   -- a packet that is admitted
   unfoldable pub admitted_after : Meaning t → (time : ℕ) → SpaceId → Signs → (source : List ℕ) → (number : ℕ) → (payload : List ℕ) → At t → At t
@@ -320,12 +334,19 @@ module _ {t : Types} where
   unfoldable pub is_readable : View t → List ℕ → Bool
   is_readable s bytes = is_ok (piece_at (length s.setup.fixed.local_cid) (s.setup.fixed.version ∷ []) s.setup.fixed.grease_quic_bit bytes)
 
-  -- a datagram comes from this address: its packets count, and its whole length counts as received on the path
-  -- (RFC 9000, section 8.1); one that begins with no packet is dropped, and changes nothing
+  -- A datagram of so many bytes has come, all of which count as received on the path (RFC 9000, section 8.1). Where no datagram
+  -- could be begun before it, and one can now, the loss timer is set anew.
+  unfoldable pub counted_after : (time : ℕ) → (blocked : Bool) → (size : ℕ) → At t → At t
+  counted_after time blocked size a =
+      let b : At t = move_to (Hear size) a in
+      if blocked && not (is_blocked b.state.paths) then armed_after time b else b
+
+  -- a datagram comes from this address: its packets count, and so do its bytes; one that begins with no packet is dropped, and
+  -- changes nothing
   unfoldable pub heard_after : Meaning t → (time : ℕ) → (mark : Option EcnCodepoint) → SocketAddr → List ℕ → At t → At t
   heard_after m time mark remote bytes a =
       if is_readable a.state bytes && lets_in a.state remote
-      then move_to (Hear (length bytes)) (pieces_after m time mark (cut_of a.state bytes) a)
+      then counted_after time (is_blocked a.state.paths) (length bytes) (pieces_after m time mark (cut_of a.state bytes) a)
       else a
 
   -- a packet has the form and the ids of a server's first one: an Initial packet with the destination id that the server was made
@@ -371,7 +392,7 @@ module _ {t : Types} where
   unfoldable pub event_after : Meaning t → (time : ℕ) → (mark : Option EcnCodepoint) → SocketAddr → Piece → (behind : List ℕ) → At t → At t
   event_after m time mark remote p behind a =
       if lets_in a.state remote
-      then move_to (Hear (length p.bytes + length behind)) (pieces_after m time mark (cut_of a.state behind) (piece_after m time mark p a))
+      then counted_after time (is_blocked a.state.paths) (length p.bytes + length behind) (pieces_after m time mark (cut_of a.state behind) (piece_after m time mark p a))
       else a
 
   -- a server's first packet, which opened with this number and payload: its token is expected from now on, and it does what a
@@ -383,4 +404,4 @@ module _ {t : Types} where
   -- a server's first packet, with the bytes behind it, of a datagram that has so many bytes
   unfoldable pub first_packet_after : Meaning t → (time : ℕ) → (mark : Option EcnCodepoint) → (source token : List ℕ) → (number : ℕ) → (payload behind : List ℕ) → (size : ℕ) → At t → At t
   first_packet_after m time mark source token number payload behind size a =
-      move_to (Hear size) (pieces_after m time mark (cut_of a.state behind) (opened_first m time mark source token number payload a))
+      counted_after time (is_blocked a.state.paths) size (pieces_after m time mark (cut_of a.state behind) (opened_first m time mark source token number payload a))

@@ -61,7 +61,7 @@ module _ {t : Types} where
   -- the deeds name
   unfoldable pub input_after : Meaning t → Input → List Did → At t → At t
   input_after m (Datagram time remote ecn bytes) ds a = datagram_after m time ecn remote bytes a
-  input_after m (Timeout time) ds a = timeout_after time a
+  input_after m (Timeout time) ds a = timeout_after m time a
   input_after m (Transmit time max) ds a = transmit_after time (packets_of ds) a
   input_after m (Close time code reason) ds a = close_after time code reason a
   input_after m (Ping time) ds a = move_to (Ask a.state.keys.highest) a

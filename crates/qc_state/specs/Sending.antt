@@ -30,7 +30,8 @@ use Rattle.qc_state.specs.declared.keys.SpaceKeys.{SpaceKeys}
 use Rattle.qc_state.specs.Keys.{keys_of, reaches_limit}
 use Rattle.qc_state.specs.Life.{is_open, is_closed, is_drained}
 use Rattle.qc_state.specs.Acks.{AckPart, may_acknowledge}
-use Rattle.qc_state.specs.Moves.{Seal, Take, Forget, Say, move_to, calmed}
+use Rattle.qc_state.specs.Flight.{counts_in_flight}
+use Rattle.qc_state.specs.Moves.{Begin, Seal, Take, Forget, Say, move_to, state_move, armed_with}
 use Rattle.qc_state.specs.Numbers.{next_number, acked_number}
 use Rattle.qc_state.specs.Paths.{is_blocked}
 use Rattle.qc_state.specs.Spaces.{space_of}
@@ -159,10 +160,6 @@ module _ {t : Types} where
   header_in s Handshake = header.Long long.Handshake s.paths.remote_cid s.setup.fixed.local_cid (number_of (next_number s.numbers Handshake) (acked_number s.numbers Handshake)) s.setup.fixed.version
   header_in s Data = header.Short s.paths.spin false s.paths.remote_cid (number_of (next_number s.numbers Data) (acked_number s.numbers Data))
 
-  -- the header of the next packet
-  unfoldable pub header_of : View t → Header
-  header_of s = header_in s (sending_space s)
-
   -- how many bytes a packet of this space with these frames has
   unfoldable pub packet_size : View t → SpaceId → List FrameValue → ℕ
   packet_size s id fs = length (header_spelling (header_in s id) 0) + length (frames_spelling fs) + 16
@@ -185,9 +182,9 @@ module _ {t : Types} where
   sealed_with m (Some k) header number plain = packet_spelling (m.mask k.keys.header.local) (m.seal k.keys.packet.local) header number plain
   sealed_with m None header number plain = []
 
-  -- the bytes of the next packet, with these frames
-  unfoldable pub packet_bytes : Meaning t → View t → List FrameValue → List ℕ
-  packet_bytes m s fs = sealed_with m (keys_of s.keys (sending_space s)) (header_of s) (next_number s.numbers (sending_space s)) (frames_spelling fs)
+  -- the bytes of the next packet of a space, with these frames
+  unfoldable pub packet_bytes : Meaning t → View t → SpaceId → List FrameValue → List ℕ
+  packet_bytes m s id fs = sealed_with m (keys_of s.keys id) (header_in s id) (next_number s.numbers id) (frames_spelling fs)
 
   -- how much room an ACK leaves for a close in a datagram of its own: beside header, tag and the 4 bytes that make sure of a
   -- sample (RFC 9001, section 5.4.2)
@@ -211,6 +208,10 @@ module _ {t : Types} where
     a_close : s.waiting.close_owed ≡ true → (gs : List FrameValue) → Closes time s id gs → fs ≡ padded s id gs → Carries time s id fs
     what_waits : s.waiting.close_owed ≡ false → (gs : List FrameValue) → WaitAll time (space_of s.waiting.spaces id) gs → 0 < length gs → fs ≡ padded s id gs → Carries time s id fs
 
+  -- the view once a datagram is begun for the next packet
+  unfoldable pub begun_view : View t → View t
+  begun_view s = state_move (Begin (sending_space s)) s
+
   -- a packet with these frames may be sealed at a time: something is owed, the path isn't blocked, no limit stands, and it carries
   -- what it may
   pub record MaySeal (time : ℕ) (s : View t) (fs : List FrameValue) : Type 0 where
@@ -219,29 +220,41 @@ module _ {t : Types} where
     pub free : is_blocked s.paths ≡ false
     pub fresh : is_key_used_up s ≡ false
     pub spelled : is_used_up s ≡ false
-    pub carries : Carries time s (sending_space s) fs
-    pub fits : packet_size s (sending_space s) fs ≤ DATAGRAM_SIZE
+    pub carries : Carries time (begun_view s) (sending_space s) fs
+    pub fits : packet_size (begun_view s) (sending_space s) fs ≤ DATAGRAM_SIZE
 
   -- such an end drops the keys of its Initial space, if it has them still
   unfoldable pub drops_initial : Side → View t → SpaceId → Bool
   drops_initial side s id = leaves_initial side s.setup.fixed.side id && is_some (keys_of s.keys Initial)
 
-  -- the Initial space is left with a packet of this space, where this end is of the side that leaves it so
-  unfoldable pub initial_left : Side → SpaceId → At t → At t
-  initial_left side id a = if drops_initial side a.state id then calmed (move_to (Forget Initial) a) else a
+  -- the Initial space is left at a time with a packet of this space, where this end is of the side that leaves it so; `blocked`
+  -- says that no datagram may be begun
+  unfoldable pub initial_left : Side → (blocked : Bool) → (time : ℕ) → SpaceId → At t → At t
+  initial_left side blocked time id a = if drops_initial side a.state id then armed_with blocked time (move_to (Forget Initial) a) else a
+
+  -- a packet with these frames counts as in flight; none does that is sealed while a close is owed
+  unfoldable pub is_flown : View t → List FrameValue → Bool
+  is_flown s fs = not s.waiting.close_owed && counts_in_flight fs
+
+  -- the loss timer is set anew behind a packet that counts as in flight; the packet's own bytes block nothing yet
+  abbrev pub flown_after : (time : ℕ) → Bool → At t → At t
+  flown_after time counts a = if counts then armed_with false time a else a
 
   -- a packet of this space is sealed: its frames wait no longer, and its number is used
   unfoldable pub sealed_in : ℕ → SpaceId → List FrameValue → At t → At t
-  sealed_in time id fs a = initial_left Client id (move_to (Seal time id (next_number a.state.numbers id) (packet_size a.state id fs) fs) (move_to (Take id fs) a))
+  sealed_in time id fs a =
+      initial_left Client false time id
+      (flown_after time (is_flown a.state fs) (move_to (Seal time id (next_number a.state.numbers id) (packet_size a.state id fs) fs) (move_to (Take id fs) a)))
 
   -- where its key could seal only two packets more before, and one now, this end closes, so that the close can be that one (RFC
   -- 9001, section 6.6)
   unfoldable pub spared_after : (time : ℕ) → (nearly : Bool) → At t → At t
   spared_after time nearly a = if nearly then stopped_after time key_limit_error a else a
 
-  -- the next packet is sealed
+  -- a datagram is begun for the next packet, which is sealed
   unfoldable pub packet_after : ℕ → List FrameValue → At t → At t
-  packet_after time fs a = spared_after time (is_key_nearly_used_up a.state) (sealed_in time (sending_space a.state) fs a)
+  packet_after time fs a =
+      spared_after time (is_key_nearly_used_up a.state) (sealed_in time (sending_space a.state) fs (move_to (Begin (sending_space a.state)) a))
 
   -- why the connection ends where something is owed and the path is free: its key has sealed as many packets as it may, or else
   -- the packet numbers are used up
@@ -275,13 +288,13 @@ module _ {t : Types} where
   -- the bytes of the datagrams
   unfoldable pub transmit_bytes : Meaning t → List (List FrameValue) → View t → List ℕ
   transmit_bytes m [] s = []
-  transmit_bytes m (fs ∷ _) s = packet_bytes m s fs
+  transmit_bytes m (fs ∷ _) s = packet_bytes m (begun_view s) (sending_space s) fs
 
   -- where a datagram of this size goes, and how
   unfoldable pub transmit_with : View t → ℕ → Transmit
   transmit_with s size = record {
     destination = s.paths.remote;
-    ecn = Some Ect0;
+    ecn = if s.lower.path.sending_ecn then Some Ect0 else None;
     size = size;
     segment_size = None;
     src_ip = s.setup.fixed.local_ip;
@@ -290,15 +303,15 @@ module _ {t : Types} where
   -- where the datagrams go, and how; none where nothing was sealed
   unfoldable pub transmit_of : List (List FrameValue) → View t → Option Transmit
   transmit_of [] s = None
-  transmit_of (fs ∷ _) s = Some (transmit_with s (packet_size s (sending_space s) fs))
+  transmit_of (fs ∷ _) s = Some (transmit_with s (packet_size (begun_view s) (sending_space s) fs))
 
   -- a packet was sealed into an empty buffer, with frames of its choice, and has a datagram of its own
   pub record SealsOne (m : Meaning t) (time : ℕ) (a b : At t) (buffer : List ℕ) : Type 0 where
     pub frames : List FrameValue
     pub may : MaySeal time a.state frames
     pub leads : b ≡ packet_after time frames a
-    pub bytes : buffer ≡ packet_bytes m a.state frames
-    pub full : length buffer ≡ packet_size a.state (sending_space a.state) frames
+    pub bytes : buffer ≡ packet_bytes m (begun_view a.state) (sending_space a.state) frames
+    pub full : length buffer ≡ packet_size (begun_view a.state) (sending_space a.state) frames
 
   -- a transmit into an empty buffer
   pub record Transmits (m : Meaning t) (time : ℕ) (a b : At t) (sent : Option Transmit) (buffer : List ℕ) : Type 0 where

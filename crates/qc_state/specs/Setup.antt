@@ -1,15 +1,12 @@
 -- What a connection was made with, what it knows of the peer's parameters, and the limit on idle time that comes of both.
-use Rattle.std.specs.Prelude.{ℕ, ◌==◌, Bool, false, if◌then◌else◌, List, Option, Some, None, is_none}
+use Rattle.std.specs.Prelude.{ℕ, min, ◌==◌, Bool, false, if◌then◌else◌, List, Option, Some, None, is_none}
 use Rattle.rand_core.specs.Stream.{Stream}
-use Rattle.qc_base.specs.Time.{plus, times}
+use Rattle.qc_base.specs.Time.{times}
 use Rattle.qc_base.specs.declared.side.Side.{Side}
 use Rattle.qc_base.specs.declared.side.Side.TheVariants.{Client, Server}
-use Rattle.qc_base.specs.declared.side.SpaceId.{SpaceId}
-use Rattle.qc_base.specs.declared.side.SpaceId.TheVariants.{Initial, Handshake, «Data»}
 use Rattle.qc_params.specs.declared.params.TransportParameters.{TransportParameters}
 use Rattle.qc_state.specs.declared.setup.Fixed.{Fixed}
 use Rattle.qc_state.specs.declared.setup.Setup.{Setup}
-use Rattle.qc_state.specs.declared.timers.TheConstants.{PROBE_TIMEOUT}
 use Rattle.qc_state.specs.Timers.{least}
 
 -- the same with the source of random words as its stream
@@ -33,12 +30,10 @@ abbrev pub peer_delay : Option TransportParameters → ℕ
 peer_delay None = 25000000
 peer_delay (Some peer) = times peer.max_ack_delay 1000000
 
--- the probe timeout of a space: that of the initial round trip time, and in 1-RTT packets the peer's delay with it (RFC 9002,
--- section 6.2.1)
-abbrev pub probe_timeout_with : Option TransportParameters → SpaceId → ℕ
-probe_timeout_with peer Initial = PROBE_TIMEOUT
-probe_timeout_with peer Handshake = PROBE_TIMEOUT
-probe_timeout_with peer Data = plus PROBE_TIMEOUT (peer_delay peer)
+-- the exponent of the delays in the peer's ACK frames: 3 until its parameters were read, and 20 at most (RFC 9000, section 18.2)
+abbrev pub peer_exponent : Option TransportParameters → ℕ
+peer_exponent None = 3
+peer_exponent (Some peer) = min peer.ack_delay_exponent 20
 
 -- an end of this side, with this token of a first packet, waits for its first packet: a server does
 abbrev pub awaits_first : Side → Option (List ℕ) → Bool
@@ -49,10 +44,6 @@ module _ {R : Type 0} where
   -- the limit of a connection
   unfoldable pub idle_limit_now : Setup R → Option ℕ
   idle_limit_now s = idle_limit_with s.fixed s.peer
-
-  -- the probe timeout of a space
-  unfoldable pub probe_timeout_now : Setup R → SpaceId → ℕ
-  probe_timeout_now s id = probe_timeout_with s.peer id
 
   -- the peer's parameters were read
   unfoldable pub parameters_known : Setup R → TransportParameters → Setup R

@@ -3,16 +3,17 @@ use Rattle.std.specs.Prelude.{ℕ, if◌then◌else◌}
 use Rattle.qc_state.specs.declared.life.ConnectionError.TheVariants.{TimedOut}
 use Rattle.qc_state.specs.declared.life.State.TheVariants.{Drained}
 use Rattle.qc_state.specs.Life.{is_drained}
-use Rattle.qc_state.specs.Moves.{Calm, Raise, move_to}
+use Rattle.qc_state.specs.Moves.{Fire, Raise, armed_after, move_to}
+use Rattle.qc_state.specs.Recovering.{fired_by}
 use Rattle.qc_state.specs.Stopping.{killed_after}
 use Rattle.qc_state.specs.Timers.{has_come}
-use Rattle.qc_state.specs.Types.{Types}
+use Rattle.qc_state.specs.Types.{Types, Meaning}
 use Rattle.qc_state.specs.View.{At}
 
 module _ {t : Types} where
-  -- packets were in flight for so long that they are to be taken up again: the timer stops, and so far nothing is sent again
-  unfoldable pub loss_expired : (time : ℕ) → At t → At t
-  loss_expired time a = if has_come a.state.timers.loss_detection time then move_to Calm a else a
+  -- packets were in flight for so long that some are lost, or probes are due; the timer is set anew
+  unfoldable pub loss_expired : Meaning t → (time : ℕ) → At t → At t
+  loss_expired m time a = if has_come a.state.timers.loss_detection time then armed_after time (move_to (Fire (fired_by m time a.state)) a) else a
 
   -- the peer gave no sign for too long: the connection ends without a word
   unfoldable pub idle_expired : (time : ℕ) → At t → At t
@@ -23,5 +24,5 @@ module _ {t : Types} where
   close_expired time a = if has_come a.state.timers.close time then move_to (Raise Drained) a else a
 
   -- the timers that have come at this time, one after the other; in a connection that has ended none is left
-  unfoldable pub timeout_after : (time : ℕ) → At t → At t
-  timeout_after time a = if is_drained a.state.life.state then a else close_expired time (idle_expired time (loss_expired time a))
+  unfoldable pub timeout_after : Meaning t → (time : ℕ) → At t → At t
+  timeout_after m time a = if is_drained a.state.life.state then a else close_expired time (idle_expired time (loss_expired m time a))

@@ -1,7 +1,6 @@
 -- The timers of a connection (RFC 9000, section 10.1; RFC 9002, section 6.2). Times are nanoseconds.
 use Rattle.std.specs.Prelude.{ℕ, Bool, max, true, false, nat_le, if◌then◌else◌, Option, Some, None}
 use Rattle.qc_base.specs.Time.{plus, times}
-use Rattle.qc_state.specs.declared.timers.TheConstants.{PROBE_TIMEOUT}
 use Rattle.qc_state.specs.declared.timers.Timers.{Timers}
 
 -- whether a timer has come at this time: it is set, to this time or an earlier one
@@ -24,7 +23,6 @@ idle_from (Some limit) before probe time = Some (plus time (max limit (times pro
 -- a packet that elicits an acknowledgement was sealed at this time, in a space with this probe timeout
 unfoldable pub timers_sealed : Timers → (limit : Option ℕ) → (probe time : ℕ) → Timers
 timers_sealed v limit probe time = record v {
-  loss_detection = Some (plus time PROBE_TIMEOUT);
   idle = if v.sets_idle then idle_from limit v.idle probe time else v.idle;
   sets_idle = false;
 }
@@ -34,9 +32,9 @@ timers_sealed v limit probe time = record v {
 unfoldable pub timers_accepted : Timers → (limit : Option ℕ) → (probe time : ℕ) → Timers
 timers_accepted v limit probe time = record v { idle = idle_from limit v.idle probe time; sets_idle = true }
 
--- nothing that elicits an acknowledgement is in flight
-unfoldable pub timers_settled : Timers → Timers
-timers_settled v = record v { loss_detection = None }
+-- the loss timer is set to a time, or stopped
+unfoldable pub timers_armed : Timers → Option ℕ → Timers
+timers_armed v time = record v { loss_detection = time }
 
 -- every timer is stopped
 unfoldable pub timers_stopped : Timers → Timers

@@ -6,18 +6,20 @@ use Rattle.qc_base.specs.declared.mask.HeaderMask.{Ghosts as HeaderMaskGhosts}
 use Rattle.qc_crypto.specs.declared.keys.Keys.{Keys}
 use Rattle.qc_crypto.specs.declared.packet_key.PacketKey.{Ghosts as PacketKeyGhosts}
 use Rattle.qc_crypto.specs.declared.session.Session.{Ghosts as SessionGhosts}
+use Rattle.qc_path.specs.declared.controller.Controller.{Ghosts as ControllerGhosts}
 use Rattle.qc_params.specs.declared.params.TransportParameters.{TransportParameters}
 
--- the session, its header keys, its packet keys, its handshake data and its peer's identity
+-- the session, its header keys, its packet keys, its handshake data, its peer's identity, and the congestion controller
 pub record Types : Type 1 where
   pub S : Type 0
   pub H : Type 0
   pub P : Type 0
   pub D : Type 0
   pub I : Type 0
+  pub C : Type 0
 
 -- what their calls answer and leave, as functions of values
-pub record Meaning (t : Types) : Type 0 where
+pub record Meaning (t : Types) : Type 1 where
   pub mask : t.H → List ℕ → List ℕ
   pub seal : t.P → ℕ → List ℕ → List ℕ → List ℕ
   pub opening : t.P → ℕ → List ℕ → List ℕ → Option (List ℕ)
@@ -32,10 +34,11 @@ pub record Meaning (t : Types) : Type 0 where
   pub left : t.S → ℕ
   pub handshaking : t.S → Bool
   pub parameters : t.S → Result (Option TransportParameters) TransportError
+  pub control : ControllerGhosts t.C
 
 -- the meaning that the traits give
-abbrev pub meaning : {t : Types} → SessionGhosts t.S t.H t.P t.D t.I → HeaderMaskGhosts t.H → PacketKeyGhosts t.P → Meaning t
-meaning s h p = record {
+abbrev pub meaning : {t : Types} → SessionGhosts t.S t.H t.P t.D t.I → HeaderMaskGhosts t.H → PacketKeyGhosts t.P → ControllerGhosts t.C → Meaning t
+meaning s h p c = record {
   mask = h.mask_of;
   seal = p.seal;
   opening = p.opening;
@@ -50,4 +53,5 @@ meaning s h p = record {
   left = s.left;
   handshaking = s.handshaking;
   parameters = s.parameters;
+  control = c;
 }

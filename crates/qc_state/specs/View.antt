@@ -22,7 +22,7 @@ pub record Held (t : Types) (R : Type 0) : Type 0 where
   pub timers : Timers
   pub waiting : Waiting
   pub setup : Setup R
-  pub lower : Lower t.S
+  pub lower : Lower t.S t.C
 
 -- the view: the source of random words is known by its stream alone
 abbrev pub View : Types → Type 0

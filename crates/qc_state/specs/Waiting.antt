@@ -1,27 +1,38 @@
 -- The frames that wait to be sealed, and what becomes of them.
-use Rattle.std.specs.Prelude.{◌≡◌, ℕ, ◌-◌, ◌≤◌, nat_le, min, Bool, true, false, ◌||◌, ◌&&◌, not, ◌==◌, if◌then◌else◌, List, [], ◌∷◌, ◌++◌, length, take, Option}
+use Rattle.std.specs.Prelude.{◌≡◌, ℕ, ◌+◌, ◌-◌, ◌<◌, ◌≤◌, ◌^◌, nat_lt, Bool, true, false, ◌⊎◌, ◌||◌, ◌&&◌, not, ◌==◌, if◌then◌else◌, List, [], ◌∷◌, ◌++◌, length, drop, Option, None, Some}
 use Rattle.qc_base.specs.declared.ecn.EcnCodepoint.{EcnCodepoint}
 use Rattle.qc_base.specs.declared.side.SpaceId.{SpaceId}
 use Rattle.qc_base.specs.declared.side.SpaceId.TheVariants.{«Data»}
 use Rattle.qc_frame.specs.Frame.{FrameValue}
 use Rattle.qc_frame.specs.FrameSpelling.{frames_spelling}
 use Rattle.qc_frame.specs.declared.frames.FrameOf.TheVariants as frames
-use Rattle.qc_path.specs.Acks.{acks_received}
+use Rattle.qc_base.specs.Time.{plus}
+use Rattle.qc_flight.specs.Packets.{Entry}
+use Rattle.qc_flight.specs.declared.sent.SentPacket.{SentPacket}
+use Rattle.qc_path.specs.Acks.{acks_confirmed, acks_received}
 use Rattle.qc_path.specs.Arrived.{Window}
 use Rattle.qc_path.specs.declared.pending_acks.Arrival.{Arrival}
+use Rattle.qc_recovery.specs.declared.calls.Fired.{Fired}
+use Rattle.qc_recovery.specs.declared.calls.Fired.TheVariants as fired
+use Rattle.qc_send_stream.specs.Buffer.{Buffer, bytes_written, discarded, from_lost, has_bytes, range_lost, range_sealed, row, waiting}
 use Rattle.qc_space.specs.Spaces.{marked}
 use Rattle.qc_state.specs.declared.waiting.TheConstants.{CRYPTO_HEAD}
 use Rattle.qc_state.specs.declared.waiting.Waiting.{Waiting}
 use Rattle.qc_state.specs.declared.waiting.SpaceWaiting.{SpaceWaiting}
-use Rattle.qc_base.specs.declared.range_set.NumberRange.{NumberRange}
 use Rattle.qc_state.specs.Acks.{AckPart, SaysAck, ack_sent, is_ack_owed}
-use Rattle.qc_state.specs.Flight.{kept_of_all}
 use Rattle.qc_state.specs.Spaces.{space_of, with_space}
-use Rattle.qc_state.specs.Unsent.{unsent_after, unsent_with}
 
--- something waits
+-- bytes of the space's CRYPTO stream wait: lost ones or fresh ones
+abbrev pub crypto_waits : SpaceWaiting → Bool
+crypto_waits w = has_bytes (waiting w.crypto)
+
+-- a frame waits that elicits an acknowledgement
+abbrev pub wants_sending : SpaceWaiting → Bool
+wants_sending w = w.done || w.ping || crypto_waits w
+
+-- something waits: such a frame, an ACK that is owed, or a probe that is due
 abbrev pub waits_here : SpaceWaiting → Bool
-waits_here w = w.done || w.ping || is_ack_owed w.acks || not (length w.crypto.bytes == 0)
+waits_here w = w.done || w.ping || is_ack_owed w.acks || crypto_waits w || not (w.probes == 0)
 
 -- something waits in the space
 unfoldable pub waits_in : Waiting → SpaceId → Bool
@@ -35,25 +46,76 @@ ping_asked v id = record v { spaces = with_space v.spaces id (record (space_of v
 unfoldable pub done_asked : Waiting → Waiting
 done_asked v = record v { spaces = with_space v.spaces «Data» (record (space_of v.spaces «Data») { done = true }) }
 
--- a packet with this number, which elicits an acknowledgement, was sealed
-unfoldable pub flown_in : ℕ → SpaceWaiting → SpaceWaiting
-flown_in n w = record w { flight = w.flight ++ n ∷ [] }
+-- a frame of a packet that is lost waits again: a HANDSHAKE_DONE, and the bytes of a CRYPTO frame
+abbrev pub again : SpaceWaiting → FrameValue → SpaceWaiting
+again w frames.HandshakeDone = record w { done = true }
+again w (frames.Crypto offset body) = record w { crypto = range_lost offset (offset + length body) w.crypto }
+again w _ = w
 
--- such a packet was sealed in the space
-unfoldable pub packet_flown : Waiting → SpaceId → ℕ → Waiting
-packet_flown v id n = record v { spaces = with_space v.spaces id (flown_in n (space_of v.spaces id)) }
+-- so these frames do
+abbrev pub all_again : SpaceWaiting → List FrameValue → SpaceWaiting
+all_again w [] = w
+all_again w (f ∷ fs) = all_again (again w f) fs
 
--- the peer acknowledged packets with numbers in these ranges: they are in flight no longer
-unfoldable pub settled_in : List NumberRange → SpaceWaiting → SpaceWaiting
-settled_in rs w = record w { flight = kept_of_all rs w.flight }
+-- packets were lost: their frames wait again
+abbrev pub lost_in : SpaceWaiting → List Entry → SpaceWaiting
+lost_in w [] = w
+lost_in w (e ∷ es) = lost_in (all_again w e.1.frames) es
 
--- the peer acknowledged such packets of the space
-unfoldable pub packets_settled : Waiting → SpaceId → List NumberRange → Waiting
-packets_settled v id rs = record v { spaces = with_space v.spaces id (settled_in rs (space_of v.spaces id)) }
+-- a frame was acknowledged: the numbers of an ACK needn't be acknowledged again (RFC 9000, section 13.2.4)
+abbrev pub confirmed : SpaceWaiting → FrameValue → SpaceWaiting
+confirmed w (frames.Ack ack) = record w { acks = acks_confirmed ack.largest w.acks }
+confirmed w _ = w
 
--- no packet in flight elicits an acknowledgement, in any space
-unfoldable pub is_calm : Waiting → Bool
-is_calm v = (length v.spaces.initial.flight == 0) && (length v.spaces.handshake.flight == 0) && (length v.spaces.application.flight == 0)
+-- so were these frames
+abbrev pub all_confirmed : SpaceWaiting → List FrameValue → SpaceWaiting
+all_confirmed w [] = w
+all_confirmed w (f ∷ fs) = all_confirmed (confirmed w f) fs
+
+-- packets were acknowledged with their frames
+abbrev pub acked_in : SpaceWaiting → List Entry → SpaceWaiting
+acked_in w [] = w
+acked_in w (e ∷ es) = acked_in (all_confirmed w e.1.frames) es
+
+-- packets of the space were lost
+unfoldable pub packets_lost : Waiting → SpaceId → (lost : List Entry) → Waiting
+packets_lost v id lost = record v { spaces = with_space v.spaces id (lost_in (space_of v.spaces id) lost) }
+
+-- packets of the space were acknowledged
+unfoldable pub packets_acked : Waiting → SpaceId → (acked : List Entry) → Waiting
+packets_acked v id acked = record v { spaces = with_space v.spaces id (acked_in (space_of v.spaces id) acked) }
+
+-- probes are due in the space (RFC 9002, section 6.2.4)
+unfoldable pub probes_added : Waiting → SpaceId → (count : ℕ) → Waiting
+probes_added v id count = record v { spaces = with_space v.spaces id (record (space_of v.spaces id) { probes = plus (space_of v.spaces id).probes count }) }
+
+-- the loss timer fired
+abbrev pub fired_in : Waiting → Fired → Waiting
+fired_in v (fired.Lost id lost) = packets_lost v id lost
+fired_in v (fired.Probe id count) = probes_added v id count
+fired_in v fired.Nothing = v
+
+-- the frames of a packet wait again, where there is one
+abbrev pub packet_again : SpaceWaiting → Option SentPacket → SpaceWaiting
+packet_again w None = w
+packet_again w (Some packet) = all_again w packet.frames
+
+-- a PING waits where no frame does that elicits an acknowledgement
+abbrev pub with_ping : SpaceWaiting → SpaceWaiting
+with_ping w = if wants_sending w then w else record w { ping = true }
+
+-- A probe is sent: where no frame waits that elicits an acknowledgement, those of the oldest packet in flight wait again, and where
+-- it has none, a PING does (RFC 9002, section 6.2.4).
+unfoldable pub probe_sent : SpaceWaiting → (oldest : Option SentPacket) → SpaceWaiting
+probe_sent w oldest = with_ping (if wants_sending w then w else packet_again w oldest)
+
+-- a datagram is begun for the space, which spends a probe that is due
+unfoldable pub begun_in : SpaceWaiting → (oldest : Option SentPacket) → SpaceWaiting
+begun_in w oldest = if w.probes == 0 then w else probe_sent (record w { probes = w.probes - 1 }) oldest
+
+-- such a datagram is begun
+unfoldable pub datagram_begun : Waiting → SpaceId → (oldest : Option SentPacket) → Waiting
+datagram_begun v id oldest = record v { spaces = with_space v.spaces id (begun_in (space_of v.spaces id) oldest) }
 
 -- a packet came in the space and was accepted, which `seen` has already; its mark of ECN is counted (RFC 9000, section 13.4.1)
 unfoldable pub came_in : Window → Arrival → Option EcnCodepoint → SpaceWaiting → SpaceWaiting
@@ -77,13 +139,17 @@ close_begun v =
 unfoldable pub packet_told : Waiting → SpaceId → (last : Bool) → Waiting
 packet_told v id last = record { spaces = with_space v.spaces id (record (space_of v.spaces id) { told = true }); close_owed = v.close_owed && not last }
 
+-- the session wrote bytes for a CRYPTO stream, where it has room for them: it ends at 2^62, and a session writes fewer bytes
+unfoldable pub crypto_more : Buffer → List ℕ → Buffer
+crypto_more b bytes = if nat_lt (b.written + length bytes) (2 ^ 62) then bytes_written bytes b else b
+
 -- the session wrote bytes for the space's CRYPTO stream
 unfoldable pub crypto_written : Waiting → SpaceId → List ℕ → Waiting
-crypto_written v id bytes = record v { spaces = with_space v.spaces id (record (space_of v.spaces id) { crypto = unsent_with (space_of v.spaces id).crypto bytes }) }
+crypto_written v id bytes = record v { spaces = with_space v.spaces id (record (space_of v.spaces id) { crypto = crypto_more (space_of v.spaces id).crypto bytes }) }
 
--- nothing waits in a space whose keys were dropped, and none of its packets is in flight (RFC 9002, section 6.4)
+-- nothing waits in a space whose keys were dropped
 unfoldable pub nothing_left : SpaceWaiting → SpaceWaiting
-nothing_left w = record w { done = false; ping = false; crypto = unsent_after w.crypto (length w.crypto.bytes); flight = [] }
+nothing_left w = record w { done = false; ping = false; crypto = discarded w.crypto; probes = 0 }
 
 -- the keys of the space were dropped
 unfoldable pub space_left : Waiting → SpaceId → Waiting
@@ -94,15 +160,21 @@ unfoldable pub without : SpaceWaiting → FrameValue → SpaceWaiting
 without w frames.HandshakeDone = record w { done = false }
 without w frames.Ping = record w { ping = false }
 without w (frames.Ack ack) = record w { acks = ack_sent w.acks }
-without w (frames.Crypto offset body) = record w { crypto = unsent_after w.crypto (length body) }
+without w (frames.Crypto offset body) = record w { crypto = range_sealed offset (offset + length body) w.crypto }
 without w _ = w
+
+-- the bytes of a CRYPTO frame are those that wait first: lost ones before fresh ones, the lowest of them first, and at least one
+pub record StartsWith (b : Buffer) (offset : ℕ) (body : List ℕ) : Type 0 where
+  pub some : 0 < length body
+  pub first : waiting b ≡ row (has_bytes (from_lost b.kept)) offset body ++ drop (length body) (waiting b)
+  pub within : offset + length body ≤ b.written
 
 -- a frame waits at a time: the HANDSHAKE_DONE or the PING that was asked for, the ACK that is owed, or the first CRYPTO bytes
 unfoldable pub Waits : ℕ → SpaceWaiting → FrameValue → Type 0
 Waits time w frames.HandshakeDone = w.done ≡ true
 Waits time w frames.Ping = w.ping ≡ true
 Waits time w (frames.Ack ack) = (is_ack_owed w.acks ≡ true) × SaysAck time w ack
-Waits time w (frames.Crypto offset body) = (offset ≡ w.crypto.offset) × (length body ≤ length w.crypto.bytes) × (body ≡ take (length body) w.crypto.bytes)
+Waits time w (frames.Crypto offset body) = StartsWith w.crypto offset body
 Waits time w _ = ⊥
 
 -- what waits once these frames are sealed
@@ -127,18 +199,22 @@ ping_part w = if w.ping then frames.Ping ∷ [] else []
 unfoldable pub marks_part : SpaceWaiting → List FrameValue
 marks_part w = done_part w ++ ping_part w
 
--- as many of the CRYPTO bytes that wait as fit into the room behind the greatest head of a CRYPTO frame
-unfoldable pub crypto_part : SpaceWaiting → ℕ → List FrameValue
-crypto_part w room =
-    if (length w.crypto.bytes == 0) || nat_le room CRYPTO_HEAD then []
-    else frames.Crypto w.crypto.offset (take (min (length w.crypto.bytes) (room - CRYPTO_HEAD)) w.crypto.bytes) ∷ []
+-- CRYPTO frames with the bytes that wait first, one behind the other: they fit into the room, and leave less of it than the head of
+-- one more and a byte take, or no byte that waits
+unfoldable pub CryptoPart : SpaceWaiting → (room : ℕ) → List FrameValue → Type 0
+CryptoPart w room [] = (crypto_waits w ≡ false) ⊎ (room ≤ CRYPTO_HEAD)
+CryptoPart w room (frames.Crypto offset body ∷ fs) =
+    StartsWith w.crypto offset body × (length body + CRYPTO_HEAD ≤ room) × CryptoPart (without w (frames.Crypto offset body)) (room - (length body + CRYPTO_HEAD)) fs
+CryptoPart w room (_ ∷ fs) = ⊥
 
 -- the frames that this end takes at a time for a packet with so much room: the HANDSHAKE_DONE, the PING, the ACK, and the CRYPTO
 -- bytes that fit behind them
 pub record TakenPart (time : ℕ) (w : SpaceWaiting) (room : ℕ) (fs : List FrameValue) : Type 0 where
   pub acks : List FrameValue
   pub ack : AckPart time w acks (is_ack_owed w.acks)
-  pub all : fs ≡ marks_part w ++ (acks ++ crypto_part w (room - 2 - length (frames_spelling acks)))
+  pub crypto : List FrameValue
+  pub part : CryptoPart (without_all w (marks_part w ++ acks)) (room - 2 - length (frames_spelling acks)) crypto
+  pub all : fs ≡ marks_part w ++ (acks ++ crypto)
 
 -- the ACK was taken where it was due, and put behind other frames; it has so many bytes
 pub record TakesAck (time : ℕ) (due : Bool) (w w' : SpaceWaiting) (fs gs : List FrameValue) (len : ℕ) : Type 0 where
@@ -147,6 +223,13 @@ pub record TakesAck (time : ℕ) (due : Bool) (w w' : SpaceWaiting) (fs gs : Lis
   pub list : gs ≡ fs ++ acks
   pub rest : w' ≡ without_all w acks
   pub size : len ≡ length (frames_spelling acks)
+
+-- CRYPTO frames that fit into the room were taken, and put behind other frames
+pub record TakesCrypto (room : ℕ) (w w' : SpaceWaiting) (fs gs : List FrameValue) : Type 0 where
+  pub frames : List FrameValue
+  pub part : CryptoPart w room frames
+  pub list : gs ≡ fs ++ frames
+  pub rest : w' ≡ without_all w frames
 
 -- these frames were sealed in the space
 unfoldable pub waiting_without : Waiting → SpaceId → List FrameValue → Waiting

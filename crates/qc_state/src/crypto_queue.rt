@@ -1,98 +1,106 @@
-//! The bytes of one space's CRYPTO stream that wait to be sealed.
+//! The bytes that the session wrote for one space's CRYPTO stream.
 
-ghost use Rattle.std.specs.Prelude.{◌≡◌, ◌==◌, ◌+◌, ◌≤◌, ◌<◌, ◌^◌, length, take, OnOk, OnErr, IfOk};
-ghost use Rattle.qc_state.specs.Unsent.{unsent_after, unsent_with, from_start};
+ghost use Rattle.std.specs.Prelude.{◌≡◌, ◌+◌, ◌<◌, ◌≤◌, ◌^◌, IfNone, IfOk, IfSome, OnOk, length, is_some};
+ghost use Rattle.qc_send_stream.specs.Buffer.{discarded, has_bytes, nothing, range_lost, range_sealed, waiting};
+ghost use Rattle.qc_state.specs.Waiting.{StartsWith, crypto_more};
 
+use bytes::Bytes;
+use qc_send_stream::SendBuffer;
 use std::alloc::{AllocError, Global};
 use std::marker::Model;
 
-/// Bytes that wait, and the place of the first of them in the CRYPTO stream (RFC 9000, 19.6).
+/// The bytes that the session wrote for a CRYPTO stream (RFC 9000, 19.6), and which of them wait to be sealed: those that never
+/// were, and those whose packet was lost since. They are kept until the keys of the space are dropped.
 #[derive(Drop)]
 pub struct CryptoQueue {
-    bytes: Vec<u8>,
-    taken: usize,
-    offset: u64,
+    buffer: SendBuffer,
+    waits: bool,
 }
 
 impl Model for CryptoQueue {
-    ghost use Rattle.std.specs.Prelude.{◌+◌, ◌<◌, ◌≤◌, ◌-◌, ◌^◌, length, drop};
-    ghost use Rattle.qc_state.specs.Unsent.{Unsent};
+    ghost use Rattle.std.specs.Prelude.{◌≡◌, ◌<◌, ◌^◌};
+    ghost use Rattle.qc_send_stream.specs.Buffer.{Buffer, has_bytes, waiting};
 
-    ghost Value = { Unsent };
+    ghost Value = { Buffer };
 
-    ghost view = { λ q. record { offset = q.offset; bytes = drop q.taken q.bytes.items } };
+    ghost view = { λ q. q.buffer };
 
-    ghost invariant = { λ q. (q.taken ≤ length q.bytes.items) × (q.offset + (length q.bytes.items - q.taken) < 2 ^ 62) };
+    ghost invariant = { λ q. (q.waits ≡ has_bytes (waiting q.buffer)) × (q.buffer.written < 2 ^ 62) };
 }
 
 impl CryptoQueue {
-    /// The stream begins with these bytes, and all of them wait.
-    pub fn from_vec(bytes: Vec<u8>) -> CryptoQueue
-        requires { length bytes.items < 2 ^ 62 }
-        ensures { result ≡ from_start bytes.items }
+    /// The session wrote nothing yet.
+    #[tactic(auto, unfolding(qc_send_stream::specs::Buffer::nothing, qc_send_stream::specs::Buffer::waiting, qc_send_stream::specs::Buffer::from_lost, qc_send_stream::specs::Buffer::from_offset, qc_send_stream::specs::Buffer::has_bytes))]
+    pub fn new(alloc: Global) -> CryptoQueue
+        ensures { result ≡ nothing }
     {
         CryptoQueue {
-            bytes,
-            taken: 0,
-            offset: 0,
+            buffer: SendBuffer::new(alloc),
+            waits: false,
         }
     }
 
-    /// How many bytes wait.
-    pub fn len(&self) -> usize
-        ensures { result ≡ length self.now.bytes }
+    /// Whether bytes wait.
+    pub fn waits(&self) -> bool
+        ensures { result ≡ has_bytes (waiting self.now) }
     {
-        self.bytes.len() - self.taken
+        self.waits
     }
 
-    /// Whether no byte waits.
-    pub fn is_empty(&self) -> bool
-        ensures { result ≡ (length self.now.bytes == 0) }
+    /// The session wrote more bytes, which wait, where the stream, which ends at 2^62, has room for them. Want of memory is the
+    /// only refusal.
+    #[tactic(auto, unfolding(crate::specs::Waiting::crypto_more, qc_send_stream::specs::Buffer::bytes_written))]
+    pub fn write(&mut self, bytes: Bytes) -> Result<(), AllocError>
+        ensures { OnOk result (self.new ≡ crypto_more self.old bytes) }
     {
-        self.len() == 0
-    }
-
-    /// The place of the first byte that waits.
-    pub fn offset(&self) -> u64
-        ensures place { result ≡ self.now.offset }
-        ensures bound { result < 2 ^ 62 }
-    {
-        self.offset
-    }
-
-    /// More bytes wait behind them, where the stream, which ends at 2^62, has room for them. Want of memory is the only
-    /// refusal, and then those that waited wait as before.
-    #[tactic(auto, unfolding(crate::specs::Unsent::unsent_with))]
-    pub fn push(&mut self, more: &[u8]) -> Result<(), AllocError>
-        ensures ok { OnOk result (self.new ≡ unsent_with self.old more.now) }
-        ensures err { OnErr result (self.new ≡ self.old) }
-    {
-        let end = self.offset + self.len() as u64;
-        if more.len() as u64 >= (1 << 62) - end {
+        let len = bytes.len() as u64;
+        if len >= (1 << 62) - self.buffer.written() {
             return Ok(());
         }
-        self.bytes.extend_from_slice(more)
+        self.buffer.write(bytes)?;
+        self.waits = self.buffer.waits();
+        Ok(())
     }
 
-    /// None of the bytes waits any more.
-    pub fn skip(&mut self)
-        ensures { self.new ≡ unsent_after self.old (length self.old.bytes) }
+    /// Takes bytes that wait first, at most so many, and at least one; none exactly where none wait. Want of memory is the only
+    /// refusal.
+    #[tactic(auto, unfolding(qc_send_stream::specs::Buffer::range_sealed, qc_send_stream::specs::Buffer::part_offset, qc_send_stream::specs::Buffer::part_bytes), using(crate::proofs::CryptoBytes::starts))]
+    pub fn take(&mut self, most: usize) -> Result<Option<(u64, Bytes)>, AllocError>
+        requires { 0 < most }
+        ensures given { IfOk result (λ part. is_some part ≡ has_bytes (waiting self.old)) }
+        ensures part { IfOk result (λ part. IfSome part (λ p. StartsWith self.old p.0 p.1)) }
+        ensures most { IfOk result (λ part. IfSome part (λ p. length p.1 ≤ most)) }
+        ensures taken { IfOk result (λ part. IfSome part (λ p. self.new ≡ range_sealed p.0 (p.0 + length p.1) self.old)) }
+        ensures none { IfOk result (λ part. IfNone part (self.new ≡ self.old)) }
+        ensures bound { IfOk result (λ part. IfSome part (λ p. p.0 + length p.1 < 2 ^ 62)) }
     {
-        self.offset += self.len() as u64;
-        self.taken = self.bytes.len();
+        match self.buffer.offer(most)? {
+            None => Ok(None),
+            Some((offset, bytes)) => {
+                self.buffer.seal(offset, offset + bytes.len() as u64)?;
+                self.waits = self.buffer.waits();
+                Ok(Some((offset, bytes)))
+            }
+        }
     }
 
-    /// Takes the first `count` bytes. Want of memory is the only refusal, and then all of them wait as before.
-    pub fn take_front(&mut self, alloc: Global, count: usize) -> Result<Vec<u8>, AllocError>
-        requires { count ≤ length self.old.bytes }
-        ensures taken { IfOk result (λ bytes. bytes.items ≡ take count self.old.bytes) }
-        ensures rest { OnOk result (self.new ≡ unsent_after self.old count) }
-        ensures err { OnErr result (self.new ≡ self.old) }
+    /// A packet with so many bytes at this offset was lost: they wait again. Want of memory is the only refusal.
+    #[tactic(auto, unfolding(qc_send_stream::specs::Buffer::range_lost), using(crate::proofs::CryptoBytes::lost_below))]
+    pub fn lose(&mut self, offset: u64, count: usize) -> Result<(), AllocError>
+        ensures { OnOk result (self.new ≡ range_lost offset (offset + count) self.old) }
     {
-        let end = self.taken + count;
-        let bytes = Vec::from_slice(alloc, &self.bytes.as_slice()[self.taken..end])?;
-        self.taken = end;
-        self.offset += count as u64;
-        Ok(bytes)
+        let end = offset.saturating_add(count as u64).min(self.buffer.sent());
+        self.buffer.lose(offset, end)?;
+        self.waits = self.buffer.waits();
+        Ok(())
+    }
+
+    /// The keys of the space were dropped: no byte waits any more.
+    #[tactic(auto, unfolding(qc_send_stream::specs::Buffer::discarded))]
+    pub fn discard(&mut self)
+        ensures { self.new ≡ discarded self.old }
+    {
+        self.buffer.discard();
+        self.waits = self.buffer.waits();
     }
 }

@@ -1,102 +1,110 @@
-//! The packets of one space that elicit an acknowledgement and that the peer hasn't acknowledged.
+//! Packets in flight: what is kept of a packet that was sealed (RFC 9002, 2).
 
-ghost use Rattle.std.specs.Prelude.{◌≡◌, ◌==◌, [], ◌∷◌, ◌++◌, length, OnOk, OnErr, IfOk};
-ghost use Rattle.qc_frame.specs.AckRanges.{ranges_of};
-ghost use Rattle.qc_frame.specs.Frame.{ack_map};
-ghost use Rattle.qc_state.specs.Flight.{is_outside, kept_of, kept_of_all};
+ghost use Rattle.std.specs.Prelude.{◌≡◌, ◌++◌, map, IfOk, OnOk};
+ghost use Rattle.std.specs.List.{list_any};
+ghost use Rattle.qc_frame.specs.Frame.{owned};
+ghost use Rattle.qc_state.specs.Flight.{counts_in_flight, flown_packet, is_padding, kept_frames, kept_of};
 
-use qc_base::NumberRange;
-use qc_frame::Ack;
+use qc_base::Instant;
+use qc_flight::SentPacket;
+use qc_frame::{FrameList, FrameOf, OwnedAck, OwnedFrame};
 use std::alloc::{AllocError, Global};
-use std::marker::Model;
 
-/// The numbers of the packets in flight that elicit an acknowledgement, in the order in which they were sealed. Contracts
-/// see a list.
-#[derive(Drop)]
-pub struct Flight {
-    numbers: Vec<u64>,
-}
-
-impl Model for Flight {
-    ghost use Rattle.std.specs.Prelude.{ℕ, List};
-
-    ghost Value = { List ℕ };
-
-    ghost view = { λ f. f.numbers.items };
-}
-
-/// Whether the range doesn't have the number.
-#[tactic(auto, unfolding(crate::specs::Flight::is_outside))]
-fn is_outside(range: &NumberRange, number: u64) -> bool
-    ensures { result ≡ is_outside range.now number }
+/// Keeps of a frame what its packet in flight needs. Want of memory is the only refusal.
+fn keep(kept: &mut FrameList, alloc: Global, frame: &OwnedFrame) -> Result<(), AllocError>
+    ensures { OnOk result (kept.new ≡ kept.old ++ kept_of (owned frame.now)) }
 {
-    number < range.first || range.last < number
+    match frame {
+        FrameOf::HandshakeDone => kept.push(FrameOf::HandshakeDone),
+        FrameOf::Crypto { offset, body } => {
+            let body = Vec::from_slice(alloc, body.as_slice())?;
+            kept.push(FrameOf::Crypto {
+                offset: *offset,
+                body,
+            })
+        }
+        FrameOf::Ack(ack) => kept.push(FrameOf::Ack(OwnedAck {
+            largest: ack.largest,
+            delay: 0,
+            additional: Vec::new(alloc),
+            ecn: None,
+        })),
+        _ => Ok(()),
+    }
 }
 
-impl Flight {
-    /// No packets.
-    pub fn new(alloc: Global) -> Flight
-        ensures { result ≡ [] }
-    {
-        Flight {
-            numbers: Vec::new(alloc),
+/// What is kept of these frames. Want of memory is the only refusal.
+#[tactic(auto, using(crate::proofs::KeptFrames::kept_more))]
+fn kept_listed(alloc: Global, frames: &[OwnedFrame]) -> Result<FrameList, AllocError>
+    ensures { IfOk result (λ kept. kept ≡ kept_frames (map owned frames.now)) }
+{
+    let mut kept = FrameList::new(alloc);
+    for frame in frames {
+        keep(&mut kept, alloc, frame)?;
+    }
+    Ok(kept)
+}
+
+/// What is kept of frames while their packet is in flight. Want of memory is the only refusal.
+#[tactic(auto, using(crate::proofs::KeptFrames::kept_padded))]
+fn kept(alloc: Global, frames: &FrameList) -> Result<FrameList, AllocError>
+    ensures { IfOk result (λ kept. kept ≡ kept_frames frames.now) }
+{
+    let (listed, _padding) = frames.parts();
+    kept_listed(alloc, listed)
+}
+
+/// Whether a frame is PADDING.
+fn is_padding(frame: &OwnedFrame) -> bool
+    ensures { result ≡ is_padding (owned frame.now) }
+{
+    matches!(frame, FrameOf::Padding)
+}
+
+/// Whether one of these frames is PADDING.
+fn any_padding(frames: &[OwnedFrame]) -> bool
+    ensures { result ≡ list_any is_padding (map owned frames.now) }
+{
+    for frame in frames {
+        if is_padding(frame) {
+            return true;
         }
     }
+    false
+}
 
-    /// None of the packets is in flight any more.
-    pub fn clear(&mut self)
-        ensures { self.new ≡ [] }
-    {
-        self.numbers.clear();
-    }
+/// Whether one of the frames is PADDING.
+#[tactic(auto, using(crate::proofs::KeptFrames::any_padded))]
+fn has_padding(frames: &FrameList) -> bool
+    ensures { result ≡ list_any is_padding frames.now }
+{
+    let (listed, padding) = frames.parts();
+    any_padding(listed) || padding > 0
+}
 
-    /// A packet with this number was sealed. Want of memory is the only refusal, and then the list is as before.
-    pub fn push(&mut self, number: u64) -> Result<(), AllocError>
-        ensures ok { OnOk result (self.new ≡ self.old ++ number ∷ []) }
-        ensures err { OnErr result (self.new ≡ self.old) }
-    {
-        self.numbers.push(number)?;
-        Ok(())
-    }
+/// Whether a packet with these frames counts as in flight: one elicits an acknowledgement, or is PADDING.
+#[tactic(auto, unfolding(crate::specs::Flight::counts_in_flight))]
+pub fn counts_in_flight(frames: &FrameList) -> bool
+    ensures { result ≡ counts_in_flight frames.now }
+{
+    frames.elicits() || has_padding(frames)
+}
 
-    /// The numbers outside the range: those that an acknowledgement of it leaves in flight. Want of memory is the only
-    /// refusal.
-    fn outside(&self, alloc: Global, range: &NumberRange) -> Result<Vec<u64>, AllocError>
-        ensures { IfOk result (λ numbers. numbers.items ≡ kept_of range.now self.now) }
-    {
-        let mut numbers = Vec::new(alloc);
-        for number in self.numbers.as_slice() {
-            if is_outside(range, *number) {
-                numbers.push(*number)?;
-            }
-        }
-        Ok(numbers)
-    }
-
-    /// The peer acknowledged the packets of the range. Want of memory is the only refusal, and then the list is as before.
-    fn settle(&mut self, alloc: Global, range: &NumberRange) -> Result<(), AllocError>
-        ensures ok { OnOk result (self.new ≡ kept_of range.now self.old) }
-        ensures err { OnErr result (self.new ≡ self.old) }
-    {
-        self.numbers = self.outside(alloc, range)?;
-        Ok(())
-    }
-
-    /// The peer sent this ACK: the packets that it acknowledges are in flight no longer. Want of memory is the only
-    /// refusal.
-    pub fn acked(&mut self, alloc: Global, ack: &Ack<'_>) -> Result<(), AllocError>
-        ensures { OnOk result (self.new ≡ kept_of_all (ranges_of (ack_map (λ bytes. bytes.now) ack.now)) self.old) }
-    {
-        for range in ack.ranges() {
-            self.settle(alloc, &range)?;
-        }
-        Ok(())
-    }
-
-    /// Whether no packet is in flight that elicits an acknowledgement.
-    pub fn is_empty(&self) -> bool
-        ensures { result ≡ (length self.now == 0) }
-    {
-        self.numbers.is_empty()
-    }
+/// What is kept of a packet of this size with these frames, which was sealed at `now`. Want of memory is the only refusal.
+#[tactic(auto, unfolding(crate::specs::Flight::flown_packet))]
+pub fn flown_packet(
+    alloc: Global,
+    now: Instant,
+    size: u64,
+    frames: &FrameList,
+) -> Result<SentPacket, AllocError>
+    ensures { IfOk result (λ packet. packet ≡ flown_packet now size frames.now) }
+{
+    Ok(SentPacket {
+        at: now,
+        size,
+        counted: counts_in_flight(frames),
+        ack_eliciting: frames.elicits(),
+        frames: kept(alloc, frames)?,
+    })
 }

@@ -38,52 +38,52 @@ pub fn numbers_count_once()
 /// traces of two calls of `drive`, one after the other, are a trace, where the steps of the second are counted behind those of
 /// the first.
 pub fn runs_join<U: Suite>()
-    ensures { (s mid last : View (record { S = U.Session; H = U.Session.HeaderKey; P = U.Session.PacketKey; D = U.Session.HandshakeData; I = U.Session.PeerIdentity })) (is js : List Input) (xs ys : List Step) → Run (meaning U.Session.Session U.Session.HeaderKey.HeaderMask U.Session.PacketKey.PacketKey) 0 s is xs mid → Run (meaning U.Session.Session U.Session.HeaderKey.HeaderMask U.Session.PacketKey.PacketKey) 0 mid js ys last → Run (meaning U.Session.Session U.Session.HeaderKey.HeaderMask U.Session.PacketKey.PacketKey) 0 s (is ++ js) (xs ++ placed_behind (length xs) ys) last }
+    ensures { (s mid last : View (record { S = U.Session; H = U.Session.HeaderKey; P = U.Session.PacketKey; D = U.Session.HandshakeData; I = U.Session.PeerIdentity; C = U.Control.Controller })) (is js : List Input) (xs ys : List Step) → Run (meaning U.Session.Session U.Session.HeaderKey.HeaderMask U.Session.PacketKey.PacketKey U.Control.Controller.Controller) 0 s is xs mid → Run (meaning U.Session.Session U.Session.HeaderKey.HeaderMask U.Session.PacketKey.PacketKey U.Control.Controller.Controller) 0 mid js ys last → Run (meaning U.Session.Session U.Session.HeaderKey.HeaderMask U.Session.PacketKey.PacketKey U.Control.Controller.Controller) 0 s (is ++ js) (xs ++ placed_behind (length xs) ys) last }
 {}
 
 /// A law, which runs no code. Where the steps from a view on acknowledge known numbers only, each number that a sealed ACK
 /// acknowledges is that of a packet which was accepted in its space by a deed before the sealing, or was kept to be
 /// acknowledged at the start.
 pub fn acks_were_accepted<U: Suite>()
-    ensures { (s : View (record { S = U.Session; H = U.Session.HeaderKey; P = U.Session.PacketKey; D = U.Session.HandshakeData; I = U.Session.PeerIdentity })) (xs : List Step) (id : SpaceId) (ds es : List Did) (number epoch : ℕ) (early : Bool) (fs : List FrameValue) → EachAcksKnown s xs → deeds_of xs ≡ ds ++ did.Sealed id number epoch early fs ∷ es → AcksOnly (λ n. (is_among (accepted_in id ds) n ≡ true) ⊎ IsKept id s.waiting n) fs }
+    ensures { (s : View (record { S = U.Session; H = U.Session.HeaderKey; P = U.Session.PacketKey; D = U.Session.HandshakeData; I = U.Session.PeerIdentity; C = U.Control.Controller })) (xs : List Step) (id : SpaceId) (ds es : List Did) (number epoch : ℕ) (early : Bool) (fs : List FrameValue) → EachAcksKnown s xs → deeds_of xs ≡ ds ++ did.Sealed id number epoch early fs ∷ es → AcksOnly (λ n. (is_among (accepted_in id ds) n ≡ true) ⊎ IsKept id s.waiting n) fs }
 {}
 
 /// A law, which runs no code. Over a run the path keeps its address, which is validated only where it was before or a Handshake
 /// packet was admitted; no more bytes count as received on it than came in datagrams from that address; and what is sent to an address that isn't validated stays less than three times what came from
 /// it, and one datagram (RFC 9000, 8.1).
 pub fn paths_hold<U: Suite>()
-    ensures { (s last : View (record { S = U.Session; H = U.Session.HeaderKey; P = U.Session.PacketKey; D = U.Session.HandshakeData; I = U.Session.PeerIdentity })) (k : ℕ) (is : List Input) (xs : List Step) → Run (meaning U.Session.Session U.Session.HeaderKey.HeaderMask U.Session.PacketKey.PacketKey) k s is xs last → PathHolds (all_from s.paths.remote is) (deeds_of xs) s.paths last.paths }
+    ensures { (s last : View (record { S = U.Session; H = U.Session.HeaderKey; P = U.Session.PacketKey; D = U.Session.HandshakeData; I = U.Session.PeerIdentity; C = U.Control.Controller })) (k : ℕ) (is : List Input) (xs : List Step) → Run (meaning U.Session.Session U.Session.HeaderKey.HeaderMask U.Session.PacketKey.PacketKey U.Control.Controller.Controller) k s is xs last → PathHolds (all_from s.paths.remote is) (deeds_of xs) s.paths last.paths }
 {}
 
 /// A law, which runs no code. Over a run no Initial or Handshake key seals more packets than it may (RFC 9001, 6.6): each packet that is
 /// sealed under it counts, and the count stays within the limit.
 pub fn keys_hold<U: Suite>()
-    ensures { (s last : View (record { S = U.Session; H = U.Session.HeaderKey; P = U.Session.PacketKey; D = U.Session.HandshakeData; I = U.Session.PeerIdentity })) (k : ℕ) (is : List Input) (xs : List Step) → Run (meaning U.Session.Session U.Session.HeaderKey.HeaderMask U.Session.PacketKey.PacketKey) k s is xs last → KeysHold s.keys → KeysHold last.keys }
+    ensures { (s last : View (record { S = U.Session; H = U.Session.HeaderKey; P = U.Session.PacketKey; D = U.Session.HandshakeData; I = U.Session.PeerIdentity; C = U.Control.Controller })) (k : ℕ) (is : List Input) (xs : List Step) → Run (meaning U.Session.Session U.Session.HeaderKey.HeaderMask U.Session.PacketKey.PacketKey U.Control.Controller.Controller) k s is xs last → KeysHold s.keys → KeysHold last.keys }
 {}
 
 /// A law, which runs no code. Where all inputs of a run are datagrams, and each of its deeds tells of a packet that was ignored
 /// or that its key didn't open, only counts change: that of the packets which didn't open, that of the bytes which came from the
-/// path's address, and the greatest time. What waited to be reported is reported, and all else stays as it was. So bytes that
-/// don't open do no harm.
+/// path's address, and the greatest time. The loss timer changes only where no datagram could be begun before. What waited to be
+/// reported is reported, and all else stays as it was. So bytes that don't open do no harm.
 pub fn harmless_bytes<U: Suite>()
-    ensures { (s last : View (record { S = U.Session; H = U.Session.HeaderKey; P = U.Session.PacketKey; D = U.Session.HandshakeData; I = U.Session.PeerIdentity })) (k : ℕ) (is : List Input) (xs : List Step) → Run (meaning U.Session.Session U.Session.HeaderKey.HeaderMask U.Session.PacketKey.PacketKey) k s is xs last → Harmless s is xs last }
+    ensures { (s last : View (record { S = U.Session; H = U.Session.HeaderKey; P = U.Session.PacketKey; D = U.Session.HandshakeData; I = U.Session.PeerIdentity; C = U.Control.Controller })) (k : ℕ) (is : List Input) (xs : List Step) → Run (meaning U.Session.Session U.Session.HeaderKey.HeaderMask U.Session.PacketKey.PacketKey U.Control.Controller.Controller) k s is xs last → Harmless s is xs last }
 {}
 
 /// A law, which runs no code. What one datagram does keeps the laws of runs, whichever call it is handed to: no packet number counts
 /// twice, the life doesn't fall, at most one reason for the end is given, the path holds, and where no packet opens only counts
-/// change.
+/// change, and the loss timer where no datagram could be begun before.
 pub fn datagrams_keep<U: Suite>()
-    ensures { (s : View (record { S = U.Session; H = U.Session.HeaderKey; P = U.Session.PacketKey; D = U.Session.HandshakeData; I = U.Session.PeerIdentity })) (time : ℕ) (mark : Option EcnCodepoint) (from : SocketAddr) (bytes : List ℕ) → let r : At (record { S = U.Session; H = U.Session.HeaderKey; P = U.Session.PacketKey; D = U.Session.HandshakeData; I = U.Session.PeerIdentity }) = datagram_after (meaning U.Session.Session U.Session.HeaderKey.HeaderMask U.Session.PacketKey.PacketKey) time mark from bytes (at s []) in DatagramHolds (if same_address s.paths.remote from then length bytes else 0) r.did s r.state }
+    ensures { (s : View (record { S = U.Session; H = U.Session.HeaderKey; P = U.Session.PacketKey; D = U.Session.HandshakeData; I = U.Session.PeerIdentity; C = U.Control.Controller })) (time : ℕ) (mark : Option EcnCodepoint) (from : SocketAddr) (bytes : List ℕ) → let r : At (record { S = U.Session; H = U.Session.HeaderKey; P = U.Session.PacketKey; D = U.Session.HandshakeData; I = U.Session.PeerIdentity; C = U.Control.Controller }) = datagram_after (meaning U.Session.Session U.Session.HeaderKey.HeaderMask U.Session.PacketKey.PacketKey U.Control.Controller.Controller) time mark from bytes (at s []) in DatagramHolds (if same_address s.paths.remote from then length bytes else 0) r.did s r.state }
 {}
 
 /// A law, which runs no code. A datagram whose first packet was cut from it, as the connection cuts it, does what it does as a
 /// whole, unless a server's first packet is awaited.
 pub fn events_are_datagrams<U: Suite>()
-    ensures { (a : At (record { S = U.Session; H = U.Session.HeaderKey; P = U.Session.PacketKey; D = U.Session.HandshakeData; I = U.Session.PeerIdentity })) (time : ℕ) (mark : Option EcnCodepoint) (remote : SocketAddr) (p : Piece) (behind bytes : List ℕ) → piece_at (length a.state.setup.fixed.local_cid) (a.state.setup.fixed.version ∷ []) a.state.setup.fixed.grease_quic_bit bytes ≡ Ok (p, behind) → is_first_awaited a.state.setup ≡ false → event_after (meaning U.Session.Session U.Session.HeaderKey.HeaderMask U.Session.PacketKey.PacketKey) time mark remote p behind a ≡ datagram_after (meaning U.Session.Session U.Session.HeaderKey.HeaderMask U.Session.PacketKey.PacketKey) time mark remote bytes a }
+    ensures { (a : At (record { S = U.Session; H = U.Session.HeaderKey; P = U.Session.PacketKey; D = U.Session.HandshakeData; I = U.Session.PeerIdentity; C = U.Control.Controller })) (time : ℕ) (mark : Option EcnCodepoint) (remote : SocketAddr) (p : Piece) (behind bytes : List ℕ) → piece_at (length a.state.setup.fixed.local_cid) (a.state.setup.fixed.version ∷ []) a.state.setup.fixed.grease_quic_bit bytes ≡ Ok (p, behind) → is_first_awaited a.state.setup ≡ false → event_after (meaning U.Session.Session U.Session.HeaderKey.HeaderMask U.Session.PacketKey.PacketKey U.Control.Controller.Controller) time mark remote p behind a ≡ datagram_after (meaning U.Session.Session U.Session.HeaderKey.HeaderMask U.Session.PacketKey.PacketKey U.Control.Controller.Controller) time mark remote bytes a }
 {}
 
 /// A law, which runs no code. Where a server's first packet is awaited, and a datagram may hold it: once that packet was cut from
 /// the datagram and opened, it does what the datagram does as a whole.
 pub fn first_packets_are_datagrams<U: Suite>()
-    ensures { (a : At (record { S = U.Session; H = U.Session.HeaderKey; P = U.Session.PacketKey; D = U.Session.HandshakeData; I = U.Session.PeerIdentity })) (time : ℕ) (mark : Option EcnCodepoint) (remote : SocketAddr) (p : Piece) (source token : List ℕ) (spin : Bool) (number : ℕ) (payload behind bytes : List ℕ) → piece_at (length a.state.setup.fixed.local_cid) (a.state.setup.fixed.version ∷ []) a.state.setup.fixed.grease_quic_bit bytes ≡ Ok (p, behind) → is_first_awaited a.state.setup ≡ true → first_token (meaning U.Session.Session U.Session.HeaderKey.HeaderMask U.Session.PacketKey.PacketKey) a.state remote bytes ≡ Some token → opening_of (meaning U.Session.Session U.Session.HeaderKey.HeaderMask U.Session.PacketKey.PacketKey) a.state p ≡ Opened source token spin number payload → first_packet_after (meaning U.Session.Session U.Session.HeaderKey.HeaderMask U.Session.PacketKey.PacketKey) time mark source token number payload behind (length bytes) a ≡ datagram_after (meaning U.Session.Session U.Session.HeaderKey.HeaderMask U.Session.PacketKey.PacketKey) time mark remote bytes a }
+    ensures { (a : At (record { S = U.Session; H = U.Session.HeaderKey; P = U.Session.PacketKey; D = U.Session.HandshakeData; I = U.Session.PeerIdentity; C = U.Control.Controller })) (time : ℕ) (mark : Option EcnCodepoint) (remote : SocketAddr) (p : Piece) (source token : List ℕ) (spin : Bool) (number : ℕ) (payload behind bytes : List ℕ) → piece_at (length a.state.setup.fixed.local_cid) (a.state.setup.fixed.version ∷ []) a.state.setup.fixed.grease_quic_bit bytes ≡ Ok (p, behind) → is_first_awaited a.state.setup ≡ true → first_token (meaning U.Session.Session U.Session.HeaderKey.HeaderMask U.Session.PacketKey.PacketKey U.Control.Controller.Controller) a.state remote bytes ≡ Some token → opening_of (meaning U.Session.Session U.Session.HeaderKey.HeaderMask U.Session.PacketKey.PacketKey U.Control.Controller.Controller) a.state p ≡ Opened source token spin number payload → first_packet_after (meaning U.Session.Session U.Session.HeaderKey.HeaderMask U.Session.PacketKey.PacketKey U.Control.Controller.Controller) time mark source token number payload behind (length bytes) a ≡ datagram_after (meaning U.Session.Session U.Session.HeaderKey.HeaderMask U.Session.PacketKey.PacketKey U.Control.Controller.Controller) time mark remote bytes a }
 {}

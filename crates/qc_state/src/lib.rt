@@ -29,7 +29,6 @@ pub use body::Body;
 pub use crypto_queue::CryptoQueue;
 pub use deeds::{Did, Dids, Layer, Quiet, Verdict};
 pub use events::{EndpointEvent, EndpointEvents, Event, Events};
-pub use flight::Flight;
 pub use input::{Input, Word};
 pub use keys::{KeyGroup, SpaceKeys};
 pub use laws::{

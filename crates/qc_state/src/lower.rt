@@ -1,27 +1,39 @@
-//! The layers below: so far the session, and the bytes of its CRYPTO streams that came.
+//! The layers below: the session, the bytes of its CRYPTO streams that came, and loss recovery.
 
 ghost use Rattle.std.specs.Prelude.{◌≡◌, ◌+◌, ◌<◌, ◌≤◌, ◌^◌, ◌++◌, Err, length, IfOk, OnOk, OnErr};
 ghost use Rattle.qc_assembler.specs.Assembly.{advanced, inserted, part_count};
-ghost use Rattle.qc_state.specs.Lower.{bytes_came, ready_bytes, session_read, session_wrote, stream_of};
-ghost use Rattle.qc_state.specs.Spaces.{space_of};
+ghost use Rattle.qc_frame.specs.Frame.{ack_map};
+ghost use Rattle.qc_frame.specs.FrameFits.{Fits};
+ghost use Rattle.qc_frame.specs.declared.frames.FrameOf.TheVariants as frames;
+ghost use Rattle.qc_recovery.specs.Frames.{ranges_up_of, values_of};
+ghost use Rattle.qc_recovery.specs.Steps.{ack_after, after_with, fired_with, timeout_after};
+ghost use Rattle.qc_state.specs.Lower.{bytes_came, flight_dropped, packet_flown, packets_settled, ready_bytes, session_read, stream_of, timer_fired};
 
 use crate::spaces::Spaces;
 use bytes::Bytes;
 use qc_assembler::{Assembler, InsertError};
-use qc_base::SpaceId;
+use qc_base::{Instant, SpaceId};
+use qc_flight::SentPacket;
+use qc_frame::Ack;
+use qc_path::Controller;
+use qc_recovery::{Around, Fired, PathData, Recovery, Settled};
 use std::alloc::{AllocError, Global};
 
 /// The states of the layers below the connection.
 #[derive(Drop)]
-pub struct Lower<S> {
+pub struct Lower<S, C: Controller> {
     /// The cryptographic handshake (RFC 9001).
     pub session: S,
     /// The bytes of each space's CRYPTO stream that came, and how many were given to the session (RFC 9000, 19.6).
     pub streams: Spaces<Assembler>,
+    /// The packets in flight, and what was acknowledged (RFC 9002).
+    pub recovery: Recovery,
+    /// What loss recovery keeps of the path: round trip times, and the congestion controller.
+    pub path: PathData<C>,
 }
 
-#[tactic(auto, unfolding(crate::specs::Lower::stream_of, crate::specs::Lower::bytes_came, crate::specs::Lower::session_read))]
-impl<S> Lower<S> {
+#[tactic(auto, unfolding(crate::specs::Lower::stream_of, crate::specs::Lower::bytes_came, crate::specs::Lower::session_read, crate::specs::Lower::packet_flown, crate::specs::Lower::packets_settled, crate::specs::Lower::timer_fired, crate::specs::Lower::flight_dropped))]
+impl<S, C: Controller> Lower<S, C> {
     /// What came of the space's CRYPTO stream.
     pub fn stream(&self, space: SpaceId) -> &Assembler
         ensures { result.now ≡ stream_of self.now space }
@@ -59,6 +71,51 @@ impl<S> Lower<S> {
             SpaceId::Handshake => take_ready(&mut self.streams.handshake, alloc),
             SpaceId::Data => take_ready(&mut self.streams.application, alloc),
         }
+    }
+
+    /// A packet of the space is in flight from now on. Want of memory is the only refusal.
+    pub fn fly(&mut self, space: SpaceId, number: u64, packet: SentPacket) -> Result<(), AllocError>
+        ensures { OnOk result (self.new ≡ packet_flown self.old space number packet) }
+    {
+        // Numbers rise, so that each is above those in flight: this refusal doesn't come.
+        if !self.recovery.is_above(space, number) {
+            return Err(AllocError);
+        }
+        self.recovery.sent(space, number, packet)
+    }
+
+    /// An ACK of the space came. `next` is the number that the space seals next, and `began` the moment at which it began. Answers
+    /// which packets it newly acknowledges, and which are lost by it. Want of memory is the only refusal.
+    pub fn settle(
+        &mut self,
+        alloc: Global,
+        now: Instant,
+        space: SpaceId,
+        next: u64,
+        began: Instant,
+        ack: &Ack<'_>,
+        around: &Around,
+    ) -> Result<Settled, AllocError>
+        requires { Fits (frames.Ack (ack_map (λ bytes. bytes.now) ack.now)) }
+        ensures after { IfOk result (λ s. after_with self.new.recovery self.new.path s.acked s.lost ≡ ack_after C.Controller now space next began (values_of (ack_map (λ bytes. bytes.now) ack.now)) (ranges_up_of (ack_map (λ bytes. bytes.now) ack.now)) around.now self.old.recovery self.old.path) }
+        ensures lower { IfOk result (λ s. self.new ≡ packets_settled self.old (after_with self.new.recovery self.new.path s.acked s.lost)) }
+    {
+        self.recovery.on_ack(alloc, now, space, next, began, ack, around, &mut self.path)
+    }
+
+    /// The loss timer fired. Answers what it does: packets are lost, probes are due, or nothing. Want of memory is the only refusal.
+    pub fn fire(&mut self, now: Instant, around: &Around) -> Result<Fired, AllocError>
+        ensures after { IfOk result (λ f. fired_with self.new.recovery self.new.path f ≡ timeout_after C.Controller now around.now self.old.recovery self.old.path) }
+        ensures lower { IfOk result (λ f. self.new ≡ timer_fired self.old (fired_with self.new.recovery self.new.path f)) }
+    {
+        self.recovery.on_timeout(now, around, &mut self.path)
+    }
+
+    /// The keys of the space were dropped: none of its packets is in flight any more (RFC 9002, 6.4).
+    pub fn drop_flight(&mut self, space: SpaceId)
+        ensures { self.new ≡ flight_dropped self.old space }
+    {
+        let _ = self.recovery.discard(space, &mut self.path);
     }
 }
 

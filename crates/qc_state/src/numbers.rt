@@ -1,10 +1,10 @@
 //! The packet numbers of the three spaces.
 
 ghost use Rattle.std.specs.Prelude.{◌≡◌, ◌≤◌, ◌<◌, ◌^◌};
-ghost use Rattle.qc_state.specs.Numbers.{no_numbers, next_number, acked_number, number_used, used_in, received_number, came_in, is_new_in, number_entered, entered_in, number_accepted, accepted_in, number_acked, acked_in};
+ghost use Rattle.qc_state.specs.Numbers.{began_at, no_numbers, next_number, acked_number, number_used, used_in, received_number, came_in, is_new_in, number_entered, entered_in, number_accepted, accepted_in, number_acked, acked_in};
 
 use crate::spaces::Spaces;
-use qc_base::SpaceId;
+use qc_base::{Instant, SpaceId};
 use qc_path::Dedup;
 
 /// The packet numbers of one space (RFC 9000, 12.3).
@@ -18,6 +18,8 @@ pub struct SpaceNumbers {
     pub rx: u64,
     /// Which numbers of the peer came.
     pub came: Dedup,
+    /// When the space began.
+    pub began: Instant,
 }
 
 /// The packet numbers of the three spaces.
@@ -29,15 +31,16 @@ pub struct Numbers {
 
 #[tactic(auto, unfolding(crate::specs::Numbers::used_in, crate::specs::Numbers::entered_in, crate::specs::Numbers::accepted_in, crate::specs::Numbers::acked_in))]
 impl SpaceNumbers {
-    /// No packet was sealed and none came.
-    pub fn new() -> SpaceNumbers
-        ensures { result ≡ no_numbers }
+    /// A space that begins at `now`: no packet was sealed and none came.
+    pub fn new(now: Instant) -> SpaceNumbers
+        ensures { result ≡ no_numbers now }
     {
         SpaceNumbers {
             next: 0,
             largest_acked: 0,
             rx: 0,
             came: Dedup::new(),
+            began: now,
         }
     }
 
@@ -68,13 +71,20 @@ impl SpaceNumbers {
     }
 }
 
-#[tactic(auto, unfolding(crate::specs::Numbers::next_number, crate::specs::Numbers::number_used, crate::specs::Numbers::acked_number, crate::specs::Numbers::received_number, crate::specs::Numbers::came_in, crate::specs::Numbers::is_new_in, crate::specs::Numbers::number_entered, crate::specs::Numbers::number_accepted, crate::specs::Numbers::number_acked))]
+#[tactic(auto, unfolding(crate::specs::Numbers::next_number, crate::specs::Numbers::began_at, crate::specs::Numbers::number_used, crate::specs::Numbers::acked_number, crate::specs::Numbers::received_number, crate::specs::Numbers::came_in, crate::specs::Numbers::is_new_in, crate::specs::Numbers::number_entered, crate::specs::Numbers::number_accepted, crate::specs::Numbers::number_acked))]
 impl Numbers {
     /// The number of the next packet that is sealed in the space.
     pub fn next(&self, space: SpaceId) -> u64
         ensures { result ≡ next_number self.now space }
     {
         self.spaces.get(space).next
+    }
+
+    /// When the space began.
+    pub fn began(&self, space: SpaceId) -> Instant
+        ensures { result ≡ began_at self.now space }
+    {
+        self.spaces.get(space).began
     }
 
     /// A packet was sealed with this number: the next one is one more.

@@ -1,7 +1,7 @@
 //! The path to the peer.
 
 ghost use Rattle.std.specs.Prelude.{◌≡◌, ◌≢◌, true, false};
-ghost use Rattle.qc_state.specs.Paths.{path_sent, path_received, path_accepted, path_spun, spun_by, peer_fixed, is_blocked, same_address};
+ghost use Rattle.qc_state.specs.Paths.{path_idle, path_sent, path_received, path_accepted, path_spun, spun_by, peer_fixed, is_blocked, same_address};
 ghost use Rattle.std.specs.Net.Addr.{ipv4_octets, ipv6_segments};
 
 use crate::deeds::Verdict;
@@ -25,6 +25,9 @@ pub struct Paths {
     pub sent: u64,
     /// Bytes received from the peer's address, as far as they count (RFC 9000, 8.1). They stand still at 2^64 - 1.
     pub received: u64,
+    /// Whether the last transmit sent nothing, so that what there is to send holds sending back, and not the window of the
+    /// congestion controller (RFC 9002, 7.8).
+    pub app_limited: bool,
 }
 
 /// The spin bit of an end of this side by that of a packet: a server repeats it, and a client turns it round.
@@ -37,7 +40,7 @@ fn spun_by(side: Side, bit: bool) -> bool
     }
 }
 
-#[tactic(auto, unfolding(crate::specs::Paths::path_sent, crate::specs::Paths::path_received, crate::specs::Paths::peer_fixed, crate::specs::Paths::path_accepted, crate::specs::Paths::path_spun, crate::specs::Paths::is_blocked))]
+#[tactic(auto, unfolding(crate::specs::Paths::path_sent, crate::specs::Paths::path_idle, crate::specs::Paths::path_received, crate::specs::Paths::peer_fixed, crate::specs::Paths::path_accepted, crate::specs::Paths::path_spun, crate::specs::Paths::is_blocked))]
 impl Paths {
     /// So many bytes came from the path's address.
     pub fn received(&mut self, bytes: u64)
@@ -88,6 +91,14 @@ impl Paths {
         ensures { self.new ≡ path_sent self.old bytes }
     {
         self.sent = self.sent.saturating_add(bytes);
+        self.app_limited = false;
+    }
+
+    /// A transmit sent nothing: what there is to send holds sending back.
+    pub fn idle(&mut self)
+        ensures { self.new ≡ path_idle self.old }
+    {
+        self.app_limited = true;
     }
 }
 

@@ -1,13 +1,11 @@
 //! What a connection was made with, and its source of random words.
 
-ghost use Rattle.std.specs.Prelude.{◌≡◌, ℕ, Option, None, Some};
-ghost use Rattle.std.specs.Option.{option_map};
-ghost use Rattle.qc_state.specs.Setup.{idle_limit_of, idle_limit_with, idle_limit_now, peer_delay, probe_timeout_now, parameters_known, token_expected, is_first_awaited, awaits_first};
+ghost use Rattle.std.specs.Prelude.{◌≡◌, Some};
+ghost use Rattle.qc_state.specs.Setup.{idle_limit_of, idle_limit_now, peer_delay, peer_exponent, parameters_known, token_expected, is_first_awaited, awaits_first};
 ghost use Rattle.qc_state.specs.Timers.{least};
 
-use crate::timers::PROBE_TIMEOUT;
 use bytes::Bytes;
-use qc_base::{ConnectionId, Duration, Side, SpaceId, VarInt};
+use qc_base::{ConnectionId, Duration, Side, VarInt};
 use qc_params::TransportParameters;
 use std::net::IpAddr;
 
@@ -111,7 +109,7 @@ fn awaits_first(side: Side, token: &Option<Bytes>) -> bool
     }
 }
 
-#[tactic(auto, unfolding(crate::specs::Setup::idle_limit_now, crate::specs::Setup::probe_timeout_now, crate::specs::Setup::parameters_known, crate::specs::Setup::token_expected, crate::specs::Setup::is_first_awaited))]
+#[tactic(auto, unfolding(crate::specs::Setup::idle_limit_now, crate::specs::Setup::parameters_known, crate::specs::Setup::token_expected, crate::specs::Setup::is_first_awaited))]
 impl<R> Setup<R> {
     /// The limit on idle time: this end's own one, and once the peer's parameters were read the lesser of the two ends'.
     pub fn idle_limit(&self) -> Option<Duration>
@@ -126,16 +124,20 @@ impl<R> Setup<R> {
         }
     }
 
-    /// The probe timeout of a space: in 1-RTT packets the peer's delay of acknowledgements stands in it (RFC 9002, 6.2.1).
-    pub fn probe_timeout(&self, space: SpaceId) -> Duration
-        ensures { result ≡ probe_timeout_now self.now space }
+    /// How long the peer holds an acknowledgement back at most: 25 ms until its parameters were read (RFC 9000, 18.2).
+    pub fn peer_delay(&self) -> Duration
+        ensures { result ≡ peer_delay self.now.peer }
     {
-        match space {
-            SpaceId::Initial | SpaceId::Handshake => Duration::from_nanos(PROBE_TIMEOUT),
-            SpaceId::Data => {
-                let delay = peer_delay(&self.peer);
-                Duration::from_nanos(PROBE_TIMEOUT.saturating_add(delay.nanos()))
-            }
+        peer_delay(&self.peer)
+    }
+
+    /// The exponent of the delays in the peer's ACK frames: 3 until its parameters were read, and 20 at most (RFC 9000, 18.2).
+    pub fn peer_exponent(&self) -> u8
+        ensures { result ≡ peer_exponent self.now.peer }
+    {
+        match &self.peer {
+            None => 3,
+            Some(peer) => peer.ack_delay_exponent.into_inner().min(20) as u8,
         }
     }
 

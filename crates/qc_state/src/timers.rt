@@ -1,13 +1,9 @@
 //! The timers, and the greatest time so far.
 
 ghost use Rattle.std.specs.Prelude.{◌≡◌};
-ghost use Rattle.qc_state.specs.Timers.{timers_sealed, timers_stopped, timers_closing, timers_accepted, timers_settled, clock_set, next_timeout, least, idle_from, has_come};
+ghost use Rattle.qc_state.specs.Timers.{timers_sealed, timers_stopped, timers_closing, timers_accepted, timers_armed, clock_set, next_timeout, least, idle_from, has_come};
 
 use qc_base::{Duration, Instant};
-
-/// The time without an acknowledgement after which a packet is taken up again, in nanoseconds: the initial round trip
-/// time of 333 ms and four times its half as variance (RFC 9002, 6.2.2).
-pub const PROBE_TIMEOUT: u64 = 999_000_000;
 
 /// The timers, each a time or none, and the greatest time that the connection was told.
 #[derive(Drop)]
@@ -69,13 +65,12 @@ fn idle_at(
     }
 }
 
-#[tactic(auto, unfolding(crate::specs::Timers::timers_sealed, crate::specs::Timers::timers_stopped, crate::specs::Timers::timers_closing, crate::specs::Timers::timers_accepted, crate::specs::Timers::timers_settled, crate::specs::Timers::clock_set, crate::specs::Timers::next_timeout))]
+#[tactic(auto, unfolding(crate::specs::Timers::timers_sealed, crate::specs::Timers::timers_stopped, crate::specs::Timers::timers_closing, crate::specs::Timers::timers_accepted, crate::specs::Timers::timers_armed, crate::specs::Timers::clock_set, crate::specs::Timers::next_timeout))]
 impl Timers {
     /// A packet that elicits an acknowledgement was sealed at `now`, in a space with this probe timeout.
     pub fn sealed(&mut self, limit: Option<Duration>, probe: Duration, now: Instant)
         ensures { self.new ≡ timers_sealed self.old limit probe now }
     {
-        self.loss_detection = Some(now.plus(Duration::from_nanos(PROBE_TIMEOUT)));
         if self.sets_idle {
             self.idle = idle_at(limit, self.idle, probe, now);
         }
@@ -90,11 +85,11 @@ impl Timers {
         self.sets_idle = true;
     }
 
-    /// Nothing that elicits an acknowledgement is in flight.
-    pub fn settled(&mut self)
-        ensures { self.new ≡ timers_settled self.old }
+    /// The loss timer is set to a time, or stopped.
+    pub fn arm(&mut self, at: Option<Instant>)
+        ensures { self.new ≡ timers_armed self.old at }
     {
-        self.loss_detection = None;
+        self.loss_detection = at;
     }
 
     /// Every timer is stopped.

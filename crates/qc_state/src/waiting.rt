@@ -1,21 +1,24 @@
 //! The frames that wait to be sealed.
 
-ghost use Rattle.std.specs.Prelude.{◌≡◌, ◌<◌, ◌≤◌, ◌^◌, ◌++◌, ◌∷◌, [], true, List, length, OnOk, IfOk};
+ghost use Rattle.std.specs.Prelude.{◌≡◌, ◌<◌, ◌≤◌, ◌^◌, ◌++◌, ◌∷◌, [], true, length, map, OnOk, IfOk};
+ghost use Rattle.std.specs.Option.{option_copied};
+ghost use Rattle.qc_base.specs.Time.{plus};
 ghost use Rattle.qc_frame.specs.AckRanges.{ArePackets};
-ghost use Rattle.qc_frame.specs.Frame.{FrameValue};
+ghost use Rattle.qc_frame.specs.Frame.{ack_map, owned};
 ghost use Rattle.qc_frame.specs.FrameSpelling.{frames_spelling};
-ghost use Rattle.qc_state.specs.Acks.{AckPart, SaysAck, ack_sent, is_ack_owed, may_acknowledge, told_count, told_counts};
+ghost use Rattle.qc_state.specs.Acks.{AckPart, SaysAck, is_ack_owed, may_acknowledge, told_count, told_counts};
 ghost use Rattle.qc_frame.specs.declared.frames.FrameOf.TheVariants as frames;
-ghost use Rattle.qc_state.specs.Waiting.{TakenPart, TakesAck, waits_in, ping_asked, done_asked, came_in, packet_came, close_begun, packet_told, crypto_written, nothing_left, space_left, untold, flown_in, settled_in, packet_flown, packets_settled, is_calm};
-ghost use Rattle.qc_frame.specs.AckRanges.{ranges_of};
-ghost use Rattle.qc_frame.specs.Frame.{ack_map};
+ghost use Rattle.qc_state.specs.Spaces.{space_of};
+ghost use Rattle.qc_state.specs.Waiting.{TakenPart, TakesAck, TakesCrypto, acked_in, again, all_again, all_confirmed, begun_in, came_in, close_begun, confirmed, crypto_written, datagram_begun, done_asked, fired_in, lost_in, marks_part, nothing_left, packet_came, packet_told, packets_acked, packets_lost, ping_asked, probe_sent, probes_added, space_left, waiting_without, waits_here, waits_in, wants_sending, without_all};
 
 use crate::crypto_queue::CryptoQueue;
-use crate::flight::Flight;
 use crate::spaces::Spaces;
+use bytes::Bytes;
 use qc_base::{EcnCodepoint, Instant, SpaceId};
-use qc_frame::{Ack, EcnCounts, FrameList, FrameOf, OwnedAck, put_frame};
+use qc_flight::{PacketList, SentPacket};
+use qc_frame::{Ack, EcnCounts, FrameList, FrameOf, OwnedAck, OwnedFrame, put_frame};
 use qc_path::{Arrival, Dedup, PendingAcks};
+use qc_recovery::Fired;
 use qc_space::with_mark;
 use std::alloc::{AllocError, Global};
 
@@ -29,14 +32,14 @@ pub struct SpaceWaiting {
     pub done: bool,
     /// Whether a PING waits (RFC 9000, 19.2).
     pub ping: bool,
-    /// The bytes of CRYPTO frames that wait (RFC 9000, 19.6).
+    /// The bytes that the session wrote, and which of them wait (RFC 9000, 19.6).
     pub crypto: CryptoQueue,
     /// The numbers of packets that came and are to be acknowledged, and whether an ACK is owed (RFC 9000, 13.2).
     pub acks: PendingAcks,
     /// How many packets were accepted with each mark of ECN (RFC 9000, 13.4.1).
     pub marks: EcnCounts,
-    /// The packets that were sealed, elicit an acknowledgement and aren't acknowledged.
-    pub flight: Flight,
+    /// How many probes are due (RFC 9002, 6.2.4).
+    pub probes: u64,
     /// Whether a packet of the space was sealed since a close began to be owed (RFC 9000, 10.2).
     pub told: bool,
 }
@@ -50,27 +53,135 @@ pub struct Waiting {
     pub close_owed: bool,
 }
 
-/// A packet that elicits an acknowledgement was sealed. Want of memory is the only refusal.
-#[tactic(auto, unfolding(crate::specs::Waiting::flown_in))]
-fn fly(space: &mut SpaceWaiting, number: u64) -> Result<(), AllocError>
-    ensures { OnOk result (space.new ≡ flown_in number space.old) }
+/// A frame of a packet that is lost waits again. Want of memory is the only refusal.
+fn again(space: &mut SpaceWaiting, frame: &OwnedFrame) -> Result<(), AllocError>
+    ensures { OnOk result (space.new ≡ again space.old (owned frame.now)) }
 {
-    space.flight.push(number)
+    match frame {
+        FrameOf::HandshakeDone => {
+            space.done = true;
+            Ok(())
+        }
+        FrameOf::Crypto { offset, body } => space.crypto.lose(*offset, body.len()),
+        _ => Ok(()),
+    }
 }
 
-/// The peer acknowledged packets. Want of memory is the only refusal.
-#[tactic(auto, unfolding(crate::specs::Waiting::settled_in))]
-fn settle(space: &mut SpaceWaiting, alloc: Global, ack: &Ack<'_>) -> Result<(), AllocError>
-    ensures { OnOk result (space.new ≡ settled_in (ranges_of (ack_map (λ bytes. bytes.now) ack.now)) space.old) }
+/// So these frames do. Want of memory is the only refusal.
+fn each_again(space: &mut SpaceWaiting, frames: &[OwnedFrame]) -> Result<(), AllocError>
+    ensures { OnOk result (space.new ≡ all_again space.old (map owned frames.now)) }
 {
-    space.flight.acked(alloc, ack)
+    for frame in frames {
+        again(space, frame)?;
+    }
+    Ok(())
+}
+
+/// So all frames of a packet do. Want of memory is the only refusal.
+#[tactic(auto, using(crate::proofs::KeptFrames::again_padded))]
+fn all_again(space: &mut SpaceWaiting, frames: &FrameList) -> Result<(), AllocError>
+    ensures { OnOk result (space.new ≡ all_again space.old frames.now) }
+{
+    let (listed, _padding) = frames.parts();
+    each_again(space, listed)
+}
+
+/// Packets were lost: their frames wait again. Want of memory is the only refusal.
+fn lose(space: &mut SpaceWaiting, lost: &mut PacketList) -> Result<(), AllocError>
+    ensures { OnOk result (space.new ≡ lost_in space.old lost.old) }
+{
+    while let Some((_, packet)) = lost.pop_front() {
+        all_again(space, &packet.frames)?;
+    }
+    Ok(())
+}
+
+/// A frame was acknowledged.
+fn confirm(space: &mut SpaceWaiting, frame: &OwnedFrame)
+    ensures { space.new ≡ confirmed space.old (owned frame.now) }
+{
+    if let FrameOf::Ack(ack) = frame {
+        space.acks.acknowledged(ack.largest);
+    }
+}
+
+/// These frames were acknowledged.
+fn each_confirmed(space: &mut SpaceWaiting, frames: &[OwnedFrame])
+    ensures { space.new ≡ all_confirmed space.old (map owned frames.now) }
+{
+    for frame in frames {
+        confirm(space, frame);
+    }
+}
+
+/// So were all frames of a packet.
+#[tactic(auto, using(crate::proofs::KeptFrames::confirmed_padded))]
+fn all_confirmed(space: &mut SpaceWaiting, frames: &FrameList)
+    ensures { space.new ≡ all_confirmed space.old frames.now }
+{
+    let (listed, _padding) = frames.parts();
+    each_confirmed(space, listed);
+}
+
+/// Packets were acknowledged with their frames.
+fn acknowledge(space: &mut SpaceWaiting, acked: &mut PacketList)
+    ensures { space.new ≡ acked_in space.old acked.old }
+{
+    while let Some((_, packet)) = acked.pop_front() {
+        all_confirmed(space, &packet.frames);
+    }
+}
+
+/// Whether a frame waits that elicits an acknowledgement.
+fn wants_sending(space: &SpaceWaiting) -> bool
+    ensures { result ≡ wants_sending space.now }
+{
+    space.done || (space.ping || space.crypto.waits())
+}
+
+/// A probe is sent: where no frame waits that elicits an acknowledgement, those of the oldest packet in flight wait again, and
+/// where it has none, a PING does. Want of memory is the only refusal.
+#[tactic(auto, unfolding(crate::specs::Waiting::probe_sent))]
+fn probe(space: &mut SpaceWaiting, oldest: Option<&SentPacket>) -> Result<(), AllocError>
+    ensures { OnOk result (space.new ≡ probe_sent space.old (option_copied oldest.entry)) }
+{
+    if wants_sending(space) {
+        return Ok(());
+    }
+    if let Some(packet) = oldest {
+        all_again(space, &packet.frames)?;
+    }
+    if !wants_sending(space) {
+        space.ping = true;
+    }
+    Ok(())
+}
+
+/// Probes are due.
+fn add_probes(space: &mut SpaceWaiting, count: u64)
+    ensures { space.new ≡ record space.old { probes = plus space.old.probes count } }
+{
+    space.probes = space.probes.saturating_add(count);
+}
+
+/// A datagram is begun for the space, which spends a probe that is due. Want of memory is the only refusal.
+#[tactic(auto, unfolding(crate::specs::Waiting::begun_in))]
+fn begin(space: &mut SpaceWaiting, oldest: Option<&SentPacket>) -> Result<(), AllocError>
+    ensures { OnOk result (space.new ≡ begun_in space.old (option_copied oldest.entry)) }
+{
+    if space.probes == 0 {
+        return Ok(());
+    }
+    space.probes -= 1;
+    probe(space, oldest)
 }
 
 /// Whether something waits.
 fn waits(space: &SpaceWaiting) -> bool
     ensures { result ≡ waits_here space.now }
 {
-    space.done || (space.ping || (is_ack_owed(&space.acks) || !space.crypto.is_empty()))
+    space.done
+        || (space.ping || (is_ack_owed(&space.acks) || (space.crypto.waits() || space.probes != 0)))
 }
 
 /// Whether there is something to acknowledge, and each number is one of a packet.
@@ -189,24 +300,28 @@ fn take_marks(space: &mut SpaceWaiting, frames: &mut FrameList) -> Result<(), Al
     Ok(())
 }
 
-/// Takes as many of the CRYPTO bytes that wait as fit.
-#[tactic(auto, unfolding(crate::specs::Waiting::crypto_part, crate::specs::Waiting::without_all, crate::specs::Waiting::without))]
+/// Takes the CRYPTO bytes that wait first, as many as fit. Want of memory is the only refusal.
+#[tactic(auto, unfolding(crate::specs::Waiting::CryptoPart, crate::specs::Waiting::without_all, crate::specs::Waiting::without))]
 fn take_crypto(
     space: &mut SpaceWaiting,
     alloc: Global,
     room: usize,
     frames: &mut FrameList,
 ) -> Result<(), AllocError>
-    ensures frames { OnOk result (frames.new ≡ frames.old ++ crypto_part space.old room) }
-    ensures rest { OnOk result (space.new ≡ without_all space.old (crypto_part space.old room)) }
+    ensures { OnOk result (TakesCrypto room space.old space.new frames.old frames.new) }
 {
-    if space.crypto.is_empty() || room <= CRYPTO_HEAD {
-        return Ok(());
+    let mut left = room;
+    while left > CRYPTO_HEAD {
+        match space.crypto.take(left - CRYPTO_HEAD)? {
+            None => return Ok(()),
+            Some((offset, bytes)) => {
+                left -= bytes.len() + CRYPTO_HEAD;
+                let body = Vec::from_slice(alloc, bytes.as_slice())?;
+                frames.push(FrameOf::Crypto { offset, body })?;
+            }
+        }
     }
-    let offset = space.crypto.offset();
-    let count = space.crypto.len().min(room - CRYPTO_HEAD);
-    let body = space.crypto.take_front(alloc, count)?;
-    frames.push(FrameOf::Crypto { offset, body })
+    Ok(())
 }
 
 /// Takes frames that wait at a time for a packet with so much room. Want of memory is the only refusal.
@@ -254,21 +369,18 @@ fn came(space: &mut SpaceWaiting, seen: &Dedup, packet: &Arrival, mark: Option<E
     space.marks = with_mark(space.marks, mark);
 }
 
-/// Nothing waits any more, and nothing is in flight.
+/// Nothing waits any more.
 #[tactic(auto, unfolding(crate::specs::Waiting::nothing_left))]
 fn leave(space: &mut SpaceWaiting)
     ensures { space.new ≡ nothing_left space.old }
 {
     space.done = false;
     space.ping = false;
-    space.crypto.skip();
-    space.flight.clear();
+    space.crypto.discard();
+    space.probes = 0;
 }
 
-ghost use Rattle.qc_state.specs.Waiting.{waits_here, without_all, marks_part, crypto_part, waiting_without};
-ghost use Rattle.qc_state.specs.Spaces.{space_of};
-
-#[tactic(auto, unfolding(crate::specs::Waiting::packet_flown, crate::specs::Waiting::packets_settled, crate::specs::Waiting::is_calm, crate::specs::Waiting::packet_came, crate::specs::Waiting::crypto_written, crate::specs::Waiting::space_left, crate::specs::Waiting::close_begun, crate::specs::Waiting::packet_told, crate::specs::Waiting::waits_in, crate::specs::Waiting::ping_asked, crate::specs::Waiting::done_asked, crate::specs::Waiting::waiting_without))]
+#[tactic(auto, unfolding(crate::specs::Waiting::packets_lost, crate::specs::Waiting::packets_acked, crate::specs::Waiting::probes_added, crate::specs::Waiting::datagram_begun, crate::specs::Waiting::packet_came, crate::specs::Waiting::crypto_written, crate::specs::Waiting::space_left, crate::specs::Waiting::close_begun, crate::specs::Waiting::packet_told, crate::specs::Waiting::waits_in, crate::specs::Waiting::ping_asked, crate::specs::Waiting::done_asked, crate::specs::Waiting::waiting_without))]
 impl Waiting {
     /// Whether something waits in the space.
     pub fn waits(&self, space: SpaceId) -> bool
@@ -277,35 +389,63 @@ impl Waiting {
         waits(self.spaces.get(space))
     }
 
-    /// A packet that elicits an acknowledgement was sealed in the space. Want of memory is the only refusal.
-    pub fn fly(&mut self, space: SpaceId, number: u64) -> Result<(), AllocError>
-        ensures { OnOk result (self.new ≡ packet_flown self.old space number) }
+    /// Packets of the space were lost: their frames wait again. Want of memory is the only refusal.
+    pub fn lose(&mut self, space: SpaceId, lost: &mut PacketList) -> Result<(), AllocError>
+        ensures { OnOk result (self.new ≡ packets_lost self.old space lost.old) }
     {
         match space {
-            SpaceId::Initial => fly(&mut self.spaces.initial, number),
-            SpaceId::Handshake => fly(&mut self.spaces.handshake, number),
-            SpaceId::Data => fly(&mut self.spaces.application, number),
+            SpaceId::Initial => lose(&mut self.spaces.initial, lost),
+            SpaceId::Handshake => lose(&mut self.spaces.handshake, lost),
+            SpaceId::Data => lose(&mut self.spaces.application, lost),
         }
     }
 
-    /// The peer acknowledged packets of the space: they are in flight no longer. Want of memory is the only refusal.
-    pub fn settle(&mut self, alloc: Global, space: SpaceId, ack: &Ack<'_>) -> Result<(), AllocError>
-        ensures { OnOk result (self.new ≡ packets_settled self.old space (ranges_of (ack_map (λ bytes. bytes.now) ack.now))) }
+    /// Packets of the space were acknowledged.
+    pub fn acknowledge(&mut self, space: SpaceId, acked: &mut PacketList)
+        ensures { self.new ≡ packets_acked self.old space acked.old }
     {
         match space {
-            SpaceId::Initial => settle(&mut self.spaces.initial, alloc, ack),
-            SpaceId::Handshake => settle(&mut self.spaces.handshake, alloc, ack),
-            SpaceId::Data => settle(&mut self.spaces.application, alloc, ack),
+            SpaceId::Initial => acknowledge(&mut self.spaces.initial, acked),
+            SpaceId::Handshake => acknowledge(&mut self.spaces.handshake, acked),
+            SpaceId::Data => acknowledge(&mut self.spaces.application, acked),
         }
     }
 
-    /// Whether no packet in flight elicits an acknowledgement, in any space.
-    pub fn is_calm(&self) -> bool
-        ensures { result ≡ is_calm self.now }
+    /// Probes are due in the space.
+    fn add_probes(&mut self, space: SpaceId, count: u64)
+        ensures { self.new ≡ probes_added self.old space count }
     {
-        self.spaces.initial.flight.is_empty()
-            && self.spaces.handshake.flight.is_empty()
-            && self.spaces.application.flight.is_empty()
+        match space {
+            SpaceId::Initial => add_probes(&mut self.spaces.initial, count),
+            SpaceId::Handshake => add_probes(&mut self.spaces.handshake, count),
+            SpaceId::Data => add_probes(&mut self.spaces.application, count),
+        }
+    }
+
+    /// The loss timer fired. Want of memory is the only refusal.
+    pub fn fire(&mut self, fired: Fired) -> Result<(), AllocError>
+        ensures { OnOk result (self.new ≡ fired_in self.old fired) }
+    {
+        match fired {
+            Fired::Lost { space, mut packets } => self.lose(space, &mut packets),
+            Fired::Probe { space, count } => {
+                self.add_probes(space, u64::from(count));
+                Ok(())
+            }
+            Fired::Nothing => Ok(()),
+        }
+    }
+
+    /// A datagram is begun for the space, whose oldest packet in flight is this one: a probe that is due is spent. Want of memory
+    /// is the only refusal.
+    pub fn begin(&mut self, space: SpaceId, oldest: Option<&SentPacket>) -> Result<(), AllocError>
+        ensures { OnOk result (self.new ≡ datagram_begun self.old space (option_copied oldest.entry)) }
+    {
+        match space {
+            SpaceId::Initial => begin(&mut self.spaces.initial, oldest),
+            SpaceId::Handshake => begin(&mut self.spaces.handshake, oldest),
+            SpaceId::Data => begin(&mut self.spaces.application, oldest),
+        }
     }
 
     /// A close is owed from now on; while one is owed, nothing begins anew.
@@ -353,17 +493,17 @@ impl Waiting {
     }
 
     /// The session wrote bytes for the space's CRYPTO stream. Want of memory is the only refusal.
-    pub fn write(&mut self, space: SpaceId, bytes: &[u8]) -> Result<(), AllocError>
-        ensures { OnOk result (self.new ≡ crypto_written self.old space bytes.now) }
+    pub fn write(&mut self, space: SpaceId, bytes: Bytes) -> Result<(), AllocError>
+        ensures { OnOk result (self.new ≡ crypto_written self.old space bytes) }
     {
         match space {
-            SpaceId::Initial => self.spaces.initial.crypto.push(bytes),
-            SpaceId::Handshake => self.spaces.handshake.crypto.push(bytes),
-            SpaceId::Data => self.spaces.application.crypto.push(bytes),
+            SpaceId::Initial => self.spaces.initial.crypto.write(bytes),
+            SpaceId::Handshake => self.spaces.handshake.crypto.write(bytes),
+            SpaceId::Data => self.spaces.application.crypto.write(bytes),
         }
     }
 
-    /// The keys of the space were dropped: nothing waits in it any more, and none of its packets is in flight.
+    /// The keys of the space were dropped: nothing waits in it any more.
     pub fn forget(&mut self, space: SpaceId)
         ensures { self.new ≡ space_left self.old space }
     {

@@ -27,7 +27,7 @@ pub(crate) fn tells(
 
 /// Checks that an end was told that the handshake's data is ready and that it is connected, once, and that its life rose to
 /// Established alone.
-fn is_established(rt: &impl Abort, alloc: Global, end: &End) -> Result<(), Fail> {
+pub(crate) fn is_established(rt: &impl Abort, alloc: Global, end: &End) -> Result<(), Fail> {
     tells(rt, alloc, end, "event ", BOTH)?;
     tells(rt, alloc, end, "life ", "life 1\n")?;
     tells(rt, alloc, end, "lost ", "")
@@ -42,25 +42,28 @@ fn are_established(rt: &impl Abort, alloc: Global, pair: &mut Pair) -> Result<()
 
 /// Checks what both ends tell once one of them closed, and datagrams were carried until none was sent. Each seals one packet. The
 /// first one has the close, behind the ACK of the other end's 1-RTT packet 0. The other end drains and is told why the connection
-/// was lost; its packet tells that it closed too, without an error, behind the ACK of 0 and 1 (RFC 9000, section 10.2.2). So the
-/// first one drains as well, and is told nothing.
+/// was lost; its packet tells that it closed too, without an error, behind this ACK (RFC 9000, section 10.2.2). So the first one
+/// drains as well, and is told nothing.
 fn ends_with_a_close(
     rt: &impl Abort,
     alloc: Global,
     closed: &End,
     other: &End,
+    ack: &str,
 ) -> Result<(), Fail> {
     let close = "seal data 1 0 ACK/0200000000 APPLICATION_CLOSE/1d0703627965\n";
     tells(rt, alloc, closed, "seal ", close)?;
     tells(rt, alloc, closed, "event ", "")?;
     tells(rt, alloc, closed, "life ", "life 2\nlife 3\n")?;
-    let answer = "seal data 1 0 ACK/0201000001 CONNECTION_CLOSE/1c000000\n";
-    tells(rt, alloc, other, "seal ", answer)?;
+    let answer = format!(in alloc; "seal data 1 0 {ack} CONNECTION_CLOSE/1c000000\n")?;
+    tells(rt, alloc, other, "seal ", answer.as_str())?;
     tells(rt, alloc, other, "event ", LOST)?;
     tells(rt, alloc, other, "life ", "life 3\n")
 }
 
-/// Checks that two ends are established, and what both tell once this one closes, and datagrams are carried until none is sent.
+/// Checks that two ends are established, and what both tell once this one closes, and datagrams are carried until none is sent. A
+/// server acknowledges the packets 0 and 1. A client acknowledges 1 alone: its packet 0 was an ACK of the server's packet 0, and the
+/// server's close acknowledges that one, so that 0 needn't be acknowledged again (RFC 9000, section 13.2.4).
 fn closes(rt: &impl Abort, alloc: Global, pair: &mut Pair, is_client: bool) -> Result<(), Fail> {
     are_established(rt, alloc, pair)?;
     pair.forget();
@@ -68,9 +71,9 @@ fn closes(rt: &impl Abort, alloc: Global, pair: &mut Pair, is_client: bool) -> R
     let _sent = pair.carry_one(alloc, is_client, ONCE)?;
     pair.carry(alloc, ONCE)?;
     if is_client {
-        ends_with_a_close(rt, alloc, &pair.client, &pair.server)
+        ends_with_a_close(rt, alloc, &pair.client, &pair.server, "ACK/0201000001")
     } else {
-        ends_with_a_close(rt, alloc, &pair.server, &pair.client)
+        ends_with_a_close(rt, alloc, &pair.server, &pair.client, "ACK/0201000000")
     }
 }
 

@@ -65,7 +65,7 @@ impl End {
     pub(crate) fn client(alloc: Global, first: u8) -> Result<End, AllocError> {
         let connection = client_to(alloc, ConnectionId::new(&[first; 8]))?;
         Ok(End {
-            connection: Box::new(alloc, connection)?,
+            connection,
             address: client_address(),
             text: String::new(alloc),
         })
@@ -75,7 +75,7 @@ impl End {
     pub(crate) fn server(alloc: Global) -> Result<End, AllocError> {
         let connection = server(alloc)?;
         Ok(End {
-            connection: Box::new(alloc, connection)?,
+            connection,
             address: server_address(),
             text: String::new(alloc),
         })
@@ -140,6 +140,23 @@ impl End {
         };
         let _none = self.step(alloc, &input)?;
         Ok(())
+    }
+
+    /// Its timers may have come by this time.
+    pub(crate) fn expires(&mut self, alloc: Global, nanos: u64) -> Result<(), Fail> {
+        let input = Input::Timeout {
+            now: Instant::from_nanos(nanos),
+        };
+        let _none = self.step(alloc, &input)?;
+        Ok(())
+    }
+
+    /// The time in nanoseconds at which it wants to be called again, if any.
+    pub(crate) fn timer(&self) -> Option<u64> {
+        match self.connection.poll_timeout() {
+            Some(time) => Some(time.nanos()),
+            None => None,
+        }
     }
 
     /// All datagrams that it sends at this time, up to 20.

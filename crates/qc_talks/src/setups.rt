@@ -8,6 +8,7 @@ use qc_config::{NoneTokenStore, announced};
 use qc_conn::{ClientSetup, Connection, ServerSetup};
 use qc_crypto::{ClientConfig, ServerConfig, Session};
 use qc_params::TransportParameters;
+use qc_path::NewRenoConfig;
 use qc_recovery::TransportConfig;
 use qc_state::Suite;
 use qc_toy::{ToyClient, ToyServer, ToySession, ToySettings, ZeroRandom};
@@ -20,6 +21,8 @@ pub(crate) struct Toy;
 
 impl Suite for Toy {
     type Session = ToySession;
+
+    type Control = NewRenoConfig;
 
     type Random = ZeroRandom;
 }
@@ -83,6 +86,7 @@ fn client_setup(alloc: Global, first_cid: ConnectionId) -> Result<ClientSetup<To
     Ok(ClientSetup {
         session,
         random: ZeroRandom,
+        control: NewRenoConfig::default(),
         transport,
         grease_quic_bit: true,
         local_cid,
@@ -115,6 +119,7 @@ fn server_setup(alloc: Global) -> Result<ServerSetup<Toy>, AllocError>
     Ok(ServerSetup {
         session,
         random: ZeroRandom,
+        control: NewRenoConfig::default(),
         transport,
         grease_quic_bit: true,
         local_cid,
@@ -132,18 +137,20 @@ fn server_setup(alloc: Global) -> Result<ServerSetup<Toy>, AllocError>
     })
 }
 
-/// A client made at time 0 whose first packets go to this id.
+/// A client made at time 0 whose first packets go to this id, on the heap: a function that owns a whole connection is slow to check.
 pub(crate) fn client_to(
     alloc: Global,
     first_cid: ConnectionId,
-) -> Result<Connection<Toy>, AllocError> {
+) -> Result<Box<Connection<Toy>>, AllocError> {
     let setup = client_setup(alloc, first_cid)?;
     let start = Instant::from_nanos(0);
-    Connection::new_client(alloc, setup, &mut NoneTokenStore, start)
+    let client = Connection::new_client(alloc, setup, &mut NoneTokenStore, start)?;
+    Ok(Box::new(alloc, client)?)
 }
 
-/// The server, made at time 0.
-pub(crate) fn server(alloc: Global) -> Result<Connection<Toy>, AllocError> {
+/// The server, made at time 0, on the heap too.
+pub(crate) fn server(alloc: Global) -> Result<Box<Connection<Toy>>, AllocError> {
     let setup = server_setup(alloc)?;
-    Connection::new_server(alloc, setup, Instant::from_nanos(0))
+    let server = Connection::new_server(alloc, setup, Instant::from_nanos(0))?;
+    Ok(Box::new(alloc, server)?)
 }

@@ -30,7 +30,9 @@ fn counts_in_each_space(rt: &impl Abort, alloc: Global, pair: &Pair) -> Result<(
 }
 
 /// Checks the counts in the ACKs of two PINGs, the client's with CE and the server's with ECT(1). Of the client's 1-RTT packets 0
-/// came with ECT(0) and 1, a PING, with CE; of the server's 0 with ECT(0), 1, an ACK, with CE and 2, a PING, with ECT(1).
+/// came with ECT(0) and 1, a PING, with CE; of the server's 0 with ECT(0), 1, an ACK, with CE and 2, a PING, with ECT(1). The
+/// server's ACK acknowledges the client's ACK of 0 too, so that the client's next one acknowledges 1 and 2 alone (RFC 9000, section
+/// 13.2.4), and counts the marks of all three.
 fn counts_each_mark(
     rt: &impl Abort,
     alloc: Global,
@@ -44,7 +46,7 @@ fn counts_each_mark(
     pair.carry(alloc, marked(copies, EcnCodepoint::Ect1))?;
     let of_server = "seal data 1 0 ACK/0301000001010001\n";
     tells(rt, alloc, &pair.server, "seal data 1 ", of_server)?;
-    let of_client = "seal data 2 0 ACK/0302000002010101\n";
+    let of_client = "seal data 2 0 ACK/0302000001010101\n";
     tells(rt, alloc, &pair.client, "seal data 2 ", of_client)
 }
 

@@ -1,6 +1,6 @@
 -- Traces that no other trace shares its text with: their values are such as their types hold, and they have nothing that
 -- a text leaves out.
-use Rattle.std.specs.Prelude.{◌≡◌, ℕ, ◌+◌, ◌<◌, ◌^◌, List, length, true, Option, IfSome}
+use Rattle.std.specs.Prelude.{◌≡◌, ℕ, ◌<◌, ◌^◌, List, length, true, Option, IfSome}
 use Rattle.std.specs.List.{All}
 use Rattle.std.specs.Net.Addr.{ipv4_octets, ipv6_octets}
 use Rattle.std.specs.Net.Socket.{socket_ip, socket_port, socket_flowinfo, socket_scope_id}
@@ -139,9 +139,9 @@ pub record IsPlain (step : Step) : Type 0 where
 
 -- ---- where such traces come from
 
--- the CRYPTO bytes that wait in a space lie below 2^62 in their stream (RFC 9000, section 19.6)
+-- the CRYPTO bytes of a space lie below 2^62 in their stream (RFC 9000, section 19.6)
 abbrev pub IsSpaceBelowLimit : SpaceWaiting → Type 0
-IsSpaceBelowLimit space = space.crypto.offset + length space.crypto.bytes < 2 ^ 62
+IsSpaceBelowLimit space = space.crypto.written < 2 ^ 62
 
 -- so do those of every space
 abbrev pub IsBelowLimit : Waiting → Type 0

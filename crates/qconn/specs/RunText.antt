@@ -21,6 +21,9 @@ use Rattle.qconn.specs.declared.perform.Told.{Told}
 use Rattle.qconn.specs.declared.perform.Told.TheVariants.{Whole, Refused}
 use Rattle.qc_crypto.specs.declared.packet_key.PacketKey.{Ghosts as PacketKeyGhosts}
 use Rattle.qc_crypto.specs.declared.session.Session.{Ghosts as SessionGhosts}
+use Rattle.qc_path.specs.NewReno.{Reno, new_reno}
+use Rattle.qc_path.specs.declared.controller.Controller.{Ghosts as ControllerGhosts}
+use Rattle.qc_recovery.specs.Paths.{first_size}
 use Rattle.qc_recovery.specs.TransportValues.{default_transport, TransportValues}
 use Rattle.qc_state.specs.First.{first_view, server_view, fixed_of}
 use Rattle.qc_state.specs.Run.{Run}
@@ -49,7 +52,7 @@ pub record IsScriptAddress (address : SocketAddr) : Type 0 where
 
 -- the types of the toy's connections
 abbrev pub toy : Types
-toy = record { S = ToySession; H = ToyHeaderKey; P = ToyPacketKey; D = Unit {0}; I = Unit {0} }
+toy = record { S = ToySession; H = ToyHeaderKey; P = ToyPacketKey; D = Unit {0}; I = Unit {0}; C = Reno }
 
 -- the path's address: the one that a line gives, or the usual one
 abbrev pub IsAddressOf : Option SocketAddr → SocketAddr → Type 0
@@ -77,6 +80,14 @@ start_of s = unwrap_or s.time 0
 abbrev pub transport_of : Option ℕ → TransportValues
 transport_of None = default_transport
 transport_of (Some millis) = record default_transport { max_idle_timeout = Some millis }
+
+-- the window in bytes with which the path's congestion controller begins: ten datagrams of 1200 (RFC 9002, section 7.2)
+abbrev pub INITIAL_WINDOW : ℕ
+INITIAL_WINDOW = 12000
+
+-- the congestion controller of the path, which begins with datagrams of the size that this transport gives
+abbrev pub control_of : TransportValues → Reno
+control_of transport = new_reno INITIAL_WINDOW (first_size transport None)
 
 -- the toy's usual settings, with its secret and its limits where lines give them
 abbrev pub settings_of : Settings → ToySettings
@@ -123,36 +134,36 @@ abbrev pub Sessions : Type 1
 Sessions = SessionGhosts ToySession ToyHeaderKey ToyPacketKey (Unit {0}) (Unit {0})
 
 -- the client that a script sets up, with random words that are zeros: QUIC version 1, room for 16384 bytes of a CRYPTO stream, and
--- no address to send from. s, h and p are what its session and its keys mean
-abbrev pub script_client : Sessions → HeaderMaskGhosts ToyHeaderKey → PacketKeyGhosts ToyPacketKey → Settings → SocketAddr → Held toy ZeroRandom
-script_client s h p set remote =
-    first_view (meaning s h p) (client_session set) (record {}) (fixed_of Client 1 (local_of set) (remote_of set) None (transport_of set.idle).max_idle_timeout (transport_of set.idle).crypto_buffer_size true) remote (remote_of set) (start_of set)
+-- no address to send from. s, h, p and c are what its session, its keys and its congestion controller mean
+abbrev pub script_client : Sessions → HeaderMaskGhosts ToyHeaderKey → PacketKeyGhosts ToyPacketKey → ControllerGhosts Reno → Settings → SocketAddr → Held toy ZeroRandom
+script_client s h p c set remote =
+    first_view (meaning s h p c) (client_session set) (record {}) (fixed_of Client 1 (local_of set) (remote_of set) None (transport_of set.idle).max_idle_timeout (transport_of set.idle).crypto_buffer_size true) remote (remote_of set) (transport_of set.idle) (control_of (transport_of set.idle)) (start_of set)
 
 -- so the server, whose client's address isn't validated
-abbrev pub script_server : Sessions → HeaderMaskGhosts ToyHeaderKey → PacketKeyGhosts ToyPacketKey → Settings → SocketAddr → Held toy ZeroRandom
-script_server s h p set remote =
-    server_view (meaning s h p) (server_session set) (record {}) (fixed_of Server 1 (local_of set) (first_of set) None (transport_of set.idle).max_idle_timeout (transport_of set.idle).crypto_buffer_size true) remote (remote_of set) false (start_of set)
+abbrev pub script_server : Sessions → HeaderMaskGhosts ToyHeaderKey → PacketKeyGhosts ToyPacketKey → ControllerGhosts Reno → Settings → SocketAddr → Held toy ZeroRandom
+script_server s h p c set remote =
+    server_view (meaning s h p c) (server_session set) (record {}) (fixed_of Server 1 (local_of set) (first_of set) None (transport_of set.idle).max_idle_timeout (transport_of set.idle).crypto_buffer_size true) remote (remote_of set) false (transport_of set.idle) (control_of (transport_of set.idle)) (start_of set)
 
 -- the end of this side
-abbrev pub view_for : Side → Sessions → HeaderMaskGhosts ToyHeaderKey → PacketKeyGhosts ToyPacketKey → Settings → SocketAddr → Held toy ZeroRandom
-view_for Client s h p set remote = script_client s h p set remote
-view_for Server s h p set remote = script_server s h p set remote
+abbrev pub view_for : Side → Sessions → HeaderMaskGhosts ToyHeaderKey → PacketKeyGhosts ToyPacketKey → ControllerGhosts Reno → Settings → SocketAddr → Held toy ZeroRandom
+view_for Client s h p c set remote = script_client s h p c set remote
+view_for Server s h p c set remote = script_server s h p c set remote
 
 -- the connection that the set lines of a script make, by their side
-abbrev pub script_view : Sessions → HeaderMaskGhosts ToyHeaderKey → PacketKeyGhosts ToyPacketKey → Settings → SocketAddr → Held toy ZeroRandom
-script_view s h p set remote = view_for set.side s h p set remote
+abbrev pub script_view : Sessions → HeaderMaskGhosts ToyHeaderKey → PacketKeyGhosts ToyPacketKey → ControllerGhosts Reno → Settings → SocketAddr → Held toy ZeroRandom
+script_view s h p c set remote = view_for set.side s h p c set remote
 
 -- the connection is the one that these set lines make
-pub record IsScriptEnd (s : Sessions) (h : HeaderMaskGhosts ToyHeaderKey) (p : PacketKeyGhosts ToyPacketKey) (set : Settings) (end : Seen toy ZeroRandom) : Type 0 where
+pub record IsScriptEnd (s : Sessions) (h : HeaderMaskGhosts ToyHeaderKey) (p : PacketKeyGhosts ToyPacketKey) (c : ControllerGhosts Reno) (set : Settings) (end : Seen toy ZeroRandom) : Type 0 where
   pub remote : SocketAddr
   pub address : IsAddressOf set.addr remote
-  pub made : end.core ≡ script_view s h p set remote
+  pub made : end.core ≡ script_view s h p c set remote
 
 -- the text is that of a run of these inputs from the first view of that connection; r is what its random words mean
-pub record IsToyRun (s : Sessions) (h : HeaderMaskGhosts ToyHeaderKey) (p : PacketKeyGhosts ToyPacketKey) (r : RngGhosts ZeroRandom) (set : Settings) (inputs : List Input) (text : List ℕ) : Type 0 where
+pub record IsToyRun (s : Sessions) (h : HeaderMaskGhosts ToyHeaderKey) (p : PacketKeyGhosts ToyPacketKey) (c : ControllerGhosts Reno) (r : RngGhosts ZeroRandom) (set : Settings) (inputs : List Input) (text : List ℕ) : Type 0 where
   pub remote : SocketAddr
   pub address : IsAddressOf set.addr remote
-  pub run : IsRunText (meaning s h p) (ideal r.stream (script_view s h p set remote)) inputs text
+  pub run : IsRunText (meaning s h p c) (ideal r.stream (script_view s h p c set remote)) inputs text
 
 -- the text is that of the steps of the inputs before the first that is refused, and of the line that names it
 pub record IsRefusalText {t : Types} (m : Meaning t) (first : View t) (inputs : List Input) (text : List ℕ) : Type 0 where
@@ -163,10 +174,10 @@ pub record IsRefusalText {t : Types} (m : Meaning t) (first : View t) (inputs : 
   pub spelled : text ≡ refused_text steps kind
 
 -- so for that connection
-pub record IsToyRefusal (s : Sessions) (h : HeaderMaskGhosts ToyHeaderKey) (p : PacketKeyGhosts ToyPacketKey) (r : RngGhosts ZeroRandom) (set : Settings) (inputs : List Input) (text : List ℕ) : Type 0 where
+pub record IsToyRefusal (s : Sessions) (h : HeaderMaskGhosts ToyHeaderKey) (p : PacketKeyGhosts ToyPacketKey) (c : ControllerGhosts Reno) (r : RngGhosts ZeroRandom) (set : Settings) (inputs : List Input) (text : List ℕ) : Type 0 where
   pub remote : SocketAddr
   pub address : IsAddressOf set.addr remote
-  pub refused : IsRefusalText (meaning s h p) (ideal r.stream (script_view s h p set remote)) inputs text
+  pub refused : IsRefusalText (meaning s h p c) (ideal r.stream (script_view s h p c set remote)) inputs text
 
 -- what is told of a run: the text of the whole, or that of a refusal
 abbrev pub IsToldRun : (IsRun IsRefusal : Settings → List Input → List ℕ → Type 0) → Settings → List Input → Told → Type 0

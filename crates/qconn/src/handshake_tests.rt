@@ -91,7 +91,11 @@ pub(crate) fn text_of(alloc: Global, lines: &str) -> Result<String, Fail> {
 // a header of 27, a tag of 16 and an ACK of 5 they are PADDING. A Handshake packet, with a header of 26 bytes, is filled up to 29
 // bytes before its tag, which its frames reach alone: 26 + 11 + 16 = 53 bytes, and for the close 26 + 5 + 4 + 16 = 51. A 1-RTT
 // packet, with a header of 10 bytes, needs 14 before its tag: the application's close is one byte shorter. A close ends after
-// 3 times 999 + 25 ms, the round trip's time and the delay of the server's ACKs.
+// 3 times 26.000001 ms: the hello is acknowledged after 1 ns, so a probe timeout is that and the least of 1 ms for its variation
+// (RFC 9002, section 6.2.1), and 25 ms are the delay of the server's ACKs. As long as the server hasn't shown that it validated the
+// client's address, the loss timer stands a probe timeout behind the server's ACK, though nothing is in flight that elicits one
+// (section 6.2.2.1), and behind the client's PADDING; then behind its Handshake packet. The server's ACK has no counts of marks, so
+// that what is sent then has no mark (RFC 9000, section 13.4.2.1).
 #[test]
 fn a_client_comes_to_its_end(rt: HostRuntime) -> Result<(), Fail> {
     let alloc = rt.alloc();
@@ -102,15 +106,15 @@ fn a_client_comes_to_its_end(rt: HostRuntime) -> Result<(), Fail> {
     for part in [
         "step 1 datagram 1\npiece initial 10 Admitted\ngave recovery ACK/0200000000\ngave session 02000100\n\
             piece handshake 0 Admitted\ngave session 03001500000802020202020202020f080404040404040404\nlife 1\n\
-            answer done\nevent handshake-data\nevent connected\nendpoint need 1 1\ntimer 30000000001\n",
+            answer done\nevent handshake-data\nevent connected\nendpoint need 1 1\ntimer 1000002\n",
         "step 2 transmit 2\nseal initial 1 0 ACK/020a000000 PADDING*1152\nout ",
-        "timer 30000000001\nstep 3 transmit 3\nseal handshake 0 0 ACK/0200000000 CRYPTO/060003040000\n\
-            out 00000000000000000000000000000001/4433 53 - 2 ",
-        "timer 999000003\nstep 4 transmit 4\nquiet NothingOwed\ntimer 999000003\n",
-        "step 5 close 5\nlife 2\nanswer done\ntimer 3072000005\n",
+        "timer 1000003\nstep 3 transmit 3\nseal handshake 0 0 ACK/0200000000 CRYPTO/060003040000\n\
+            out 00000000000000000000000000000001/4433 53 - - ",
+        "timer 1000004\nstep 4 transmit 4\nquiet NothingOwed\ntimer 1000004\n",
+        "step 5 close 5\nlife 2\nanswer done\ntimer 78000008\n",
         "step 6 transmit 6\nseal handshake 1 0 ACK/0200000000 CONNECTION_CLOSE/1c0c0000\n\
-            out 00000000000000000000000000000001/4433 51 - 2 ",
-        "step 7 transmit 7\nseal data 0 0 APPLICATION_CLOSE/1d0700 PADDING*1\nout 00000000000000000000000000000001/4433 30 - 2 ",
+            out 00000000000000000000000000000001/4433 51 - - ",
+        "step 7 transmit 7\nseal data 0 0 APPLICATION_CLOSE/1d0700 PADDING*1\nout 00000000000000000000000000000001/4433 30 - - ",
         "step 8 transmit 8\nquiet Silent\n",
     ] {
         assert!(rt; text.as_str().contains(part), "{part} {text}");
@@ -131,7 +135,7 @@ fn packets_are_acknowledged_once(rt: HostRuntime) -> Result<(), Fail> {
         "step 2 transmit 80001\nseal initial 1 0 ACK/02000a0000 PADDING*",
         "step 3 transmit 80002\nquiet NothingOwed\n",
         "step 6 transmit 80005\nseal initial 2 0 ACK/020a0001000800 CONNECTION_CLOSE/1c0c0000 PADDING*",
-        "step 7 transmit 80006\nseal handshake 0 0 CONNECTION_CLOSE/1c0c0000\nout 00000000000000000000000000000001/4433 46 - 2 ",
+        "step 7 transmit 80006\nseal handshake 0 0 CONNECTION_CLOSE/1c0c0000\nout 00000000000000000000000000000001/4433 46 - - ",
         "step 8 transmit 80007\nquiet Silent\n",
     ] {
         assert!(rt; text.as_str().contains(part), "{part} {text}");
@@ -203,10 +207,10 @@ fn established(alloc: Global) -> Result<String, Fail> {
     )?)
 }
 
-// Once the handshake is over, 1-RTT packets are opened and acknowledged in 1-RTT packets; a HANDSHAKE_DONE drops the Handshake
-// keys. A PING goes in the 1-RTT space, and a close of the application tells its code and its reason there alone. Behind a header
-// of 10 bytes a PING needs 3 of PADDING to end at 14; an ACK of 5 bytes needs none, nor does one with a close of 6: 10 + 5 + 16 =
-// 31 bytes, and 10 + 5 + 6 + 16 = 37.
+// Once the handshake is over, 1-RTT packets are opened and acknowledged in 1-RTT packets; a HANDSHAKE_DONE drops the Handshake keys,
+// with which nothing is in flight any more: the loss timer stops. A PING goes in the 1-RTT space, and a close of the application
+// tells its code and its reason there alone. Behind a header of 10 bytes a PING needs 3 of PADDING to end at 14; an ACK of 5 bytes
+// needs none, nor does one with a close of 6: 10 + 5 + 16 = 31 bytes, and 10 + 5 + 6 + 16 = 37.
 #[test]
 fn packets_go_in_the_1_rtt_space(rt: HostRuntime) -> Result<(), Fail> {
     let alloc = rt.alloc();
@@ -217,11 +221,11 @@ fn packets_go_in_the_1_rtt_space(rt: HostRuntime) -> Result<(), Fail> {
     let text = text_of(alloc, lines.as_str())?;
     for part in [
         "step 4 datagram 4\npiece data 0 Admitted\ngave life HANDSHAKE_DONE/1e\nanswer done\ntimer 30000000004\n",
-        "step 5 transmit 5\nseal data 0 0 ACK/0200000000\nout 00000000000000000000000000000001/4433 31 - 2 ",
-        "step 7 transmit 7\nseal data 1 0 PING/01 PADDING*3\nout 00000000000000000000000000000001/4433 30 - 2 ",
+        "step 5 transmit 5\nseal data 0 0 ACK/0200000000\nout 00000000000000000000000000000001/4433 31 - - ",
+        "step 7 transmit 7\nseal data 1 0 PING/01 PADDING*3\nout 00000000000000000000000000000001/4433 30 - - ",
         "step 8 datagram 8\npiece handshake - Ignored\nanswer done\n",
         "step 10 transmit 10\nseal data 2 0 ACK/0200000000 APPLICATION_CLOSE/1d0703627965\n\
-            out 00000000000000000000000000000001/4433 37 - 2 ",
+            out 00000000000000000000000000000001/4433 37 - - ",
         "step 11 transmit 11\nquiet Silent\n",
     ] {
         assert!(rt; text.as_str().contains(part), "{part} {text}");

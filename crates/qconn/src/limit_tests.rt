@@ -61,8 +61,9 @@ fn an_initial_key_has_its_limit(rt: HostRuntime) -> Result<(), Fail> {
 }
 
 // Of two Handshake packets the first has the client's end, and behind it the client, which is established, closes; the second tells
-// it, and a 1-RTT packet tells it too: 26 + 5 + 4 + 16 = 51 bytes, and 10 + 4 + 16 = 30. The close lasts for 3 times 999 + 25 ms.
-// Two Initial packets have gone before, which a limit of Handshake keys leaves alone.
+// it, and a 1-RTT packet tells it too: 26 + 5 + 4 + 16 = 51 bytes, and 10 + 4 + 16 = 30. The hello was acknowledged after 1 ns,
+// without counts of marks: so there are no marks any more, and the close lasts for 3 times 1.000001 + 25 ms. Two Initial packets
+// have gone before, which a limit of Handshake keys leaves alone.
 #[test]
 fn a_handshake_key_has_its_limit(rt: HostRuntime) -> Result<(), Fail> {
     let alloc = rt.alloc();
@@ -75,11 +76,11 @@ fn a_handshake_key_has_its_limit(rt: HostRuntime) -> Result<(), Fail> {
         " PADDING*1081\nout 00000000000000000000000000000001/4433 1200 - 2 ",
         "step 2 transmit 2\nseal initial 1 0 ACK/020a000000 PADDING*1152\nout ",
         "step 3 transmit 3\nseal handshake 0 0 ACK/0200000000 CRYPTO/060003040000\nlife 2\nlost TransportError 15 -\n\
-            out 00000000000000000000000000000001/4433 53 - 2 ",
-        "\nevent lost TransportError 15 -\ntimer 3072000003\n\
-            step 4 transmit 4\nseal handshake 1 0 ACK/0200000000 CONNECTION_CLOSE/1c0f0000\nout 00000000000000000000000000000001/4433 51 - 2 ",
-        "\ntimer 3072000003\nstep 5 transmit 5\nseal data 0 0 CONNECTION_CLOSE/1c0f0000\nout 00000000000000000000000000000001/4433 30 - 2 ",
-        "\ntimer 3072000003\nstep 6 transmit 6\nquiet Silent\ntimer 3072000003\nend\n",
+            out 00000000000000000000000000000001/4433 53 - - ",
+        "\nevent lost TransportError 15 -\ntimer 78000006\n\
+            step 4 transmit 4\nseal handshake 1 0 ACK/0200000000 CONNECTION_CLOSE/1c0f0000\nout 00000000000000000000000000000001/4433 51 - - ",
+        "\ntimer 78000006\nstep 5 transmit 5\nseal data 0 0 CONNECTION_CLOSE/1c0f0000\nout 00000000000000000000000000000001/4433 30 - - ",
+        "\ntimer 78000006\nstep 6 transmit 6\nquiet Silent\ntimer 78000006\nend\n",
     ] {
         assert!(rt; text.as_str().contains(part), "{part} {text}");
     }
@@ -93,8 +94,8 @@ fn a_handshake_key_has_its_limit(rt: HostRuntime) -> Result<(), Fail> {
     Ok(())
 }
 
-// The packet past the limit ends the connection, and what is behind it in its datagram is ignored. A packet for which there is no key
-// counts as none that didn't open.
+// The packet past the limit ends the connection, and what is behind it in its datagram is ignored. A packet for which there is no
+// key counts as none that didn't open.
 #[test]
 fn failures_have_their_limit(rt: HostRuntime) -> Result<(), Fail> {
     let alloc = rt.alloc();

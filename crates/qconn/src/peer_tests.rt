@@ -48,21 +48,22 @@ fn text_with(alloc: Global, end: &str, lines: &str) -> Result<String, Fail> {
     text_behind(alloc, packets.as_str(), lines)
 }
 
-// The endpoint is told the token, with the path's address, and that the server, whose parameters name no limit, takes 2 ids, one more
-// than it has. Where the parameters name another id than the server's packets come from, the token is told as well; the client then
-// closes with TRANSPORT_PARAMETER_ERROR, 8, and wants no ids. The delay in those parameters doesn't count: the close ends after 3
-// times 999 + 25 ms.
+// The endpoint is told the token, with the path's address, and that the server, whose parameters name no limit, takes 2 ids, one
+// more than it has. Where the parameters name another id than the server's packets come from, the token is told as well; the client
+// then closes with TRANSPORT_PARAMETER_ERROR, 8, and wants no ids. The delay in those parameters doesn't count: the hello was
+// acknowledged after 1 ns, and the close ends after 3 times 1.000001 + 25 ms. Where it goes on, the loss timer stands 1.000001 ms
+// after that ACK.
 #[test]
 fn a_client_tells_the_token_of_a_reset(rt: HostRuntime) -> Result<(), Fail> {
     let alloc = rt.alloc();
     let text = text_with(alloc, TOKEN, "")?;
     let told = "life 1\nanswer done\nevent handshake-data\nevent connected\n\
-        endpoint reset-token 00000000000000000000000000000001/4433 00112233445566778899aabbccddeeff\nendpoint need 1 1\ntimer 30000000001\n";
+        endpoint reset-token 00000000000000000000000000000001/4433 00112233445566778899aabbccddeeff\nendpoint need 1 1\ntimer 1000002\n";
     assert!(rt; text.as_str().contains(told), "{text}");
     let text = text_with(alloc, TOKEN_OF_OTHERS, "")?;
     let told =
         "life 2\nlost TransportError 8 -\nanswer done\nevent handshake-data\nevent lost TransportError 8 -\n\
-        endpoint reset-token 00000000000000000000000000000001/4433 00112233445566778899aabbccddeeff\ntimer 3072000001\n";
+        endpoint reset-token 00000000000000000000000000000001/4433 00112233445566778899aabbccddeeff\ntimer 78000004\n";
     assert!(rt; text.as_str().contains(told), "{text}");
     Ok(())
 }
@@ -81,41 +82,44 @@ fn a_client_wants_ids_up_to_the_limit(rt: HostRuntime) -> Result<(), Fail> {
         "set local -\ntransmit 0 1\ndatagram 1 {PATH} - {REPLY_TO_EMPTY}{END_TO_EMPTY}\n"
     )?;
     let text = text_of(alloc, lines.as_str())?;
-    let told = "life 1\nanswer done\nevent handshake-data\nevent connected\ntimer 30000000001\n";
+    let told = "life 1\nanswer done\nevent handshake-data\nevent connected\ntimer 1000002\n";
     assert!(rt; text.as_str().contains(told), "{text}");
     Ok(())
 }
 
-// Before the client has 1-RTT keys a close lasts 3 times 999 ms; then the delay that the server announced stands in it: 3 times 999 +
-// 100 ms, whether this end closes or the server does.
+// The hello was acknowledged after 1 ns, so a probe timeout is 1.000001 ms. Before the client has 1-RTT keys a close lasts three of
+// them; then the delay that the server announced stands in it: 3 times 1.000001 + 100 ms, whether this end closes or the server
+// does.
 #[test]
 fn a_close_waits_for_the_delay_of_the_server(rt: HostRuntime) -> Result<(), Fail> {
     let alloc = rt.alloc();
     let text = text_behind(alloc, REPLY, "close 4 7 -\n")?;
-    let told = "step 2 close 4\nlife 2\nanswer done\ntimer 2997000004\n";
+    let told = "step 2 close 4\nlife 2\nanswer done\ntimer 3000007\n";
     assert!(rt; text.as_str().contains(told), "{text}");
     let text = text_with(alloc, DELAY, "close 4 7 -\n")?;
-    let told = "step 2 close 4\nlife 2\nanswer done\ntimer 3297000004\n";
+    let told = "step 2 close 4\nlife 2\nanswer done\ntimer 303000007\n";
     assert!(rt; text.as_str().contains(told), "{text}");
     let lines = format!(in alloc; "datagram 4 {PATH} - {TWO_CLOSES}\n")?;
     let text = text_with(alloc, DELAY, lines.as_str())?;
-    let told = "answer done\nevent lost ApplicationClosed 7 627965\ntimer 3297000004\n";
+    let told = "answer done\nevent lost ApplicationClosed 7 627965\ntimer 303000007\n";
     assert!(rt; text.as_str().contains(told), "{text}");
     Ok(())
 }
 
-// A client with a limit on idle time of 1 ms waits for three probe timeouts: behind the Handshake packet 3 times 999 ms, and behind a
-// 1-RTT packet 3 times 999 + 100 ms.
+// A client with a limit on idle time of 1 ms waits for three probe timeouts: behind the Handshake packet, at 1, 3 times 1.000001 ms,
+// and behind a 1-RTT packet, at 1500001, 3 times 1.000001 + 100 ms. Before that the loss timer comes, a probe timeout after the ACK
+// of the hello at 1; once it fired, at 1500000, it stands two probe timeouts after that, behind the end. With the HANDSHAKE_DONE it
+// stops.
 #[test]
 fn an_idle_client_waits_for_the_delay_of_the_server(rt: HostRuntime) -> Result<(), Fail> {
     let alloc = rt.alloc();
     let lines = format!(in alloc;
-        "set idle 1\ntransmit 0 1\ndatagram 1 {PATH} - {REPLY}{DELAY}\ndatagram 4 {PATH} - {DONE}\n"
+        "set idle 1\ntransmit 0 1\ndatagram 1 {PATH} - {REPLY}{DELAY}\ntimeout 1500000\ndatagram 1500001 {PATH} - {DONE}\n"
     )?;
     let text = text_of(alloc, lines.as_str())?;
     for told in [
-        "event connected\nendpoint need 1 1\ntimer 2997000001\n",
-        "step 2 datagram 4\npiece data 0 Admitted\ngave life HANDSHAKE_DONE/1e\nanswer done\ntimer 3297000004\n",
+        "event connected\nendpoint need 1 1\ntimer 1000002\nstep 2 timeout 1500000\nanswer done\ntimer 3000004\n",
+        "step 3 datagram 1500001\npiece data 0 Admitted\ngave life HANDSHAKE_DONE/1e\nanswer done\ntimer 304500004\n",
     ] {
         assert!(rt; text.as_str().contains(told), "{told} {text}");
     }

@@ -3,7 +3,7 @@
 ghost use Rattle.std.specs.Prelude.{true, false, replicate, unwrap_or, ◌≡◌, None, IfOk, IfSome};
 ghost use Rattle.qc_script.specs.Fields.{IsAddress};
 ghost use Rattle.qc_text.specs.OneText.{IsPlainStart};
-ghost use Rattle.qconn.specs.RunText.{IsScriptAddress, IsAddressOf, IsScriptEnd, IsToyRun, IsToyRefusal, IsToldRun, IsRefusalTold, client_session, server_session, parameters_of, reset_token_of, server_parameters_of, settings_of, transport_of, local_of, remote_of, first_of, start_of, view_for};
+ghost use Rattle.qconn.specs.RunText.{IsScriptAddress, IsAddressOf, IsScriptEnd, IsToyRun, IsToyRefusal, IsToldRun, IsRefusalTold, client_session, server_session, parameters_of, reset_token_of, server_parameters_of, settings_of, transport_of, INITIAL_WINDOW, local_of, remote_of, first_of, start_of, view_for};
 
 use qc_base::{ConnectionId, HeaderMask, Instant, ResetToken, Side, VarInt};
 use qc_config::{NoneTokenStore, announced, reset_token};
@@ -11,6 +11,7 @@ use qc_conn::text::{refused_text, trace_text};
 use qc_conn::{ClientSetup, Connection, DriveError, DriveKind, ServerSetup, drive};
 use qc_crypto::{ClientConfig, PacketKey, ServerConfig, Session};
 use qc_params::TransportParameters;
+use qc_path::{Controller, NewReno, NewRenoConfig};
 use qc_recovery::{IdleTimeout, TransportConfig};
 use qc_script::{Script, Settings};
 use qc_state::{Input, Suite};
@@ -26,11 +27,13 @@ use std::net::{IpAddr, Ipv6Addr, SocketAddr};
 /// The greatest UDP payload that an end takes, in bytes.
 const MAX_UDP_PAYLOAD: u16 = 1472;
 
-/// The types of the connection that a script drives: toy sessions, and zeros for random words.
+/// The types of the connection that a script drives: toy sessions, NewReno, and zeros for random words.
 pub struct Toy;
 
 impl Suite for Toy {
     type Session = ToySession;
+
+    type Control = NewRenoConfig;
 
     type Random = ZeroRandom;
 }
@@ -171,6 +174,7 @@ fn client_setup(alloc: Global, set: &Settings) -> Result<ClientSetup<Toy>, Alloc
     ensures local_ip { IfOk result (λ setup. setup.local_ip ≡ None) }
     ensures first_cid { IfOk result (λ setup. setup.first_cid ≡ remote_of set.now) }
     ensures transport { IfOk result (λ setup. setup.transport ≡ transport_of set.now.idle) }
+    ensures control { IfOk result (λ setup. setup.control ≡ INITIAL_WINDOW) }
     ensures grease { IfOk result (λ setup. setup.grease_quic_bit ≡ true) }
     ensures remote { IfOk result (λ setup. IsAddressOf set.now.addr setup.remote) }
 {
@@ -180,6 +184,7 @@ fn client_setup(alloc: Global, set: &Settings) -> Result<ClientSetup<Toy>, Alloc
     Ok(ClientSetup {
         session,
         random: ZeroRandom,
+        control: NewRenoConfig::default(),
         transport,
         grease_quic_bit: true,
         local_cid,
@@ -205,6 +210,7 @@ fn server_setup(alloc: Global, set: &Settings) -> Result<ServerSetup<Toy>, Alloc
     ensures first_cid { IfOk result (λ setup. setup.first_cid ≡ first_of set.now) }
     ensures remote_cid { IfOk result (λ setup. setup.remote_cid ≡ remote_of set.now) }
     ensures transport { IfOk result (λ setup. setup.transport ≡ transport_of set.now.idle) }
+    ensures control { IfOk result (λ setup. setup.control ≡ INITIAL_WINDOW) }
     ensures grease { IfOk result (λ setup. setup.grease_quic_bit ≡ true) }
     ensures remote { IfOk result (λ setup. IsAddressOf set.now.addr setup.remote) }
     ensures validated { IfOk result (λ setup. setup.validated ≡ false) }
@@ -215,6 +221,7 @@ fn server_setup(alloc: Global, set: &Settings) -> Result<ServerSetup<Toy>, Alloc
     Ok(ServerSetup {
         session,
         random: ZeroRandom,
+        control: NewRenoConfig::default(),
         transport,
         grease_quic_bit: true,
         local_cid,
@@ -236,7 +243,7 @@ fn server_setup(alloc: Global, set: &Settings) -> Result<ServerSetup<Toy>, Alloc
 fn script_client(alloc: Global, set: &Settings) -> Result<Connection<Toy>, AllocError>
     requires side { set.now.side ≡ Side.Client }
     requires address { IfSome set.now.addr IsAddress }
-    ensures client { IfOk result (IsScriptEnd ⟦<ToySession as Session>⟧ ⟦<ToyHeaderKey as HeaderMask>⟧ ⟦<ToyPacketKey as PacketKey>⟧ set.now) }
+    ensures client { IfOk result (IsScriptEnd ⟦<ToySession as Session>⟧ ⟦<ToyHeaderKey as HeaderMask>⟧ ⟦<ToyPacketKey as PacketKey>⟧ ⟦<NewReno as Controller>⟧ set.now) }
     ensures plain { IfOk result (λ client. IsPlainStart client.core.waiting client.core.paths client.core.life) }
 {
     let setup = client_setup(alloc, set)?;
@@ -248,7 +255,7 @@ fn script_client(alloc: Global, set: &Settings) -> Result<Connection<Toy>, Alloc
 fn script_server(alloc: Global, set: &Settings) -> Result<Connection<Toy>, AllocError>
     requires side { set.now.side ≡ Side.Server }
     requires address { IfSome set.now.addr IsAddress }
-    ensures server { IfOk result (IsScriptEnd ⟦<ToySession as Session>⟧ ⟦<ToyHeaderKey as HeaderMask>⟧ ⟦<ToyPacketKey as PacketKey>⟧ set.now) }
+    ensures server { IfOk result (IsScriptEnd ⟦<ToySession as Session>⟧ ⟦<ToyHeaderKey as HeaderMask>⟧ ⟦<ToyPacketKey as PacketKey>⟧ ⟦<NewReno as Controller>⟧ set.now) }
     ensures plain { IfOk result (λ server. IsPlainStart server.core.waiting server.core.paths server.core.life) }
 {
     let setup = server_setup(alloc, set)?;
@@ -259,7 +266,7 @@ fn script_server(alloc: Global, set: &Settings) -> Result<Connection<Toy>, Alloc
 /// The connection that these set lines make.
 fn script_end(alloc: Global, set: &Settings) -> Result<Connection<Toy>, AllocError>
     requires address { IfSome set.now.addr IsAddress }
-    ensures end { IfOk result (IsScriptEnd ⟦<ToySession as Session>⟧ ⟦<ToyHeaderKey as HeaderMask>⟧ ⟦<ToyPacketKey as PacketKey>⟧ set.now) }
+    ensures end { IfOk result (IsScriptEnd ⟦<ToySession as Session>⟧ ⟦<ToyHeaderKey as HeaderMask>⟧ ⟦<ToyPacketKey as PacketKey>⟧ ⟦<NewReno as Controller>⟧ set.now) }
     ensures plain { IfOk result (λ end. IsPlainStart end.core.waiting end.core.paths end.core.life) }
 {
     match set.side {
@@ -281,7 +288,7 @@ pub enum Told {
 /// input that can't be taken. Want of memory is the only error.
 pub fn perform(alloc: Global, script: &Script) -> Result<Told, AllocError>
     requires address { IfSome script.now.settings.addr IsAddress }
-    ensures { IfOk result (λ told. IsToldRun (IsToyRun ⟦<ToySession as Session>⟧ ⟦<ToyHeaderKey as HeaderMask>⟧ ⟦<ToyPacketKey as PacketKey>⟧ ⟦<ZeroRandom as Rng>⟧) (IsToyRefusal ⟦<ToySession as Session>⟧ ⟦<ToyHeaderKey as HeaderMask>⟧ ⟦<ToyPacketKey as PacketKey>⟧ ⟦<ZeroRandom as Rng>⟧) script.now.settings script.now.inputs.items told) }
+    ensures { IfOk result (λ told. IsToldRun (IsToyRun ⟦<ToySession as Session>⟧ ⟦<ToyHeaderKey as HeaderMask>⟧ ⟦<ToyPacketKey as PacketKey>⟧ ⟦<NewReno as Controller>⟧ ⟦<ZeroRandom as Rng>⟧) (IsToyRefusal ⟦<ToySession as Session>⟧ ⟦<ToyHeaderKey as HeaderMask>⟧ ⟦<ToyPacketKey as PacketKey>⟧ ⟦<NewReno as Controller>⟧ ⟦<ZeroRandom as Rng>⟧) script.now.settings script.now.inputs.items told) }
 {
     let mut end = script_end(alloc, &script.settings)?;
     match drive(
@@ -334,7 +341,7 @@ mod tests {
             limit_failures: None,
             idle: None,
         };
-        let mut client = script_client(rt.alloc(), &set)?;
+        let mut client = Box::new(rt.alloc(), script_client(rt.alloc(), &set)?)?;
         let now = Instant::from_nanos(5);
         assert!(rt; client.poll_timeout().is_none());
         for asks in [false, true] {

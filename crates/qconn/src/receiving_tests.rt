@@ -205,10 +205,13 @@ fn a_closed_end_reads_for_a_close(rt: HostRuntime) -> Result<(), Fail> {
     Ok(())
 }
 
-// An ACK takes its packets out of flight: the loss timer stops, and the idle timer stays. An error is told with its code,
-// behind an ACK of the packets that came.
+// An ACK takes its packets out of flight, and tells the time of a round trip, 5 ns: a probe timeout is that and the least of 1 ms
+// for its variation. The loss timer stands a probe timeout later, though nothing is in flight: the server may not send more before
+// it hears of the client (RFC 9002, section 6.2.2.1). The idle timer stays, at 30 s after that packet: it is seen where the loss
+// timer comes late, and stands two probe timeouts later then. A close lasts for three probe timeouts. An error is told with its
+// code, behind an ACK of the packets that came.
 #[test]
-fn an_acknowledgement_stops_the_loss_timer(rt: HostRuntime) -> Result<(), Fail> {
+fn an_acknowledgement_sets_the_loss_timer_anew(rt: HostRuntime) -> Result<(), Fail> {
     let alloc = rt.alloc();
     let script = format!(in alloc;
         "set side client\ntransmit 0 1\ndatagram 5 {PATH} - {ACK_OF_0}\ndatagram 6 {PATH} - {ACK_OF_9}\ntransmit 7 1\n"
@@ -216,11 +219,17 @@ fn an_acknowledgement_stops_the_loss_timer(rt: HostRuntime) -> Result<(), Fail> 
     let (status, text) = outcome(alloc, &["run"], script.as_str(), &none())?;
     assert_eq!(rt; status, Status::Done);
     for part in [
-        "timer 999000000\nstep 1 datagram 5\npiece initial 1 Admitted\ngave recovery ACK/0200000000\nanswer done\ntimer 30000000005\n",
-        "step 2 datagram 6\npiece initial 2 Admitted\nlife 2\nlost TransportError 10 -\nanswer done\nevent lost TransportError 10 -\ntimer 2997000006\n",
+        "timer 999000000\nstep 1 datagram 5\npiece initial 1 Admitted\ngave recovery ACK/0200000000\nanswer done\ntimer 1000010\n",
+        "step 2 datagram 6\npiece initial 2 Admitted\nlife 2\nlost TransportError 10 -\nanswer done\nevent lost TransportError 10 -\ntimer 3000021\n",
         "step 3 transmit 7\nseal initial 1 0 ACK/0202000001 CONNECTION_CLOSE/1c0a0000 PADDING*",
     ] {
         assert!(rt; text.as_str().contains(part), "{part} {text}");
     }
+    let script = format!(in alloc;
+        "set side client\ntransmit 0 1\ndatagram 5 {PATH} - {ACK_OF_0}\ntimeout 29999999000\n"
+    )?;
+    let (_, text) = outcome(alloc, &["run"], script.as_str(), &none())?;
+    let told = "step 2 timeout 29999999000\nanswer done\ntimer 30000000005\nend\n";
+    assert!(rt; text.as_str().ends_with(told), "{text}");
     Ok(())
 }

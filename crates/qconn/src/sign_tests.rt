@@ -41,11 +41,11 @@ const FROM_CLIENT_4: &str = "43010101010101010142010000a346e98c2fd47518bb5e01a44
 /// A 1-RTT packet of the client's, number 2, with a PING, whose spin bit is 1.
 const SPUN_BY_CLIENT_2: &str = "6d010101010101010158010000ad5a07b46110bb6815c26f1cc97623d0";
 
-// A datagram with the mark ECT(0) brings an Initial packet, number 10, and a Handshake packet, number 0. Each counts in its own space,
-// whose ACK has the type 03 and ends in how many packets came with ECT(0), ECT(1) and CE: 1, 0 and 0. It has 8 bytes, so that 1200 -
-// 27 - 16 - 8 = 1149 of PADDING fill the Initial packet. The first 1-RTT packet has no mark, and its ACK, of the type 02, no counts.
-// Then come ECT(0), ECT(1), CE and ECT(0), and CE with a packet that was seen, which doesn't count: 2, 1 and 1. The next one without
-// a mark is acknowledged with the same counts.
+// A datagram with the mark ECT(0) brings an Initial packet, number 10, and a Handshake packet, number 0. Each counts in its own
+// space, whose ACK has the type 03 and ends in how many packets came with ECT(0), ECT(1) and CE: 1, 0 and 0. It has 8 bytes, so that
+// 1200 - 27 - 16 - 8 = 1149 of PADDING fill the Initial packet. The first 1-RTT packet has no mark, and its ACK, of the type 02, no
+// counts. Then come ECT(0), ECT(1), CE and ECT(0), and CE with a packet that was seen, which doesn't count: 2, 1 and 1. The next one
+// without a mark is acknowledged with the same counts.
 #[test]
 fn a_client_counts_marks_in_each_space(rt: HostRuntime) -> Result<(), Fail> {
     let alloc = rt.alloc();
@@ -104,8 +104,8 @@ fn a_server_counts_marks_of_packets_that_it_accepts(rt: HostRuntime) -> Result<(
 }
 
 // A server repeats the spin bit of the greatest 1-RTT packet that it accepted (RFC 9000, section 17.4), and sends 0 before the first
-// one: 1 behind number 2; still 1 behind number 1 with 0, which comes late; 0 behind number 3. The bit is 0x20 of the first byte, which
-// header protection leaves open.
+// one: 1 behind number 2; still 1 behind number 1 with 0, which comes late; 0 behind number 3. The bit is 0x20 of the first byte,
+// which header protection leaves open.
 #[test]
 fn a_server_repeats_the_spin_bit(rt: HostRuntime) -> Result<(), Fail> {
     let alloc = rt.alloc();
@@ -129,9 +129,10 @@ fn a_server_repeats_the_spin_bit(rt: HostRuntime) -> Result<(), Fail> {
     Ok(())
 }
 
-// A client turns the bit round (RFC 9000, section 17.4). A Handshake packet has none, and counts as 0, so the first PING goes with 1.
-// Number 1 with 1 makes it 0; another Handshake packet, number 5, makes it 1, and number 2 with 1 makes it 0 again. Number 0 comes
-// late and changes nothing, and number 3 with 0 makes it 1.
+// A client turns the bit round (RFC 9000, section 17.4). A Handshake packet has none, and counts as 0, so the first PING goes with
+// 1. Number 1 with 1 makes it 0; another Handshake packet, number 5, makes it 1, and number 2 with 1 makes it 0 again. Number 0
+// comes late and changes nothing, and number 3 with 0 makes it 1. The server's ACK has no counts of marks, so what is sent then has
+// no mark.
 #[test]
 fn a_client_turns_the_spin_bit_round(rt: HostRuntime) -> Result<(), Fail> {
     let alloc = rt.alloc();
@@ -144,18 +145,18 @@ fn a_client_turns_the_spin_bit_round(rt: HostRuntime) -> Result<(), Fail> {
     let text = text_of(alloc, lines.as_str())?;
     for told in [
         "step 5 transmit 5\nseal data 0 0 PING/01 PADDING*3\n\
-            out 00000000000000000000000000000001/4433 30 - 2 6004040404040404041b010000001b36516c87a4bdd8f30e29445f7a95b0\n",
+            out 00000000000000000000000000000001/4433 30 - - 6004040404040404041b010000001b36516c87a4bdd8f30e29445f7a95b0\n",
         "step 7 transmit 7\nseal data 1 0 ACK/0201000000\n\
-            out 00000000000000000000000000000001/4433 31 - 2 4004040404040404040102010000001d3a577491b0cbe805223f5c7996b3d0\n",
+            out 00000000000000000000000000000001/4433 31 - - 4004040404040404040102010000001d3a577491b0cbe805223f5c7996b3d0\n",
         "step 10 transmit 10\nseal handshake 1 0 ACK/02050001000300\n",
         "step 11 transmit 11\nseal data 2 0 PING/01 PADDING*3\n\
-            out 00000000000000000000000000000001/4433 30 - 2 6004040404040404043301000000316293c4f5285788b9ea1b4c7daedf10\n",
+            out 00000000000000000000000000000001/4433 30 - - 6004040404040404043301000000316293c4f5285788b9ea1b4c7daedf10\n",
         "step 13 transmit 13\nseal data 3 0 ACK/0202000001\n\
-            out 00000000000000000000000000000001/4433 31 - 2 4004040404040404040202020000014e9cea3886d62270be0c5aa8f64492e0\n",
+            out 00000000000000000000000000000001/4433 31 - - 4004040404040404040202020000014e9cea3886d62270be0c5aa8f64492e0\n",
         "step 15 transmit 15\nseal data 4 0 ACK/0202000002\n\
-            out 00000000000000000000000000000001/4433 31 - 2 40040404040404040406020200000268d038a00872d840a81078e048b01880\n",
+            out 00000000000000000000000000000001/4433 31 - - 40040404040404040406020200000268d038a00872d840a81078e048b01880\n",
         "step 17 transmit 17\nseal data 5 0 ACK/0203000003\n\
-            out 00000000000000000000000000000001/4433 31 - 2 600404040404040404060203000003ae5c0ab86616c2701ecc7a28d68432e0\n",
+            out 00000000000000000000000000000001/4433 31 - - 600404040404040404060203000003ae5c0ab86616c2701ecc7a28d68432e0\n",
     ] {
         assert!(rt; text.as_str().contains(told), "{told} {text}");
     }

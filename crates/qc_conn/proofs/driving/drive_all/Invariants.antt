@@ -10,7 +10,7 @@ abbrev pub invariant-loop-input : goal.invariant-loop-input
 invariant-loop-input g l = record {
   count : length l.trace ≡ l.input-index;
   place : l.at ≡ l.input-index;
-  run : Run (meaning g.U.Session.Session g.U.Session.HeaderKey.HeaderMask g.U.Session.PacketKey.PacketKey) 0 (ideal g.U.Random.Rng.stream l.fn.connection.core) (take l.input-index l.inputs) l.trace (ideal g.U.Random.Rng.stream l.connection.core);
+  run : Run (meaning g.U.Session.Session g.U.Session.HeaderKey.HeaderMask g.U.Session.PacketKey.PacketKey g.U.Control.Controller.Controller) 0 (ideal g.U.Random.Rng.stream l.fn.connection.core) (take l.input-index l.inputs) l.trace (ideal g.U.Random.Rng.stream l.connection.core);
   left : first_refusal l.input-index l.connection.core.timers.greatest (drop l.input-index l.inputs) ≡ first_refusal 0 l.fn.connection.core.timers.greatest l.inputs;
   alive : l.connection.failed ≡ false;
 }

@@ -1,4 +1,4 @@
-use Rattle.qc_core.proofs.Behind.{cut_some, cut_none, hear_moved}
+use Rattle.qc_core.proofs.Behind.{cut_some, cut_none}
 use Rattle.qc_core.proofs.FirstDatagrams.{not_taken, left_alone, may_not, no_packet, no_first, first_taken, first_heard, opened_none, opened_some, awaits_ideal}
 use Rattle.qc_core.proofs.state.Core.first_datagram.Goals as goal
 
@@ -45,6 +45,6 @@ pub returns-in_ok-others-in-Some-2-clause-leads : goal.returns-in_ok-others-in-S
 returns-in_ok-others-in-Some-2-clause-leads g c =
     let cut = cut_some c.cutting-cutting.result c.args.bytes c.in_ok-cut.field-0 c.in-Some.cut.0 c.in-Some.cut.1 c.in-Some.is c.in_ok-cut.ensures.some in
     let opened = opened_some _ _ c.in-Some-2.first c.in-Some-2.is c.in_ok-first_opened.ensures.some in
-    first_heard _ c.args.now c.args.mark c.cutting-cutting.result c.args.remote c.args.bytes.items c.len-len.result c.may_begin.result c.in-Some.cut.0 c.in-Some.cut.1 _ _ _ _ _ _ _ _ _ _ _ _ (awaits_ideal _ _ c.requires) c.cutting-cutting.ensures.cuts cut.0 c.may_begin.ensures c.len-len.ensures.value
+    first_heard _ c.args.now c.args.mark c.cutting-cutting.result c.args.remote c.args.bytes.items c.len-len.result c.may_begin.result c.in-Some.cut.0 c.in-Some.cut.1 _ _ _ _ _ _ _ _ _ _ _ _ _ (awaits_ideal _ _ c.requires) c.cutting-cutting.ensures.cuts cut.0 c.may_begin.ensures c.len-len.ensures.value
     c.if-not-may_begin.false opened.0 opened.1 c.in_ok-token-in-Some-2.ensures.cases c.do_expect.ensures c.in_ok-received-in-Some-2.ensures c.in_ok-others-in-Some-2.ensures
-    (hear_moved _ _ _ _ _ c.len-len.ensures.value c.do_hear.ensures)
+    c.is_blocked-blocked.ensures c.counted.ensures

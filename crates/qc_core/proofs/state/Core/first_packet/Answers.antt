@@ -1,12 +1,11 @@
 use Rattle.std.proofs.Common.{◌∙◌}
 use Rattle.qc_core.specs.Cutting.{rest_of}
 use Rattle.qc_core.specs.FirstPacket.{size_of}
-use Rattle.qc_core.proofs.Handed.{first_packet_is, hear_most, sum_most}
+use Rattle.qc_core.proofs.Handed.{first_packet_is, sum_most}
 use Rattle.qc_core.proofs.state.Core.first_packet.Goals as goal
 
 pub returns-clause-leads : goal.returns-clause-leads
 returns-clause-leads g c =
     let behind = rest_of c.args.behind in
-    first_packet_is _ c.args.now c.args.mark c.cutting-cutting.result c.args.packet.header.src_cid c.args.packet.header.token c.args.number c.args.packet.payload.items c.in-Ok.payload c.args.behind (size_of c.args.packet behind) _ _ _ _ c.cutting-cutting.ensures.cuts c.in-Ok.ensures.ok
-    c.in_ok-why.ensures.leads c.in_ok-others.ensures
-    (hear_most _ (size_of c.args.packet behind) _ _ _ (c.opened_len-len.ensures ∙ sum_most _ _ _) c.do_hear.ensures)
+    first_packet_is _ c.args.now c.args.mark c.cutting-cutting.result c.args.packet.header.src_cid c.args.packet.header.token c.args.number c.args.packet.payload.items c.in-Ok.payload c.args.behind c.opened_len-len.result (size_of c.args.packet behind) _ _ _ _ _ c.cutting-cutting.ensures.cuts c.in-Ok.ensures.ok
+    (c.opened_len-len.ensures ∙ sum_most _ _ _) c.is_blocked-blocked.ensures c.in_ok-why.ensures.leads c.in_ok-others.ensures c.counted.ensures

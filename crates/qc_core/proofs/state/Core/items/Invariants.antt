@@ -1,14 +1,17 @@
 use Rattle.std.proofs.Common.{◌≡◌, length, None}
+use Rattle.qc_core.proofs.Fitting.{ItemsFit}
 use Rattle.qc_frame.specs.Payload.{items_of}
 use Rattle.qc_state.specs.Receiving.{items_after}
 use Rattle.qc_state.specs.Types.{meaning}
 use Rattle.qc_state.specs.View.{held}
 use Rattle.qc_core.proofs.state.Core.items.Given as goal
 
--- what the frames that are left make of what stands now is what all make of what stood first
+-- what the frames that are left make of what stands now is what all make of what stood first, and they fit their fields
 abbrev pub invariant-loop-self : goal.invariant-loop-self
-invariant-loop-self g l =
-    items_after (meaning g.U.Session.Session g.U.Session.HeaderKey.HeaderMask g.U.Session.PacketKey.PacketKey) l.now l.space (items_of l.frames) l.close (held g.U.Random.Rng.stream l.self l.did) ≡ items_after (meaning g.U.Session.Session g.U.Session.HeaderKey.HeaderMask g.U.Session.PacketKey.PacketKey) l.now l.space (items_of l.fn.frames) None (held g.U.Random.Rng.stream l.fn.self l.fn.did)
+invariant-loop-self g l = record {
+  same : items_after (meaning g.U.Session.Session g.U.Session.HeaderKey.HeaderMask g.U.Session.PacketKey.PacketKey g.U.Control.Controller.Controller) l.now l.space (items_of l.frames) l.close (held g.U.Random.Rng.stream l.self l.did) ≡ items_after (meaning g.U.Session.Session g.U.Session.HeaderKey.HeaderMask g.U.Session.PacketKey.PacketKey g.U.Control.Controller.Controller) l.now l.space (items_of l.fn.frames) None (held g.U.Random.Rng.stream l.fn.self l.fn.did);
+  fit : ItemsFit (items_of l.frames);
+}
 
 -- the frames that are left are ever fewer
 abbrev pub decreases-loop-self : goal.decreases-loop-self

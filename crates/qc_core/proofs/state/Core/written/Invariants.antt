@@ -5,7 +5,7 @@ use Rattle.qc_core.proofs.state.Core.written.Given as goal
 
 -- what is left to write leads where all that was due at first does
 abbrev pub invariant-loop : goal.invariant-loop
-invariant-loop g l = Leads (meaning g.U.Session.Session g.U.Session.HeaderKey.HeaderMask g.U.Session.PacketKey.PacketKey) (held g.U.Random.Rng.stream l.self l.did) (held g.U.Random.Rng.stream l.fn.self l.fn.did)
+invariant-loop g l = Leads (meaning g.U.Session.Session g.U.Session.HeaderKey.HeaderMask g.U.Session.PacketKey.PacketKey g.U.Control.Controller.Controller) (held g.U.Random.Rng.stream l.self l.did) (held g.U.Random.Rng.stream l.fn.self l.fn.did)
 
 -- ever less is left to write
 abbrev pub decreases-loop : goal.decreases-loop
