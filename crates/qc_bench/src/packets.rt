@@ -1,6 +1,6 @@
 //! Packets built, sealed, unmasked and opened.
 
-ghost use Rattle.std.specs.Prelude.{◌≡◌, ◌≤◌, ℕ, false, List, [], ◌∷◌, Ok, Some, IfOk, IfSome, IsSome};
+ghost use Rattle.std.specs.Prelude.{◌≡◌, ◌≤◌, ℕ, false, List, [], ◌∷◌, Ok, Some, IfOk, OnOk, IfSome, IsSome};
 ghost use Rattle.qc_crypto.specs.Mates.{OpensItsPackets};
 ghost use Rattle.qc_header.specs.HeaderReading.{piece_at};
 ghost use Rattle.qc_header.specs.Piece.{Piece};
@@ -19,6 +19,7 @@ use qc_packet::{
     unprotect_header,
 };
 use std::alloc::{AllocError, Global};
+use std::mem;
 
 /// The least size that is measured: a header of 13 bytes, a frame, and 20 bytes of padding and tag.
 pub const LEAST_SIZE: u16 = 34;
@@ -42,17 +43,18 @@ fn header_of(number: u32) -> Header
     }
 }
 
-/// Builds and seals a packet of `size` bytes that holds a PING and padding.
+/// Builds and seals a packet of `size` bytes that holds a PING and padding, in an empty buffer.
 fn build<H: HeaderKey, P: PacketKey>(
-    alloc: Global,
     header_key: &H,
     packet_key: &P,
     number: u32,
     size: u16,
-) -> Result<Vec<u8>, AllocError>
+    buf: &mut Vec<u8>,
+) -> Result<(), AllocError>
+    requires empty { buf.old.items ≡ [] }
     requires least { LEAST_SIZE ≤ size }
     requires most { size ≤ MOST_SIZE }
-    ensures { IfOk result (λ packet. packet.items
+    ensures { OnOk result (buf.new.items
         ≡ packet_spelling (H.mask_of header_key.now) (P.seal packet_key.now) (passing_header number) number (passing_payload size)) }
 {
     let slot = Slot {
@@ -64,22 +66,14 @@ fn build<H: HeaderKey, P: PacketKey>(
         flip: false,
     };
     let header = header_of(number);
-    let mut buf = Vec::with_capacity(alloc, size as usize)?;
-    let mut builder = match PacketBuilder::new(
-        &slot,
-        &header,
-        &mut buf,
-        MOST_SIZE as usize,
-        0,
-        true,
-    ) {
+    let mut builder = match PacketBuilder::new(&slot, &header, buf, MOST_SIZE as usize, 0, true) {
         Ok(builder) => builder,
         Err(_) => return Err(AllocError),
     };
     buf.push(1)?;
     builder.pad_to(size);
-    let _ = builder.finish(header_key, packet_key, &mut buf)?;
-    Ok(buf)
+    let _ = builder.finish(header_key, packet_key, buf)?;
+    Ok(())
 }
 
 /// Reads a packet as far as its header protection lets it, if it can be read.
@@ -115,9 +109,9 @@ fn number_told(answer: Result<Option<DecryptPacketResult>, OpenError>) -> Option
 }
 
 /// Opens a packet whose sealer had sealed all lower numbers, and gives its full number, if it opens.
-fn open<P: PacketKey>(mut packet: Packet, ring: &KeyRing<P>, number: u32) -> Option<u64>
+fn open<P: PacketKey>(packet: &mut Packet, ring: &KeyRing<P>, number: u32) -> Option<u64>
     ensures { (sealer : P) (plain : List ℕ) → OpensItsPackets (P.seal sealer) (P.opening ring.now.current.remote) → ring.now.ring.epoch ≡ 0
-        → IsSealed (P.seal sealer) (passing_header number) number plain packet → result ≡ Some number }
+        → IsSealed (P.seal sealer) (passing_header number) number plain packet.old → result ≡ Some number }
 {
     let keys = OpenKeys {
         plain: None,
@@ -125,11 +119,30 @@ fn open<P: PacketKey>(mut packet: Packet, ring: &KeyRing<P>, number: u32) -> Opt
         ring: Some(ring),
     };
     let rx = number.saturating_sub(1) as u64;
-    let answer = decrypt_packet_body(&mut packet, &keys, rx);
+    let answer = decrypt_packet_body(packet, &keys, rx);
     number_told(answer)
 }
 
-/// Passes one packet from its sealer to its opener, which gives its full number, if it opens.
+/// The buffer of a packet that is done with, emptied.
+fn emptied(packet: Packet) -> Result<Vec<u8>, AllocError>
+    ensures { IfOk result (λ buf. buf.items ≡ []) }
+{
+    let Packet {
+        header,
+        header_data,
+        mut payload,
+    } = packet;
+    drop(header);
+    drop(header_data);
+    payload.clear();
+    match payload.into_vec() {
+        Ok(buf) => Ok(buf),
+        Err(_) => Err(AllocError),
+    }
+}
+
+/// Passes one packet from its sealer to its opener, which gives its full number, if it opens. The packet is built in
+/// the empty buffer and opened in place there; the buffer is then empty again.
 fn pass<H: HeaderKey, P: PacketKey>(
     alloc: Global,
     sealer: &Keys<H, P>,
@@ -137,32 +150,40 @@ fn pass<H: HeaderKey, P: PacketKey>(
     ring: &KeyRing<P>,
     number: u32,
     size: u16,
+    buf: &mut Vec<u8>,
 ) -> Result<Option<u64>, AllocError>
+    requires empty { buf.old.items ≡ [] }
     requires least { LEAST_SIZE ≤ size }
     requires most { size ≤ MOST_SIZE }
     requires masks { H.mask_of sealer.now.header.local ≡ H.mask_of opener.now.header.remote }
     requires mates { OpensItsPackets (P.seal sealer.now.packet.local) (P.opening ring.now.current.remote) }
     requires epoch { ring.now.ring.epoch ≡ 0 }
-    ensures { IfOk result (λ r. r ≡ Some number) }
+    ensures number { IfOk result (λ r. r ≡ Some number) }
+    ensures empty { OnOk result (buf.new.items ≡ []) }
 {
-    let packet = build(
-        alloc,
+    build(
         &sealer.header.local,
         &sealer.packet.local,
         number,
         size,
+        buf,
     )?;
+    let packet = mem::replace(buf, Vec::new(alloc));
     let partial = match read(packet)? {
         None => return Ok(None),
         Some(partial) => partial,
     };
     match unmask(partial, &opener.header.remote)? {
         None => Ok(None),
-        Some(packet) => Ok(open(packet, ring, number)),
+        Some(mut packet) => {
+            let full = open(&mut packet, ring, number);
+            *buf = emptied(packet)?;
+            Ok(full)
+        }
     }
 }
 
-/// Builds, seals, unmasks and opens `count` packets of `size` bytes, each with the number of its place.
+/// Builds, seals, unmasks and opens `count` packets of `size` bytes, each with the number of its place, all in one buffer.
 pub fn pass_packets<H: HeaderKey, P: PacketKey>(
     alloc: Global,
     sealer: &Keys<H, P>,
@@ -178,10 +199,11 @@ pub fn pass_packets<H: HeaderKey, P: PacketKey>(
     requires epoch { ring.now.ring.epoch ≡ 0 }
     ensures { IfOk result (λ opened. opened.packets ≡ count) }
 {
+    let mut buf = Vec::with_capacity(alloc, size as usize)?;
     let mut packets = 0;
     let mut sum = 0u64;
     for number in 0..count {
-        match pass(alloc, sealer, opener, ring, number, size)? {
+        match pass(alloc, sealer, opener, ring, number, size, &mut buf)? {
             Some(full) => {
                 packets += 1;
                 sum = sum.wrapping_add(full);

@@ -8,19 +8,19 @@ use Rattle.qc_bench.proofs.packets.build.Goals as goal
 
 pub finish-requires : goal.finish-requires
 finish-requires g c =
-    let start : length c.in_ok-buf.buf.items ≡ 0 = ap (λ (x : List ℕ). length x) c.in_ok-buf.ensures.items in
+    let start : length c.args.buf.now.items ≡ 0 = ap (λ (x : List ℕ). length x) c.requires.empty in
     let b : c.pad_to.new.self ≡ full_builder Data c.args.number (passing_header c.args.number) c.args.size =
-    builder_is c.args.number c.args.size (length c.in_ok-buf.buf.items) c.header_of-header.result c.in-Ok.builder c.pad_to.new.self c.header_of-header.ensures start c.in-Ok.ensures.builder c.pad_to.ensures.size in
+    builder_is c.args.number c.args.size (length c.args.buf.now.items) c.header_of-header.result c.in-Ok.builder c.pad_to.new.self c.header_of-header.ensures start c.in-Ok.ensures.builder c.pad_to.ensures.size in
     let bytes : c.push.new.self.items ≡ header_spelling (passing_header c.args.number) 0 ++ 1 ∷ [] =
-    begun_bytes c.args.number c.header_of-header.result c.in_ok-buf.buf.items c.new.new.buf.items c.push.new.self.items c.header_of-header.ensures c.in_ok-buf.ensures.items c.in-Ok.ensures.header c.in_ok-push.ensures.items in
+    begun_bytes c.args.number c.header_of-header.result c.args.buf.now.items c.new.new.buf.items c.push.new.self.items c.header_of-header.ensures c.requires.empty c.in-Ok.ensures.header c.in_ok-push.ensures.items in
     builder_ready c.args.number c.args.size (length c.push.new.self.items) c.pad_to.new.self c.requires.least c.requires.most b (begun_size c.args.number c.push.new.self.items bytes)
 
 pub returns : goal.returns
 returns g c =
-    let start : length c.in_ok-buf.buf.items ≡ 0 = ap (λ (x : List ℕ). length x) c.in_ok-buf.ensures.items in
+    let start : length c.args.buf.now.items ≡ 0 = ap (λ (x : List ℕ). length x) c.requires.empty in
     let b : c.pad_to.new.self ≡ full_builder Data c.args.number (passing_header c.args.number) c.args.size =
-    builder_is c.args.number c.args.size (length c.in_ok-buf.buf.items) c.header_of-header.result c.in-Ok.builder c.pad_to.new.self c.header_of-header.ensures start c.in-Ok.ensures.builder c.pad_to.ensures.size in
+    builder_is c.args.number c.args.size (length c.args.buf.now.items) c.header_of-header.result c.in-Ok.builder c.pad_to.new.self c.header_of-header.ensures start c.in-Ok.ensures.builder c.pad_to.ensures.size in
     let bytes : c.push.new.self.items ≡ header_spelling (passing_header c.args.number) 0 ++ 1 ∷ [] =
-    begun_bytes c.args.number c.header_of-header.result c.in_ok-buf.buf.items c.new.new.buf.items c.push.new.self.items c.header_of-header.ensures c.in_ok-buf.ensures.items c.in-Ok.ensures.header c.in_ok-push.ensures.items in
+    begun_bytes c.args.number c.header_of-header.result c.args.buf.now.items c.new.new.buf.items c.push.new.self.items c.header_of-header.ensures c.requires.empty c.in-Ok.ensures.header c.in_ok-push.ensures.items in
     passing_spelled (g.H.HeaderMask.mask_of c.args.header_key.now) (g.P.PacketKey.seal c.args.packet_key.now) c.args.number c.args.size c.pad_to.new.self c.push.new.self.items c.finish.new.buf.items
     c.requires.least c.requires.most b bytes c.in_ok-finish.ensures.packet
