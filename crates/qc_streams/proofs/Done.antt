@@ -1,5 +1,5 @@
 -- What is sealed or lost is acknowledged no more and no less
-use Rattle.std.proofs.Common.{◌≡◌, ◌∙◌, ℕ, min, Bool, true, false, not, ◌&&◌, List, [], ◌∷◌, Option, None, Some, ap, sym, refl}
+use Rattle.std.proofs.Common.{◌≡◌, ◌∙◌, ℕ, min, Bool, true, false, not, ◌&&◌, List, [], ◌∷◌, Option, None, Some, ap, refl}
 use Rattle.qc_send_stream.specs.declared.send.SendPart.{SendPart}
 use Rattle.qc_send_stream.specs.declared.send.Reset.{Reset}
 use Rattle.qc_send_stream.specs.declared.send.Standing.{Standing}

@@ -1,5 +1,5 @@
 -- What a receiving side refuses, the connection refuses
-use Rattle.std.proofs.Common.{◌≡◌, Option, None, Some, ap, refl}
+use Rattle.std.proofs.Common.{Option, ap}
 use Rattle.std.specs.Option.{option_map}
 use Rattle.qc_recv.specs.Receiving.{IsRefusal as IsSideRefusal}
 use Rattle.qc_recv.specs.declared.fault.Refusal.{Refusal as SideRefusal}

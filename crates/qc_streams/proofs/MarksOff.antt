@@ -1,5 +1,5 @@
 -- Marks are taken off one after the other
-use Rattle.std.proofs.Common.{◌≡◌, ◌∙◌, ℕ, suc, ◌+◌, ◌<◌, Bool, true, false, cond, List, [], ◌∷◌, length, drop, Option, None, Some, is_some, ap, sym, arith, refl}
+use Rattle.std.proofs.Common.{◌≡◌, ◌∙◌, ℕ, ◌<◌, Bool, true, false, cond, List, [], ◌∷◌, length, drop, Option, None, Some, is_some, ap, sym, arith, refl}
 use Rattle.std.specs.Prelude.{ℤ}
 use Rattle.qc_turns.specs.Marks.{MarkList, first_mark, unmarked, place_dropped}
 use Rattle.qc_streams.specs.declared.state.StreamsState.{StreamsState}

@@ -1,5 +1,5 @@
 -- What a write that is refused leaves
-use Rattle.std.proofs.Common.{◌≡◌, ◌∙◌, ℕ, ◌<◌, Bool, true, false, cond, not, ◌||◌, ◌==◌, nat_le, Option, None, Some, ap, sym, arith, refl}
+use Rattle.std.proofs.Common.{◌≡◌, ◌∙◌, ℕ, ◌<◌, Bool, true, false, cond, not, ◌||◌, ◌==◌, nat_le, Option, None, Some, ap, arith, refl}
 use Rattle.std.specs.Option.{option_map}
 use Rattle.qc_base.specs.declared.varint.VarInt.{VarInt}
 use Rattle.qc_send_stream.specs.declared.send.SendPart.{SendPart}

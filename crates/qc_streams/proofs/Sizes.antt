@@ -1,5 +1,5 @@
 -- Bytes that are sealed or lost are kept on
-use Rattle.std.proofs.Common.{◌≡◌, ◌∙◌, ℕ, ◌+◌, suc, Bool, List, [], ◌∷◌, length, ap, refl}
+use Rattle.std.proofs.Common.{◌≡◌, ◌∙◌, ℕ, suc, Bool, List, [], ◌∷◌, length, ap, refl}
 use Rattle.qc_send_stream.specs.declared.send.SendPart.{SendPart}
 use Rattle.qc_send_stream.specs.Buffer.{Kept, marked, range_sealed, range_lost}
 use Rattle.qc_send_stream.specs.Sending.{kept_count, part_sealed, part_lost}

@@ -1,5 +1,5 @@
 -- The application's calls on one stream (RFC 9000, sections 2.2, 2.4, 3.1 and 3.2)
-use Rattle.std.specs.Prelude.{◌≡◌, ℕ, ◌-◌, Bool, true, false, ◌||◌, if◌then◌else◌, List, length, take, Option, None, Some, is_some, Result, Ok, Err}
+use Rattle.std.specs.Prelude.{◌≡◌, ℕ, ◌-◌, Bool, true, false, if◌then◌else◌, List, length, take, Option, None, Some, is_some, Result, Ok, Err}
 use Rattle.qc_base.specs.declared.varint.VarInt.{VarInt}
 use Rattle.qc_recv.specs.declared.recv.Recv.{Recv}
 use Rattle.qc_recv.specs.declared.recv.Chunk.{Chunk}

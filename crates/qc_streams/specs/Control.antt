@@ -1,6 +1,6 @@
 -- Frames of streams and of limits without bytes of a stream: which is sent next, and what becomes of them (RFC 9000, sections
 -- 19.4, 19.5 and 19.9 to 19.11)
-use Rattle.std.specs.Prelude.{ℕ, Bool, nat_le, if◌then◌else◌, Option, None, Some, is_some}
+use Rattle.std.specs.Prelude.{ℕ, nat_le, if◌then◌else◌, Option, None, Some, is_some}
 use Rattle.std.specs.Option.{option_and_then, option_map}
 use Rattle.qc_base.specs.declared.side.Dir.{Dir}
 use Rattle.qc_base.specs.declared.side.Dir.TheVariants.{Bi, Uni}

@@ -7,11 +7,11 @@ use Rattle.qc_streams.specs.Counts.{held}
 
 -- nothing came
 unfoldable pub new_incoming : ℕ → Incoming
-new_incoming window = record { received = 0; returned = 0; window = window; announced = window; waits = false }
+new_incoming window = record { received = 0; returned = 0; window = window; reached = 0; announced = window; first = window; waits = false }
 
--- up to where the peer may send: what was given back, and the window
+-- up to where the peer may send: what was given back, and the window; no less than before the window was last set
 unfoldable pub incoming_credit : Incoming → ℕ
-incoming_credit c = held (c.returned + c.window)
+incoming_credit c = max c.reached (held (c.returned + c.window))
 
 -- how many new bytes may come
 unfoldable pub room : Incoming → ℕ
@@ -32,6 +32,14 @@ with_totals before after c = record c {
 unfoldable pub tallied : Totals → Totals → Incoming → Incoming
 tallied before after c =
     let next : Incoming = with_totals before after c in record next { waits = next.waits || incoming_owes next }
+
+-- the window is set: credit that was reached stays
+unfoldable pub with_window : ℕ → Incoming → Incoming
+with_window window c = record c { reached = incoming_credit c; window = window }
+
+-- the same; a frame of credit waits where one is owed
+unfoldable pub window_set : ℕ → Incoming → Incoming
+window_set window c = let next : Incoming = with_window window c in record next { waits = next.waits || incoming_owes next }
 
 -- the credit that a MAX_DATA announces: at most 2^62 - 1
 unfoldable pub credit_value : Incoming → ℕ

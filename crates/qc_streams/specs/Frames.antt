@@ -1,18 +1,17 @@
 -- Frames that come: which are refused, and what the others make of the streams (RFC 9000, sections 3, 4 and 19.4 to 19.14)
-use Rattle.std.specs.Prelude.{ℕ, ◌^◌, Bool, true, false, not, ◌&&◌, ◌||◌, nat_lt, if◌then◌else◌, List, [], ◌∷◌, Option, None, Some}
+use Rattle.std.specs.Prelude.{ℕ, ◌^◌, Bool, not, ◌&&◌, ◌||◌, nat_lt, if◌then◌else◌, List, [], ◌∷◌, Option, None, Some}
 use Rattle.std.specs.Option.{option_map}
 use Rattle.qc_base.specs.declared.side.Dir.{Dir}
 use Rattle.qc_base.specs.declared.varint.VarInt.{VarInt}
 use Rattle.qc_recv.specs.declared.recv.Recv.{Recv}
 use Rattle.qc_recv.specs.declared.fault.Refusal.{Refusal as SideRefusal}
-use Rattle.qc_recv.specs.Receiving.{stream_refusal, stream_taken, reset_refusal, reset_taken}
-use Rattle.qc_streams.specs.declared.stream.Stream.{Stream}
+use Rattle.qc_recv.specs.Receiving.{stream_taken, reset_taken}
 use Rattle.qc_streams.specs.declared.events.StreamEvent.TheVariants.{Readable, Stopped, Available}
 use Rattle.qc_streams.specs.declared.fault.Refusal.{Refusal}
 use Rattle.qc_streams.specs.declared.fault.Refusal.TheVariants.{State, Limit, Encoding, Side}
 use Rattle.qc_streams.specs.declared.state.StreamsState.{StreamsState}
 use Rattle.qc_streams.specs.Counts.{by_dir, dir_put, own_raised}
-use Rattle.qc_streams.specs.Credit.{room, outgoing_raised}
+use Rattle.qc_streams.specs.Credit.{outgoing_raised}
 use Rattle.qc_streams.specs.Records.{record_of}
 use Rattle.qc_streams.specs.Refusals.{first_row, or_else}
 use Rattle.qc_streams.specs.Stream.{totals_at, refusal_at, reads_if, stops_at, with_receiving, with_sending, stop_taken, limit_taken}

@@ -1,5 +1,5 @@
 -- How many bytes are kept until they are acknowledged
-use Rattle.std.specs.Prelude.{ℕ, ◌-◌, Option, None, Some}
+use Rattle.std.specs.Prelude.{ℕ, Option, None, Some}
 use Rattle.std.specs.List.{sum_by}
 use Rattle.std.specs.Map.{values_of}
 use Rattle.qc_send_stream.specs.declared.send.SendPart.{SendPart}

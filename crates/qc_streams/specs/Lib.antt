@@ -15,7 +15,10 @@ pub mod Streams
 pub mod Writable
 pub mod Frames
 pub mod Calls
+pub mod Chunks
 pub mod Owed
 pub mod Control
 pub mod Parts
 pub mod Settings
+pub mod Early
+pub mod Waits

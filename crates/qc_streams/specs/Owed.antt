@@ -1,5 +1,5 @@
 -- The events that are told, and the credit and the places that are owed to the peer (RFC 9000, sections 4.1 and 4.6)
-use Rattle.std.specs.Prelude.{ℕ, Bool, true, false, not, ◌&&◌, nat_lt, if◌then◌else◌, Option, None, Some, drop}
+use Rattle.std.specs.Prelude.{ℕ, not, ◌&&◌, nat_lt, if◌then◌else◌, Option, None, Some, drop}
 use Rattle.std.specs.Option.{option_map}
 use Rattle.qc_base.specs.declared.side.Dir.{Dir}
 use Rattle.qc_base.specs.declared.side.Dir.TheVariants.{Bi, Uni}

@@ -1,5 +1,5 @@
 -- Bytes of streams: which are sent next, and what becomes of them (RFC 9000, sections 2.2, 2.3, 3.1 and 19.8)
-use Rattle.std.specs.Prelude.{◌≡◌, ℕ, ℤ, negsuc, ◌+◌, ◌-◌, Bool, false, not, ◌&&◌, nat_lt, if◌then◌else◌, List, length, Option, None, Some, is_some}
+use Rattle.std.specs.Prelude.{◌≡◌, ℕ, ℤ, negsuc, ◌+◌, ◌-◌, Bool, false, not, ◌&&◌, nat_lt, if◌then◌else◌, length, Option, None, Some, is_some}
 use Rattle.std.specs.Option.{option_map}
 use Rattle.qc_send_stream.specs.declared.send.Part.{Part}
 use Rattle.qc_send_stream.specs.declared.send.SendPart.{SendPart}

@@ -1,5 +1,5 @@
 -- The streams that are open, each under its id, in ascending order
-use Rattle.std.specs.Prelude.{ℕ, List, Option, None, Some}
+use Rattle.std.specs.Prelude.{ℕ, Option, None, Some}
 use Rattle.std.specs.BTreeMap.{insert_entry, is_at}
 use Rattle.std.specs.Map.{lookup, set_value, remove_entry}
 use Rattle.std.specs.Ordering.{nat_cmp}

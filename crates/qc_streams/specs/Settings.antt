@@ -7,6 +7,7 @@ use Rattle.qc_streams.specs.declared.counts.PeerStreams.{PeerStreams}
 use Rattle.qc_streams.specs.declared.stream.Stream.{Stream}
 use Rattle.qc_streams.specs.declared.state.StreamsState.{StreamsState}
 use Rattle.qc_streams.specs.Counts.{at_most, by_dir, dir_put, held, owes_places}
+use Rattle.qc_streams.specs.Credit.{window_set}
 use Rattle.qc_streams.specs.Records.{changed}
 
 -- a stream's priority
@@ -30,6 +31,10 @@ stop_code (Some p) = p.stopped
 -- so many bytes may be kept until they are acknowledged
 unfoldable pub send_window_set : ℕ → StreamsState → StreamsState
 send_window_set n s = record s { send_window = n }
+
+-- so many bytes may be underway or unread, on all streams
+unfoldable pub receive_window_set : ℕ → StreamsState → StreamsState
+receive_window_set n s = record s { incoming = window_set n s.incoming }
 
 -- the peer may have so many streams open at a time, and open as many more at once
 unfoldable pub with_concurrent : ℕ → PeerStreams → PeerStreams

@@ -1,5 +1,5 @@
 -- The state over all streams of a connection (RFC 9000, sections 2 to 4)
-use Rattle.std.specs.Prelude.{ℕ, zero, suc, ◌+◌, ◌-◌, ◌*◌, ◌/◌, ◌%◌, ◌==◌, Bool, true, false, not, ◌&&◌, ◌||◌, nat_lt, nat_le, if◌then◌else◌, List, [], ◌∷◌, ◌++◌, Option, None, Some}
+use Rattle.std.specs.Prelude.{ℕ, zero, suc, ◌+◌, ◌-◌, ◌*◌, ◌/◌, ◌%◌, ◌==◌, Bool, true, false, not, ◌&&◌, nat_lt, nat_le, if◌then◌else◌, [], ◌∷◌, ◌++◌, Option, None, Some}
 use Rattle.qc_base.specs.declared.side.Dir.{Dir}
 use Rattle.qc_base.specs.declared.side.Dir.TheVariants.{Bi, Uni}
 use Rattle.qc_base.specs.declared.side.Side.{Side}
@@ -14,7 +14,7 @@ use Rattle.qc_streams.specs.declared.state.StreamsState.{StreamsState}
 use Rattle.qc_streams.specs.declared.state.PeerLimits.{PeerLimits}
 use Rattle.qc_streams.specs.declared.counts.OwnStreams.{OwnStreams}
 use Rattle.qc_streams.specs.declared.counts.PeerStreams.{PeerStreams}
-use Rattle.qc_streams.specs.Counts.{at_most, by_dir, dir_put, own_opened, own_raised, peer_opened, place_freed, accepted, has_accepted}
+use Rattle.qc_streams.specs.Counts.{at_most, by_dir, dir_put, own_opened, own_raised, peer_opened, place_freed, accepted}
 use Rattle.qc_streams.specs.Credit.{new_incoming, tallied, new_outgoing, outgoing_raised}
 use Rattle.qc_streams.specs.Lending.{AllRecords}
 use Rattle.qc_streams.specs.Records.{record_of, with_new, without, changed}
@@ -49,6 +49,7 @@ no_peer limit = record {
   concurrent = at_most limit;
   limit = at_most limit;
   announced = at_most limit;
+  first = at_most limit;
   opened = 0;
   ended = 0;
   accepted = 0;

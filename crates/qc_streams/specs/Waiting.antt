@@ -1,5 +1,5 @@
 -- What waits to be sent for single streams, and whose turn it is
-use Rattle.std.specs.Prelude.{ℕ, ℤ, neg_ℤ, zero, suc, pos, negsuc, ◌+◌, Bool, true, false, not, if◌then◌else◌, List, [], ◌∷◌, Option, None, Some, is_some}
+use Rattle.std.specs.Prelude.{ℕ, ℤ, neg_ℤ, zero, suc, pos, ◌+◌, Bool, true, false, not, if◌then◌else◌, List, [], ◌∷◌, Option, None, Some, is_some}
 use Rattle.qc_recv.specs.declared.recv.Recv.{Recv}
 use Rattle.qc_send_stream.specs.declared.send.SendPart.{SendPart}
 use Rattle.qc_send_stream.specs.Sending.{has_more, reset_owed}

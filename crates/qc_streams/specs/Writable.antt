@@ -1,5 +1,5 @@
 -- Streams on which a write was blocked (RFC 9000, section 4.1)
-use Rattle.std.specs.Prelude.{ℕ, Bool, true, false, not, ◌&&◌, ◌||◌, nat_le, if◌then◌else◌, Option, None, Some}
+use Rattle.std.specs.Prelude.{ℕ, Bool, false, not, ◌&&◌, ◌||◌, nat_le, if◌then◌else◌, Option, None, Some}
 use Rattle.qc_send_stream.specs.declared.send.SendPart.{SendPart}
 use Rattle.qc_send_stream.specs.Sending.{is_closed}
 use Rattle.qc_streams.specs.declared.stream.Stream.{Stream}
@@ -11,11 +11,12 @@ use Rattle.qc_streams.specs.Records.{record_of}
 unfoldable pub has_credit : SendPart → Bool
 has_credit p = not (is_closed p || nat_le p.limit p.buffer.written)
 
--- the same of a stream, where there is one
+-- the same, where there is a sending side
 abbrev pub credit_of : Option SendPart → Bool
 credit_of None = false
 credit_of (Some p) = has_credit p
 
+-- the same of a stream, where there is one
 abbrev pub credit_at : Option Stream → Bool
 credit_at None = false
 credit_at (Some st) = credit_of st.sending

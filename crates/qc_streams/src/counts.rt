@@ -2,6 +2,7 @@
 
 ghost use Rattle.std.specs.Prelude.{◌≡◌, ◌+◌, ◌^◌, ◌<◌, ◌≤◌};
 ghost use Rattle.qc_streams.specs.Settings.{concurrent_set};
+ghost use Rattle.qc_streams.specs.Early.{places_anew};
 ghost use Rattle.qc_streams.specs.Counts.{at_most, by_dir, dir_put, own_opened, own_raised, peer_opened, opening_told, owes_places, place_freed, places_lost, places_sealed, has_accepted, accepted};
 
 use qc_base::Dir;
@@ -117,6 +118,8 @@ pub struct PeerStreams {
     pub announced: StreamLimit,
     /// How many the peer opened.
     pub opened: StreamLimit,
+    /// The limit that the transport parameters announced.
+    pub first: StreamLimit,
     /// How many of them ended.
     pub ended: u64,
     /// How many of them the application accepted.
@@ -174,6 +177,21 @@ impl PeerStreams {
         let places = self.ended.saturating_add(concurrent.value());
         next.limit = StreamLimit::new(self.limit.value().max(places));
         next.waits = next.waits || next.owes_places();
+        next
+    }
+
+    /// None was opened, and the peer knows the transport parameters alone.
+    #[tactic(auto, unfolding(crate::specs::Early::places_anew, crate::specs::Counts::at_most))]
+    pub(crate) fn anew(self) -> PeerStreams
+        ensures { result ≡ places_anew self }
+    {
+        let mut next = self;
+        next.announced = self.first;
+        next.opened = StreamLimit::new(0);
+        next.ended = 0;
+        next.accepted = 0;
+        next.tells = false;
+        next.waits = next.owes_places();
         next
     }
 

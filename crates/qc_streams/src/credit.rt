@@ -1,7 +1,8 @@
 //! The connection's credit for what comes, and for what is sent.
 
 ghost use Rattle.std.specs.Prelude.{◌≡◌, ◌≤◌};
-ghost use Rattle.qc_streams.specs.Credit.{new_incoming, incoming_credit, room, incoming_owes, tallied, credit_value, credit_sealed, credit_lost, new_outgoing, outgoing_raised, outgoing_written, budget};
+ghost use Rattle.qc_streams.specs.Early.{credit_anew};
+ghost use Rattle.qc_streams.specs.Credit.{new_incoming, incoming_credit, room, incoming_owes, tallied, credit_value, credit_sealed, credit_lost, new_outgoing, outgoing_raised, outgoing_written, budget, window_set};
 
 use crate::stream::Totals;
 
@@ -14,8 +15,12 @@ pub struct Incoming {
     pub returned: u64,
     /// How many bytes may be underway or unread.
     pub window: u64,
+    /// Up to where the peer might send when the window was last set.
+    pub reached: u64,
     /// The credit that was announced to the peer.
     pub announced: u64,
+    /// The credit that the transport parameters announced.
+    pub first: u64,
     /// Whether a MAX_DATA waits.
     pub waits: bool,
 }
@@ -30,7 +35,9 @@ impl Incoming {
             received: 0,
             returned: 0,
             window,
+            reached: 0,
             announced: window,
+            first: window,
             waits: false,
         }
     }
@@ -40,7 +47,8 @@ impl Incoming {
     pub fn credit(&self) -> u64
         ensures { result ≡ incoming_credit self.now }
     {
-        self.returned.saturating_add(self.window)
+        let now = self.returned.saturating_add(self.window);
+        self.reached.max(now)
     }
 
     /// How many new bytes may come.
@@ -72,6 +80,31 @@ impl Incoming {
         if self.owes() {
             self.waits = true;
         }
+    }
+
+    /// The window is set: no credit is taken back.
+    #[tactic(auto, unfolding(crate::specs::Credit::window_set, crate::specs::Credit::with_window))]
+    pub fn set_window(&mut self, window: u64)
+        ensures { self.new ≡ window_set window self.old }
+    {
+        self.reached = self.credit();
+        self.window = window;
+        if self.owes() {
+            self.waits = true;
+        }
+    }
+
+    /// Nothing came, and the peer knows the transport parameters alone.
+    #[tactic(auto, unfolding(crate::specs::Early::credit_anew))]
+    pub(crate) fn anew(self) -> Incoming
+        ensures { result ≡ credit_anew self }
+    {
+        let mut next = self;
+        next.received = 0;
+        next.returned = 0;
+        next.announced = self.first;
+        next.waits = next.owes();
+        next
     }
 
     /// The credit that a MAX_DATA announces (RFC 9000, section 19.9).

@@ -4,15 +4,18 @@
 mod blocked;
 mod calls;
 mod changes;
+mod chunks;
 mod control;
 mod controls;
 mod counts;
 mod credit;
+mod early;
 mod events;
 mod fates;
 mod fault;
 mod filing;
 mod kinds;
+mod laws;
 mod map;
 mod opening;
 mod owed;
@@ -29,11 +32,13 @@ mod waiting;
 mod writable;
 
 pub use blocked::Blocked;
+pub use chunks::Written;
 pub use control::Control;
 pub use counts::{ByDir, OwnStreams, PeerStreams, StreamLimit};
 pub use credit::{Incoming, Outgoing};
 pub use events::{Events, StreamEvent};
 pub use fault::{ClosedStream, ReadFault, Refusal, StreamFault};
+pub use laws::streams_wait_where_blocked;
 pub use parts::StreamPart;
 pub use records::Records;
 pub use state::{PeerLimits, StreamsState};
@@ -42,8 +47,14 @@ pub use stream::{Stream, Totals};
 pub use waiting::{Dues, Waiting};
 
 #[cfg(test)]
+mod chunks_tests;
+#[cfg(test)]
+mod early_tests;
+#[cfg(test)]
 mod sending_tests;
 #[cfg(test)]
 mod tests;
+#[cfg(test)]
+mod window_tests;
 #[cfg(test)]
 mod writing_tests;

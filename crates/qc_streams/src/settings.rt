@@ -1,11 +1,13 @@
 //! What the application sets, and asks of a stream that it sends on.
 
-ghost use Rattle.std.specs.Prelude.{◌≡◌, IfOk, OnErr, OnOk, is_err};
+ghost use Rattle.std.specs.Prelude.{◌≡◌, ◌+◌, max, IfOk, OnErr, OnOk, is_err};
 ghost use Rattle.qc_streams.specs.Calls.{known, known_at, known_of};
+ghost use Rattle.qc_streams.specs.Counts.{held};
+ghost use Rattle.qc_streams.specs.Credit.{incoming_credit};
 ghost use Rattle.qc_streams.specs.Kept.{kept_of};
 ghost use Rattle.qc_streams.specs.Sends.{sends_of};
 ghost use Rattle.qc_streams.specs.Records.{changed, record_of};
-ghost use Rattle.qc_streams.specs.Settings.{is_unknown, max_concurrent_set, priority_set, send_window_set, stop_code, with_priority};
+ghost use Rattle.qc_streams.specs.Settings.{is_unknown, max_concurrent_set, priority_set, receive_window_set, send_window_set, stop_code, with_priority};
 ghost use Rattle.qc_streams.specs.Waiting.{priority_at};
 
 use crate::fault::ClosedStream;
@@ -111,6 +113,17 @@ impl StreamsState {
         ensures { self.new ≡ send_window_set window self.old }
     {
         self.send_window = window;
+    }
+
+    /// Sets how many bytes may be underway or unread, on all streams: the credit is the greatest sum so
+    /// far of a window and the bytes that were given back, so a lower window takes none back (RFC 9000,
+    /// section 4.1).
+    #[tactic(auto, unfolding(crate::specs::Settings::receive_window_set, crate::specs::Credit::window_set, crate::specs::Credit::with_window, crate::specs::Credit::incoming_credit))]
+    pub fn set_receive_window(&mut self, receive_window: VarInt)
+        ensures set { self.new ≡ receive_window_set receive_window self.old }
+        ensures credit { incoming_credit self.new.incoming ≡ max (incoming_credit self.old.incoming) (held (self.old.incoming.returned + receive_window)) }
+    {
+        self.incoming.set_window(receive_window.into_inner());
     }
 
     /// Sets how many streams of a direction the peer may have open at a time: more may be opened at

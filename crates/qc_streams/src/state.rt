@@ -88,7 +88,7 @@ impl PeerLimits {
 
 /// So many streams may be opened, and none was.
 #[tactic(auto, unfolding(crate::specs::Streams::no_own))]
-fn no_own(limit: u64) -> OwnStreams
+pub(crate) fn no_own(limit: u64) -> OwnStreams
     ensures { result ≡ no_own limit }
 {
     OwnStreams {
@@ -107,6 +107,7 @@ fn no_peer(limit: u64) -> PeerStreams
         concurrent: limit,
         limit,
         announced: limit,
+        first: limit,
         opened: StreamLimit::new(0),
         ended: 0,
         accepted: 0,

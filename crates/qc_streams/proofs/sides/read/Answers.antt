@@ -1,4 +1,4 @@
-use Rattle.std.proofs.Common.{◌≡◌}
+use Rattle.std.proofs.Common.{}
 use Rattle.qc_streams.proofs.Reading.{read_given, read_failed}
 use Rattle.qc_streams.proofs.sides.read.Goals as goal
 

@@ -1,0 +1,19 @@
+use Rattle.std.proofs.Common.{◌∙◌, arith, length, sym}
+use Rattle.qc_streams.proofs.Fronts.{count_of, more_of, written_of}
+use Rattle.std.specs.List.{concat}
+use Rattle.qc_streams.proofs.chunks.write.Goals as goal
+
+pub returns-clause-count : goal.returns-clause-count
+returns-clause-count c lacked =
+    count_of _ (length (concat c.args.chunks.now)) c.args.most c.write_front.result.bytes c.args.sending.now c.test.new.sending (sym c.is_done.ensures ∙ c.if-is_done.false)
+    c.in_ok-test.ensures.same
+    (omega (arith, c.write_front.ensures.count lacked, c.min.ensures, c.saturating_sub-credit.ensures, c.written.ensures))
+
+pub returns-clause-written : goal.returns-clause-written
+returns-clause-written c =
+    written_of _ _ c.args.sending.now c.test.new.sending c.write_front.new.buffer (sym c.is_done.ensures ∙ c.if-is_done.false) c.in_ok-test.ensures.same c.write_front.ensures.written
+
+pub returns-clause-more : goal.returns-clause-more
+returns-clause-more c =
+    more_of c.write_front.result.bytes _ c.args.sending.now c.test.new.sending c.write_front.new.buffer c.write_front.ensures.there
+    c.in_ok-test.ensures.same c.write_front.ensures.written

@@ -1,0 +1,133 @@
+-- Which streams wait until they can be written on again: those on which a write was blocked, and that have credit of their own
+use Rattle.std.specs.Prelude.{◌≡◌, ℕ, ℤ, ◌<◌, ◌^◌, Bool, List, [], ◌∷◌, Option, is_some, Result}
+use Rattle.std.specs.BTreeMap.{is_at}
+use Rattle.std.specs.Map.{lookup}
+use Rattle.std.specs.Ordering.{nat_cmp}
+use Rattle.qc_base.specs.declared.side.Dir.{Dir}
+use Rattle.qc_base.specs.declared.varint.VarInt.{VarInt}
+use Rattle.qc_recv.specs.declared.recv.Chunk.{Chunk}
+use Rattle.qc_recv.specs.Receiving.{reset_asked, stop_asked}
+use Rattle.qc_send_stream.specs.declared.fault.WriteError.{WriteError}
+use Rattle.qc_send_stream.specs.Sending.{finished, was_reset}
+use Rattle.qc_streams.specs.declared.control.Control.{Control}
+use Rattle.qc_streams.specs.declared.fault.ReadFault.{ReadFault}
+use Rattle.qc_streams.specs.declared.parts.StreamPart.{StreamPart}
+use Rattle.qc_streams.specs.declared.state.PeerLimits.{PeerLimits}
+use Rattle.qc_streams.specs.declared.state.StreamsState.{StreamsState}
+use Rattle.qc_streams.specs.Blocked.{BlockedIds}
+use Rattle.qc_streams.specs.Calls.{after_read, gives, sends, write_refused, wrote}
+use Rattle.qc_streams.specs.Control.{control_acked, control_lost, control_sealed}
+use Rattle.qc_streams.specs.Early.{early_refused}
+use Rattle.qc_streams.specs.Frames.{limit_came, reset_came, stop_came, stream_came, stream_limit_came, streams_limit_came}
+use Rattle.qc_streams.specs.Owed.{polled}
+use Rattle.qc_streams.specs.Parts.{bytes_acked, bytes_lost, sealed_part}
+use Rattle.qc_streams.specs.Records.{record_of}
+use Rattle.qc_streams.specs.Settings.{max_concurrent_set, priority_set, receive_window_set, send_window_set}
+use Rattle.qc_streams.specs.Streams.{accepted_one, closed, limits_set, opened_own}
+use Rattle.qc_streams.specs.Waiting.{all_filed}
+use Rattle.qc_streams.specs.Writable.{awaits_at}
+
+-- what happens to the streams of a connection
+pub data Step : Type 0 where
+  -- the peer's limits are known
+  LimitsKnown : PeerLimits → Step
+  -- the server refused early data
+  EarlyRefused : Step
+  -- the connection is closed
+  Closed : Step
+  -- a stream is opened, or accepted
+  Opened : Dir → Step
+  Accepted : Dir → Step
+  -- so many bytes of a chunk are written, or a write is refused
+  Wrote : ℕ → ℕ → List ℕ → Step
+  Refused : WriteError → ℕ → Step
+  -- a stream is finished, or reset
+  Finished : ℕ → Step
+  WasReset : VarInt → ℕ → Step
+  -- a stream is read, with that answer, or stopped, or it is asked for its reset
+  Read : Bool → Result (Option Chunk) ReadFault → ℕ → Step
+  Stopped : VarInt → ℕ → Step
+  ResetAsked : ℕ → Step
+  -- the application sets a priority, a window or a number of streams
+  PrioritySet : ℤ → ℕ → Step
+  SendWindowSet : ℕ → Step
+  ReceiveWindowSet : ℕ → Step
+  ConcurrentSet : Dir → ℕ → Step
+  -- an event is told
+  Polled : Step
+  -- a frame comes
+  StreamCame : ℕ → ℕ → List ℕ → Bool → Step
+  ResetCame : ℕ → VarInt → ℕ → Step
+  StopCame : ℕ → VarInt → Step
+  StreamLimitCame : ℕ → ℕ → Step
+  StreamsLimitCame : Dir → ℕ → Step
+  LimitCame : ℕ → Step
+  -- marks are taken off
+  MarksFiled : Step
+  -- a frame is sealed, lost or acknowledged
+  ControlSealed : Control → Step
+  ControlLost : Control → Step
+  ControlAcked : Control → Step
+  PartSealed : StreamPart → Step
+  BytesLost : ℕ → ℕ → ℕ → Bool → Step
+  BytesAcked : ℕ → ℕ → ℕ → Bool → Step
+
+-- what a step leaves
+unfoldable pub after_step : Step → StreamsState → StreamsState
+after_step (LimitsKnown p) s = limits_set p s
+after_step EarlyRefused s = early_refused s
+after_step Closed s = closed s
+after_step (Opened dir) s = opened_own dir s
+after_step (Accepted dir) s = accepted_one dir s
+after_step (Wrote id n chunk) s = wrote id n chunk s
+after_step (Refused e id) s = write_refused e id s
+after_step (Finished id) s = sends finished id s
+after_step (WasReset code id) s = sends (was_reset code) id s
+after_step (Read ordered result id) s = gives (after_read ordered result) id s
+after_step (Stopped code id) s = gives (stop_asked code) id s
+after_step (ResetAsked id) s = gives reset_asked id s
+after_step (PrioritySet priority id) s = priority_set priority id s
+after_step (SendWindowSet n) s = send_window_set n s
+after_step (ReceiveWindowSet n) s = receive_window_set n s
+after_step (ConcurrentSet dir n) s = max_concurrent_set dir n s
+after_step Polled s = polled s
+after_step (StreamCame id o bs last) s = stream_came id o bs last s
+after_step (ResetCame id code size) s = reset_came id code size s
+after_step (StopCame id code) s = stop_came id code s
+after_step (StreamLimitCame id limit) s = stream_limit_came id limit s
+after_step (StreamsLimitCame dir n) s = streams_limit_came dir n s
+after_step (LimitCame n) s = limit_came n s
+after_step MarksFiled s = all_filed s.waiting.marks.ids s
+after_step (ControlSealed c) s = control_sealed c s
+after_step (ControlLost c) s = control_lost c s
+after_step (ControlAcked c) s = control_acked c s
+after_step (PartSealed d) s = sealed_part d s
+after_step (BytesLost id start stop last) s = bytes_lost id start stop last s
+after_step (BytesAcked id start stop last) s = bytes_acked id start stop last s
+
+-- what steps leave, one after the other
+unfoldable pub after : List Step → StreamsState → StreamsState
+after [] s = s
+after (x ∷ xs) s = after xs (after_step x s)
+
+-- A frame names a stream that there can be
+unfoldable pub IsPossible : Step → Type 0
+IsPossible (StreamCame id o bs last) = id < 2 ^ 62
+IsPossible (ResetCame id code size) = id < 2 ^ 62
+IsPossible (StopCame id code) = id < 2 ^ 62
+IsPossible (StreamLimitCame id limit) = id < 2 ^ 62
+IsPossible x = Unit {0}
+
+-- All of them do
+unfoldable pub ArePossible : List Step → Type 0
+ArePossible [] = Unit {0}
+ArePossible (x ∷ xs) = IsPossible x × ArePossible xs
+
+-- whether a stream is among those that wait
+abbrev pub waits_at : ℕ → BlockedIds → Bool
+waits_at id ids = is_some (lookup (is_at (nat_cmp id)) ids)
+
+-- Whatever happened, exactly those streams wait on which a write was blocked since it was last told that they can be written on again,
+-- and that are neither finished nor reset and have credit
+unfoldable pub WaitWhereBlocked : StreamsState → List Step → Type 0
+WaitWhereBlocked s xs = (id : ℕ) → waits_at id (after xs s).blocked ≡ awaits_at (record_of id (after xs s).records)
