@@ -2,10 +2,11 @@
 use Rattle.std.specs.Prelude.{IfSome, is_none, option_map, option_to_list}
 use Rattle.std.proofs.Common.{◌≡◌, ℕ, ◌+◌, ◌-◌, ◌<◌, ◌≤◌, ◌^◌, ◌==◌, ◌||◌, Bool, true, false, if◌then◌else◌, List, [], ◌∷◌, ◌++◌, length, replicate, take, zero, suc, Option, Some, None, refl, sym, ap, ◌∙◌, subst, arith}
 use Rattle.std.specs.Prelude.{nat_lt, nat_le}
-use Rattle.std.specs.List.{All}
+use Rattle.std.specs.List.{All, list_any}
 use Rattle.std.specs.declared.net.socket_addr.SocketAddr.{SocketAddr}
 use Rattle.std.proofs.lemmas.Bool.Decides.{nat_tests}
 use Rattle.std.proofs.lemmas.List.Elements.{All-nil, All-cons, All-append}
+use Rattle.rand_core.specs.Stream.{Stream}
 use Rattle.qc_base.specs.Varint.{IsNumber}
 use Rattle.qc_base.specs.declared.ecn.EcnCodepoint.{EcnCodepoint}
 use Rattle.qc_base.specs.declared.side.Side.{Side}
@@ -16,7 +17,7 @@ use Rattle.qc_frame.specs.Frame.{FrameValue, AckValue}
 use Rattle.qc_frame.specs.FrameFits.{Fits, TypeFits}
 use Rattle.qc_flight.specs.Packets.{Entry, first_of}
 use Rattle.qc_flight.specs.declared.sent.SentPacket.{SentPacket}
-use Rattle.qc_frame.specs.FrameSpelling.{spelling}
+use Rattle.qc_frame.specs.FrameSpelling.{spelling, frames_spelling}
 use Rattle.qc_frame.specs.Sizes.{IsLongestReason}
 use Rattle.qc_frame.specs.declared.frames.FrameOf.TheVariants as frames
 use Rattle.qc_frame.proofs.Lengths.{length-application_close}
@@ -25,7 +26,7 @@ use Rattle.qc_recovery.specs.TransportValues.{TransportValues}
 use Rattle.qc_recovery.specs.declared.calls.Fired.{Fired}
 use Rattle.qc_recovery.specs.declared.calls.Fired.TheVariants as fired
 use Rattle.qc_send_stream.specs.Buffer.{bytes_written, discarded, nothing, range_lost, range_sealed}
-use Rattle.qc_state.specs.Acks.{AckPart, SaysAck, may_acknowledge}
+use Rattle.qc_state.specs.Acks.{AckPart, SaysAck, is_ack, may_acknowledge}
 use Rattle.qc_state.specs.declared.deeds.Did.{Did}
 use Rattle.qc_state.specs.declared.deeds.Did.TheVariants as deed
 use Rattle.qc_state.specs.declared.deeds.Quiet.TheVariants.{NothingOwed, Silent, Killed, Amplification}
@@ -48,20 +49,21 @@ use Rattle.qc_state.specs.declared.trace.Answer.TheVariants as answer
 use Rattle.qc_state.specs.declared.waiting.SpaceWaiting.{SpaceWaiting}
 use Rattle.qc_state.specs.declared.waiting.Waiting.{Waiting}
 use Rattle.qc_state.specs.Life.{is_closed, is_open, data_ready, drained_event, endpoint_events, identifiers_wanted, life_closed, life_drained, life_established, life_raised, reason_given, token_event, token_learned, token_reported, wanted_event, wanted_reported, drained_reported, lost_reported, connected_reported, ready_reported}
-use Rattle.qc_state.specs.Moves.{Move, Clock, Take, Seal, Forget, Raise, Say, Give, Enter, Fail, Accept, Fix, Hear, Ack, Fire, Arm, Begin, Come, Read, Write, Ready, Learn, Establish, Tell, Drain, Leave, Owe, Shut, IsTold, MayMove, state_move, move_to, deeds_move, life_move, paths_move, waiting_move, keys_move, armed_with, Expect, Confirm, Token, Want}
+use Rattle.qc_state.specs.Moves.{Move, Clock, Take, Seal, Forget, Raise, Say, Give, Enter, Fail, Accept, Fix, Hear, Ack, Fire, Arm, Release, Begin, Skip, Come, Read, Write, Ready, Learn, Establish, Tell, Drain, Leave, Owe, Shut, IsTold, MayMove, state_move, move_to, deeds_move, life_move, paths_move, waiting_move, keys_move, armed_with, Expect, Confirm, Token, Want}
 use Rattle.qc_state.specs.Numbers.{next_number, received_number}
 use Rattle.qc_state.specs.Paths.{path_idle, path_sent, path_received, peer_fixed, path_accepted, path_spun, is_blocked}
 use Rattle.qc_state.specs.Receiving.{datagram_after, is_taken}
 use Rattle.qc_state.specs.Run.{time_of, packets_of, began, close_after, input_after, called, reported, step_after, IsAllowed, out_of, answer_of, IsStep, Run, Ran}
-use Rattle.qc_state.specs.Sending.{told_code, told_type, told_application_code, told_close, close_frame, closing_frame, IsKeptReason, close_room, Closes, padded, padding_of, packet_size, sending_space, begun_view, Carries, drops_initial, initial_left, is_flown, flown_after, sealed_in, is_key_nearly_used_up, limit_met, spared_after, quiet_after, packet_after, transmit_after, MayTransmit, transmit_bytes, transmit_of, transmit_with, owed_quiet_after, is_silent, owes}
+use Rattle.qc_state.specs.Sending.{told_code, told_type, told_application_code, told_close, close_frame, closing_frame, IsKeptReason, frame_room, Closes, padded, padding_of, packet_size, sending_space, begun_after, begun_view, Carries, drops_initial, initial_left, is_flown, flown_after, sealed_in, is_key_nearly_used_up, limit_met, spared_after, quiet_after, packet_after, transmit_after, MayTransmit, transmit_bytes, transmit_of, transmit_with, owed_quiet_after, is_silent, owes}
 use Rattle.qc_state.specs.Stopping.{given_after, key_limit_error, killed_after, stopped_after}
 use Rattle.qc_state.specs.Spaces.{space_of, with_space, is_space}
 use Rattle.qc_state.specs.Timeouts.{timeout_after}
 use Rattle.qc_state.specs.Types.{Types, Meaning}
-use Rattle.qc_state.specs.View.{Held, View, At, at}
+use Rattle.qc_state.specs.View.{Held, View, At, at, ideal}
 use Rattle.qc_state.specs.First.{first_view, server_view}
 use Rattle.qc_state.specs.declared.setup.Fixed.{Fixed}
-use Rattle.qc_state.specs.Waiting.{again, all_again, lost_in, confirmed, all_confirmed, acked_in, packets_lost, packets_acked, probes_added, fired_in, packet_again, with_ping, wants_sending, probe_sent, begun_in, datagram_begun, ping_asked, waiting_without, close_begun, packet_told, untold, came_in, packet_came, crypto_more, crypto_written, nothing_left, space_left, without, Waits, without_all, WaitAll, done_asked}
+use Rattle.qc_state.specs.Waiting.{again, all_again, lost_in, confirmed, all_confirmed, acked_in, packets_lost, packets_acked, probes_added, fired_in, packet_again, with_ping, wants_sending, probe_sent, begun_in, datagram_begun, ping_asked, waiting_without, close_begun, packet_told, untold, came_in, packet_came, ack_released, bundle_next, crypto_more, crypto_written, nothing_left, space_left, without, Waits, without_all, WaitAll, done_asked}
+use Rattle.qc_state.proofs.Begun.{begun_did, begun_life, begun_paths, holds_begun}
 use Rattle.qc_state.proofs.Expired.{IsTimed, holds_timeout}
 use Rattle.qc_state.proofs.Receives.{IsReceived, holds_datagram}
 use Rattle.qc_text.specs.OneText.{IsSpelled, IsDeedPlain, IsPlainAddress, IsAnswerPlain, IsEndpointPlain, IsPlain, IsSpaceBelowLimit, IsBelowLimit, IsPlainStart, IsTellingRun}
@@ -74,22 +76,22 @@ ack_spelled : (time : ℕ) (w : SpaceWaiting) (ack : AckValue) → SaysAck time 
 ack_spelled time w ack says =
     (says.fits, ap (λ (more : List ℕ). frames.Ack (record { largest = ack.largest; delay = ack.delay; additional = more; ecn = ack.ecn })) (sym says.shortest))
 
-frame_spelled : (time : ℕ) (w : SpaceWaiting) (f : FrameValue) → Waits time w f → IsSpaceBelowLimit w → IsSpelled f × IsSpaceBelowLimit (without w f)
+frame_spelled : (time : ℕ) (bundled : Option ℕ) (w : SpaceWaiting) (f : FrameValue) → Waits time bundled w f → IsSpaceBelowLimit w → IsSpelled f × IsSpaceBelowLimit (without w f)
 unfolding Waits without Fits range_sealed
-frame_spelled time w frames.HandshakeDone h b = ((tt, refl), b)
-frame_spelled time w frames.Ping h b = ((tt, refl), b)
-frame_spelled time w (frames.Ack ack) h b = (ack_spelled time w ack h.1, b)
-frame_spelled time w (frames.Crypto offset body) h b =
+frame_spelled time bundled w frames.HandshakeDone h b = ((tt, refl), b)
+frame_spelled time bundled w frames.Ping h b = ((tt, refl), b)
+frame_spelled time bundled w (frames.Ack ack) h b = (ack_spelled time w ack h.1, b)
+frame_spelled time bundled w (frames.Crypto offset body) h b =
     let within : offset + length body ≤ w.crypto.written = h.within in
     (((omega arith, omega arith), refl), b)
-frame_spelled time w _ h b = absurd h
+frame_spelled time bundled w _ h b = absurd h
 
-frames_spelled : (time : ℕ) (w : SpaceWaiting) (fs : List FrameValue) → WaitAll time w fs → IsSpaceBelowLimit w → All IsSpelled fs × IsSpaceBelowLimit (without_all w fs)
+frames_spelled : (time : ℕ) (bundled : Option ℕ) (w : SpaceWaiting) (fs : List FrameValue) → WaitAll time bundled w fs → IsSpaceBelowLimit w → All IsSpelled fs × IsSpaceBelowLimit (without_all w fs)
 unfolding WaitAll without_all
-frames_spelled time w [] h b = (All-nil IsSpelled, b)
-frames_spelled time w (f ∷ fs) h b =
-    let first = frame_spelled time w f h.0 b in
-    let others = frames_spelled time (without w f) fs h.1 first.1 in
+frames_spelled time bundled w [] h b = (All-nil IsSpelled, b)
+frames_spelled time bundled w (f ∷ fs) h b =
+    let first = frame_spelled time bundled w f h.0 b in
+    let others = frames_spelled time bundled (without w f) fs h.1 first.1 in
     (All-cons IsSpelled f fs first.0 others.0, others.1)
 
 -- a close, PADDING behind it, and the ACK in front of it
@@ -184,15 +186,18 @@ closing_plain w id room kept v few k h = (
   subst IsSpaceBelowLimit (sym (close_stays w (is_closed v.state) id kept v.close)) h,
 )
 
-close_plain : (time : ℕ) (w : SpaceWaiting) (acks : List FrameValue) (due : Bool) (id : SpaceId) (room : ℕ) (kept : List ℕ) (v : Life) → AckPart time w acks due → room < 2 ^ 62
+close_plain : (time : ℕ) (w : SpaceWaiting) (most : ℕ) (acks : List FrameValue) (due : Bool) (id : SpaceId) (room : ℕ) (kept : List ℕ) (v : Life) → AckPart time w most acks due → room < 2 ^ 62
     → IsKeptReason room kept v.close → IsSpaceBelowLimit w → ArePlain w (acks ++ closing_frame id kept v ∷ [])
 unfolding without_all without
-close_plain time w acks true id room kept v (AckPart.one ack says is) few k h =
+close_plain time w most acks true id room kept v (AckPart.one ack says short is) few k h =
     let close : List FrameValue = closing_frame id kept v ∷ [] in
     let behind = closing_plain (without w (frames.Ack ack)) id room kept v few k h in
     let both : ArePlain w (frames.Ack ack ∷ close) = (All-cons IsSpelled (frames.Ack ack) close (ack_spelled time w ack says) behind.0, behind.1) in
     subst (λ (fs : List FrameValue). ArePlain w (fs ++ close)) (sym is) both
-close_plain time w acks false id room kept v (AckPart.none is) few k h =
+close_plain time w most acks true id room kept v (AckPart.left_out ack says long is) few k h =
+    let close : List FrameValue = closing_frame id kept v ∷ [] in
+    subst (λ (fs : List FrameValue). ArePlain w (fs ++ close)) (sym is) (closing_plain w id room kept v few k h)
+close_plain time w most acks false id room kept v (AckPart.none is) few k h =
     let close : List FrameValue = closing_frame id kept v ∷ [] in
     subst (λ (fs : List FrameValue). ArePlain w (fs ++ close)) (sym is) (closing_plain w id room kept v few k h)
 
@@ -214,11 +219,22 @@ space_below w Handshake h = h.1
 space_below w Data h = h.2
 
 -- a packet was sealed with these frames
-sealed_below : (w : Waiting) (id : SpaceId) (fs : List FrameValue) (last : Bool) → IsBelowLimit w → IsSpaceBelowLimit (without_all (space_of w.spaces id) fs) → IsBelowLimit (packet_told (waiting_without w id fs) id last)
+told_below : (w : Waiting) (id : SpaceId) (fs : List FrameValue) (last : Bool) → IsBelowLimit w → IsSpaceBelowLimit (without_all (space_of w.spaces id) fs) → IsBelowLimit (packet_told (waiting_without w id fs) id last)
 unfolding waiting_without packet_told
-sealed_below w Initial fs last h k = (k, h.1, h.2)
-sealed_below w Handshake fs last h k = (h.0, k, h.2)
-sealed_below w Data fs last h k = (h.0, h.1, k)
+told_below w Initial fs last h k = (k, h.1, h.2)
+told_below w Handshake fs last h k = (h.0, k, h.2)
+told_below w Data fs last h k = (h.0, h.1, k)
+
+bundled_below : (w : Waiting) (fs : List FrameValue) (next : ℕ) → IsBelowLimit w → IsBelowLimit (bundle_next w fs next)
+unfolding bundle_next
+bundled_below w fs next h = by_test (list_any is_ack fs)
+  where
+    by_test : (b : Bool) → IsBelowLimit (if b then record w { bundled = Some next } else w)
+    by_test true = h
+    by_test false = h
+
+sealed_below : (w : Waiting) (id : SpaceId) (fs : List FrameValue) (last : Bool) (next : ℕ) → IsBelowLimit w → IsSpaceBelowLimit (without_all (space_of w.spaces id) fs) → IsBelowLimit (bundle_next (packet_told (waiting_without w id fs) id last) fs next)
+sealed_below w id fs last next h k = bundled_below (packet_told (waiting_without w id fs) id last) fs next (told_below w id fs last h k)
 
 -- nothing waits in a space that was left
 nothing_below : (w : SpaceWaiting) → IsSpaceBelowLimit w → IsSpaceBelowLimit (nothing_left w)
@@ -232,7 +248,7 @@ set_below w Handshake x keeps h = (h.0, keeps h.1, h.2)
 set_below w Data x keeps h = (h.0, h.1, keeps h.2)
 
 begun_below : (w : Waiting) (b : Bool) → IsBelowLimit w
-    → IsBelowLimit (if b then w else record { spaces = record { initial = untold w.spaces.initial; handshake = untold w.spaces.handshake; application = untold w.spaces.application }; close_owed = true })
+    → IsBelowLimit (if b then w else record w { spaces = record { initial = untold w.spaces.initial; handshake = untold w.spaces.handshake; application = untold w.spaces.application }; close_owed = true })
 begun_below w true h = h
 begun_below w false h = h
 
@@ -393,14 +409,14 @@ module _ {t : Types} where
   unfolding quiet_after owed_quiet_after killed_after given_after
   quiet_stays a = quiet_by (limit_met a.state) a (is_silent a.state) (owes a.state) (is_blocked a.state.paths) (is_none (move_to (Raise Drained) a).state.life.reason)
 
-  room_below : (s : View t) (id : SpaceId) (acks : List FrameValue) → close_room s id acks < 2 ^ 62
-  unfolding close_room
+  room_below : (s : View t) (id : SpaceId) (acks : List FrameValue) → frame_room s id - length (frames_spelling acks) < 2 ^ 62
+  unfolding frame_room
   room_below s id acks = omega arith
 
   closes_plain : (time : ℕ) (s : View t) (id : SpaceId) (fs : List FrameValue) → Closes time s id fs → IsSpaceBelowLimit (space_of s.waiting.spaces id) → ArePlain (space_of s.waiting.spaces id) fs
   closes_plain time s id fs (Closes.closing acks part kept is_kept is) h =
       let w : SpaceWaiting = space_of s.waiting.spaces id in
-      subst (ArePlain w) (sym is) (close_plain time w acks (may_acknowledge w.acks) id (close_room s id acks) kept s.life part (room_below s id acks) is_kept h)
+      subst (ArePlain w) (sym is) (close_plain time w (frame_room s id - 25) acks (may_acknowledge w.acks) id (frame_room s id - length (frames_spelling acks)) kept s.life part (room_below s id acks) is_kept h)
 
   carried_plain : (time : ℕ) (s : View t) (id : SpaceId) (fs : List FrameValue) → Carries time s id fs → IsSpaceBelowLimit (space_of s.waiting.spaces id) → ArePlain (space_of s.waiting.spaces id) fs
   unfolding padded
@@ -409,7 +425,7 @@ module _ {t : Types} where
       subst (ArePlain w) (sym is) (padded_plain w gs (padding_of s id gs) (closes_plain time s id gs closes h))
   carried_plain time s id fs (Carries.what_waits free gs wait some is) h =
       let w : SpaceWaiting = space_of s.waiting.spaces id in
-      subst (ArePlain w) (sym is) (padded_plain w gs (padding_of s id gs) (frames_spelled time w gs wait h))
+      subst (ArePlain w) (sym is) (padded_plain w gs (padding_of s id gs) (frames_spelled time s.waiting.bundled w gs wait h))
 
   -- leaving the Initial space
   left_by : (time : ℕ) (a : At t) (x : Bool) → let r : At t = if x then armed_with false time (move_to (Forget Initial) a) else a in
@@ -449,33 +465,38 @@ module _ {t : Types} where
   spared_stays time false a = (λ p. p, λ h. h, refl, refl)
 
   -- what a transmit does
-  sealed_plain : (time : ℕ) (id : SpaceId) (fs : List FrameValue) (s : View t) → Carries time s id fs → IsBelowLimit s.waiting
-      → All IsDeedPlain (sealed_in time id fs (at s [])).did × IsBelowLimit (sealed_in time id fs (at s [])).state.waiting
+  sealed_plain : (time : ℕ) (id : SpaceId) (fs : List FrameValue) (begun : At t) → Carries time begun.state id fs → IsBelowLimit begun.state.waiting
+      → (All IsDeedPlain begun.did → All IsDeedPlain (sealed_in time id fs begun).did) × IsBelowLimit (sealed_in time id fs begun).state.waiting
   unfolding sealed_in move_to state_move deeds_move waiting_move keys_move
-  sealed_plain time id fs s carries h =
+  sealed_plain time id fs begun carries h =
+      let s : View t = begun.state in
       let frames = carried_plain time s id fs carries (space_below s.waiting id h) in
-      let taken : At t = move_to (Take id fs) (at s []) in
+      let taken : At t = move_to (Take id fs) begun in
       let a : At t = move_to (Seal time id (next_number s.numbers id) (packet_size s id fs) fs) taken in
       let flown = flown_stays time (is_flown s fs) a in
       let left = initial_stays time id (flown_after time (is_flown s fs) a) in
       let one : Did = deed.Sealed id (next_number s.numbers id) 0 false fs in
-      let plain : All IsDeedPlain (one ∷ []) = All-cons IsDeedPlain one [] ((λ e. refl), frames.0) (All-nil IsDeedPlain) in
-      let below : IsBelowLimit a.state.waiting = sealed_below s.waiting id fs (is_space id s.keys.highest) h frames.1 in
-      (subst (All IsDeedPlain) (sym (left.0 ∙ flown.0)) plain, left.1 (subst IsBelowLimit (sym flown.1) below))
+      let below : IsBelowLimit a.state.waiting = sealed_below s.waiting id fs (is_space id s.keys.highest) _ h frames.1 in
+      (λ p. subst (All IsDeedPlain) (sym (left.0 ∙ flown.0)) (one_more begun.did one ((λ e. refl), frames.0) p), left.1 (subst IsBelowLimit (sym flown.1) below))
 
-  begun_view_below : (s : View t) → IsBelowLimit s.waiting → IsBelowLimit (begun_view s).waiting
-  unfolding begun_view state_move waiting_move
-  begun_view_below s h = datagram_below s.waiting (sending_space s) (first_of (recovery.space_of (sending_space s) s.lower.recovery).flight) h
+  -- a datagram is begun
+  begun_stays : (id : SpaceId) (a : At t) → IsBelowLimit a.state.waiting → IsBelowLimit (begun_after id a).state.waiting
+  unfolding move_to state_move waiting_move
+  begun_stays id a =
+      holds_begun (λ (x y : At t). IsBelowLimit x.state.waiting → IsBelowLimit y.state.waiting) (λ x h. h) (λ x y z f g h. g (f h)) id a
+      (λ x h. datagram_below x.state.waiting id (first_of (recovery.space_of id x.state.lower.recovery).flight) h) (λ x may h. h)
 
   transmit_plain : (time : ℕ) (ds : List Did) (ps : List (List FrameValue)) (s : View t) → packets_of ds ≡ ps → MayTransmit time s ps → ds ≡ (transmit_after time ps (at s [])).did
       → IsBelowLimit s.waiting → All IsDeedPlain ds × IsBelowLimit (transmit_after time ps (at s [])).state.waiting
-  unfolding MayTransmit transmit_after packet_after begun_view move_to deeds_move
+  unfolding MayTransmit transmit_after packet_after begun_view
   transmit_plain time ds [] s names may told h = (unsealed_plain ds names, subst IsBelowLimit (sym (quiet_stays (at s [])).0) h)
   transmit_plain time ds (fs ∷ []) s names may told h =
-      let begun : View t = begun_view s in
-      let sealed = sealed_plain time (sending_space s) fs begun may.carries (begun_view_below s h) in
-      let stays = spared_stays time (is_key_nearly_used_up s) (sealed_in time (sending_space s) fs (at begun [])) in
-      (subst (All IsDeedPlain) (sym told) (stays.0 sealed.0), stays.1 sealed.1)
+      let id : SpaceId = sending_space s in
+      let begun : At t = begun_after id (at s []) in
+      let sealed = sealed_plain time id fs begun may.carries (begun_stays id (at s []) h) in
+      let stays = spared_stays time (is_key_nearly_used_up s) (sealed_in time id fs begun) in
+      let none : All IsDeedPlain begun.did = subst (All IsDeedPlain) (sym (begun_did id (at s []))) (All-nil IsDeedPlain) in
+      (subst (All IsDeedPlain) (sym told) (stays.0 (sealed.0 none)), stays.1 sealed.1)
   transmit_plain time ds (fs ∷ gs ∷ rest) s names may told h = absurd may
 
   transmit_path : (time : ℕ) (ps : List (List FrameValue)) (a : At t) → (transmit_after time ps a).state.paths.remote ≡ a.state.paths.remote
@@ -483,20 +504,21 @@ module _ {t : Types} where
   transmit_path time [] a = (quiet_stays a).1
   transmit_path time (fs ∷ _) a =
       let id : SpaceId = sending_space a.state in
-      let begun : At t = move_to (Begin id) a in
+      let begun : At t = begun_after id a in
       let b : At t = move_to (Seal time id (next_number begun.state.numbers id) (packet_size begun.state id fs) fs) (move_to (Take id fs) begun) in
       let c : At t = flown_after time (is_flown begun.state fs) b in
       (spared_stays time (is_key_nearly_used_up a.state) (initial_left Client false time id c)).2 ∙ ap (λ (p : Paths). p.remote) ((initial_stays time id c).2 ∙ (flown_stays time (is_flown begun.state fs) b).2)
+      ∙ ap (λ (p : Paths). p.remote) (begun_paths id a)
 
   transmit_token : (time : ℕ) (ps : List (List FrameValue)) (a : At t) → (transmit_after time ps a).state.life.reset_token ≡ a.state.life.reset_token
   unfolding transmit_after packet_after sealed_in move_to state_move life_move
   transmit_token time [] a = (quiet_stays a).2
   transmit_token time (fs ∷ _) a =
       let id : SpaceId = sending_space a.state in
-      let begun : At t = move_to (Begin id) a in
+      let begun : At t = begun_after id a in
       let b : At t = move_to (Seal time id (next_number begun.state.numbers id) (packet_size begun.state id fs) fs) (move_to (Take id fs) begun) in
       let c : At t = flown_after time (is_flown begun.state fs) b in
-      (spared_stays time (is_key_nearly_used_up a.state) (initial_left Client false time id c)).3 ∙ ap (λ (v : Life). v.reset_token) ((initial_stays time id c).3 ∙ (flown_stays time (is_flown begun.state fs) b).3)
+      (spared_stays time (is_key_nearly_used_up a.state) (initial_left Client false time id c)).3 ∙ ap (λ (v : Life). v.reset_token) ((initial_stays time id c).3 ∙ (flown_stays time (is_flown begun.state fs) b).3 ∙ begun_life id a)
 
   shut_plain : (time : ℕ) (close : Close) (ds : List Did) (s : View t) (b : Bool) → ds ≡ (if b then move_to (Shut time close) (at s []) else at s []).did
       → IsBelowLimit s.waiting → All IsDeedPlain ds × IsBelowLimit (if b then move_to (Shut time close) (at s []) else at s []).state.waiting
@@ -573,9 +595,10 @@ module _ {t : Types} where
 
   -- what a timer does keeps the same
   keeps_timed : (x : Move t) → IsTimed x → (a : At t) → MayMove x a.state → Keeps a (move_to x a)
-  unfolding MayMove move_to state_move deeds_move waiting_move paths_move life_move life_raised
+  unfolding MayMove move_to state_move deeds_move waiting_move ack_released paths_move life_move life_raised
   keeps_timed (Fire after) r a h = record { deeds = λ p. p; crypto = fired_below a.state.waiting after.fired; path = refl; token = λ p k. k }
   keeps_timed (Arm time) r a h = record { deeds = λ p. p; crypto = λ p. p; path = refl; token = λ p k. k }
+  keeps_timed Release r a h = record { deeds = λ p. p; crypto = λ p. p; path = refl; token = λ p k. k }
   keeps_timed (Raise to) r a h = record { deeds = one_more a.did _ tt; crypto = λ p. p; path = refl; token = λ p k. k }
   keeps_timed (Give why) r a h = record { deeds = one_more a.did _ tt; crypto = λ p. p; path = refl; token = λ p k. same_token a.state.life (reason_given a.state.life why) (given_token a.state.life why) k }
   keeps_timed _ r a h = absurd r
@@ -702,26 +725,26 @@ module _ {t : Types} where
 
 module _ {t : Types} {R : Type 0} where
   -- a client that was just made, and its hello
-  pub first_plain : (m : Meaning t) (session : t.S) (random : R) (fixed : Fixed) (remote : SocketAddr) (first_cid : List ℕ) (transport : TransportValues) (congestion : t.C) (time : ℕ) (v : Held t R) → v ≡ first_view m session random fixed remote first_cid transport congestion time
+  pub first_plain : (stream : R → Stream) (m : Meaning t) (session : t.S) (words : Stream) (fixed : Fixed) (remote : SocketAddr) (first_cid token : List ℕ) (transport : TransportValues) (congestion : t.C) (time : ℕ) (v : Held t R) → ideal stream v ≡ first_view m session words fixed remote first_cid token transport congestion time
       → v.waiting.spaces.initial.crypto.written < 2 ^ 62 → IsPlainAddress remote → IsPlainStart v.waiting v.paths v.life
   unfolding first_view bytes_written nothing
-  first_plain m session random fixed remote first_cid transport congestion time v made hello plain =
-      let after : v.waiting.spaces.handshake.crypto.written ≡ 0 = ap (λ (v : Held t R). v.waiting.spaces.handshake.crypto.written) made in
-      let last : v.waiting.spaces.application.crypto.written ≡ 0 = ap (λ (v : Held t R). v.waiting.spaces.application.crypto.written) made in
-      let path : v.paths.remote ≡ remote = ap (λ (v : Held t R). v.paths.remote) made in
-      let none : v.life.reset_token ≡ None = ap (λ (v : Held t R). v.life.reset_token) made in
+  first_plain stream m session words fixed remote first_cid token transport congestion time v made hello plain =
+      let after : v.waiting.spaces.handshake.crypto.written ≡ 0 = ap (λ (v : View t). v.waiting.spaces.handshake.crypto.written) made in
+      let last : v.waiting.spaces.application.crypto.written ≡ 0 = ap (λ (v : View t). v.waiting.spaces.application.crypto.written) made in
+      let path : v.paths.remote ≡ remote = ap (λ (v : View t). v.paths.remote) made in
+      let none : v.life.reset_token ≡ None = ap (λ (v : View t). v.life.reset_token) made in
       record { crypto = (hello, omega arith, omega arith); address = subst IsPlainAddress (sym path) plain; token = subst (λ (o : Option PeerToken). IfSome o (λ peer. IsPlainAddress peer.remote)) (sym none) tt }
 
   -- a server that was just made
-  pub server_plain : (m : Meaning t) (session : t.S) (random : R) (fixed : Fixed) (remote : SocketAddr) (remote_cid : List ℕ) (validated : Bool) (transport : TransportValues) (congestion : t.C) (time : ℕ) (v : Held t R) → v ≡ server_view m session random fixed remote remote_cid validated transport congestion time
+  pub server_plain : (stream : R → Stream) (m : Meaning t) (session : t.S) (words : Stream) (fixed : Fixed) (remote : SocketAddr) (remote_cid : List ℕ) (validated : Bool) (transport : TransportValues) (congestion : t.C) (time : ℕ) (v : Held t R) → ideal stream v ≡ server_view m session words fixed remote remote_cid validated transport congestion time
       → IsPlainAddress remote → IsPlainStart v.waiting v.paths v.life
   unfolding server_view bytes_written nothing
-  server_plain m session random fixed remote remote_cid validated transport congestion time v made plain =
-      let before : v.waiting.spaces.initial.crypto.written ≡ 0 = ap (λ (v : Held t R). v.waiting.spaces.initial.crypto.written) made in
-      let after : v.waiting.spaces.handshake.crypto.written ≡ 0 = ap (λ (v : Held t R). v.waiting.spaces.handshake.crypto.written) made in
-      let last : v.waiting.spaces.application.crypto.written ≡ 0 = ap (λ (v : Held t R). v.waiting.spaces.application.crypto.written) made in
-      let path : v.paths.remote ≡ remote = ap (λ (v : Held t R). v.paths.remote) made in
-      let none : v.life.reset_token ≡ None = ap (λ (v : Held t R). v.life.reset_token) made in
+  server_plain stream m session words fixed remote remote_cid validated transport congestion time v made plain =
+      let before : v.waiting.spaces.initial.crypto.written ≡ 0 = ap (λ (v : View t). v.waiting.spaces.initial.crypto.written) made in
+      let after : v.waiting.spaces.handshake.crypto.written ≡ 0 = ap (λ (v : View t). v.waiting.spaces.handshake.crypto.written) made in
+      let last : v.waiting.spaces.application.crypto.written ≡ 0 = ap (λ (v : View t). v.waiting.spaces.application.crypto.written) made in
+      let path : v.paths.remote ≡ remote = ap (λ (v : View t). v.paths.remote) made in
+      let none : v.life.reset_token ≡ None = ap (λ (v : View t). v.life.reset_token) made in
       record { crypto = (omega arith, omega arith, omega arith); address = subst IsPlainAddress (sym path) plain; token = subst (λ (o : Option PeerToken). IfSome o (λ peer. IsPlainAddress peer.remote)) (sym none) tt }
 
 -- ---- two runs

@@ -1,6 +1,6 @@
 //! A connection and its calls.
 
-ghost use Rattle.std.specs.Prelude.{◌≡◌, ◌<◌, ◌≤◌, [], true, false, length, None, Err, OnOk, OnErr, IfOk, IfSome};
+ghost use Rattle.std.specs.Prelude.{◌≡◌, ◌<◌, ◌≤◌, [], true, false, length, None, Err, OnOk, OnErr, IfOk, IfSome, unwrap_or, string_bytes};
 ghost use Rattle.qc_text.specs.OneText.{IsPlainAddress, IsPlainStart};
 ghost use Rattle.qc_conn.specs.Opened.{OnDone, lost_of};
 ghost use Rattle.qc_conn.specs.Seen.{Sends};
@@ -58,13 +58,25 @@ impl<U: Suite> Model for Connection<U> {
     ghost view = { λ c. record { core = c.core; failed = c.failed } };
 }
 
+/// A token of this server, taken out of the store; one without bytes where the store has none.
+fn token_of<G: TokenStore>(store: &mut G, server_name: &str) -> Result<Bytes, AllocError>
+    ensures token { IfOk result (λ token. token ≡ unwrap_or (G.taken store.old server_name.now) []) }
+    ensures store { OnOk result (store.new ≡ G.after_take store.old server_name.now) }
+{
+    match store.take(server_name)? {
+        Some(token) => Ok(token),
+        None => Ok(Bytes::new()),
+    }
+}
+
 impl<U: Suite> Connection<U> {
     /// A client's connection, made at `now` of a client's session that has neither read nor written: its hello waits to be
-    /// sealed. So far no token is taken from the store.
+    /// sealed. A token of the server's name is taken out of the store, where there is one, and the connection's Initial packets
+    /// carry it (RFC 9000, 8.1.3).
     ///
     /// # Errors
     ///
-    /// `AllocError` for want of memory alone.
+    /// `AllocError` for want of memory alone. The store may have lost that token then.
     pub fn new_client<G: TokenStore>(
         alloc: Global,
         setup: ClientSetup<U>,
@@ -73,13 +85,13 @@ impl<U: Suite> Connection<U> {
     ) -> Result<Connection<U>, AllocError>
         requires fresh { U.Session.is_fresh setup.session }
         requires client { U.Session.side_of setup.session ≡ Side.Client }
-        ensures made { IfOk result (λ c. c.core ≡ first_view (meaning U.Session.Session U.Session.HeaderKey.HeaderMask U.Session.PacketKey.PacketKey U.Control.Controller.Controller) setup.session setup.random (fixed_of Side.Client setup.version setup.local_cid setup.first_cid setup.local_ip setup.transport.max_idle_timeout setup.transport.crypto_buffer_size setup.grease_quic_bit) setup.remote setup.first_cid setup.transport (U.Control.built setup.control now (first_size setup.transport None)) now) }
+        ensures made { IfOk result (λ c. (ideal U.Random.stream c.core) ≡ first_view (meaning U.Session.Session U.Session.HeaderKey.HeaderMask U.Session.PacketKey.PacketKey U.Control.Controller.Controller) setup.session (U.Random.stream setup.random) (fixed_of Side.Client setup.version setup.local_cid setup.first_cid setup.local_ip setup.transport setup.grease_quic_bit (U.Random.stream setup.random)) setup.remote setup.first_cid (unwrap_or (G.taken store.old (string_bytes setup.server_name)) []) setup.transport (U.Control.built setup.control now (first_size setup.transport None)) now) }
         ensures plain { IsPlainAddress setup.remote → IfOk result (λ c. IsPlainStart c.core.waiting c.core.paths c.core.life) }
         ensures alive { IfOk result (λ c. c.failed ≡ false) }
-        ensures store { store.new ≡ store.old }
+        ensures store { OnOk result (store.new ≡ G.after_take store.old (string_bytes setup.server_name)) }
     {
-        let _store = store;
-        let core = Core::new_client(alloc, setup, now)?;
+        let token = token_of(store, setup.server_name.as_str())?;
+        let core = Core::new_client(alloc, setup, token, now)?;
         Ok(Connection {
             core,
             failed: false,
@@ -98,7 +110,7 @@ impl<U: Suite> Connection<U> {
         now: Instant,
     ) -> Result<Connection<U>, AllocError>
         requires fresh { U.Session.is_fresh setup.session }
-        ensures made { IfOk result (λ c. c.core ≡ server_view (meaning U.Session.Session U.Session.HeaderKey.HeaderMask U.Session.PacketKey.PacketKey U.Control.Controller.Controller) setup.session setup.random (fixed_of Side.Server setup.version setup.local_cid setup.first_cid setup.local_ip setup.transport.max_idle_timeout setup.transport.crypto_buffer_size setup.grease_quic_bit) setup.remote setup.remote_cid setup.validated setup.transport (U.Control.built setup.control now (first_size setup.transport None)) now) }
+        ensures made { IfOk result (λ c. (ideal U.Random.stream c.core) ≡ server_view (meaning U.Session.Session U.Session.HeaderKey.HeaderMask U.Session.PacketKey.PacketKey U.Control.Controller.Controller) setup.session (U.Random.stream setup.random) (fixed_of Side.Server setup.version setup.local_cid setup.first_cid setup.local_ip setup.transport setup.grease_quic_bit (U.Random.stream setup.random)) setup.remote setup.remote_cid setup.validated setup.transport (U.Control.built setup.control now (first_size setup.transport None)) now) }
         ensures plain { IsPlainAddress setup.remote → IfOk result (λ c. IsPlainStart c.core.waiting c.core.paths c.core.life) }
         ensures alive { IfOk result (λ c. c.failed ≡ false) }
     {
@@ -236,9 +248,10 @@ impl<U: Suite> Connection<U> {
 
     /// Timers may have come by `now`: each that has, to that time or an earlier one, does what it is for, in this order. The loss
     /// timer: packets are lost, whose frames wait again, or probes are due (RFC 9002, 6.1.2 and 6.2.4); it is set anew. The idle
-    /// timer: the connection ends at once, for `TimedOut`. The close timer: the connection, which closed before, ends. Afterwards
-    /// neither of these two is left that has come; the loss timer may stand at a time that has come again, as a probe timeout counts
-    /// from the last packet that was sent. In a connection that had ended nothing happens.
+    /// timer: the connection ends at once, for `TimedOut`. The close timer: the connection, which closed before, ends. The timer of an
+    /// ACK that was held back: it is owed at last (RFC 9000, 13.2.1). Afterwards none of these three is left that has come; the loss
+    /// timer may stand at a time that has come again, as a probe timeout counts from the last packet that was sent. In a connection
+    /// that had ended nothing happens.
     ///
     /// # Errors
     ///
@@ -248,6 +261,7 @@ impl<U: Suite> Connection<U> {
         ensures leads { OnOk result ((ideal U.Random.stream self.new.core) ≡ (timeout_after (meaning U.Session.Session U.Session.HeaderKey.HeaderMask U.Session.PacketKey.PacketKey U.Control.Controller.Controller) now (began (ideal U.Random.stream self.old.core) now)).state) }
         ensures idle { OnOk result (is_drained self.old.core.life.state ≡ false → has_come self.new.core.timers.idle now ≡ false) }
         ensures close { OnOk result (is_drained self.old.core.life.state ≡ false → has_come self.new.core.timers.close now ≡ false) }
+        ensures held { OnOk result (is_drained self.old.core.life.state ≡ false → has_come self.new.core.timers.max_ack_delay now ≡ false) }
         ensures alive { OnOk result (self.new.failed ≡ false) }
         ensures failed { self.old.failed ≡ true → (result ≡ Err Fault.Failed) × (self.new ≡ self.old) }
         ensures cause { result ≡ Err Fault.Failed → self.old.failed ≡ true }
@@ -267,8 +281,8 @@ impl<U: Suite> Connection<U> {
 
     /// Seals what is due at `now` into `buf`, which is empty, and says where it goes: at most `max_datagrams` datagrams,
     /// and so far at most one. None exactly where nothing is sealed: the connection had ended, nothing was owed, the path is
-    /// blocked, or a limit is reached, which ends the connection: the key has sealed as many packets as it may, or the
-    /// packet numbers are used up. Behind a packet whose key may seal only one more the connection closes.
+    /// blocked, or a limit is reached, which ends the connection: the key has sealed as many packets as it may, the packet
+    /// numbers are used up, or an Initial packet's token leaves no room for a close. Behind a packet whose key may seal only one more the connection closes.
     ///
     /// # Errors
     ///

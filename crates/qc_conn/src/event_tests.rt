@@ -97,7 +97,7 @@ fn server_session(alloc: Global) -> Option<ToySession>
 }
 
 /// A server made at 0 for a client whose first packet has these ids, on the heap as the clients are.
-#[tactic(auto, unfolding(qc_state::specs::First::server_view, qc_state::specs::Setup::is_first_awaited))]
+#[tactic(auto, unfolding(qc_state::specs::First::server_view, qc_state::specs::Setup::is_first_awaited, qc_state::specs::Setup::ideal_setup))]
 fn server(
     alloc: Global,
     remote: SocketAddr,
@@ -136,7 +136,7 @@ fn server(
 }
 
 /// What a transmit at 2 seals.
-fn sealed(alloc: Global, end: &mut Connection<Toy>) -> Option<Vec<u8>> {
+pub(crate) fn sealed(alloc: Global, end: &mut Connection<Toy>) -> Option<Vec<u8>> {
     let mut buf = Vec::new(alloc);
     match end.poll_transmit(alloc, Instant::from_nanos(2), 1, &mut buf) {
         Ok(Some(_)) => Some(buf),

@@ -16,6 +16,8 @@ mod tests;
 pub mod text;
 #[cfg(test)]
 mod timeout_tests;
+#[cfg(test)]
+mod token_tests;
 
 pub use connection::{Connection, FirstError};
 pub use driving::{BadWhy, DriveError, DriveKind, drive};

@@ -8,7 +8,7 @@ use crate::driving::{DriveKind, drive};
 use crate::laws::text_tells_run;
 use crate::text::trace_text;
 use qc_base::{ConnectionId, Duration, Instant, Side, TransportErrorCode, VarInt};
-use qc_config::{NoneTokenStore, announced};
+use qc_config::{NoneTokenStore, TokenStore, announced};
 use qc_core::ClientSetup;
 use qc_crypto::{ClientConfig, Session};
 use qc_path::NewRenoConfig;
@@ -73,8 +73,20 @@ fn setup(
     })
 }
 
+/// A client made at time 0 for the server of this name, with a token out of the store where there is one.
+pub(crate) fn client_of<G: TokenStore>(
+    alloc: Global,
+    store: &mut G,
+    name: &str,
+) -> Option<Box<Connection<Toy>>> {
+    let mut setup = setup(alloc, ToySettings::default(), TransportConfig::default())?;
+    setup.server_name = String::from_str(alloc, name).ok()?;
+    let client = Connection::new_client(alloc, setup, store, Instant::from_nanos(0)).ok()?;
+    Box::new(alloc, client).ok()
+}
+
 /// A client made at time 0, on the heap: a function that owns a whole connection is slow to check.
-#[tactic(auto, unfolding(qc_state::specs::First::first_view, qc_state::specs::Setup::is_first_awaited))]
+#[tactic(auto, unfolding(qc_state::specs::First::first_view, qc_state::specs::Setup::is_first_awaited, qc_state::specs::Setup::ideal_setup))]
 fn fresh(alloc: Global, setup: ClientSetup<Toy>) -> Result<Box<Connection<Toy>>, AllocError>
     requires fresh { ⟦<ToySession as Session>⟧.is_fresh setup.session }
     requires client { setup.session.side ≡ Side.Client }

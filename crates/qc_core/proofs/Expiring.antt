@@ -1,13 +1,13 @@
--- Behind the timers that came neither the idle timer nor the close timer is left that has come.
+-- Behind the timers that came none is left that has come: not the idle timer, not the close timer, and not that of an ACK.
 use Rattle.std.proofs.Common.{◌≡◌, ℕ, refl, ap, sym, ◌∙◌, subst, Bool, true, false, if◌then◌else◌}
 use Rattle.std.specs.Prelude.{is_none}
 use Rattle.qc_state.specs.declared.life.ConnectionError.{ConnectionError}
 use Rattle.qc_state.specs.declared.life.ConnectionError.TheVariants.{TimedOut}
 use Rattle.qc_state.specs.declared.life.State.TheVariants.{Drained}
-use Rattle.qc_state.specs.Moves.{Give, Raise, state_move, move_to, timers_move}
+use Rattle.qc_state.specs.Moves.{Give, Raise, Release, state_move, move_to, timers_move}
 use Rattle.qc_state.specs.Stopping.{given_after, killed_after}
-use Rattle.qc_state.specs.Timeouts.{idle_expired, close_expired}
-use Rattle.qc_state.specs.Timers.{has_come, timers_stopped}
+use Rattle.qc_state.specs.Timeouts.{idle_expired, close_expired, ack_expired}
+use Rattle.qc_state.specs.Timers.{has_come, timers_stopped, timers_released}
 use Rattle.qc_state.specs.Types.{Types}
 use Rattle.qc_state.specs.View.{At}
 
@@ -47,9 +47,42 @@ module _ {t : Types} where
   unfolding close_expired
   close_gone time a = raised_close time a (has_come a.state.timers.close time) refl
 
-  pub no_idle : (time : ℕ) (b c d : At t) → c ≡ idle_expired time b → d ≡ close_expired time c → has_come d.state.timers.idle time ≡ false
-  no_idle time b c d is_c is_d =
-      subst (λ (x : At t). has_come x.state.timers.idle time ≡ false) (sym (is_d ∙ ap (λ (x : At t). close_expired time x) is_c)) (still_idle time (idle_expired time b) (idle_gone time b))
+  -- the timer of an ACK that was held back leaves both, and isn't left itself
+  released_idle : (time : ℕ) (a : At t) (b : Bool) → has_come a.state.timers.idle time ≡ false → has_come (if b then move_to Release a else a).state.timers.idle time ≡ false
+  unfolding move_to state_move timers_move timers_released
+  released_idle time a true h = h
+  released_idle time a false h = h
 
-  pub no_close : (time : ℕ) (c d : At t) → d ≡ close_expired time c → has_come d.state.timers.close time ≡ false
-  no_close time c d is_d = subst (λ (x : At t). has_come x.state.timers.close time ≡ false) (sym is_d) (close_gone time c)
+  released_close : (time : ℕ) (a : At t) (b : Bool) → has_come a.state.timers.close time ≡ false → has_come (if b then move_to Release a else a).state.timers.close time ≡ false
+  unfolding move_to state_move timers_move timers_released
+  released_close time a true h = h
+  released_close time a false h = h
+
+  released_ack : (time : ℕ) (a : At t) (b : Bool) → has_come a.state.timers.max_ack_delay time ≡ b → has_come (if b then move_to Release a else a).state.timers.max_ack_delay time ≡ false
+  unfolding move_to state_move timers_move timers_released
+  released_ack time a true h = refl
+  released_ack time a false h = h
+
+  idle_stays : (time : ℕ) (a : At t) → has_come a.state.timers.idle time ≡ false → has_come (ack_expired time a).state.timers.idle time ≡ false
+  unfolding ack_expired
+  idle_stays time a h = released_idle time a (has_come a.state.timers.max_ack_delay time) h
+
+  close_stays : (time : ℕ) (a : At t) → has_come a.state.timers.close time ≡ false → has_come (ack_expired time a).state.timers.close time ≡ false
+  unfolding ack_expired
+  close_stays time a h = released_close time a (has_come a.state.timers.max_ack_delay time) h
+
+  ack_gone : (time : ℕ) (a : At t) → has_come (ack_expired time a).state.timers.max_ack_delay time ≡ false
+  unfolding ack_expired
+  ack_gone time a = released_ack time a (has_come a.state.timers.max_ack_delay time) refl
+
+  pub no_idle : (time : ℕ) (b c d e : At t) → c ≡ idle_expired time b → d ≡ close_expired time c → e ≡ ack_expired time d → has_come e.state.timers.idle time ≡ false
+  no_idle time b c d e is_c is_d is_e =
+      subst (λ (x : At t). has_come x.state.timers.idle time ≡ false) (sym (is_e ∙ ap (λ (x : At t). ack_expired time x) (is_d ∙ ap (λ (x : At t). close_expired time x) is_c)))
+      (idle_stays time (close_expired time (idle_expired time b)) (still_idle time (idle_expired time b) (idle_gone time b)))
+
+  pub no_close : (time : ℕ) (c d e : At t) → d ≡ close_expired time c → e ≡ ack_expired time d → has_come e.state.timers.close time ≡ false
+  no_close time c d e is_d is_e =
+      subst (λ (x : At t). has_come x.state.timers.close time ≡ false) (sym (is_e ∙ ap (λ (x : At t). ack_expired time x) is_d)) (close_stays time (close_expired time c) (close_gone time c))
+
+  pub no_ack : (time : ℕ) (d e : At t) → e ≡ ack_expired time d → has_come e.state.timers.max_ack_delay time ≡ false
+  no_ack time d e is_e = subst (λ (x : At t). has_come x.state.timers.max_ack_delay time ≡ false) (sym is_e) (ack_gone time d)

@@ -17,3 +17,5 @@ mod Acknowledges
 mod Fitting
 mod Handed
 mod Expiring
+mod Drawing
+mod Skips

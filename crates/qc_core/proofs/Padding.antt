@@ -26,17 +26,17 @@ same_error : (e : TransportError) (type : Option ℕ) → e.code ≡ 7 → e.fra
 same_error e type c f = λ i. record { code = c i; frame = f i }
 
 -- PADDING stops nothing
-no_stop : (side : Side) (id : SpaceId) (next type : ℕ) → stop_in side id next type frames.Padding ≡ None
-no_stop side Initial next type = refl
-no_stop side Handshake next type = refl
-no_stop side «Data» next type = refl
+no_stop : (side : Side) (id : SpaceId) (next : ℕ) (skipped : Option ℕ) (type : ℕ) → stop_in side id next skipped type frames.Padding ≡ None
+no_stop side Initial next skipped type = refl
+no_stop side Handshake next skipped type = refl
+no_stop side «Data» next skipped type = refl
 
 module _ {t : Types} (m : Meaning t) (time : ℕ) (space : SpaceId) where
   padding_does_nothing : (n : ℕ) (items : List Item) (close : Option ConnectionError) (a : At t) → items_after m time space (replicate n padding_item ++ items) close a ≡ items_after m time space items close a
   unfolding applied_after
   padding_does_nothing zero items close a = refl
   padding_does_nothing (suc n) items close a =
-      ap (λ (stop : Option TransportError). frame_and m time space (record { ty = 0; frame = frames.Padding }) stop (items_after m time space (replicate n padding_item ++ items) close) a) (no_stop a.state.setup.fixed.side space (next_number a.state.numbers space) 0)
+      ap (λ (stop : Option TransportError). frame_and m time space (record { ty = 0; frame = frames.Padding }) stop (items_after m time space (replicate n padding_item ++ items) close) a) (no_stop a.state.setup.fixed.side space (next_number a.state.numbers space) a.state.numbers.filter.last 0)
       ∙ padding_does_nothing n items close a
 
   -- what is left behind a run of PADDING

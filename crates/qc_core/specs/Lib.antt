@@ -3,3 +3,4 @@ pub mod Cutting
 pub mod Reading
 pub mod Events
 pub mod FirstPacket
+pub mod Drawing

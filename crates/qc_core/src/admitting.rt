@@ -1,12 +1,13 @@
 //! What a packet does that opened, by its verdict, and what its frames do.
 
-ghost use Rattle.std.specs.Prelude.{◌≡◌, ◌∷◌, [], true, false, Option, Some, None, nat_le, if◌then◌else◌, OnOk, IfOk};
+ghost use Rattle.std.specs.Prelude.{◌≡◌, ◌∷◌, [], true, false, Option, Some, None, ◌||◌, ◌&&◌, nat_le, if◌then◌else◌, OnOk, IfOk};
 ghost use Rattle.std.specs.List.{All, list_any};
 ghost use Rattle.qc_core.specs.Behind.{Leads};
 ghost use Rattle.qc_frame.specs.Frame.{ack_map, borrowed, typed};
 ghost use Rattle.qc_frame.specs.FrameFits.{Fits};
 ghost use Rattle.qc_frame.specs.FrameSpelling.{spelling};
 ghost use Rattle.qc_frame.specs.Payload.{items_of};
+ghost use Rattle.qc_state.specs.Acks.{acknowledges, acknowledges_any};
 ghost use Rattle.qc_state.specs.Numbers.{next_number};
 ghost use Rattle.qc_state.specs.Receiving.{accepted_after, acked_after, admitted_after, applied_after, close_and, close_given, closed_in_data, confirmed_after, data_stop, done_stop, end_after, fixed_after, fixes_peer, frame_and, frame_stop, is_close_item, is_eliciting_item, items_after, left_after, payload_after, read_and, read_for_close, reason_of, received_after, stop_in, taken_and};
 ghost use Rattle.qc_state.specs.Stopping.{stopped_after, violation_at};
@@ -16,7 +17,9 @@ ghost use Rattle.qc_state.specs.View.{At, ideal, held};
 
 use crate::state::Core;
 use bytes::Bytes;
-use qc_base::{ConnectionId, Instant, Side, SpaceId, TransportError, TransportErrorCode};
+use qc_base::{
+    ConnectionId, Instant, NumberRange, Side, SpaceId, TransportError, TransportErrorCode,
+};
 use qc_frame::{Ack, Frame, FrameOf, Iter, TypedFrame, put_frame};
 use qc_state::spaces::is_space;
 use qc_state::{
@@ -53,6 +56,46 @@ fn ack_stop(next: u64, largest: u64) -> Option<TransportError>
     None
 }
 
+/// Whether a number is one of a range.
+fn is_within(range: NumberRange, number: u64) -> bool
+    ensures { result ≡ (nat_le range.first number && nat_le number range.last) }
+{
+    range.first <= number && number <= range.last
+}
+
+/// Whether an ACK acknowledges a number.
+fn acknowledges(ack: &Ack<'_>, number: u64) -> bool
+    ensures { result ≡ acknowledges (ack_map (λ bytes. bytes.now) ack.now) number }
+{
+    for range in ack.ranges() {
+        if is_within(range, number) {
+            return true;
+        }
+    }
+    false
+}
+
+/// Whether it acknowledges this number, where there is one.
+fn acknowledges_any(ack: &Ack<'_>, number: Option<u64>) -> bool
+    ensures { result ≡ acknowledges_any (ack_map (λ bytes. bytes.now) ack.now) number }
+{
+    match number {
+        None => false,
+        Some(number) => acknowledges(ack, number),
+    }
+}
+
+/// The error with which an ACK stops a 1-RTT packet, if it does: it also does where it acknowledges the number that was skipped last
+/// (RFC 9000, 21.4).
+fn data_ack_stop(next: u64, skipped: Option<u64>, ack: &Ack<'_>) -> Option<TransportError>
+    ensures { result ≡ (if nat_le next ack.now.largest || acknowledges_any (ack_map (λ bytes. bytes.now) ack.now) skipped then Some (violation_at None) else None) }
+{
+    if acknowledges_any(ack, skipped) {
+        return Some(error_at(TransportErrorCode::PROTOCOL_VIOLATION, None));
+    }
+    ack_stop(next, ack.largest)
+}
+
 /// The error with which a frame of this type stops an Initial or Handshake packet by its kind, if it does, where this end's
 /// next number is `next`.
 fn frame_stop(next: u64, ty: u64, frame: &Frame<'_>) -> Option<TransportError>
@@ -79,9 +122,16 @@ fn done_stop(side: Side, ty: u64) -> Option<TransportError>
     }
 }
 
-/// The same in a 1-RTT packet that an end of this side receives: frames of kinds that aren't taken so far stop it.
-fn data_stop(side: Side, next: u64, ty: u64, frame: &Frame<'_>) -> Option<TransportError>
-    ensures { result ≡ data_stop side next ty (borrowed frame.now) }
+/// The same in a 1-RTT packet that an end of this side receives, which skipped the number `skipped` last: an ACK of that number stops
+/// it, and frames of kinds that aren't taken so far do.
+fn data_stop(
+    side: Side,
+    next: u64,
+    skipped: Option<u64>,
+    ty: u64,
+    frame: &Frame<'_>,
+) -> Option<TransportError>
+    ensures { result ≡ data_stop side next skipped ty (borrowed frame.now) }
 {
     match frame {
         FrameOf::Padding
@@ -90,7 +140,7 @@ fn data_stop(side: Side, next: u64, ty: u64, frame: &Frame<'_>) -> Option<Transp
         | FrameOf::ConnectionClose { .. }
         | FrameOf::ApplicationClose { .. } => None,
         FrameOf::HandshakeDone => done_stop(side, ty),
-        FrameOf::Ack(ack) => ack_stop(next, ack.largest),
+        FrameOf::Ack(ack) => data_ack_stop(next, skipped, ack),
         _ => Some(error_at(TransportErrorCode::INTERNAL_ERROR, Some(ty))),
     }
 }
@@ -100,14 +150,15 @@ fn stop_in(
     side: Side,
     space: SpaceId,
     next: u64,
+    skipped: Option<u64>,
     ty: u64,
     frame: &Frame<'_>,
 ) -> Option<TransportError>
-    ensures { result ≡ stop_in side space next ty (borrowed frame.now) }
+    ensures { result ≡ stop_in side space next skipped ty (borrowed frame.now) }
 {
     match space {
         SpaceId::Initial | SpaceId::Handshake => frame_stop(next, ty, frame),
-        SpaceId::Data => data_stop(side, next, ty, frame),
+        SpaceId::Data => data_stop(side, next, skipped, ty, frame),
     }
 }
 
@@ -391,10 +442,12 @@ impl<U: Suite> Core<U> {
         read: &TypedFrame<'_>,
     ) -> Result<Behind, AllocError>
         requires { Fits (borrowed read.now.frame) }
-        ensures { IfOk result (λ behind. (close : Option ConnectionError) → Leads behind close (λ others. frame_and (meaning U.Session.Session U.Session.HeaderKey.HeaderMask U.Session.PacketKey.PacketKey U.Control.Controller.Controller) now space (typed read.now) (stop_in self.old.setup.fixed.side space (next_number self.old.numbers space) read.now.ty (borrowed read.now.frame)) (others close) (held U.Random.stream self.old did.old)) (held U.Random.stream self.new did.new)) }
+        ensures { IfOk result (λ behind. (close : Option ConnectionError) → Leads behind close (λ others. frame_and (meaning U.Session.Session U.Session.HeaderKey.HeaderMask U.Session.PacketKey.PacketKey U.Control.Controller.Controller) now space (typed read.now) (stop_in self.old.setup.fixed.side space (next_number self.old.numbers space) self.old.numbers.filter.last read.now.ty (borrowed read.now.frame)) (others close) (held U.Random.stream self.old did.old)) (held U.Random.stream self.new did.new)) }
     {
         let side = self.setup.fixed.side;
-        if let Some(error) = stop_in(side, space, self.numbers.next(space), read.ty, &read.frame) {
+        let next = self.numbers.next(space);
+        let skipped = self.numbers.skipped();
+        if let Some(error) = stop_in(side, space, next, skipped, read.ty, &read.frame) {
             self.stopped(did, now, error)?;
             return Ok(Behind::Ends);
         }

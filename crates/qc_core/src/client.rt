@@ -4,9 +4,11 @@ ghost use Rattle.std.specs.Prelude.{◌≡◌, ◌<◌, ◌^◌, None, length, I
 ghost use Rattle.qc_state.specs.First.{first_view, fixed_of};
 ghost use Rattle.qc_recovery.specs.Paths.{first_size};
 ghost use Rattle.qc_state.specs.Types.{meaning};
+ghost use Rattle.qc_state.specs.View.{ideal};
 
-use crate::making::{fixed, made};
+use crate::making::{Given, made};
 use crate::state::Core;
+use bytes::Bytes;
 use qc_base::{ConnectionId, Duration, Instant, Side};
 use qc_path::ControllerFactory;
 use qc_recovery::{TransportConfig, first_mtu};
@@ -48,31 +50,32 @@ pub struct ClientSetup<U: Suite> {
 }
 
 impl<U: Suite> Core<U> {
-    /// A client's connection: its hello waits in the Initial space. Want of memory is the only refusal.
+    /// A client's connection: its hello waits in the Initial space, and its Initial packets carry this token, which is empty where
+    /// the client has none (RFC 9000, 8.1). Want of memory is the only refusal.
     #[tactic(auto, unfolding(qc_state::specs::First::first_view))]
     pub fn new_client(
         alloc: Global,
         setup: ClientSetup<U>,
+        token: Bytes,
         now: Instant,
     ) -> Result<Core<U>, AllocError>
         requires fresh { U.Session.is_fresh setup.session }
         requires client { U.Session.side_of setup.session ≡ Side.Client }
-        ensures made { IfOk result (λ core. core ≡ first_view (meaning U.Session.Session U.Session.HeaderKey.HeaderMask U.Session.PacketKey.PacketKey U.Control.Controller.Controller) setup.session setup.random (fixed_of Side.Client setup.version setup.local_cid setup.first_cid setup.local_ip setup.transport.max_idle_timeout setup.transport.crypto_buffer_size setup.grease_quic_bit) setup.remote setup.first_cid setup.transport (U.Control.built setup.control now (first_size setup.transport None)) now) }
+        ensures made { IfOk result (λ core. (ideal U.Random.stream core) ≡ first_view (meaning U.Session.Session U.Session.HeaderKey.HeaderMask U.Session.PacketKey.PacketKey U.Control.Controller.Controller) setup.session (U.Random.stream setup.random) (fixed_of Side.Client setup.version setup.local_cid setup.first_cid setup.local_ip setup.transport setup.grease_quic_bit (U.Random.stream setup.random)) setup.remote setup.first_cid token setup.transport (U.Control.built setup.control now (first_size setup.transport None)) now) }
         ensures hello { IfOk result (λ core. core.waiting.spaces.initial.crypto.written < 2 ^ 62) }
     {
         let mut session = SoundSession::new(setup.session);
         let keys = SpaceKeys::new(session.initial_keys(&setup.first_cid, Side::Client));
         let mut hello = Vec::new(alloc);
         session.write(&mut hello)?;
-        let fixed = fixed(
-            Side::Client,
-            setup.version,
-            setup.local_cid,
-            setup.first_cid,
-            setup.local_ip,
-            &setup.transport,
-            setup.grease_quic_bit,
-        );
+        let given = Given {
+            side: Side::Client,
+            version: setup.version,
+            local_cid: setup.local_cid,
+            first_cid: setup.first_cid,
+            local_ip: setup.local_ip,
+            grease_quic_bit: setup.grease_quic_bit,
+        };
         let congestion = setup.control.build(now, first_mtu(&setup.transport, None));
         let paths = Paths {
             remote: setup.remote,
@@ -89,8 +92,9 @@ impl<U: Suite> Core<U> {
             keys,
             session,
             hello,
+            token,
             setup.random,
-            fixed,
+            given,
             paths,
             &setup.transport,
             congestion,

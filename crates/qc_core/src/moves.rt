@@ -1,8 +1,9 @@
 //! The moves of a connection, one function each.
 
-ghost use Rattle.std.specs.Prelude.{◌≡◌, ◌+◌, ◌<◌, ◌≤◌, ◌^◌, ◌==◌, Err, length, not, if◌then◌else◌, OnOk, OnErr, IfOk};
+ghost use Rattle.std.specs.Prelude.{◌≡◌, ◌+◌, ◌<◌, ◌≤◌, ◌^◌, ◌==◌, Err, true, length, not, if◌then◌else◌, OnOk, OnErr, IfOk};
 ghost use Rattle.qc_assembler.specs.Assembly.{inserted, part_count};
-ghost use Rattle.qc_state.specs.Acks.{AckPart, may_acknowledge};
+ghost use Rattle.qc_core.specs.Drawing.{sealed_drawn};
+ghost use Rattle.qc_state.specs.Acks.{AckPart, is_ack, may_acknowledge};
 ghost use Rattle.qc_state.specs.Life.{ready_event, connected_event, lost_event, token_event, wanted_event, drained_event};
 ghost use Rattle.qc_state.specs.Lower.{packet_flown, ready_bytes, stream_of};
 ghost use Rattle.qc_frame.specs.Frame.{ack_map};
@@ -11,11 +12,13 @@ ghost use Rattle.qc_frame.specs.FrameSpelling.{elicits};
 ghost use Rattle.qc_frame.specs.declared.frames.FrameOf.TheVariants as frames;
 ghost use Rattle.std.specs.List.{list_any};
 ghost use Rattle.qc_state.specs.Flight.{flown_packet};
-ghost use Rattle.qc_state.specs.Moves.{Clock, Ask, Take, Seal, Forget, Expect, Enter, Fail, Accept, Fix, Hear, Ack, Fire, Arm, Begin, Come, Ready, Token, Learn, Want, Confirm, Establish, Tell, Drain, Leave, Owe, Shut, Raise, Give, Say, ReportReady, ReportConnected, ReportLost, ReportToken, ReportWanted, ReportDrained, move_to, state_move};
+ghost use Rattle.qc_state.specs.Moves.{Clock, Ask, Take, Forget, Expect, Enter, Fail, Accept, Fix, Hear, Ack, Fire, Arm, Begin, Come, Ready, Release, Skip, Token, Learn, Want, Confirm, Establish, Tell, Drain, Leave, Owe, Shut, Raise, Give, Say, ReportReady, ReportConnected, ReportLost, ReportToken, ReportWanted, ReportDrained, move_to, state_move, tells_congestion};
+ghost use Rattle.qc_base.specs.declared.side.SpaceId.TheVariants.{«Data»};
+ghost use Rattle.qc_state.specs.Numbers.{is_skipped};
 ghost use Rattle.qc_state.specs.Recovering.{fired_by, probe_timeout_now, settled_by};
 ghost use Rattle.qc_state.specs.Setup.{idle_limit_now};
 ghost use Rattle.qc_state.specs.Spaces.{space_of};
-ghost use Rattle.qc_state.specs.Timers.{timers_sealed};
+ghost use Rattle.qc_state.specs.Timers.{timers_acking, timers_sealed};
 ghost use Rattle.qc_state.specs.Types.{meaning};
 ghost use Rattle.qc_state.specs.View.{ideal, held};
 ghost use Rattle.qc_state.specs.Waiting.{TakenPart};
@@ -24,19 +27,30 @@ use crate::recovering::shows_validated;
 use crate::state::Core;
 use bytes::Bytes;
 use qc_assembler::InsertError;
-use qc_base::{ConnectionId, Instant, ResetToken, SpaceId};
+use qc_base::{ConnectionId, EcnCodepoint, Instant, ResetToken, SpaceId};
 use qc_frame::{Ack, FrameList};
 use qc_params::TransportParameters;
-use qc_path::Arrival;
+use qc_path::{Arrival, next_bundled_ack_time};
 use qc_state::flight::flown_packet;
 use qc_state::spaces::is_space;
+use qc_state::waiting::holds_ack;
 use qc_state::{
     Body, Close, ConnectionError, Did, Dids, EndpointEvent, Event, Layer, Quiet, Signs, State,
     Suite, Verdict,
 };
 use std::alloc::{AllocError, Global};
 
-#[tactic(auto, unfolding(qc_state::specs::Moves::move_to, qc_state::specs::Moves::state_move, qc_state::specs::Moves::numbers_move, qc_state::specs::Moves::keys_move, qc_state::specs::Moves::life_move, qc_state::specs::Moves::paths_move, qc_state::specs::Moves::timers_move, qc_state::specs::Moves::waiting_move, qc_state::specs::Moves::setup_move, qc_state::specs::Moves::lower_move, qc_state::specs::Moves::deeds_move, qc_state::specs::Setup::ideal_setup, qc_state::specs::Setup::idle_limit_now, qc_state::specs::Setup::parameters_known, qc_state::specs::Setup::token_expected, qc_state::specs::Lower::session_wrote), using(qc_state::proofs::Arrivals::came_accepted))]
+/// Whether a mark tells of congestion (RFC 3168).
+fn tells_congestion(mark: Option<EcnCodepoint>) -> bool
+    ensures { result ≡ tells_congestion mark }
+{
+    match mark {
+        Some(EcnCodepoint::Ce) => true,
+        _ => false,
+    }
+}
+
+#[tactic(auto, unfolding(qc_state::specs::Moves::move_to, qc_state::specs::Moves::state_move, qc_state::specs::Moves::numbers_move, qc_state::specs::Moves::keys_move, qc_state::specs::Moves::life_move, qc_state::specs::Moves::paths_move, qc_state::specs::Moves::timers_move, qc_state::specs::Moves::waiting_move, qc_state::specs::Moves::setup_move, qc_state::specs::Moves::lower_move, qc_state::specs::Moves::deeds_move, qc_state::specs::Setup::ideal_setup, qc_state::specs::Setup::idle_limit_now, qc_state::specs::Setup::parameters_known, qc_state::specs::Setup::token_expected, qc_state::specs::Lower::session_wrote, crate::specs::Drawing::sealed_drawn), using(qc_state::proofs::Arrivals::came_accepted))]
 impl<U: Suite> Core<U> {
     /// The connection is told a time.
     pub(crate) fn do_clock(&mut self, now: Instant)
@@ -60,35 +74,36 @@ impl<U: Suite> Core<U> {
         space: SpaceId,
         room: usize,
     ) -> Result<FrameList, AllocError>
-        ensures frames { IfOk result (λ frames. TakenPart now (space_of self.old.waiting.spaces space) room frames) }
+        ensures frames { IfOk result (λ frames. TakenPart now self.old.waiting.bundled (space_of self.old.waiting.spaces space) room frames) }
         ensures leads { IfOk result (λ frames. (ideal U.Random.stream self.new) ≡ state_move (Take space frames) (ideal U.Random.stream self.old)) }
-        ensures most { OnOk result (length (space_of self.old.waiting.spaces space).acks.ranges ≤ 64) }
     {
         self.waiting.take(alloc, now, space, room)
     }
 
-    /// The ACK leaves what waits, where there is something to acknowledge.
+    /// The ACK leaves what waits, where there is something to acknowledge and so much room for it.
     pub(crate) fn do_take_ack(
         &mut self,
         alloc: Global,
         now: Instant,
         space: SpaceId,
+        room: usize,
     ) -> Result<FrameList, AllocError>
-        ensures frames { IfOk result (λ frames. AckPart now (space_of self.old.waiting.spaces space) frames (may_acknowledge (space_of self.old.waiting.spaces space).acks)) }
+        ensures frames { IfOk result (λ frames. AckPart now (space_of self.old.waiting.spaces space) room frames (may_acknowledge (space_of self.old.waiting.spaces space).acks)) }
         ensures leads { IfOk result (λ frames. (ideal U.Random.stream self.new) ≡ state_move (Take space frames) (ideal U.Random.stream self.old)) }
-        ensures most { OnOk result (length (space_of self.old.waiting.spaces space).acks.ranges ≤ 64) }
     {
-        self.waiting.take_ack(alloc, now, space)
+        self.waiting.take_ack(alloc, now, space, room)
     }
 
-    /// A packet with these frames is to be sealed: one that elicits an acknowledgement sets the idle timer.
+    /// A packet with these frames is to be sealed: one that elicits an acknowledgement sets the idle timer, and behind one with an
+    /// ACK none is held back.
     fn time_packet(&mut self, now: Instant, space: SpaceId, frames: &FrameList)
-        ensures { self.new ≡ record self.old { timers = if list_any elicits frames.now then timers_sealed self.old.timers (idle_limit_now self.old.setup) (probe_timeout_now (ideal U.Random.stream self.old) space) now else self.old.timers } }
+        ensures { self.new ≡ record self.old { timers = timers_acking (if list_any elicits frames.now then timers_sealed self.old.timers (idle_limit_now self.old.setup) (probe_timeout_now (ideal U.Random.stream self.old) space) now else self.old.timers) (list_any is_ack frames.now) } }
     {
         if frames.elicits() {
             let probe = self.probe_timeout(space);
             self.timers.sealed(self.setup.idle_limit(), probe, now);
         }
+        self.timers.acknowledging(holds_ack(frames));
     }
 
     /// A packet with these frames is in flight from now on, unless a close is owed. Want of memory is the only refusal.
@@ -110,7 +125,7 @@ impl<U: Suite> Core<U> {
         self.lower.fly(space, number, packet)
     }
 
-    /// A packet is sealed.
+    /// A packet is sealed, for which all was drawn before.
     pub(crate) fn do_seal(
         &mut self,
         alloc: Global,
@@ -122,8 +137,9 @@ impl<U: Suite> Core<U> {
         frames: FrameList,
     ) -> Result<(), AllocError>
         requires { number < 2 ^ 62 }
-        ensures { OnOk result ((held U.Random.stream self.new did.new) ≡ move_to (Seal now space number size frames) (held U.Random.stream self.old did.old)) }
+        ensures { OnOk result ((held U.Random.stream self.new did.new) ≡ sealed_drawn now space number size frames (held U.Random.stream self.old did.old)) }
     {
+        let next = next_bundled_ack_time(now, self.lower.path.rtt.get(), self.setup.peer_delay());
         self.time_packet(now, space, &frames);
         self.fly(alloc, now, space, number, size, &frames)?;
         let last = is_space(space, self.keys.highest);
@@ -131,7 +147,16 @@ impl<U: Suite> Core<U> {
         self.keys.used(space);
         self.paths.sent(size);
         self.waiting.tell(space, last);
+        self.waiting.bundle_next(&frames, next);
         did.push_sealed(space, number, frames)
+    }
+
+    /// The next number of 1-RTT packets is skipped; the one that is skipped behind it is drawn.
+    pub(crate) fn do_skip(&mut self)
+        requires { is_skipped self.old.numbers Data ≡ true }
+        ensures { (ideal U.Random.stream self.new) ≡ state_move Skip (ideal U.Random.stream self.old) }
+    {
+        self.numbers.skip(&mut self.setup.random);
     }
 
     /// The keys of a space are dropped.
@@ -191,13 +216,14 @@ impl<U: Suite> Core<U> {
             number,
             at: now,
             ack_eliciting: eliciting,
-            ce: false,
+            ce: tells_congestion(signs.mark),
         };
         let came = self.numbers.came(space);
-        self.waiting.came(space, came, &packet, signs.mark);
+        let holds = self.waiting.came(space, came, &packet, signs.mark);
         self.paths.accepted(space, verdict);
         self.paths.spun(self.setup.fixed.side, greatest, signs.spin);
         self.timers.accepted(self.setup.idle_limit(), probe, now);
+        self.timers.hold(holds, now);
         did.push_piece(Some(space), Some(number), verdict)
     }
 
@@ -249,6 +275,14 @@ impl<U: Suite> Core<U> {
         let around = self.around(blocked, false);
         let fired = self.lower.fire(now, &around)?;
         self.waiting.fire(fired)
+    }
+
+    /// The ACK that was held back is owed.
+    pub(crate) fn do_release(&mut self)
+        ensures { (ideal U.Random.stream self.new) ≡ state_move Release (ideal U.Random.stream self.old) }
+    {
+        self.timers.release();
+        self.waiting.release();
     }
 
     /// The loss timer is set to a time, or stopped.

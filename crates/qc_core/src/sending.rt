@@ -1,6 +1,8 @@
 //! The calls that sending needs.
 
-ghost use Rattle.std.specs.Prelude.{◌≡◌, ◌+◌, ◌-◌, ◌<◌, ◌≤◌, ◌^◌, ◌++◌, [], ◌∷◌, true, Some, None, IsSome, if◌then◌else◌, length, replicate, OnOk, IfOk};
+ghost use Rattle.std.specs.Prelude.{◌≡◌, ◌+◌, ◌-◌, ◌<◌, ◌≤◌, ◌^◌, ◌++◌, ◌||◌, [], ◌∷◌, true, false, Some, None, IsSome, if◌then◌else◌, length, replicate, OnOk, IfOk};
+ghost use Rattle.qc_core.specs.Drawing.{drawn_for, header_with, token_bytes, token_in};
+ghost use Rattle.qc_base.specs.declared.side.SpaceId.TheVariants.{Initial};
 ghost use Rattle.qc_frame.specs.Frame.{owned};
 ghost use Rattle.qc_frame.specs.FrameSpelling.{frames_spelling};
 ghost use Rattle.qc_frame.specs.declared.frames.FrameOf.TheVariants.{Padding};
@@ -8,11 +10,11 @@ ghost use Rattle.qc_packet.specs.Building.{padded_size};
 ghost use Rattle.qc_packet.specs.PacketSpelling.{padding_len};
 ghost use Rattle.qc_header.specs.HeaderSpelling.{header_spelling, header_number};
 ghost use Rattle.qc_state.specs.Keys.{keys_of, reaches_limit};
-ghost use Rattle.qc_state.specs.Moves.{Take, Seal, Begin, move_to, state_move};
+ghost use Rattle.qc_state.specs.Moves.{Take, Seal, move_to, state_move};
 ghost use Rattle.qc_state.specs.Numbers.{next_number, acked_number};
-ghost use Rattle.qc_state.specs.Sending.{internal_error, told_code, told_type, told_application_code, application_close, closing_frame, IsKeptReason, TakenNow, close_frame, is_silent, owes, owes_in, sending_space, is_used_up, limited_keys, is_key_used_up, is_key_nearly_used_up, limit_met, spared_after, may_be_quiet, owed_quiet_after, quiet_after, header_in, fills, least_size, leaves_initial, drops_initial, initial_left, sealed_with, transmit_with};
+ghost use Rattle.qc_state.specs.Sending.{internal_error, told_code, told_type, told_application_code, application_close, closing_frame, IsKeptReason, TakenNow, close_frame, is_silent, owes, owes_in, sending_space, is_used_up, limited_keys, is_key_used_up, is_key_nearly_used_up, flips_now, header_in, frame_room, is_token_too_long, limit_met, spared_after, may_be_quiet, owed_quiet_after, quiet_after, begun_after, skipped_after, fills, packet_size, least_size, padded, packet_bytes, is_flown, leaves_initial, drops_initial, initial_left, sealed_with, transmit_with};
 ghost use Rattle.qc_state.specs.Stopping.{given_after, key_limit_error, killed_after};
-ghost use Rattle.qc_state.specs.Spaces.{space_of};
+ghost use Rattle.qc_state.specs.Spaces.{is_space, space_of};
 ghost use Rattle.qc_state.specs.Types.{meaning};
 ghost use Rattle.qc_state.specs.View.{ideal, held};
 
@@ -20,13 +22,20 @@ use crate::state::Core;
 use bytes::Bytes;
 use qc_base::{
     EcnCodepoint, Instant, LongType, PacketNumber, Side, SpaceId, TransportError,
-    TransportErrorCode, VarInt,
+    TransportErrorCode, VarInt, varint_size,
 };
 use qc_frame::{FrameList, FrameOf, OwnedFrame, fit_application_reason};
 use qc_header::{Header, InitialHeader};
 use qc_packet::{NUMBER_LIMIT, seal_padded};
+use qc_state::spaces::is_space;
 use qc_state::{Close, ConnectionError, DATAGRAM_SIZE, Dids, Quiet, State, Suite, Transmit};
 use std::alloc::{AllocError, Global};
+
+/// The size of a packet's tag, in bytes (RFC 9001, 5.3).
+const TAG: usize = 16;
+
+/// The size of the greatest close without a reason, in bytes.
+const GREATEST_CLOSE: usize = 25;
 
 /// The greatest packet number, which is never used (RFC 9000, 12.3).
 const GREATEST_NUMBER: u64 = (1 << 62) - 1;
@@ -141,6 +150,17 @@ fn room_left(alloc: Global, room: usize, frames: &FrameList) -> Result<usize, Al
     Ok(room.saturating_sub(bytes.len()))
 }
 
+/// How many bytes a token adds to the header of a packet of this space: its own, and those of its length beyond the
+/// one that an empty token has.
+fn token_bytes(space: SpaceId, token: &[u8]) -> usize
+    ensures { result ≡ token_bytes space token.now }
+{
+    match space {
+        SpaceId::Initial => varint_size(token.len() as u64) - 1 + token.len(),
+        SpaceId::Handshake | SpaceId::Data => 0,
+    }
+}
+
 impl<U: Suite> Core<U> {
     /// Whether nothing is sent any more.
     #[tactic(auto, unfolding(qc_state::specs::Sending::is_silent))]
@@ -197,7 +217,7 @@ impl<U: Suite> Core<U> {
         ensures { result ≡ is_used_up (ideal U.Random.stream self.now) }
     {
         let space = self.sending_space();
-        let number = self.numbers.next(space);
+        let number = self.numbers.coming(space);
         let acked = self.numbers.acked_number(space);
         GREATEST_NUMBER <= number || NUMBER_LIMIT <= number - acked
     }
@@ -230,6 +250,70 @@ impl<U: Suite> Core<U> {
         self.key_reaches(2)
     }
 
+    /// The header of the space's next packet, with this spin bit where it is a 1-RTT packet, and this token where it is an Initial
+    /// one.
+    #[tactic(auto, unfolding(qc_state::specs::Setup::ideal_setup))]
+    fn header_with(&self, space: SpaceId, spin: bool, token: Bytes) -> Header
+        requires { next_number self.now.numbers space - acked_number self.now.numbers space < 2 ^ 31 }
+        ensures { result ≡ header_with (ideal U.Random.stream self.now) space spin token }
+    {
+        let number = PacketNumber::new(self.numbers.next(space), self.numbers.acked_number(space));
+        let dst_cid = self.paths.remote_cid;
+        let src_cid = self.setup.fixed.local_cid;
+        let version = self.setup.fixed.version;
+        match space {
+            SpaceId::Initial => Header::Initial(InitialHeader {
+                dst_cid,
+                src_cid,
+                token,
+                number,
+                version,
+            }),
+            SpaceId::Handshake => Header::Long {
+                ty: LongType::Handshake,
+                dst_cid,
+                src_cid,
+                number,
+                version,
+            },
+            SpaceId::Data => Header::Short {
+                spin,
+                key_phase: false,
+                dst_cid,
+                number,
+            },
+        }
+    }
+
+    /// How much room for frames a datagram has behind the header of the space's next packet, and before its tag.
+    #[tactic(auto, unfolding(qc_state::specs::Setup::ideal_setup))]
+    fn frame_room(&self, space: SpaceId) -> usize
+        requires { next_number self.now.numbers space - acked_number self.now.numbers space < 2 ^ 31 }
+        ensures value { result ≡ frame_room (ideal U.Random.stream self.now) space }
+        ensures wide { is_space space Initial ≡ false → 25 ≤ result }
+    {
+        let bare = self.header_with(space, false, Bytes::new()).encoded_len();
+        let room = (DATAGRAM_SIZE as usize - TAG).saturating_sub(bare);
+        room.saturating_sub(token_bytes(space, self.setup.initial_token.as_slice()))
+    }
+
+    /// Whether the token of the next packet, an Initial one, leaves no room for the greatest close without a reason.
+    #[tactic(auto, unfolding(qc_state::specs::Sending::is_token_too_long))]
+    fn is_token_too_long(&self) -> bool
+        requires { is_used_up (ideal U.Random.stream self.now) ≡ false }
+        ensures { result ≡ is_token_too_long (ideal U.Random.stream self.now) }
+    {
+        is_space(self.sending_space(), SpaceId::Initial)
+            && self.frame_room(SpaceId::Initial) < GREATEST_CLOSE
+    }
+
+    /// Whether the next packet can't be spelled: its number lies past the limit, or else its token leaves no room for frames.
+    fn is_unspelled(&self) -> bool
+        ensures { result ≡ (is_used_up (ideal U.Random.stream self.now) || is_token_too_long (ideal U.Random.stream self.now)) }
+    {
+        self.is_used_up() || self.is_token_too_long()
+    }
+
     /// Whether a transmit now would send nothing.
     #[tactic(auto, unfolding(qc_state::specs::Sending::may_be_quiet))]
     pub fn may_be_quiet(&self) -> bool
@@ -237,7 +321,7 @@ impl<U: Suite> Core<U> {
     {
         self.is_silent()
             || (!self.owes()
-                || (self.paths.is_blocked() || (self.is_key_used_up() || self.is_used_up())))
+                || (self.paths.is_blocked() || (self.is_key_used_up() || self.is_unspelled())))
     }
 
     /// A reason for the end is given, unless one was given before.
@@ -261,7 +345,7 @@ impl<U: Suite> Core<U> {
     }
 
     /// Why the connection ends where something is owed and the path is free: the next packet's key has sealed as many packets as
-    /// it may, or else the packet numbers are used up.
+    /// it may, or the packet numbers are used up, or else its token leaves no room for frames.
     #[tactic(auto, unfolding(qc_state::specs::Sending::limit_met))]
     fn limit_met(&self) -> ConnectionError
         ensures { result ≡ limit_met (ideal U.Random.stream self.now) }
@@ -269,10 +353,12 @@ impl<U: Suite> Core<U> {
         if self.is_key_used_up() {
             return ConnectionError::TransportError(key_limit_error());
         }
-        ConnectionError::TransportError(TransportError {
-            code: TransportErrorCode::INTERNAL_ERROR,
-            frame: None,
-        })
+        let code = if self.is_used_up() {
+            TransportErrorCode::INTERNAL_ERROR
+        } else {
+            TransportErrorCode::PROTOCOL_VIOLATION
+        };
+        ConnectionError::TransportError(TransportError { code, frame: None })
     }
 
     /// A transmit sends nothing of what is owed: because the path is blocked, or because of a limit, which is the end now.
@@ -310,38 +396,27 @@ impl<U: Suite> Core<U> {
         self.numbers.next(space)
     }
 
-    /// The header of the space's next packet.
-    #[tactic(auto, unfolding(qc_state::specs::Setup::ideal_setup))]
-    pub fn header(&self, space: SpaceId) -> Header
-        requires { next_number self.now.numbers space - acked_number self.now.numbers space < 2 ^ 31 }
-        ensures { result ≡ header_in (ideal U.Random.stream self.now) space }
+    /// The token that the space's next packet carries: none but an Initial one has any. Want of memory is the only refusal.
+    fn token(&self, space: SpaceId) -> Result<Bytes, AllocError>
+        ensures { IfOk result (λ token. token ≡ token_in space self.now.setup.initial_token) }
     {
-        let number = PacketNumber::new(self.numbers.next(space), self.numbers.acked_number(space));
-        let dst_cid = self.paths.remote_cid;
-        let src_cid = self.setup.fixed.local_cid;
-        let version = self.setup.fixed.version;
         match space {
-            SpaceId::Initial => Header::Initial(InitialHeader {
-                dst_cid,
-                src_cid,
-                token: Bytes::new(),
-                number,
-                version,
-            }),
-            SpaceId::Handshake => Header::Long {
-                ty: LongType::Handshake,
-                dst_cid,
-                src_cid,
-                number,
-                version,
-            },
-            SpaceId::Data => Header::Short {
-                spin: self.paths.spin,
-                key_phase: false,
-                dst_cid,
-                number,
-            },
+            SpaceId::Initial => self.setup.initial_token.clone(),
+            SpaceId::Handshake | SpaceId::Data => Ok(Bytes::new()),
         }
+    }
+
+    /// The header of the space's next packet, and whether its fixed bit is flipped; what is drawn for it is drawn. Want of memory is
+    /// the only refusal.
+    fn header_and_flip(&mut self, space: SpaceId) -> Result<(Header, bool), AllocError>
+        requires { next_number self.old.numbers space - acked_number self.old.numbers space < 2 ^ 31 }
+        ensures header { IfOk result (λ r. r.0 ≡ header_in (ideal U.Random.stream self.old) space) }
+        ensures flip { IfOk result (λ r. r.1 ≡ flips_now (ideal U.Random.stream self.old) space) }
+        ensures leads { OnOk result ((ideal U.Random.stream self.new) ≡ drawn_for space (ideal U.Random.stream self.old)) }
+    {
+        let token = self.token(space)?;
+        let drawn = self.setup.draw_packet(space, self.paths.spin);
+        Ok((self.header_with(space, drawn.spin, token), drawn.flip))
     }
 
     /// The longest front of the application's reason with which its close has at most `room` bytes; no byte where this end
@@ -383,7 +458,8 @@ impl<U: Suite> Core<U> {
         }
     }
 
-    /// Takes the ACK, where there is something to acknowledge, and the close.
+    /// Takes the ACK, where there is something to acknowledge and it leaves room for the greatest close without a reason, and the
+    /// close.
     fn take_close(
         &mut self,
         alloc: Global,
@@ -392,33 +468,33 @@ impl<U: Suite> Core<U> {
         room: usize,
     ) -> Result<FrameList, AllocError>
         requires owed { self.old.waiting.close_owed ≡ true }
-        requires room { room ≡ DATAGRAM_SIZE - 20 - length (header_spelling (header_in (ideal U.Random.stream self.old) space) 0) }
+        requires room { room ≡ frame_room (ideal U.Random.stream self.old) space }
         ensures frames { IfOk result (λ frames. TakenNow now (ideal U.Random.stream self.old) space room frames) }
         ensures leads { IfOk result (λ frames. (ideal U.Random.stream self.new) ≡ state_move (Take space frames) (ideal U.Random.stream self.old)) }
-        ensures most { OnOk result (length (space_of self.old.waiting.spaces space).acks.ranges ≤ 64) }
     {
-        let mut frames = self.do_take_ack(alloc, now, space)?;
+        let most = room.saturating_sub(GREATEST_CLOSE);
+        let mut frames = self.do_take_ack(alloc, now, space, most)?;
         let left = room_left(alloc, room, &frames)?;
         let close = self.closing_frame(alloc, space, self.kept_reason(left))?;
         frames.push(close)?;
         Ok(frames)
     }
 
-    /// Takes frames at a time for a packet of the space with so much room for them beside its header: the close where one is owed, with an ACK
-    /// in front, else frames that wait.
+    /// Takes frames at a time for a packet of the space, with what room for them there is beside its header: the close where one is
+    /// owed, with an ACK in front, else frames that wait.
     #[tactic(auto, using(qc_state::proofs::Seals::takes_waiting))]
     pub fn take(
         &mut self,
         alloc: Global,
         now: Instant,
         space: SpaceId,
-        room: usize,
     ) -> Result<FrameList, AllocError>
-        requires { room ≡ DATAGRAM_SIZE - 20 - length (header_spelling (header_in (ideal U.Random.stream self.old) space) 0) }
-        ensures frames { IfOk result (λ frames. TakenNow now (ideal U.Random.stream self.old) space room frames) }
+        requires { next_number self.old.numbers space - acked_number self.old.numbers space < 2 ^ 31 }
+        ensures wide { OnOk result (is_space space Initial ≡ false → 25 ≤ frame_room (ideal U.Random.stream self.old) space) }
+        ensures frames { IfOk result (λ frames. TakenNow now (ideal U.Random.stream self.old) space (frame_room (ideal U.Random.stream self.old) space) frames) }
         ensures leads { IfOk result (λ frames. (ideal U.Random.stream self.new) ≡ state_move (Take space frames) (ideal U.Random.stream self.old)) }
-        ensures most { OnOk result (length (space_of self.old.waiting.spaces space).acks.ranges ≤ 64) }
     {
+        let room = self.frame_room(space);
         if self.waiting.close_owed {
             return self.take_close(alloc, now, space, room);
         }
@@ -427,7 +503,7 @@ impl<U: Suite> Core<U> {
 
     /// How many bytes a packet of this space with these frames is to have at least: a datagram's size where it fills one.
     #[tactic(auto, unfolding(qc_state::specs::Sending::least_size, qc_state::specs::Setup::ideal_setup))]
-    pub fn least_size(&self, space: SpaceId, frames: &FrameList) -> usize
+    fn least_size(&self, space: SpaceId, frames: &FrameList) -> usize
         ensures value { result ≡ least_size (ideal U.Random.stream self.now) space frames.now }
         ensures most { result ≤ DATAGRAM_SIZE }
     {
@@ -437,28 +513,17 @@ impl<U: Suite> Core<U> {
         0
     }
 
-    /// A datagram is begun for the space: a probe that is due there is spent. Want of memory is the only refusal.
-    pub fn begin_datagram(&mut self, space: SpaceId) -> Result<(), AllocError>
-        ensures { OnOk result ((ideal U.Random.stream self.new) ≡ state_move (Begin space) (ideal U.Random.stream self.old)) }
+    /// A datagram is begun for the space: a probe that is due there is spent, and the number that would be next is skipped where it is
+    /// to be. Want of memory is the only refusal.
+    #[tactic(auto, unfolding(qc_state::specs::Sending::begun_after, qc_state::specs::Sending::skipped_after, qc_state::specs::Moves::move_to, qc_state::specs::Moves::deeds_move))]
+    pub fn begin_datagram(&mut self, space: SpaceId, did: &Dids) -> Result<(), AllocError>
+        ensures { OnOk result ((held U.Random.stream self.new did.now) ≡ begun_after space (held U.Random.stream self.old did.now)) }
     {
-        self.do_begin(space)
-    }
-
-    /// A packet of this size was sealed. Want of memory is the only refusal.
-    pub fn sealed(
-        &mut self,
-        alloc: Global,
-        did: &mut Dids,
-        now: Instant,
-        space: SpaceId,
-        number: u64,
-        size: u64,
-        frames: FrameList,
-    ) -> Result<(), AllocError>
-        requires { number < 2 ^ 62 }
-        ensures { OnOk result ((held U.Random.stream self.new did.new) ≡ move_to (Seal now space number size frames) (held U.Random.stream self.old did.old)) }
-    {
-        self.do_seal(alloc, did, now, space, number, size, frames)
+        self.do_begin(space)?;
+        if self.numbers.is_skipped(space) {
+            self.do_skip();
+        }
+        Ok(())
     }
 
     /// Whether an end of this side leaves the Initial space with a packet of this space, and has keys of the Initial space still.
@@ -526,12 +591,13 @@ impl<U: Suite> Core<U> {
         }
     }
 
-    /// Seals a packet with these frames into an empty buffer, filled up with PADDING to `least` bytes at least, and to what
-    /// each packet has to have. The PADDING frames are added to the list.
-    pub fn seal(
+    /// Seals a packet with this number, header and frames into an empty buffer, its fixed bit flipped or not, filled up with PADDING
+    /// to `least` bytes at least, and to what each packet has to have. The PADDING frames are added to the list.
+    fn seal_with(
         &self,
         space: SpaceId,
         number: u64,
+        flip: bool,
         header: &Header,
         frames: &mut FrameList,
         least: usize,
@@ -540,10 +606,10 @@ impl<U: Suite> Core<U> {
         requires empty { buf.old.items ≡ [] }
         requires keyed { IsSome (keys_of self.now.keys space) }
         requires numbered { IsSome (header_number header.now) }
-        requires room { length (header_spelling header.now 0) + length (frames_spelling frames.old) + 20 ≤ DATAGRAM_SIZE }
+        requires room { length (header_spelling header.now 0) + length (frames_spelling frames.old) + 16 ≤ DATAGRAM_SIZE }
         requires small { least ≤ DATAGRAM_SIZE }
         ensures frames { OnOk result (frames.new ≡ frames.old ++ replicate (padding_len header.now frames.old (padded_size header.now frames.old least)) Padding) }
-        ensures bytes { OnOk result (buf.new.items ≡ sealed_with (meaning U.Session.Session U.Session.HeaderKey.HeaderMask U.Session.PacketKey.PacketKey U.Control.Controller.Controller) (keys_of self.now.keys space) header.now number (frames_spelling frames.new)) }
+        ensures bytes { OnOk result (buf.new.items ≡ sealed_with (meaning U.Session.Session U.Session.HeaderKey.HeaderMask U.Session.PacketKey.PacketKey U.Control.Controller.Controller) (keys_of self.now.keys space) flip header.now number (frames_spelling frames.new)) }
         ensures full { OnOk result (length buf.new.items ≡ padded_size header.now frames.old least) }
     {
         match self.keys.get(space) {
@@ -551,6 +617,7 @@ impl<U: Suite> Core<U> {
                 &keys.keys.header.local,
                 &keys.keys.packet.local,
                 number,
+                flip,
                 header,
                 frames,
                 least,
@@ -558,5 +625,36 @@ impl<U: Suite> Core<U> {
             ),
             None => unreachable!(),
         }
+    }
+
+    /// Seals the space's next packet with these frames into an empty buffer, filled up with PADDING to what it has to have, and counts
+    /// it. What is drawn for it is drawn. Answers whether it counts as in flight. Want of memory is the only refusal.
+    pub fn seal(
+        &mut self,
+        alloc: Global,
+        did: &mut Dids,
+        now: Instant,
+        space: SpaceId,
+        frames: FrameList,
+        buf: &mut Vec<u8>,
+    ) -> Result<bool, AllocError>
+        requires empty { buf.old.items ≡ [] }
+        requires low { next_number self.old.numbers space < 2 ^ 62 }
+        requires near { next_number self.old.numbers space - acked_number self.old.numbers space < 2 ^ 31 }
+        requires keyed { IsSome (keys_of self.old.keys space) }
+        requires room { length (header_spelling (header_in (ideal U.Random.stream self.old) space) 0) + length (frames_spelling frames) + 16 ≤ DATAGRAM_SIZE }
+        ensures leads { OnOk result ((held U.Random.stream self.new did.new) ≡ move_to (Seal now space (next_number self.old.numbers space) (length buf.new.items) (padded (ideal U.Random.stream self.old) space frames)) (held U.Random.stream self.old did.old)) }
+        ensures bytes { OnOk result (buf.new.items ≡ packet_bytes (meaning U.Session.Session U.Session.HeaderKey.HeaderMask U.Session.PacketKey.PacketKey U.Control.Controller.Controller) (ideal U.Random.stream self.old) space (padded (ideal U.Random.stream self.old) space frames)) }
+        ensures size { OnOk result (length buf.new.items ≡ packet_size (ideal U.Random.stream self.old) space (padded (ideal U.Random.stream self.old) space frames)) }
+        ensures counts { IfOk result (λ counts. counts ≡ is_flown (ideal U.Random.stream self.old) (padded (ideal U.Random.stream self.old) space frames)) }
+    {
+        let mut frames = frames;
+        let number = self.next_number(space);
+        let least = self.least_size(space, &frames);
+        let (header, flip) = self.header_and_flip(space)?;
+        self.seal_with(space, number, flip, &header, &mut frames, least, buf)?;
+        let counts = self.is_flown(&frames);
+        self.do_seal(alloc, did, now, space, number, buf.len() as u64, frames)?;
+        Ok(counts)
     }
 }

@@ -4,9 +4,11 @@ ghost use Rattle.std.specs.Prelude.{◌≡◌, None, IfOk};
 ghost use Rattle.qc_state.specs.First.{server_view, fixed_of};
 ghost use Rattle.qc_recovery.specs.Paths.{first_size};
 ghost use Rattle.qc_state.specs.Types.{meaning};
+ghost use Rattle.qc_state.specs.View.{ideal};
 
-use crate::making::{fixed, made};
+use crate::making::{Given, made};
 use crate::state::Core;
+use bytes::Bytes;
 use qc_base::{ConnectionId, Duration, Instant, Side};
 use qc_path::ControllerFactory;
 use qc_recovery::{TransportConfig, first_mtu};
@@ -62,19 +64,18 @@ impl<U: Suite> Core<U> {
         now: Instant,
     ) -> Result<Core<U>, AllocError>
         requires fresh { U.Session.is_fresh setup.session }
-        ensures { IfOk result (λ core. core ≡ server_view (meaning U.Session.Session U.Session.HeaderKey.HeaderMask U.Session.PacketKey.PacketKey U.Control.Controller.Controller) setup.session setup.random (fixed_of Side.Server setup.version setup.local_cid setup.first_cid setup.local_ip setup.transport.max_idle_timeout setup.transport.crypto_buffer_size setup.grease_quic_bit) setup.remote setup.remote_cid setup.validated setup.transport (U.Control.built setup.control now (first_size setup.transport None)) now) }
+        ensures { IfOk result (λ core. (ideal U.Random.stream core) ≡ server_view (meaning U.Session.Session U.Session.HeaderKey.HeaderMask U.Session.PacketKey.PacketKey U.Control.Controller.Controller) setup.session (U.Random.stream setup.random) (fixed_of Side.Server setup.version setup.local_cid setup.first_cid setup.local_ip setup.transport setup.grease_quic_bit (U.Random.stream setup.random)) setup.remote setup.remote_cid setup.validated setup.transport (U.Control.built setup.control now (first_size setup.transport None)) now) }
     {
         let session = SoundSession::new(setup.session);
         let keys = SpaceKeys::new(session.initial_keys(&setup.first_cid, Side::Server));
-        let fixed = fixed(
-            Side::Server,
-            setup.version,
-            setup.local_cid,
-            setup.first_cid,
-            setup.local_ip,
-            &setup.transport,
-            setup.grease_quic_bit,
-        );
+        let given = Given {
+            side: Side::Server,
+            version: setup.version,
+            local_cid: setup.local_cid,
+            first_cid: setup.first_cid,
+            local_ip: setup.local_ip,
+            grease_quic_bit: setup.grease_quic_bit,
+        };
         let congestion = setup.control.build(now, first_mtu(&setup.transport, None));
         let paths = Paths {
             remote: setup.remote,
@@ -91,8 +92,9 @@ impl<U: Suite> Core<U> {
             keys,
             session,
             Vec::new(alloc),
+            Bytes::new(),
             setup.random,
-            fixed,
+            given,
             paths,
             &setup.transport,
             congestion,

@@ -1,8 +1,8 @@
-//! What timers do that have come (RFC 9000, 10.1 and 10.2; RFC 9002, 6.2).
+//! What timers do that have come (RFC 9000, 10.1, 10.2 and 13.2.1; RFC 9002, 6.2).
 
 ghost use Rattle.std.specs.Prelude.{◌≡◌, false, OnOk};
 ghost use Rattle.qc_state.specs.Life.{is_drained};
-ghost use Rattle.qc_state.specs.Timeouts.{loss_expired, idle_expired, close_expired, timeout_after};
+ghost use Rattle.qc_state.specs.Timeouts.{loss_expired, idle_expired, close_expired, ack_expired, timeout_after};
 ghost use Rattle.qc_state.specs.Timers.{has_come};
 ghost use Rattle.qc_state.specs.Types.{meaning};
 ghost use Rattle.qc_state.specs.View.{held};
@@ -49,10 +49,20 @@ impl<U: Suite> Core<U> {
         Ok(())
     }
 
+    /// An ACK was held back for as long as it may be: it is owed.
+    #[tactic(auto, unfolding(qc_state::specs::Timeouts::ack_expired, qc_state::specs::Moves::move_to, qc_state::specs::Moves::deeds_move))]
+    fn expire_ack(&mut self, now: Instant, did: &Dids)
+        ensures { (held U.Random.stream self.new did.now) ≡ ack_expired now (held U.Random.stream self.old did.now) }
+    {
+        if has_come(self.timers.max_ack_delay, now) {
+            self.do_release();
+        }
+    }
+
     /// Timers may have come by `now`: each that has, to that time or an earlier one, does what it is for, in this order. The loss
     /// timer: packets are lost, or probes are due, and it is set anew, perhaps to a time that has come. The idle timer: the
-    /// connection ends for `TimedOut`. The close timer: the connection, which closed before, ends. Afterwards neither of these two
-    /// is left that has come. In a connection that has ended nothing happens.
+    /// connection ends for `TimedOut`. The close timer: the connection, which closed before, ends. The timer of an ACK that was held
+    /// back: it is owed. Afterwards none of these three is left that has come. In a connection that has ended nothing happens.
     ///
     /// # Errors
     ///
@@ -62,12 +72,15 @@ impl<U: Suite> Core<U> {
         ensures leads { OnOk result ((held U.Random.stream self.new did.new) ≡ timeout_after (meaning U.Session.Session U.Session.HeaderKey.HeaderMask U.Session.PacketKey.PacketKey U.Control.Controller.Controller) now (held U.Random.stream self.old did.old)) }
         ensures idle { OnOk result (is_drained self.old.life.state ≡ false → has_come self.new.timers.idle now ≡ false) }
         ensures close { OnOk result (is_drained self.old.life.state ≡ false → has_come self.new.timers.close now ≡ false) }
+        ensures ack { OnOk result (is_drained self.old.life.state ≡ false → has_come self.new.timers.max_ack_delay now ≡ false) }
     {
         if self.life.is_drained() {
             return Ok(());
         }
         self.expire_loss(now, did)?;
         self.expire_idle(now, did)?;
-        self.expire_close(now, did)
+        self.expire_close(now, did)?;
+        self.expire_ack(now, did);
+        Ok(())
     }
 }

@@ -16,7 +16,8 @@ use Rattle.qc_header.specs.declared.header.Header.TheVariants.{Initial, Long, Re
 use Rattle.qc_header.specs.HeaderSpelling.{header_spelling, header_number, initial_spelling, short_spelling, long_start}
 use Rattle.qc_packet.specs.declared.builder.PacketBuilder.{PacketBuilder}
 use Rattle.qc_packet.specs.Building.{header_len, pn_len, is_short, dst_cid_of, min_size_of, max_size_of, builder_for, padded_size, IsSound, IsReady, IsOf}
-use Rattle.qc_packet.specs.PacketSpelling.{len_of, padding_len, packet_spelling, sealed_packet}
+use Rattle.qc_packet.specs.PacketSpelling.{len_of, padding_len, with_flip, sealed_packet}
+use Rattle.qc_packet.proofs.Finishes.{flip_len}
 
 number_filled : (number : PacketNumber) → 1 ≤ length (number_bytes number)
 unfolding number_bytes
@@ -84,19 +85,24 @@ full_ready space number h least frames_len len some longer room small is_len =
 pub full_is_of : (space : SpaceId) (number : ℕ) (h : Header) (least : ℕ) → IsSome (header_number h) → IsOf (full_builder space number h least) h
 full_is_of space number h least some = record { header = refl; number = refl; numbered = number_there (header_number h) some; short = refl }
 
+-- how many bytes header and frames have together, the fixed bit flipped or not
+pub put_size : (flip : Bool) (h : Header) (frames out : List ℕ) → out ≡ with_flip flip (header_spelling h 0) ++ frames → length out ≡ header_len h + length frames
+put_size flip h frames out is_out =
+    ap (λ (x : List ℕ). length x) is_out ∙ length-append (with_flip flip (header_spelling h 0)) frames ∙ ap (λ (n : ℕ). n + length frames) (flip_len flip h 0)
+
 -- padding of zeros is so many PADDING frames
-pub full_bytes : (mask : List ℕ → List ℕ) (seal : ℕ → List ℕ → List ℕ → List ℕ) (space : SpaceId) (number : ℕ) (h : Header) (fs : List FrameValue) (least : ℕ) (b : PacketBuilder) (items out : List ℕ)
+pub full_bytes : (mask : List ℕ → List ℕ) (seal : ℕ → List ℕ → List ℕ → List ℕ) (flip : Bool) (space : SpaceId) (number : ℕ) (h : Header) (fs : List FrameValue) (least : ℕ) (b : PacketBuilder) (items out : List ℕ)
     → least < 2 ^ 14 → b ≡ full_builder space number h least → length items ≡ header_len h + length (frames_spelling fs)
-    → out ≡ sealed_packet mask seal false h b.exact_number (frames_spelling fs ++ replicate (b.min_size - length items) 0)
-    → out ≡ packet_spelling mask seal h number (frames_spelling (fs ++ replicate (padding_len h fs (padded_size h fs least)) Padding))
-full_bytes mask seal space number h fs least b items out small is_b is_len is_out =
+    → out ≡ sealed_packet mask seal flip h b.exact_number (frames_spelling fs ++ replicate (b.min_size - length items) 0)
+    → out ≡ sealed_packet mask seal flip h number (frames_spelling (fs ++ replicate (padding_len h fs (padded_size h fs least)) Padding))
+full_bytes mask seal flip space number h fs least b items out small is_b is_len is_out =
     let pad : b.min_size - length items ≡ padding_len h fs (padded_size h fs least) = omega (arith, ap (λ (x : PacketBuilder). x.min_size) is_b, is_len) in
     let spelled : frames_spelling (fs ++ replicate (padding_len h fs (padded_size h fs least)) Padding) ≡ frames_spelling fs ++ replicate (padding_len h fs (padded_size h fs least)) 0 =
     rw (flat_map-append spelling fs (replicate (padding_len h fs (padded_size h fs least)) Padding), zeros (padding_len h fs (padded_size h fs least))) refl in
     is_out
-    ∙ ap (λ (n : ℕ). sealed_packet mask seal false h n (frames_spelling fs ++ replicate (b.min_size - length items) 0)) (ap (λ (x : PacketBuilder). x.exact_number) is_b)
-    ∙ ap (λ (n : ℕ). sealed_packet mask seal false h number (frames_spelling fs ++ replicate n 0)) pad
-    ∙ ap (λ (x : List ℕ). sealed_packet mask seal false h number x) (sym spelled)
+    ∙ ap (λ (n : ℕ). sealed_packet mask seal flip h n (frames_spelling fs ++ replicate (b.min_size - length items) 0)) (ap (λ (x : PacketBuilder). x.exact_number) is_b)
+    ∙ ap (λ (n : ℕ). sealed_packet mask seal flip h number (frames_spelling fs ++ replicate n 0)) pad
+    ∙ ap (λ (x : List ℕ). sealed_packet mask seal flip h number x) (sym spelled)
 
 -- what begins a packet is sound
 most_below : (start : ℕ) (h : Header) (capacity : ℕ) → max_size_of start h capacity ≤ capacity - 16

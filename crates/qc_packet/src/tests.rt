@@ -110,9 +110,8 @@ fn a_packet_is_built_and_opened(rt: HostRuntime) -> Result<(), Fail> {
     Ok(())
 }
 
-// The same packet, sealed in one call: it is filled up to the 22 bytes that each packet has at least.
-#[test]
-fn a_padded_packet_is_sealed(rt: HostRuntime) -> Result<(), Fail> {
+// The same packet, sealed in one call, and its frames: it is filled up to the 22 bytes that each packet has at least.
+fn sealed_ping(alloc: Global, flip: bool) -> Result<(Vec<u8>, FrameList), Fail> {
     let header = Header::Short {
         spin: false,
         key_phase: false,
@@ -121,29 +120,50 @@ fn a_padded_packet_is_sealed(rt: HostRuntime) -> Result<(), Fail> {
     };
     let header_key = header_key().ok_or("no keys")?;
     let keys = KEYS.keys(Side::Client, 0);
-    let mut frames = FrameList::new(rt.alloc());
+    let mut frames = FrameList::new(alloc);
     frames.push(FrameOf::Ping)?;
-    let mut payload = Vec::new(rt.alloc());
+    let mut payload = Vec::new(alloc);
     frames.put(&mut payload)?;
     if header.encoded_len() + payload.len() > 1000 {
         return Err("too long".into());
     }
-    let mut buf = Vec::new(rt.alloc());
+    let mut buf = Vec::new(alloc);
     seal_padded(
         &header_key,
         &keys.local,
         7,
+        flip,
         &header,
         &mut frames,
         0,
         &mut buf,
     )?;
+    Ok((buf, frames))
+}
+
+#[test]
+fn a_padded_packet_is_sealed(rt: HostRuntime) -> Result<(), Fail> {
+    let (packet, frames) = sealed_ping(rt.alloc(), false)?;
     let sealed =
         b"\x40\x5f\x01\x00\x00\x00\x58\xb0\x08\x60\xb8\x12\x68\xc0\x18\x70\xc8\x20\x78\xd0\x28\x80";
-    assert_eq!(rt; buf.as_slice(), sealed.as_slice());
+    assert_eq!(rt; packet.as_slice(), sealed.as_slice());
     let (listed, padding) = frames.parts();
     assert_eq!(rt; listed.len(), 1);
     assert_eq!(rt; padding, 3);
+    Ok(())
+}
+
+// With its fixed bit flipped the header is 00 07 before it is masked. The checksum of header, payload and number is
+// 1 * 0x00 + 2 * 0x07 + 3 * 0x01 + 7 = 0x18, and the tag's bytes are its multiples 1 to 16, modulo 256, the sixth with
+// 2 more for the key's sixth byte, which says 1-RTT. The key's other bytes are 0, so the payload is sealed as it is.
+// Of the mask, which is the sample 00 18 30 48 60, the first byte leaves the header's first as it is, and the second
+// makes the number 0x07 xor 0x18 = 0x1f.
+#[test]
+fn a_packet_with_a_flipped_fixed_bit_is_sealed(rt: HostRuntime) -> Result<(), Fail> {
+    let (packet, _) = sealed_ping(rt.alloc(), true)?;
+    let sealed =
+        b"\x00\x1f\x01\x00\x00\x00\x18\x30\x48\x60\x78\x92\xa8\xc0\xd8\xf0\x08\x20\x38\x50\x68\x80";
+    assert_eq!(rt; packet.as_slice(), sealed.as_slice());
     Ok(())
 }
 

@@ -6,13 +6,14 @@ use Rattle.std.specs.declared.net.socket_addr.SocketAddr.{SocketAddr}
 use Rattle.qc_base.specs.declared.side.Side.{Side}
 use Rattle.qc_state.specs.declared.input.Input.{Input}
 use Rattle.qc_state.specs.declared.input.Input.TheVariants.{Datagram, Timeout, Transmit, Close, Ping}
+use Rattle.qc_script.specs.declared.settings.RandomWords.{RandomWords}
 use Rattle.qc_script.specs.declared.settings.Settings.{Settings}
 use Rattle.qc_script.specs.declared.settings.Setting.{Setting}
-use Rattle.qc_script.specs.declared.settings.Setting.TheVariants.{Time, Local, Remote, First, Addr, Secret, LimitInitial, LimitHandshake, LimitFailures, Idle}
+use Rattle.qc_script.specs.declared.settings.Setting.TheVariants.{Random, Time, Local, Remote, First, Addr, Token, Secret, LimitInitial, LimitHandshake, LimitFailures, Idle}
 use Rattle.qc_script.specs.declared.items.Item.{Item}
 use Rattle.qc_script.specs.declared.items.Item.TheVariants as It
 use Rattle.qc_script.specs.Fields.{hex_field, address_text, IsAddress}
-use Rattle.qc_script.specs.Script.{line_if, side_line, set_lines, input_line, IsWithin, AllWithin, IsId, IsRemote, IsFirst, IsSecret, AreSettings}
+use Rattle.qc_script.specs.Script.{random_text, line_if, side_line, set_lines, input_line, IsWithin, AllWithin, IsRandom, IsId, IsRemote, IsFirst, IsToken, IsSecret, AreSettings}
 use Rattle.qc_script.specs.Items.{setting_line, IsSetting, IsNextSetting, IsNextItem, setting_place, with_setting, side_alone, item_line, IsItem, item_place, Follows, settings_after, inputs_after}
 use Rattle.qc_script.proofs.LineLemmas.{input_line_injective, datagram_fields, datagram_line, timeout_line, transmit_line, close_line, ping_line}
 use Rattle.qc_script.proofs.SettingLemmas.{setting_line_injective, setting_no_input, setting_ends}
@@ -123,11 +124,14 @@ input_items (i ∷ inputs) = It.Input i ∷ input_items inputs
 -- what a script says behind its first line
 abbrev pub items_of : Settings → List Input → List Item
 items_of s inputs =
-    item_if Time s.time ++ (item_if Local s.local ++ (item_if Remote s.remote ++ (item_if First s.first
-    ++ (item_if Addr s.addr ++ (item_if Secret s.secret ++ (item_if LimitInitial s.limit_initial ++ (item_if LimitHandshake s.limit_handshake
-    ++ (item_if LimitFailures s.limit_failures ++ (item_if Idle s.idle ++ input_items inputs)))))))))
+    item_if Random s.random ++ (item_if Time s.time ++ (item_if Local s.local ++ (item_if Remote s.remote
+    ++ (item_if First s.first ++ (item_if Addr s.addr ++ (item_if Token s.token ++ (item_if Secret s.secret
+    ++ (item_if LimitInitial s.limit_initial ++ (item_if LimitHandshake s.limit_handshake ++ (item_if LimitFailures s.limit_failures ++ (item_if Idle s.idle ++ input_items inputs)))))))))))
 
 -- the set lines of each kind
+abbrev randoms : Settings → List (List ℕ)
+randoms s = line_if (codes "set random ") random_text s.random
+
 abbrev times : Settings → List (List ℕ)
 times s = line_if (codes "set time ") decimal s.time
 
@@ -142,6 +146,9 @@ firsts s = line_if (codes "set first ") hex_field s.first
 
 abbrev addrs : Settings → List (List ℕ)
 addrs s = line_if (codes "set addr ") address_text s.addr
+
+abbrev tokens : Settings → List (List ℕ)
+tokens s = line_if (codes "set token ") hex_field s.token
 
 abbrev secrets : Settings → List (List ℕ)
 secrets s = line_if (codes "set secret ") hex_field s.secret
@@ -168,8 +175,8 @@ input_lines : (inputs : List Input) → map input_line inputs ≡ map item_line 
 input_lines [] = refl
 input_lines (i ∷ inputs) = ap (λ (ls : List (List ℕ)). input_line i ∷ ls) (input_lines inputs)
 
-regrouped : (a b c d e f g h i j m : List (List ℕ)) → (a ++ (b ++ (c ++ (d ++ (e ++ (f ++ (g ++ (h ++ (i ++ j))))))))) ++ m ≡ a ++ (b ++ (c ++ (d ++ (e ++ (f ++ (g ++ (h ++ (i ++ (j ++ m)))))))))
-regrouped a b c d e f g h i j m = simp append_assoc
+regrouped : (a b c d e f g h i j k l m : List (List ℕ)) → (a ++ (b ++ (c ++ (d ++ (e ++ (f ++ (g ++ (h ++ (i ++ (j ++ (k ++ l))))))))))) ++ m ≡ a ++ (b ++ (c ++ (d ++ (e ++ (f ++ (g ++ (h ++ (i ++ (j ++ (k ++ (l ++ m)))))))))))
+regrouped a b c d e f g h i j k l m = simp append_assoc
 
 pub script_lines : (s : Settings) (inputs : List Input) → set_lines s ++ map input_line inputs ≡ side_line s.side ∷ map item_line (items_of s inputs)
 unfolding set_lines setting_line
@@ -179,13 +186,15 @@ script_lines s inputs =
     let handshake = lines_if (codes "set limit_handshake ") decimal LimitHandshake s.limit_handshake _ _ (λ v. refl) failures in
     let initial = lines_if (codes "set limit_initial ") decimal LimitInitial s.limit_initial _ _ (λ v. refl) handshake in
     let secret = lines_if (codes "set secret ") hex_field Secret s.secret _ _ (λ v. refl) initial in
-    let addr = lines_if (codes "set addr ") address_text Addr s.addr _ _ (λ v. refl) secret in
+    let token = lines_if (codes "set token ") hex_field Token s.token _ _ (λ v. refl) secret in
+    let addr = lines_if (codes "set addr ") address_text Addr s.addr _ _ (λ v. refl) token in
     let first = lines_if (codes "set first ") hex_field First s.first _ _ (λ v. refl) addr in
     let remote = lines_if (codes "set remote ") hex_field Remote s.remote _ _ (λ v. refl) first in
     let local = lines_if (codes "set local ") hex_field Local s.local _ _ (λ v. refl) remote in
     let time = lines_if (codes "set time ") decimal Time s.time _ _ (λ v. refl) local in
-    let grouped = regrouped (times s) (locals s) (remotes s) (firsts s) (addrs s) (secrets s) (initial_limits s) (handshake_limits s) (failure_limits s) (idles s) (map input_line inputs) in
-    ap (λ (ls : List (List ℕ)). side_line s.side ∷ ls) (grouped ∙ time)
+    let random = lines_if (codes "set random ") random_text Random s.random _ _ (λ v. refl) time in
+    let grouped = regrouped (randoms s) (times s) (locals s) (remotes s) (firsts s) (addrs s) (tokens s) (secrets s) (initial_limits s) (handshake_limits s) (failure_limits s) (idles s) (map input_line inputs) in
+    ap (λ (ls : List (List ℕ)). side_line s.side ∷ ls) (grouped ∙ random)
 
 -- they are in order
 chain_if : {T : Type 0} → (set : T → Setting) (Within : T → Type 0) (side : Side) (o : Option T) (before : ℕ) (items : List Item) → ((v : T) → setting_place (set v) ≡ before + 1) → ((v : T) → Within v → IsSetting side (set v)) → IfSome o Within
@@ -195,31 +204,35 @@ chain_if set Within side (Some v) before items is within h chain = (within v h, 
 
 input_chain : (side : Side) (before : ℕ) (inputs : List Input) → AllWithin inputs → Chain side before (input_items inputs)
 input_chain side before [] h = tt
-input_chain side before (i ∷ inputs) h = (h.0, tt, input_chain side 11 inputs h.1)
+input_chain side before (i ∷ inputs) h = (h.0, tt, input_chain side 13 inputs h.1)
 
 pub script_chain : (s : Settings) (inputs : List Input) → AreSettings s → AllWithin inputs → Chain s.side 0 (items_of s inputs)
 script_chain s inputs h within =
-    let idle = chain_if Idle (λ n. n < 2 ^ 62) s.side s.idle 9 (input_items inputs) (λ v. refl) (λ v w. w) h.idle (input_chain s.side 10 inputs within) in
-    let failures = chain_if LimitFailures (λ n. n < 2 ^ 64) s.side s.limit_failures 8 _ (λ v. refl) (λ v w. w) h.limit_failures idle in
-    let handshake = chain_if LimitHandshake (λ n. n < 2 ^ 64) s.side s.limit_handshake 7 _ (λ v. refl) (λ v w. w) h.limit_handshake failures in
-    let initial = chain_if LimitInitial (λ n. n < 2 ^ 64) s.side s.limit_initial 6 _ (λ v. refl) (λ v w. w) h.limit_initial handshake in
-    let secret = chain_if Secret IsSecret s.side s.secret 5 _ (λ v. refl) (λ v w. w) h.secret initial in
-    let addr = chain_if Addr IsAddress s.side s.addr 4 _ (λ v. refl) (λ v w. w) h.addr secret in
-    let first = chain_if First (IsFirst s.side) s.side s.first 3 _ (λ v. refl) (λ v w. w) h.first addr in
-    let remote = chain_if Remote (IsRemote s.side) s.side s.remote 2 _ (λ v. refl) (λ v w. w) h.remote first in
-    let local = chain_if Local IsId s.side s.local 1 _ (λ v. refl) (λ v w. w) h.local remote in
-    chain_if Time (λ n. n < 2 ^ 64) s.side s.time 0 _ (λ v. refl) (λ v w. w) h.time local
+    let idle = chain_if Idle (λ n. n < 2 ^ 62) s.side s.idle 11 (input_items inputs) (λ v. refl) (λ v w. w) h.idle (input_chain s.side 12 inputs within) in
+    let failures = chain_if LimitFailures (λ n. n < 2 ^ 64) s.side s.limit_failures 10 _ (λ v. refl) (λ v w. w) h.limit_failures idle in
+    let handshake = chain_if LimitHandshake (λ n. n < 2 ^ 64) s.side s.limit_handshake 9 _ (λ v. refl) (λ v w. w) h.limit_handshake failures in
+    let initial = chain_if LimitInitial (λ n. n < 2 ^ 64) s.side s.limit_initial 8 _ (λ v. refl) (λ v w. w) h.limit_initial handshake in
+    let secret = chain_if Secret IsSecret s.side s.secret 7 _ (λ v. refl) (λ v w. w) h.secret initial in
+    let token = chain_if Token (IsToken s.side) s.side s.token 6 _ (λ v. refl) (λ v w. w) h.token secret in
+    let addr = chain_if Addr IsAddress s.side s.addr 5 _ (λ v. refl) (λ v w. w) h.addr token in
+    let first = chain_if First (IsFirst s.side) s.side s.first 4 _ (λ v. refl) (λ v w. w) h.first addr in
+    let remote = chain_if Remote (IsRemote s.side) s.side s.remote 3 _ (λ v. refl) (λ v w. w) h.remote first in
+    let local = chain_if Local IsId s.side s.local 2 _ (λ v. refl) (λ v w. w) h.local remote in
+    let time = chain_if Time (λ n. n < 2 ^ 64) s.side s.time 1 _ (λ v. refl) (λ v w. w) h.time local in
+    chain_if Random IsRandom s.side s.random 0 _ (λ v. refl) (λ v w. w) h.random time
 
 -- and tell the settings
-abbrev said : Side → Option ℕ → Option (List ℕ) → Option (List ℕ) → Option (List ℕ) → Option SocketAddr → Option (List ℕ) → Option ℕ → Option ℕ → Option ℕ → Option ℕ → Settings
-said side time local remote first addr secret limit_initial limit_handshake limit_failures idle =
+abbrev said : Side → Option RandomWords → Option ℕ → Option (List ℕ) → Option (List ℕ) → Option (List ℕ) → Option SocketAddr → Option (List ℕ) → Option (List ℕ) → Option ℕ → Option ℕ → Option ℕ → Option ℕ → Settings
+said side random time local remote first addr token secret limit_initial limit_handshake limit_failures idle =
     record {
       side = side;
+      random = random;
       time = time;
       local = local;
       remote = remote;
       first = first;
       addr = addr;
+      token = token;
       secret = secret;
       limit_initial = limit_initial;
       limit_handshake = limit_handshake;
@@ -238,16 +251,18 @@ said_inputs s (i ∷ inputs) = said_inputs s inputs
 
 pub script_settings : (s : Settings) (inputs : List Input) → settings_from (side_alone s.side) (items_of s inputs) ≡ s
 script_settings s inputs =
-    said_if Time (λ o. said s.side o None None None None None None None None None) s.time _ (λ v. refl)
-    ∙ said_if Local (λ o. said s.side s.time o None None None None None None None None) s.local _ (λ v. refl)
-    ∙ said_if Remote (λ o. said s.side s.time s.local o None None None None None None None) s.remote _ (λ v. refl)
-    ∙ said_if First (λ o. said s.side s.time s.local s.remote o None None None None None None) s.first _ (λ v. refl)
-    ∙ said_if Addr (λ o. said s.side s.time s.local s.remote s.first o None None None None None) s.addr _ (λ v. refl)
-    ∙ said_if Secret (λ o. said s.side s.time s.local s.remote s.first s.addr o None None None None) s.secret _ (λ v. refl)
-    ∙ said_if LimitInitial (λ o. said s.side s.time s.local s.remote s.first s.addr s.secret o None None None) s.limit_initial _ (λ v. refl)
-    ∙ said_if LimitHandshake (λ o. said s.side s.time s.local s.remote s.first s.addr s.secret s.limit_initial o None None) s.limit_handshake _ (λ v. refl)
-    ∙ said_if LimitFailures (λ o. said s.side s.time s.local s.remote s.first s.addr s.secret s.limit_initial s.limit_handshake o None) s.limit_failures _ (λ v. refl)
-    ∙ said_if Idle (λ o. said s.side s.time s.local s.remote s.first s.addr s.secret s.limit_initial s.limit_handshake s.limit_failures o) s.idle (input_items inputs) (λ v. refl)
+    said_if Random (λ o. said s.side o None None None None None None None None None None None) s.random _ (λ v. refl)
+    ∙ said_if Time (λ o. said s.side s.random o None None None None None None None None None None) s.time _ (λ v. refl)
+    ∙ said_if Local (λ o. said s.side s.random s.time o None None None None None None None None None) s.local _ (λ v. refl)
+    ∙ said_if Remote (λ o. said s.side s.random s.time s.local o None None None None None None None None) s.remote _ (λ v. refl)
+    ∙ said_if First (λ o. said s.side s.random s.time s.local s.remote o None None None None None None None) s.first _ (λ v. refl)
+    ∙ said_if Addr (λ o. said s.side s.random s.time s.local s.remote s.first o None None None None None None) s.addr _ (λ v. refl)
+    ∙ said_if Token (λ o. said s.side s.random s.time s.local s.remote s.first s.addr o None None None None None) s.token _ (λ v. refl)
+    ∙ said_if Secret (λ o. said s.side s.random s.time s.local s.remote s.first s.addr s.token o None None None None) s.secret _ (λ v. refl)
+    ∙ said_if LimitInitial (λ o. said s.side s.random s.time s.local s.remote s.first s.addr s.token s.secret o None None None) s.limit_initial _ (λ v. refl)
+    ∙ said_if LimitHandshake (λ o. said s.side s.random s.time s.local s.remote s.first s.addr s.token s.secret s.limit_initial o None None) s.limit_handshake _ (λ v. refl)
+    ∙ said_if LimitFailures (λ o. said s.side s.random s.time s.local s.remote s.first s.addr s.token s.secret s.limit_initial s.limit_handshake o None) s.limit_failures _ (λ v. refl)
+    ∙ said_if Idle (λ o. said s.side s.random s.time s.local s.remote s.first s.addr s.token s.secret s.limit_initial s.limit_handshake s.limit_failures o) s.idle (input_items inputs) (λ v. refl)
     ∙ said_inputs s inputs
 
 -- and the inputs
@@ -261,24 +276,37 @@ inputs_back front (i ∷ inputs) = inputs_back (front ++ i ∷ []) inputs ∙ ap
 
 pub script_inputs : (s : Settings) (inputs : List Input) → inputs_from [] (items_of s inputs) ≡ inputs
 script_inputs s inputs =
-    inputs_if Time s.time _ ∙ inputs_if Local s.local _ ∙ inputs_if Remote s.remote _ ∙ inputs_if First s.first _ ∙ inputs_if Addr s.addr _
-    ∙ inputs_if Secret s.secret _ ∙ inputs_if LimitInitial s.limit_initial _ ∙ inputs_if LimitHandshake s.limit_handshake _ ∙ inputs_if LimitFailures s.limit_failures _ ∙ inputs_if Idle s.idle (input_items inputs) ∙ inputs_back [] inputs
+    inputs_if Random s.random _
+    ∙ inputs_if Time s.time _
+    ∙ inputs_if Local s.local _
+    ∙ inputs_if Remote s.remote _
+    ∙ inputs_if First s.first _
+    ∙ inputs_if Addr s.addr _
+    ∙ inputs_if Token s.token _
+    ∙ inputs_if Secret s.secret _
+    ∙ inputs_if LimitInitial s.limit_initial _
+    ∙ inputs_if LimitHandshake s.limit_handshake _
+    ∙ inputs_if LimitFailures s.limit_failures _
+    ∙ inputs_if Idle s.idle (input_items inputs)
+    ∙ inputs_back [] inputs
 
 -- ---- back: items in order are a script
 
 -- there is no set line behind this place
 abbrev IsOpen : ℕ → Settings → Type 0
 IsOpen before s =
-    (before < 1 → s.time ≡ None)
-    × (before < 2 → s.local ≡ None)
-    × (before < 3 → s.remote ≡ None)
-    × (before < 4 → s.first ≡ None)
-    × (before < 5 → s.addr ≡ None)
-    × (before < 6 → s.secret ≡ None)
-    × (before < 7 → s.limit_initial ≡ None)
-    × (before < 8 → s.limit_handshake ≡ None)
-    × (before < 9 → s.limit_failures ≡ None)
-    × (before < 10 → s.idle ≡ None)
+    (before < 1 → s.random ≡ None)
+    × (before < 2 → s.time ≡ None)
+    × (before < 3 → s.local ≡ None)
+    × (before < 4 → s.remote ≡ None)
+    × (before < 5 → s.first ≡ None)
+    × (before < 6 → s.addr ≡ None)
+    × (before < 7 → s.token ≡ None)
+    × (before < 8 → s.secret ≡ None)
+    × (before < 9 → s.limit_initial ≡ None)
+    × (before < 10 → s.limit_handshake ≡ None)
+    × (before < 11 → s.limit_failures ≡ None)
+    × (before < 12 → s.idle ≡ None)
 
 open_more : (before place : ℕ) (s : Settings) → before ≤ place → IsOpen before s → IsOpen place s
 open_more before place s le h = (
@@ -292,19 +320,23 @@ open_more before place s le h = (
   λ k. h.7 (omega arith),
   λ k. h.8 (omega arith),
   λ k. h.9 (omega arith),
+  λ k. h.10 (omega arith),
+  λ k. h.11 (omega arith),
 )
 
 open_after : (before : ℕ) (s : Settings) (x : Setting) → before < setting_place x → IsOpen before s → IsOpen (setting_place x) (with_setting s x)
-open_after before s (Time v) k h = let l = open_more before 1 s (omega arith) h in (λ (q : 1 < 1). absurd (omega arith), l.1, l.2, l.3, l.4, l.5, l.6, l.7, l.8, l.9)
-open_after before s (Local v) k h = let l = open_more before 2 s (omega arith) h in (l.0, λ (q : 2 < 2). absurd (omega arith), l.2, l.3, l.4, l.5, l.6, l.7, l.8, l.9)
-open_after before s (Remote v) k h = let l = open_more before 3 s (omega arith) h in (l.0, l.1, λ (q : 3 < 3). absurd (omega arith), l.3, l.4, l.5, l.6, l.7, l.8, l.9)
-open_after before s (First v) k h = let l = open_more before 4 s (omega arith) h in (l.0, l.1, l.2, λ (q : 4 < 4). absurd (omega arith), l.4, l.5, l.6, l.7, l.8, l.9)
-open_after before s (Addr v) k h = let l = open_more before 5 s (omega arith) h in (l.0, l.1, l.2, l.3, λ (q : 5 < 5). absurd (omega arith), l.5, l.6, l.7, l.8, l.9)
-open_after before s (Secret v) k h = let l = open_more before 6 s (omega arith) h in (l.0, l.1, l.2, l.3, l.4, λ (q : 6 < 6). absurd (omega arith), l.6, l.7, l.8, l.9)
-open_after before s (LimitInitial v) k h = let l = open_more before 7 s (omega arith) h in (l.0, l.1, l.2, l.3, l.4, l.5, λ (q : 7 < 7). absurd (omega arith), l.7, l.8, l.9)
-open_after before s (LimitHandshake v) k h = let l = open_more before 8 s (omega arith) h in (l.0, l.1, l.2, l.3, l.4, l.5, l.6, λ (q : 8 < 8). absurd (omega arith), l.8, l.9)
-open_after before s (LimitFailures v) k h = let l = open_more before 9 s (omega arith) h in (l.0, l.1, l.2, l.3, l.4, l.5, l.6, l.7, λ (q : 9 < 9). absurd (omega arith), l.9)
-open_after before s (Idle v) k h = let l = open_more before 10 s (omega arith) h in (l.0, l.1, l.2, l.3, l.4, l.5, l.6, l.7, l.8, λ (q : 10 < 10). absurd (omega arith))
+open_after before s (Random v) k h = let l = open_more before 1 s (omega arith) h in (λ (q : 1 < 1). absurd (omega arith), l.1, l.2, l.3, l.4, l.5, l.6, l.7, l.8, l.9, l.10, l.11)
+open_after before s (Time v) k h = let l = open_more before 2 s (omega arith) h in (l.0, λ (q : 2 < 2). absurd (omega arith), l.2, l.3, l.4, l.5, l.6, l.7, l.8, l.9, l.10, l.11)
+open_after before s (Local v) k h = let l = open_more before 3 s (omega arith) h in (l.0, l.1, λ (q : 3 < 3). absurd (omega arith), l.3, l.4, l.5, l.6, l.7, l.8, l.9, l.10, l.11)
+open_after before s (Remote v) k h = let l = open_more before 4 s (omega arith) h in (l.0, l.1, l.2, λ (q : 4 < 4). absurd (omega arith), l.4, l.5, l.6, l.7, l.8, l.9, l.10, l.11)
+open_after before s (First v) k h = let l = open_more before 5 s (omega arith) h in (l.0, l.1, l.2, l.3, λ (q : 5 < 5). absurd (omega arith), l.5, l.6, l.7, l.8, l.9, l.10, l.11)
+open_after before s (Addr v) k h = let l = open_more before 6 s (omega arith) h in (l.0, l.1, l.2, l.3, l.4, λ (q : 6 < 6). absurd (omega arith), l.6, l.7, l.8, l.9, l.10, l.11)
+open_after before s (Token v) k h = let l = open_more before 7 s (omega arith) h in (l.0, l.1, l.2, l.3, l.4, l.5, λ (q : 7 < 7). absurd (omega arith), l.7, l.8, l.9, l.10, l.11)
+open_after before s (Secret v) k h = let l = open_more before 8 s (omega arith) h in (l.0, l.1, l.2, l.3, l.4, l.5, l.6, λ (q : 8 < 8). absurd (omega arith), l.8, l.9, l.10, l.11)
+open_after before s (LimitInitial v) k h = let l = open_more before 9 s (omega arith) h in (l.0, l.1, l.2, l.3, l.4, l.5, l.6, l.7, λ (q : 9 < 9). absurd (omega arith), l.9, l.10, l.11)
+open_after before s (LimitHandshake v) k h = let l = open_more before 10 s (omega arith) h in (l.0, l.1, l.2, l.3, l.4, l.5, l.6, l.7, l.8, λ (q : 10 < 10). absurd (omega arith), l.10, l.11)
+open_after before s (LimitFailures v) k h = let l = open_more before 11 s (omega arith) h in (l.0, l.1, l.2, l.3, l.4, l.5, l.6, l.7, l.8, l.9, λ (q : 11 < 11). absurd (omega arith), l.11)
+open_after before s (Idle v) k h = let l = open_more before 12 s (omega arith) h in (l.0, l.1, l.2, l.3, l.4, l.5, l.6, l.7, l.8, l.9, l.10, λ (q : 12 < 12). absurd (omega arith))
 
 -- the set lines from each kind on
 abbrev from_failures : Settings → List (List ℕ)
@@ -319,8 +351,11 @@ from_initial s = initial_limits s ++ from_handshake s
 abbrev from_secret : Settings → List (List ℕ)
 from_secret s = secrets s ++ from_initial s
 
+abbrev from_token : Settings → List (List ℕ)
+from_token s = tokens s ++ from_secret s
+
 abbrev from_addr : Settings → List (List ℕ)
-from_addr s = addrs s ++ from_secret s
+from_addr s = addrs s ++ from_token s
 
 abbrev from_first : Settings → List (List ℕ)
 from_first s = firsts s ++ from_addr s
@@ -331,38 +366,47 @@ from_remote s = remotes s ++ from_first s
 abbrev from_local : Settings → List (List ℕ)
 from_local s = locals s ++ from_remote s
 
+abbrev from_time : Settings → List (List ℕ)
+from_time s = times s ++ from_local s
+
 no_line : {T : Type 0} → (words : List ℕ) (spell : T → List ℕ) (o : Option T) → o ≡ None → line_if words spell o ≡ []
 no_line words spell o e = ap (line_if words spell) e
 
 no_lines : (xs ys : List (List ℕ)) → xs ≡ [] → ys ≡ [] → xs ++ ys ≡ []
 no_lines xs ys e f = ap (λ (z : List (List ℕ)). z ++ ys) e ∙ f
 
-none_from_idle : (before : ℕ) (s : Settings) → before < 10 → IsOpen before s → idles s ≡ []
-none_from_idle before s k h = no_line (codes "set idle ") decimal s.idle (h.9 k)
+none_from_idle : (before : ℕ) (s : Settings) → before < 12 → IsOpen before s → idles s ≡ []
+none_from_idle before s k h = no_line (codes "set idle ") decimal s.idle (h.11 k)
 
-none_from_failures : (before : ℕ) (s : Settings) → before < 9 → IsOpen before s → from_failures s ≡ []
-none_from_failures before s k h = no_lines (failure_limits s) (idles s) (no_line (codes "set limit_failures ") decimal s.limit_failures (h.8 k)) (none_from_idle before s (omega arith) h)
+none_from_failures : (before : ℕ) (s : Settings) → before < 11 → IsOpen before s → from_failures s ≡ []
+none_from_failures before s k h = no_lines (failure_limits s) (idles s) (no_line (codes "set limit_failures ") decimal s.limit_failures (h.10 k)) (none_from_idle before s (omega arith) h)
 
-none_from_handshake : (before : ℕ) (s : Settings) → before < 8 → IsOpen before s → from_handshake s ≡ []
-none_from_handshake before s k h = no_lines (handshake_limits s) (from_failures s) (no_line (codes "set limit_handshake ") decimal s.limit_handshake (h.7 k)) (none_from_failures before s (omega arith) h)
+none_from_handshake : (before : ℕ) (s : Settings) → before < 10 → IsOpen before s → from_handshake s ≡ []
+none_from_handshake before s k h = no_lines (handshake_limits s) (from_failures s) (no_line (codes "set limit_handshake ") decimal s.limit_handshake (h.9 k)) (none_from_failures before s (omega arith) h)
 
-none_from_initial : (before : ℕ) (s : Settings) → before < 7 → IsOpen before s → from_initial s ≡ []
-none_from_initial before s k h = no_lines (initial_limits s) (from_handshake s) (no_line (codes "set limit_initial ") decimal s.limit_initial (h.6 k)) (none_from_handshake before s (omega arith) h)
+none_from_initial : (before : ℕ) (s : Settings) → before < 9 → IsOpen before s → from_initial s ≡ []
+none_from_initial before s k h = no_lines (initial_limits s) (from_handshake s) (no_line (codes "set limit_initial ") decimal s.limit_initial (h.8 k)) (none_from_handshake before s (omega arith) h)
 
-none_from_secret : (before : ℕ) (s : Settings) → before < 6 → IsOpen before s → from_secret s ≡ []
-none_from_secret before s k h = no_lines (secrets s) (from_initial s) (no_line (codes "set secret ") hex_field s.secret (h.5 k)) (none_from_initial before s (omega arith) h)
+none_from_secret : (before : ℕ) (s : Settings) → before < 8 → IsOpen before s → from_secret s ≡ []
+none_from_secret before s k h = no_lines (secrets s) (from_initial s) (no_line (codes "set secret ") hex_field s.secret (h.7 k)) (none_from_initial before s (omega arith) h)
 
-none_from_addr : (before : ℕ) (s : Settings) → before < 5 → IsOpen before s → from_addr s ≡ []
-none_from_addr before s k h = no_lines (addrs s) (from_secret s) (no_line (codes "set addr ") address_text s.addr (h.4 k)) (none_from_secret before s (omega arith) h)
+none_from_token : (before : ℕ) (s : Settings) → before < 7 → IsOpen before s → from_token s ≡ []
+none_from_token before s k h = no_lines (tokens s) (from_secret s) (no_line (codes "set token ") hex_field s.token (h.6 k)) (none_from_secret before s (omega arith) h)
 
-none_from_first : (before : ℕ) (s : Settings) → before < 4 → IsOpen before s → from_first s ≡ []
-none_from_first before s k h = no_lines (firsts s) (from_addr s) (no_line (codes "set first ") hex_field s.first (h.3 k)) (none_from_addr before s (omega arith) h)
+none_from_addr : (before : ℕ) (s : Settings) → before < 6 → IsOpen before s → from_addr s ≡ []
+none_from_addr before s k h = no_lines (addrs s) (from_token s) (no_line (codes "set addr ") address_text s.addr (h.5 k)) (none_from_token before s (omega arith) h)
 
-none_from_remote : (before : ℕ) (s : Settings) → before < 3 → IsOpen before s → from_remote s ≡ []
-none_from_remote before s k h = no_lines (remotes s) (from_first s) (no_line (codes "set remote ") hex_field s.remote (h.2 k)) (none_from_first before s (omega arith) h)
+none_from_first : (before : ℕ) (s : Settings) → before < 5 → IsOpen before s → from_first s ≡ []
+none_from_first before s k h = no_lines (firsts s) (from_addr s) (no_line (codes "set first ") hex_field s.first (h.4 k)) (none_from_addr before s (omega arith) h)
 
-none_from_local : (before : ℕ) (s : Settings) → before < 2 → IsOpen before s → from_local s ≡ []
-none_from_local before s k h = no_lines (locals s) (from_remote s) (no_line (codes "set local ") hex_field s.local (h.1 k)) (none_from_remote before s (omega arith) h)
+none_from_remote : (before : ℕ) (s : Settings) → before < 4 → IsOpen before s → from_remote s ≡ []
+none_from_remote before s k h = no_lines (remotes s) (from_first s) (no_line (codes "set remote ") hex_field s.remote (h.3 k)) (none_from_first before s (omega arith) h)
+
+none_from_local : (before : ℕ) (s : Settings) → before < 3 → IsOpen before s → from_local s ≡ []
+none_from_local before s k h = no_lines (locals s) (from_remote s) (no_line (codes "set local ") hex_field s.local (h.2 k)) (none_from_remote before s (omega arith) h)
+
+none_from_time : (before : ℕ) (s : Settings) → before < 2 → IsOpen before s → from_time s ≡ []
+none_from_time before s k h = no_lines (times s) (from_local s) (no_line (codes "set time ") decimal s.time (h.1 k)) (none_from_local before s (omega arith) h)
 
 -- a line behind all others
 put_here : (xs ys : List (List ℕ)) (line : List ℕ) → xs ≡ [] → ys ≡ [] → line ∷ ys ≡ (xs ++ ys) ++ line ∷ []
@@ -372,66 +416,78 @@ put_behind : (xs ys zs : List (List ℕ)) (line : List ℕ) → zs ≡ ys ++ lin
 put_behind xs ys zs line e = ap (λ (z : List (List ℕ)). xs ++ z) e ∙ sym (append_assoc xs ys (line ∷ []))
 
 -- a line behind the set lines of a kind is behind all of them
-behind_time : (s : Settings) (zs : List (List ℕ)) (line : List ℕ) → zs ≡ (times s ++ from_local s) ++ line ∷ [] → side_line s.side ∷ zs ≡ set_lines s ++ line ∷ []
+behind_random : (s : Settings) (zs : List (List ℕ)) (line : List ℕ) → zs ≡ (randoms s ++ from_time s) ++ line ∷ [] → side_line s.side ∷ zs ≡ set_lines s ++ line ∷ []
 unfolding set_lines
-behind_time s zs line e = ap (λ (ls : List (List ℕ)). side_line s.side ∷ ls) e
+behind_random s zs line e = ap (λ (ls : List (List ℕ)). side_line s.side ∷ ls) e
 
-behind_local : (s : Settings) (zs : List (List ℕ)) (line : List ℕ) → zs ≡ from_local s ++ line ∷ [] → side_line s.side ∷ (times s ++ zs) ≡ set_lines s ++ line ∷ []
+behind_time : (s : Settings) (zs : List (List ℕ)) (line : List ℕ) → zs ≡ from_time s ++ line ∷ [] → side_line s.side ∷ (randoms s ++ zs) ≡ set_lines s ++ line ∷ []
+behind_time s zs line e = behind_random s (randoms s ++ zs) line (put_behind (randoms s) (from_time s) zs line e)
+
+behind_local : (s : Settings) (zs : List (List ℕ)) (line : List ℕ) → zs ≡ from_local s ++ line ∷ [] → side_line s.side ∷ (randoms s ++ (times s ++ zs)) ≡ set_lines s ++ line ∷ []
 behind_local s zs line e = behind_time s (times s ++ zs) line (put_behind (times s) (from_local s) zs line e)
 
-behind_remote : (s : Settings) (zs : List (List ℕ)) (line : List ℕ) → zs ≡ from_remote s ++ line ∷ [] → side_line s.side ∷ (times s ++ (locals s ++ zs)) ≡ set_lines s ++ line ∷ []
+behind_remote : (s : Settings) (zs : List (List ℕ)) (line : List ℕ) → zs ≡ from_remote s ++ line ∷ [] → side_line s.side ∷ (randoms s ++ (times s ++ (locals s ++ zs))) ≡ set_lines s ++ line ∷ []
 behind_remote s zs line e = behind_local s (locals s ++ zs) line (put_behind (locals s) (from_remote s) zs line e)
 
-behind_first : (s : Settings) (zs : List (List ℕ)) (line : List ℕ) → zs ≡ from_first s ++ line ∷ [] → side_line s.side ∷ (times s ++ (locals s ++ (remotes s ++ zs))) ≡ set_lines s ++ line ∷ []
+behind_first : (s : Settings) (zs : List (List ℕ)) (line : List ℕ) → zs ≡ from_first s ++ line ∷ [] → side_line s.side ∷ (randoms s ++ (times s ++ (locals s ++ (remotes s ++ zs)))) ≡ set_lines s ++ line ∷ []
 behind_first s zs line e = behind_remote s (remotes s ++ zs) line (put_behind (remotes s) (from_first s) zs line e)
 
-behind_addr : (s : Settings) (zs : List (List ℕ)) (line : List ℕ) → zs ≡ from_addr s ++ line ∷ [] → side_line s.side ∷ (times s ++ (locals s ++ (remotes s ++ (firsts s ++ zs)))) ≡ set_lines s ++ line ∷ []
+behind_addr : (s : Settings) (zs : List (List ℕ)) (line : List ℕ) → zs ≡ from_addr s ++ line ∷ [] → side_line s.side ∷ (randoms s ++ (times s ++ (locals s ++ (remotes s ++ (firsts s ++ zs))))) ≡ set_lines s ++ line ∷ []
 behind_addr s zs line e = behind_first s (firsts s ++ zs) line (put_behind (firsts s) (from_addr s) zs line e)
 
-behind_secret : (s : Settings) (zs : List (List ℕ)) (line : List ℕ) → zs ≡ from_secret s ++ line ∷ [] → side_line s.side ∷ (times s ++ (locals s ++ (remotes s ++ (firsts s ++ (addrs s ++ zs))))) ≡ set_lines s ++ line ∷ []
-behind_secret s zs line e = behind_addr s (addrs s ++ zs) line (put_behind (addrs s) (from_secret s) zs line e)
+behind_token : (s : Settings) (zs : List (List ℕ)) (line : List ℕ) → zs ≡ from_token s ++ line ∷ [] → side_line s.side ∷ (randoms s ++ (times s ++ (locals s ++ (remotes s ++ (firsts s ++ (addrs s ++ zs)))))) ≡ set_lines s ++ line ∷ []
+behind_token s zs line e = behind_addr s (addrs s ++ zs) line (put_behind (addrs s) (from_token s) zs line e)
 
-behind_initial : (s : Settings) (zs : List (List ℕ)) (line : List ℕ) → zs ≡ from_initial s ++ line ∷ [] → side_line s.side ∷ (times s ++ (locals s ++ (remotes s ++ (firsts s ++ (addrs s ++ (secrets s ++ zs)))))) ≡ set_lines s ++ line ∷ []
+behind_secret : (s : Settings) (zs : List (List ℕ)) (line : List ℕ) → zs ≡ from_secret s ++ line ∷ [] → side_line s.side ∷ (randoms s ++ (times s ++ (locals s ++ (remotes s ++ (firsts s ++ (addrs s ++ (tokens s ++ zs))))))) ≡ set_lines s ++ line ∷ []
+behind_secret s zs line e = behind_token s (tokens s ++ zs) line (put_behind (tokens s) (from_secret s) zs line e)
+
+behind_initial : (s : Settings) (zs : List (List ℕ)) (line : List ℕ) → zs ≡ from_initial s ++ line ∷ [] → side_line s.side ∷ (randoms s ++ (times s ++ (locals s ++ (remotes s ++ (firsts s ++ (addrs s ++ (tokens s ++ (secrets s ++ zs)))))))) ≡ set_lines s ++ line ∷ []
 behind_initial s zs line e = behind_secret s (secrets s ++ zs) line (put_behind (secrets s) (from_initial s) zs line e)
 
-behind_handshake : (s : Settings) (zs : List (List ℕ)) (line : List ℕ) → zs ≡ from_handshake s ++ line ∷ [] → side_line s.side ∷ (times s ++ (locals s ++ (remotes s ++ (firsts s ++ (addrs s ++ (secrets s ++ (initial_limits s ++ zs))))))) ≡ set_lines s ++ line ∷ []
+behind_handshake : (s : Settings) (zs : List (List ℕ)) (line : List ℕ) → zs ≡ from_handshake s ++ line ∷ [] → side_line s.side ∷ (randoms s ++ (times s ++ (locals s ++ (remotes s ++ (firsts s ++ (addrs s ++ (tokens s ++ (secrets s ++ (initial_limits s ++ zs))))))))) ≡ set_lines s ++ line ∷ []
 behind_handshake s zs line e = behind_initial s (initial_limits s ++ zs) line (put_behind (initial_limits s) (from_handshake s) zs line e)
 
-behind_failures : (s : Settings) (zs : List (List ℕ)) (line : List ℕ) → zs ≡ from_failures s ++ line ∷ [] → side_line s.side ∷ (times s ++ (locals s ++ (remotes s ++ (firsts s ++ (addrs s ++ (secrets s ++ (initial_limits s ++ (handshake_limits s ++ zs)))))))) ≡ set_lines s ++ line ∷ []
+behind_failures : (s : Settings) (zs : List (List ℕ)) (line : List ℕ) → zs ≡ from_failures s ++ line ∷ [] → side_line s.side ∷ (randoms s ++ (times s ++ (locals s ++ (remotes s ++ (firsts s ++ (addrs s ++ (tokens s ++ (secrets s ++ (initial_limits s ++ (handshake_limits s ++ zs)))))))))) ≡ set_lines s ++ line ∷ []
 behind_failures s zs line e = behind_handshake s (handshake_limits s ++ zs) line (put_behind (handshake_limits s) (from_failures s) zs line e)
 
-behind_idle : (s : Settings) (zs : List (List ℕ)) (line : List ℕ) → zs ≡ idles s ++ line ∷ [] → side_line s.side ∷ (times s ++ (locals s ++ (remotes s ++ (firsts s ++ (addrs s ++ (secrets s ++ (initial_limits s ++ (handshake_limits s ++ (failure_limits s ++ zs))))))))) ≡ set_lines s ++ line ∷ []
+behind_idle : (s : Settings) (zs : List (List ℕ)) (line : List ℕ) → zs ≡ idles s ++ line ∷ [] → side_line s.side ∷ (randoms s ++ (times s ++ (locals s ++ (remotes s ++ (firsts s ++ (addrs s ++ (tokens s ++ (secrets s ++ (initial_limits s ++ (handshake_limits s ++ (failure_limits s ++ zs))))))))))) ≡ set_lines s ++ line ∷ []
 behind_idle s zs line e = behind_failures s (failure_limits s ++ zs) line (put_behind (failure_limits s) (idles s) zs line e)
 
 -- a setting's line behind those before it
 lines_after : (before : ℕ) (s : Settings) (x : Setting) → before < setting_place x → IsOpen before s → set_lines (with_setting s x) ≡ set_lines s ++ setting_line x ∷ []
 unfolding set_lines setting_line
+lines_after before s (Random v) k h =
+    let here = put_here (randoms s) (from_time s) (setting_line (Random v)) (no_line (codes "set random ") random_text s.random (h.0 k)) (none_from_time before s (omega arith) h) in
+    behind_random s (setting_line (Random v) ∷ from_time s) (setting_line (Random v)) here
 lines_after before s (Time v) k h =
-    let here = put_here (times s) (from_local s) (setting_line (Time v)) (no_line (codes "set time ") decimal s.time (h.0 k)) (none_from_local before s (omega arith) h) in
+    let here = put_here (times s) (from_local s) (setting_line (Time v)) (no_line (codes "set time ") decimal s.time (h.1 k)) (none_from_local before s (omega arith) h) in
     behind_time s (setting_line (Time v) ∷ from_local s) (setting_line (Time v)) here
 lines_after before s (Local v) k h =
-    let here = put_here (locals s) (from_remote s) (setting_line (Local v)) (no_line (codes "set local ") hex_field s.local (h.1 k)) (none_from_remote before s (omega arith) h) in
+    let here = put_here (locals s) (from_remote s) (setting_line (Local v)) (no_line (codes "set local ") hex_field s.local (h.2 k)) (none_from_remote before s (omega arith) h) in
     behind_local s (setting_line (Local v) ∷ from_remote s) (setting_line (Local v)) here
 lines_after before s (Remote v) k h =
-    let here = put_here (remotes s) (from_first s) (setting_line (Remote v)) (no_line (codes "set remote ") hex_field s.remote (h.2 k)) (none_from_first before s (omega arith) h) in
+    let here = put_here (remotes s) (from_first s) (setting_line (Remote v)) (no_line (codes "set remote ") hex_field s.remote (h.3 k)) (none_from_first before s (omega arith) h) in
     behind_remote s (setting_line (Remote v) ∷ from_first s) (setting_line (Remote v)) here
 lines_after before s (First v) k h =
-    let here = put_here (firsts s) (from_addr s) (setting_line (First v)) (no_line (codes "set first ") hex_field s.first (h.3 k)) (none_from_addr before s (omega arith) h) in
+    let here = put_here (firsts s) (from_addr s) (setting_line (First v)) (no_line (codes "set first ") hex_field s.first (h.4 k)) (none_from_addr before s (omega arith) h) in
     behind_first s (setting_line (First v) ∷ from_addr s) (setting_line (First v)) here
 lines_after before s (Addr v) k h =
-    let here = put_here (addrs s) (from_secret s) (setting_line (Addr v)) (no_line (codes "set addr ") address_text s.addr (h.4 k)) (none_from_secret before s (omega arith) h) in
-    behind_addr s (setting_line (Addr v) ∷ from_secret s) (setting_line (Addr v)) here
+    let here = put_here (addrs s) (from_token s) (setting_line (Addr v)) (no_line (codes "set addr ") address_text s.addr (h.5 k)) (none_from_token before s (omega arith) h) in
+    behind_addr s (setting_line (Addr v) ∷ from_token s) (setting_line (Addr v)) here
+lines_after before s (Token v) k h =
+    let here = put_here (tokens s) (from_secret s) (setting_line (Token v)) (no_line (codes "set token ") hex_field s.token (h.6 k)) (none_from_secret before s (omega arith) h) in
+    behind_token s (setting_line (Token v) ∷ from_secret s) (setting_line (Token v)) here
 lines_after before s (Secret v) k h =
-    let here = put_here (secrets s) (from_initial s) (setting_line (Secret v)) (no_line (codes "set secret ") hex_field s.secret (h.5 k)) (none_from_initial before s (omega arith) h) in
+    let here = put_here (secrets s) (from_initial s) (setting_line (Secret v)) (no_line (codes "set secret ") hex_field s.secret (h.7 k)) (none_from_initial before s (omega arith) h) in
     behind_secret s (setting_line (Secret v) ∷ from_initial s) (setting_line (Secret v)) here
 lines_after before s (LimitInitial v) k h =
-    let here = put_here (initial_limits s) (from_handshake s) (setting_line (LimitInitial v)) (no_line (codes "set limit_initial ") decimal s.limit_initial (h.6 k)) (none_from_handshake before s (omega arith) h) in
+    let here = put_here (initial_limits s) (from_handshake s) (setting_line (LimitInitial v)) (no_line (codes "set limit_initial ") decimal s.limit_initial (h.8 k)) (none_from_handshake before s (omega arith) h) in
     behind_initial s (setting_line (LimitInitial v) ∷ from_handshake s) (setting_line (LimitInitial v)) here
 lines_after before s (LimitHandshake v) k h =
-    let here = put_here (handshake_limits s) (from_failures s) (setting_line (LimitHandshake v)) (no_line (codes "set limit_handshake ") decimal s.limit_handshake (h.7 k)) (none_from_failures before s (omega arith) h) in
+    let here = put_here (handshake_limits s) (from_failures s) (setting_line (LimitHandshake v)) (no_line (codes "set limit_handshake ") decimal s.limit_handshake (h.9 k)) (none_from_failures before s (omega arith) h) in
     behind_handshake s (setting_line (LimitHandshake v) ∷ from_failures s) (setting_line (LimitHandshake v)) here
 lines_after before s (LimitFailures v) k h =
-    let here = put_here (failure_limits s) (idles s) (setting_line (LimitFailures v)) (no_line (codes "set limit_failures ") decimal s.limit_failures (h.8 k)) (none_from_idle before s (omega arith) h) in
+    let here = put_here (failure_limits s) (idles s) (setting_line (LimitFailures v)) (no_line (codes "set limit_failures ") decimal s.limit_failures (h.10 k)) (none_from_idle before s (omega arith) h) in
     behind_failures s (setting_line (LimitFailures v) ∷ idles s) (setting_line (LimitFailures v)) here
 lines_after before s (Idle v) k h =
     let here : setting_line (Idle v) ∷ [] ≡ idles s ++ setting_line (Idle v) ∷ [] = ap (λ (z : List (List ℕ)). z ++ setting_line (Idle v) ∷ []) (sym (none_from_idle before s k h)) in
@@ -439,11 +495,13 @@ lines_after before s (Idle v) k h =
 
 -- what is set stays within its bounds
 side_after : (s : Settings) (x : Setting) → (with_setting s x).side ≡ s.side
+side_after s (Random v) = refl
 side_after s (Time v) = refl
 side_after s (Local v) = refl
 side_after s (Remote v) = refl
 side_after s (First v) = refl
 side_after s (Addr v) = refl
+side_after s (Token v) = refl
 side_after s (Secret v) = refl
 side_after s (LimitInitial v) = refl
 side_after s (LimitHandshake v) = refl
@@ -451,21 +509,23 @@ side_after s (LimitFailures v) = refl
 side_after s (Idle v) = refl
 
 set_after : (s : Settings) (x : Setting) → AreSettings s → IsSetting s.side x → AreSettings (with_setting s x)
-set_after s (Time v) h w = record { time = w; local = h.local; remote = h.remote; first = h.first; addr = h.addr; secret = h.secret; limit_initial = h.limit_initial; limit_handshake = h.limit_handshake; limit_failures = h.limit_failures; idle = h.idle }
-set_after s (Local v) h w = record { time = h.time; local = w; remote = h.remote; first = h.first; addr = h.addr; secret = h.secret; limit_initial = h.limit_initial; limit_handshake = h.limit_handshake; limit_failures = h.limit_failures; idle = h.idle }
-set_after s (Remote v) h w = record { time = h.time; local = h.local; remote = w; first = h.first; addr = h.addr; secret = h.secret; limit_initial = h.limit_initial; limit_handshake = h.limit_handshake; limit_failures = h.limit_failures; idle = h.idle }
-set_after s (First v) h w = record { time = h.time; local = h.local; remote = h.remote; first = w; addr = h.addr; secret = h.secret; limit_initial = h.limit_initial; limit_handshake = h.limit_handshake; limit_failures = h.limit_failures; idle = h.idle }
-set_after s (Addr v) h w = record { time = h.time; local = h.local; remote = h.remote; first = h.first; addr = w; secret = h.secret; limit_initial = h.limit_initial; limit_handshake = h.limit_handshake; limit_failures = h.limit_failures; idle = h.idle }
-set_after s (Secret v) h w = record { time = h.time; local = h.local; remote = h.remote; first = h.first; addr = h.addr; secret = w; limit_initial = h.limit_initial; limit_handshake = h.limit_handshake; limit_failures = h.limit_failures; idle = h.idle }
-set_after s (LimitInitial v) h w = record { time = h.time; local = h.local; remote = h.remote; first = h.first; addr = h.addr; secret = h.secret; limit_initial = w; limit_handshake = h.limit_handshake; limit_failures = h.limit_failures; idle = h.idle }
-set_after s (LimitHandshake v) h w = record { time = h.time; local = h.local; remote = h.remote; first = h.first; addr = h.addr; secret = h.secret; limit_initial = h.limit_initial; limit_handshake = w; limit_failures = h.limit_failures; idle = h.idle }
-set_after s (LimitFailures v) h w = record { time = h.time; local = h.local; remote = h.remote; first = h.first; addr = h.addr; secret = h.secret; limit_initial = h.limit_initial; limit_handshake = h.limit_handshake; limit_failures = w; idle = h.idle }
-set_after s (Idle v) h w = record { time = h.time; local = h.local; remote = h.remote; first = h.first; addr = h.addr; secret = h.secret; limit_initial = h.limit_initial; limit_handshake = h.limit_handshake; limit_failures = h.limit_failures; idle = w }
+set_after s (Random v) h w = record { random = w; time = h.time; local = h.local; remote = h.remote; first = h.first; addr = h.addr; token = h.token; secret = h.secret; limit_initial = h.limit_initial; limit_handshake = h.limit_handshake; limit_failures = h.limit_failures; idle = h.idle }
+set_after s (Time v) h w = record { random = h.random; time = w; local = h.local; remote = h.remote; first = h.first; addr = h.addr; token = h.token; secret = h.secret; limit_initial = h.limit_initial; limit_handshake = h.limit_handshake; limit_failures = h.limit_failures; idle = h.idle }
+set_after s (Local v) h w = record { random = h.random; time = h.time; local = w; remote = h.remote; first = h.first; addr = h.addr; token = h.token; secret = h.secret; limit_initial = h.limit_initial; limit_handshake = h.limit_handshake; limit_failures = h.limit_failures; idle = h.idle }
+set_after s (Remote v) h w = record { random = h.random; time = h.time; local = h.local; remote = w; first = h.first; addr = h.addr; token = h.token; secret = h.secret; limit_initial = h.limit_initial; limit_handshake = h.limit_handshake; limit_failures = h.limit_failures; idle = h.idle }
+set_after s (First v) h w = record { random = h.random; time = h.time; local = h.local; remote = h.remote; first = w; addr = h.addr; token = h.token; secret = h.secret; limit_initial = h.limit_initial; limit_handshake = h.limit_handshake; limit_failures = h.limit_failures; idle = h.idle }
+set_after s (Addr v) h w = record { random = h.random; time = h.time; local = h.local; remote = h.remote; first = h.first; addr = w; token = h.token; secret = h.secret; limit_initial = h.limit_initial; limit_handshake = h.limit_handshake; limit_failures = h.limit_failures; idle = h.idle }
+set_after s (Token v) h w = record { random = h.random; time = h.time; local = h.local; remote = h.remote; first = h.first; addr = h.addr; token = w; secret = h.secret; limit_initial = h.limit_initial; limit_handshake = h.limit_handshake; limit_failures = h.limit_failures; idle = h.idle }
+set_after s (Secret v) h w = record { random = h.random; time = h.time; local = h.local; remote = h.remote; first = h.first; addr = h.addr; token = h.token; secret = w; limit_initial = h.limit_initial; limit_handshake = h.limit_handshake; limit_failures = h.limit_failures; idle = h.idle }
+set_after s (LimitInitial v) h w = record { random = h.random; time = h.time; local = h.local; remote = h.remote; first = h.first; addr = h.addr; token = h.token; secret = h.secret; limit_initial = w; limit_handshake = h.limit_handshake; limit_failures = h.limit_failures; idle = h.idle }
+set_after s (LimitHandshake v) h w = record { random = h.random; time = h.time; local = h.local; remote = h.remote; first = h.first; addr = h.addr; token = h.token; secret = h.secret; limit_initial = h.limit_initial; limit_handshake = w; limit_failures = h.limit_failures; idle = h.idle }
+set_after s (LimitFailures v) h w = record { random = h.random; time = h.time; local = h.local; remote = h.remote; first = h.first; addr = h.addr; token = h.token; secret = h.secret; limit_initial = h.limit_initial; limit_handshake = h.limit_handshake; limit_failures = w; idle = h.idle }
+set_after s (Idle v) h w = record { random = h.random; time = h.time; local = h.local; remote = h.remote; first = h.first; addr = h.addr; token = h.token; secret = h.secret; limit_initial = h.limit_initial; limit_handshake = h.limit_handshake; limit_failures = h.limit_failures; idle = w }
 
 set_from : (side : Side) (before : ℕ) (s : Settings) (items : List Item) → s.side ≡ side → Chain side before items → AreSettings s → AreSettings (settings_from s items)
 set_from side before s [] e chain h = h
 set_from side before s (It.Set x ∷ items) e chain h = set_from side (setting_place x) (with_setting s x) items (side_after s x ∙ e) chain.2 (set_after s x h (subst (λ (d : Side). IsSetting d x) (sym e) chain.0))
-set_from side before s (It.Input i ∷ items) e chain h = set_from side 11 s items e chain.2 h
+set_from side before s (It.Input i ∷ items) e chain h = set_from side 13 s items e chain.2 h
 
 all_push : (is : List Input) (j : Input) → AllWithin is → IsWithin j → AllWithin (is ++ j ∷ [])
 all_push [] j h within = (within, tt)
@@ -474,14 +534,16 @@ all_push (i ∷ is) j h within = (h.0, all_push is j h.1 within)
 within_from : (side : Side) (before : ℕ) (inputs : List Input) (items : List Item) → Chain side before items → AllWithin inputs → AllWithin (inputs_from inputs items)
 within_from side before inputs [] chain h = h
 within_from side before inputs (It.Set x ∷ items) chain h = within_from side (setting_place x) inputs items chain.2 h
-within_from side before inputs (It.Input i ∷ items) chain h = within_from side 11 (inputs ++ i ∷ []) items chain.2 (all_push inputs i h chain.0)
+within_from side before inputs (It.Input i ∷ items) chain h = within_from side 13 (inputs ++ i ∷ []) items chain.2 (all_push inputs i h chain.0)
 
-place_small : (x : Setting) → setting_place x < 11
+place_small : (x : Setting) → setting_place x < 13
+place_small (Random v) = omega arith
 place_small (Time v) = omega arith
 place_small (Local v) = omega arith
 place_small (Remote v) = omega arith
 place_small (First v) = omega arith
 place_small (Addr v) = omega arith
+place_small (Token v) = omega arith
 place_small (Secret v) = omega arith
 place_small (LimitInitial v) = omega arith
 place_small (LimitHandshake v) = omega arith
@@ -491,7 +553,7 @@ place_small (Idle v) = omega arith
 set_line_moved : (xs ys zs more : List (List ℕ)) (line : List ℕ) → zs ≡ [] → ys ≡ xs ++ line ∷ [] → (xs ++ zs) ++ line ∷ more ≡ (ys ++ zs) ++ more
 set_line_moved xs ys zs more line e f = rw (e, f) (simp (append-nil, append_assoc))
 
-lines_from : (side : Side) (before : ℕ) (s : Settings) (inputs : List Input) (items : List Item) → Chain side before items → IsOpen before s → (before < 11 → inputs ≡ [])
+lines_from : (side : Side) (before : ℕ) (s : Settings) (inputs : List Input) (items : List Item) → Chain side before items → IsOpen before s → (before < 13 → inputs ≡ [])
     → (set_lines s ++ map input_line inputs) ++ map item_line items ≡ set_lines (settings_from s items) ++ map input_line (inputs_from inputs items)
 lines_from side before s inputs [] chain h none = append-nil (set_lines s ++ map input_line inputs)
 lines_from side before s inputs (It.Set x ∷ items) chain h none =
@@ -501,29 +563,31 @@ lines_from side before s inputs (It.Set x ∷ items) chain h none =
     ∙ lines_from side (setting_place x) (with_setting s x) inputs items chain.2 (open_after before s x follows h) (λ k. empty)
 lines_from side before s inputs (It.Input i ∷ items) chain h none =
     let moved : (set_lines s ++ map input_line inputs) ++ input_line i ∷ map item_line items ≡ (set_lines s ++ map input_line (inputs ++ i ∷ [])) ++ map item_line items = rw (map-append input_line inputs (i ∷ [])) (simp append_assoc) in
-    moved ∙ lines_from side 11 s (inputs ++ i ∷ []) items chain.2 (open_at_end s) (λ (k : 11 < 11). absurd (omega arith))
+    moved ∙ lines_from side 13 s (inputs ++ i ∷ []) items chain.2 (open_at_end s) (λ (k : 13 < 13). absurd (omega arith))
   where
-    open_at_end : (s : Settings) → IsOpen 11 s
+    open_at_end : (s : Settings) → IsOpen 13 s
     open_at_end s = (
-      λ (k : 11 < 1). absurd (omega arith),
-      λ (k : 11 < 2). absurd (omega arith),
-      λ (k : 11 < 3). absurd (omega arith),
-      λ (k : 11 < 4). absurd (omega arith),
-      λ (k : 11 < 5). absurd (omega arith),
-      λ (k : 11 < 6). absurd (omega arith),
-      λ (k : 11 < 7). absurd (omega arith),
-      λ (k : 11 < 8). absurd (omega arith),
-      λ (k : 11 < 9). absurd (omega arith),
-      λ (k : 11 < 10). absurd (omega arith),
+      λ (k : 13 < 1). absurd (omega arith),
+      λ (k : 13 < 2). absurd (omega arith),
+      λ (k : 13 < 3). absurd (omega arith),
+      λ (k : 13 < 4). absurd (omega arith),
+      λ (k : 13 < 5). absurd (omega arith),
+      λ (k : 13 < 6). absurd (omega arith),
+      λ (k : 13 < 7). absurd (omega arith),
+      λ (k : 13 < 8). absurd (omega arith),
+      λ (k : 13 < 9). absurd (omega arith),
+      λ (k : 13 < 10). absurd (omega arith),
+      λ (k : 13 < 11). absurd (omega arith),
+      λ (k : 13 < 12). absurd (omega arith),
     )
 
 -- items behind the line of a side: they are the lines of settings and inputs
 pub items_lines : (side : Side) (items : List Item) → Chain side 0 items → side_line side ∷ map item_line items ≡ set_lines (settings_from (side_alone side) items) ++ map input_line (inputs_from [] items)
 unfolding set_lines
-items_lines side items chain = lines_from side 0 (side_alone side) [] items chain (λ k. refl, λ k. refl, λ k. refl, λ k. refl, λ k. refl, λ k. refl, λ k. refl, λ k. refl, λ k. refl, λ k. refl) (λ k. refl)
+items_lines side items chain = lines_from side 0 (side_alone side) [] items chain (λ k. refl, λ k. refl, λ k. refl, λ k. refl, λ k. refl, λ k. refl, λ k. refl, λ k. refl, λ k. refl, λ k. refl, λ k. refl, λ k. refl) (λ k. refl)
 
 pub items_settings : (side : Side) (items : List Item) → Chain side 0 items → AreSettings (settings_from (side_alone side) items)
-items_settings side items chain = set_from side 0 (side_alone side) items refl chain (record { time = tt; local = tt; remote = tt; first = tt; addr = tt; secret = tt; limit_initial = tt; limit_handshake = tt; limit_failures = tt; idle = tt })
+items_settings side items chain = set_from side 0 (side_alone side) items refl chain (record { random = tt; time = tt; local = tt; remote = tt; first = tt; addr = tt; token = tt; secret = tt; limit_initial = tt; limit_handshake = tt; limit_failures = tt; idle = tt })
 
 pub items_within : (side : Side) (items : List Item) → Chain side 0 items → AllWithin (inputs_from [] items)
 items_within side items chain = within_from side 0 [] items chain tt

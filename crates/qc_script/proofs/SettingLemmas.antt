@@ -4,15 +4,19 @@ use Rattle.std.proofs.lemmas.List.{append_assoc, append_cancel_left, append_canc
 use Rattle.std.specs.Fmt.{decimal}
 use Rattle.std.proofs.lemmas.Fmt.{decimal_injective}
 use Rattle.std.specs.declared.net.socket_addr.SocketAddr.{SocketAddr}
+use Rattle.hex.specs.Hex.{lower_digits}
+use Rattle.hex.proofs.HexLemmas.{length-encode_with}
 use Rattle.qc_base.specs.Grammar.{IsBytes}
 use Rattle.qc_base.specs.declared.side.Side.{Side}
 use Rattle.qc_base.specs.declared.side.Side.TheVariants.{Client, Server}
 use Rattle.qc_state.specs.declared.input.Input.{Input}
 use Rattle.qc_state.specs.declared.input.Input.TheVariants.{Datagram, Timeout, Transmit, Close, Ping}
+use Rattle.qc_script.specs.declared.settings.RandomWords.{RandomWords}
+use Rattle.qc_script.specs.declared.settings.RandomWords.TheVariants.{Zeros, Seed}
 use Rattle.qc_script.specs.declared.settings.Setting.{Setting}
-use Rattle.qc_script.specs.declared.settings.Setting.TheVariants.{Time, Local, Remote, First, Addr, Secret, LimitInitial, LimitHandshake, LimitFailures, Idle}
+use Rattle.qc_script.specs.declared.settings.Setting.TheVariants.{Random, Time, Local, Remote, First, Addr, Token, Secret, LimitInitial, LimitHandshake, LimitFailures, Idle}
 use Rattle.qc_script.specs.Fields.{hex_field, address_text, IsAddress}
-use Rattle.qc_script.specs.Script.{side_line, input_line, IsId, IsRemote, IsFirst, IsSecret}
+use Rattle.qc_script.specs.Script.{random_text, side_line, input_line, IsRandom, IsSeed, IsId, IsRemote, IsFirst, IsToken, IsSecret}
 use Rattle.qc_script.specs.Items.{setting_line, IsSetting, IsNextSetting}
 use Rattle.qc_script.proofs.FieldLemmas.{hex_field_injective, address_injective}
 use Rattle.qc_script.proofs.LineLemmas.{letter, fourth_letter}
@@ -44,11 +48,13 @@ mark line = (get_or line 4 0 + get_or line 5 0) + limit_letter (get_or line 4 0 
 
 -- the mark of a setting's line
 abbrev kind : Setting → ℕ
+kind (Random words) = 211
 kind (Time now) = 221
 kind (Local id) = 219
 kind (Remote id) = 215
 kind (First id) = 207
 kind (Addr address) = 197
+kind (Token bytes) = 227
 kind (Secret bytes) = 216
 kind (LimitInitial packets) = 318
 kind (LimitHandshake packets) = 317
@@ -57,11 +63,13 @@ kind (Idle limit) = 205
 
 kind_at : (x : Setting) → mark (setting_line x) ≡ kind x
 unfolding setting_line
+kind_at (Random words) = refl
 kind_at (Time now) = refl
 kind_at (Local id) = refl
 kind_at (Remote id) = refl
 kind_at (First id) = refl
 kind_at (Addr address) = refl
+kind_at (Token bytes) = refl
 kind_at (Secret bytes) = refl
 kind_at (LimitInitial packets) = refl
 kind_at (LimitHandshake packets) = refl
@@ -72,6 +80,10 @@ kind_of_text : (side : Side) (text : List ℕ) (x : Setting) → IsNextSetting s
 kind_of_text side text x h = ap mark h.spelled ∙ kind_at x
 
 -- ---- the reader's lines
+
+pub random_next : (field : List ℕ) (words : RandomWords) → field ≡ random_text words → IsRandom words → (side : Side) → IsNextSetting side (codes "set random " ++ field) (Random words)
+unfolding setting_line
+random_next field words e h side = record { spelled = spelled_on (codes "set random ") field (random_text words) e; within = h }
 
 pub time_next : (field : List ℕ) (now : ℕ) → field ≡ decimal now → now < 2 ^ 64 → (side : Side) → IsNextSetting side (codes "set time " ++ field) (Time now)
 unfolding setting_line
@@ -93,6 +105,10 @@ pub addr_next : (field : List ℕ) (address : SocketAddr) → field ≡ address_
 unfolding setting_line
 addr_next field address e h side = record { spelled = spelled_on (codes "set addr ") field (address_text address) e; within = h }
 
+pub token_next : (field bytes : List ℕ) (side : Side) → field ≡ hex_field bytes → IsToken side bytes → IsNextSetting side (codes "set token " ++ field) (Token bytes)
+unfolding setting_line
+token_next field bytes side e h = record { spelled = spelled_on (codes "set token ") field (hex_field bytes) e; within = h }
+
 pub secret_next : (field bytes : List ℕ) → field ≡ hex_field bytes → IsSecret bytes → (side : Side) → IsNextSetting side (codes "set secret " ++ field) (Secret bytes)
 unfolding setting_line
 secret_next field bytes e h side = record { spelled = spelled_on (codes "set secret ") field (hex_field bytes) e; within = h }
@@ -113,7 +129,12 @@ pub idle_next : (field : List ℕ) (limit : ℕ) → field ≡ decimal limit →
 unfolding setting_line
 idle_next field limit e h side = record { spelled = spelled_on (codes "set idle ") field (decimal limit) e; within = h }
 
--- a line that begins with `set time ` is that of no other setting
+-- a line that begins with `set random ` is that of no other setting
+pub no_random : (field : List ℕ) → ((words : RandomWords) → IsRandom words → field ≢ random_text words) → (side : Side) (x : Setting) → IsNextSetting side (codes "set random " ++ field) x → ⊥
+unfolding setting_line
+no_random field none side (Random words) h = none words h.within (field_same (codes "set random ") field (random_text words) h.spelled)
+no_random field none side x h = let e : 211 ≡ kind x = kind_of_text side (codes "set random " ++ field) x h in omega (arith, e)
+
 pub no_time : (field : List ℕ) → ((n : ℕ) → n < 2 ^ 64 → field ≢ decimal n) → (side : Side) (x : Setting) → IsNextSetting side (codes "set time " ++ field) x → ⊥
 unfolding setting_line
 no_time field none side (Time n) h = none n h.within (field_same (codes "set time ") field (decimal n) h.spelled)
@@ -138,6 +159,11 @@ pub no_addr : (field : List ℕ) → ((a : SocketAddr) → IsAddress a → field
 unfolding setting_line
 no_addr field none side (Addr a) h = none a h.within (field_same (codes "set addr ") field (address_text a) h.spelled)
 no_addr field none side x h = let e : 197 ≡ kind x = kind_of_text side (codes "set addr " ++ field) x h in omega (arith, e)
+
+pub no_token : (field : List ℕ) (side : Side) → ((bytes : List ℕ) → IsToken side bytes → field ≢ hex_field bytes) → (x : Setting) → IsNextSetting side (codes "set token " ++ field) x → ⊥
+unfolding setting_line
+no_token field side none (Token bytes) h = none bytes h.within (field_same (codes "set token ") field (hex_field bytes) h.spelled)
+no_token field side none x h = let e : 227 ≡ kind x = kind_of_text side (codes "set token " ++ field) x h in omega (arith, e)
 
 pub no_secret : (field : List ℕ) → ((bytes : List ℕ) → IsSecret bytes → field ≢ hex_field bytes) → (side : Side) (x : Setting) → IsNextSetting side (codes "set secret " ++ field) x → ⊥
 unfolding setting_line
@@ -165,20 +191,22 @@ no_idle field none side (Idle n) h = none n h.within (field_same (codes "set idl
 no_idle field none side x h = let e : 205 ≡ kind x = kind_of_text side (codes "set idle " ++ field) x h in omega (arith, e)
 
 -- a text with none of the words is the line of no setting
-pub no_set_word : (text : List ℕ) → ((rest : List ℕ) → text ≢ codes "set time " ++ rest) → ((rest : List ℕ) → text ≢ codes "set local " ++ rest) → ((rest : List ℕ) → text ≢ codes "set remote " ++ rest) → ((rest : List ℕ) → text ≢ codes "set first " ++ rest)
-    → ((rest : List ℕ) → text ≢ codes "set addr " ++ rest) → ((rest : List ℕ) → text ≢ codes "set secret " ++ rest) → ((rest : List ℕ) → text ≢ codes "set limit_initial " ++ rest) → ((rest : List ℕ) → text ≢ codes "set limit_handshake " ++ rest)
-    → ((rest : List ℕ) → text ≢ codes "set limit_failures " ++ rest) → ((rest : List ℕ) → text ≢ codes "set idle " ++ rest) → (side : Side) (x : Setting) → IsNextSetting side text x → ⊥
+pub no_set_word : (text : List ℕ) → ((rest : List ℕ) → text ≢ codes "set random " ++ rest) → ((rest : List ℕ) → text ≢ codes "set time " ++ rest) → ((rest : List ℕ) → text ≢ codes "set local " ++ rest) → ((rest : List ℕ) → text ≢ codes "set remote " ++ rest)
+    → ((rest : List ℕ) → text ≢ codes "set first " ++ rest) → ((rest : List ℕ) → text ≢ codes "set addr " ++ rest) → ((rest : List ℕ) → text ≢ codes "set token " ++ rest) → ((rest : List ℕ) → text ≢ codes "set secret " ++ rest)
+    → ((rest : List ℕ) → text ≢ codes "set limit_initial " ++ rest) → ((rest : List ℕ) → text ≢ codes "set limit_handshake " ++ rest) → ((rest : List ℕ) → text ≢ codes "set limit_failures " ++ rest) → ((rest : List ℕ) → text ≢ codes "set idle " ++ rest) → (side : Side) (x : Setting) → IsNextSetting side text x → ⊥
 unfolding setting_line
-no_set_word text times locals remotes firsts addrs secrets initials handshakes failures idles side (Time now) h = times (decimal now) (words_and_field (codes "set time ") text (decimal now) h.spelled)
-no_set_word text times locals remotes firsts addrs secrets initials handshakes failures idles side (Local id) h = locals (hex_field id) (words_and_field (codes "set local ") text (hex_field id) h.spelled)
-no_set_word text times locals remotes firsts addrs secrets initials handshakes failures idles side (Remote id) h = remotes (hex_field id) (words_and_field (codes "set remote ") text (hex_field id) h.spelled)
-no_set_word text times locals remotes firsts addrs secrets initials handshakes failures idles side (First id) h = firsts (hex_field id) (words_and_field (codes "set first ") text (hex_field id) h.spelled)
-no_set_word text times locals remotes firsts addrs secrets initials handshakes failures idles side (Addr address) h = addrs (address_text address) (words_and_field (codes "set addr ") text (address_text address) h.spelled)
-no_set_word text times locals remotes firsts addrs secrets initials handshakes failures idles side (Secret bytes) h = secrets (hex_field bytes) (words_and_field (codes "set secret ") text (hex_field bytes) h.spelled)
-no_set_word text times locals remotes firsts addrs secrets initials handshakes failures idles side (LimitInitial packets) h = initials (decimal packets) (words_and_field (codes "set limit_initial ") text (decimal packets) h.spelled)
-no_set_word text times locals remotes firsts addrs secrets initials handshakes failures idles side (LimitHandshake packets) h = handshakes (decimal packets) (words_and_field (codes "set limit_handshake ") text (decimal packets) h.spelled)
-no_set_word text times locals remotes firsts addrs secrets initials handshakes failures idles side (LimitFailures packets) h = failures (decimal packets) (words_and_field (codes "set limit_failures ") text (decimal packets) h.spelled)
-no_set_word text times locals remotes firsts addrs secrets initials handshakes failures idles side (Idle limit) h = idles (decimal limit) (words_and_field (codes "set idle ") text (decimal limit) h.spelled)
+no_set_word text randoms times locals remotes firsts addrs tokens secrets initials handshakes failures idles side (Random words) h = randoms (random_text words) (words_and_field (codes "set random ") text (random_text words) h.spelled)
+no_set_word text randoms times locals remotes firsts addrs tokens secrets initials handshakes failures idles side (Time now) h = times (decimal now) (words_and_field (codes "set time ") text (decimal now) h.spelled)
+no_set_word text randoms times locals remotes firsts addrs tokens secrets initials handshakes failures idles side (Local id) h = locals (hex_field id) (words_and_field (codes "set local ") text (hex_field id) h.spelled)
+no_set_word text randoms times locals remotes firsts addrs tokens secrets initials handshakes failures idles side (Remote id) h = remotes (hex_field id) (words_and_field (codes "set remote ") text (hex_field id) h.spelled)
+no_set_word text randoms times locals remotes firsts addrs tokens secrets initials handshakes failures idles side (First id) h = firsts (hex_field id) (words_and_field (codes "set first ") text (hex_field id) h.spelled)
+no_set_word text randoms times locals remotes firsts addrs tokens secrets initials handshakes failures idles side (Addr address) h = addrs (address_text address) (words_and_field (codes "set addr ") text (address_text address) h.spelled)
+no_set_word text randoms times locals remotes firsts addrs tokens secrets initials handshakes failures idles side (Token bytes) h = tokens (hex_field bytes) (words_and_field (codes "set token ") text (hex_field bytes) h.spelled)
+no_set_word text randoms times locals remotes firsts addrs tokens secrets initials handshakes failures idles side (Secret bytes) h = secrets (hex_field bytes) (words_and_field (codes "set secret ") text (hex_field bytes) h.spelled)
+no_set_word text randoms times locals remotes firsts addrs tokens secrets initials handshakes failures idles side (LimitInitial packets) h = initials (decimal packets) (words_and_field (codes "set limit_initial ") text (decimal packets) h.spelled)
+no_set_word text randoms times locals remotes firsts addrs tokens secrets initials handshakes failures idles side (LimitHandshake packets) h = handshakes (decimal packets) (words_and_field (codes "set limit_handshake ") text (decimal packets) h.spelled)
+no_set_word text randoms times locals remotes firsts addrs tokens secrets initials handshakes failures idles side (LimitFailures packets) h = failures (decimal packets) (words_and_field (codes "set limit_failures ") text (decimal packets) h.spelled)
+no_set_word text randoms times locals remotes firsts addrs tokens secrets initials handshakes failures idles side (Idle limit) h = idles (decimal limit) (words_and_field (codes "set idle ") text (decimal limit) h.spelled)
 
 -- ---- lines and settings
 
@@ -189,6 +217,10 @@ remote_bytes Server id h = h
 first_bytes : (side : Side) (id : List ℕ) → IsFirst side id → IsId id
 first_bytes Client id h = absurd h
 first_bytes Server id h = h
+
+token_bytes : (side : Side) (bytes : List ℕ) → IsToken side bytes → IsBytes bytes
+token_bytes Client bytes h = h
+token_bytes Server bytes h = absurd h
 
 -- a remote id by its side
 client_least : (side : Side) (id : List ℕ) → side ≡ Client → IsRemote side id → 8 ≤ length id
@@ -211,12 +243,24 @@ hex_length field bytes other e h k is = ap length (hex_field_injective bytes oth
 pub remote_short : (field id : List ℕ) (side : Side) → side ≡ Client → field ≡ hex_field id → IsId id → length id < 8 → (x : Setting) → IsNextSetting side (codes "set remote " ++ field) x → ⊥
 remote_short field id side is e h short = no_remote field side (λ other k f. omega (arith, client_least side other is k, hex_length field id other e h.0 (remote_bytes side other k).0 f, short))
 
+-- a seed's field is longer than the word that names zeros
+seed_size : (bytes : List ℕ) → IsSeed bytes → length (hex_field bytes) ≡ 64
+seed_size [] h = absurd (omega (arith, h.1))
+seed_size (b ∷ bytes) h = omega (arith, length-encode_with lower_digits (b ∷ bytes), h.1)
+
+random_injective : (a b : RandomWords) → IsRandom a → IsRandom b → random_text a ≡ random_text b → a ≡ b
+random_injective Zeros Zeros h k e = refl
+random_injective Zeros (Seed bytes) h k e = absurd (omega (arith, seed_size bytes k, ap length e))
+random_injective (Seed bytes) Zeros h k e = absurd (omega (arith, seed_size bytes h, ap length e))
+random_injective (Seed a) (Seed b) h k e = ap Seed (hex_field_injective a b h.0 k.0 e)
+
 kinds : (x y : Setting) → setting_line x ≡ setting_line y → kind x ≡ kind y
 kinds x y e = sym (kind_at x) ∙ ap mark e ∙ kind_at y
 
 -- a setting's line is that of no other setting
 pub setting_line_injective : (side : Side) (x y : Setting) → IsSetting side x → IsSetting side y → setting_line x ≡ setting_line y → x ≡ y
 unfolding setting_line
+setting_line_injective side (Random a) (Random b) h k e = ap Random (random_injective a b h k (fields_same_behind (codes "set random ") (random_text a) (random_text b) e))
 setting_line_injective side (Time n) (Time n') h k e = ap Time (decimal_injective n n' h k (fields_same_behind (codes "set time ") (decimal n) (decimal n') e))
 setting_line_injective side (Local id) (Local id') h k e = ap Local (hex_field_injective id id' h.0 k.0 (fields_same_behind (codes "set local ") (hex_field id) (hex_field id') e))
 setting_line_injective side (Remote id) (Remote id') h k e =
@@ -224,6 +268,8 @@ setting_line_injective side (Remote id) (Remote id') h k e =
 setting_line_injective side (First id) (First id') h k e =
     ap First (hex_field_injective id id' (first_bytes side id h).0 (first_bytes side id' k).0 (fields_same_behind (codes "set first ") (hex_field id) (hex_field id') e))
 setting_line_injective side (Addr a) (Addr a') h k e = ap Addr (address_injective a a' h k (fields_same_behind (codes "set addr ") (address_text a) (address_text a') e))
+setting_line_injective side (Token bytes) (Token bytes') h k e =
+    ap Token (hex_field_injective bytes bytes' (token_bytes side bytes h) (token_bytes side bytes' k) (fields_same_behind (codes "set token ") (hex_field bytes) (hex_field bytes') e))
 setting_line_injective side (Secret bytes) (Secret bytes') h k e = ap Secret (hex_field_injective bytes bytes' h.0 k.0 (fields_same_behind (codes "set secret ") (hex_field bytes) (hex_field bytes') e))
 setting_line_injective side (LimitInitial n) (LimitInitial n') h k e = ap LimitInitial (decimal_injective n n' h k (fields_same_behind (codes "set limit_initial ") (decimal n) (decimal n') e))
 setting_line_injective side (LimitHandshake n) (LimitHandshake n') h k e = ap LimitHandshake (decimal_injective n n' h k (fields_same_behind (codes "set limit_handshake ") (decimal n) (decimal n') e))
@@ -234,11 +280,13 @@ setting_line_injective side x y h k e = absurd (omega (arith, kinds x y e))
 -- nor is it an input's: its word has three letters, and a space behind them
 setting_word : (x : Setting) → get_or (setting_line x) 3 0 ≡ 32
 unfolding setting_line
+setting_word (Random words) = refl
 setting_word (Time now) = refl
 setting_word (Local id) = refl
 setting_word (Remote id) = refl
 setting_word (First id) = refl
 setting_word (Addr address) = refl
+setting_word (Token bytes) = refl
 setting_word (Secret bytes) = refl
 setting_word (LimitInitial packets) = refl
 setting_word (LimitHandshake packets) = refl
@@ -258,11 +306,13 @@ setting_no_input x i e = no_space i (sym (fourth_letter i) ∙ ap (λ (z : List 
 -- a setting's line is a text, and LF
 pub setting_ends : (x : Setting) → (text : List ℕ) × (setting_line x ≡ text ++ 10 ∷ [])
 unfolding setting_line
+setting_ends (Random words) = (codes "set random " ++ random_text words, sym (append_assoc (codes "set random ") (random_text words) (10 ∷ [])))
 setting_ends (Time now) = (codes "set time " ++ decimal now, sym (append_assoc (codes "set time ") (decimal now) (10 ∷ [])))
 setting_ends (Local id) = (codes "set local " ++ hex_field id, sym (append_assoc (codes "set local ") (hex_field id) (10 ∷ [])))
 setting_ends (Remote id) = (codes "set remote " ++ hex_field id, sym (append_assoc (codes "set remote ") (hex_field id) (10 ∷ [])))
 setting_ends (First id) = (codes "set first " ++ hex_field id, sym (append_assoc (codes "set first ") (hex_field id) (10 ∷ [])))
 setting_ends (Addr address) = (codes "set addr " ++ address_text address, sym (append_assoc (codes "set addr ") (address_text address) (10 ∷ [])))
+setting_ends (Token bytes) = (codes "set token " ++ hex_field bytes, sym (append_assoc (codes "set token ") (hex_field bytes) (10 ∷ [])))
 setting_ends (Secret bytes) = (codes "set secret " ++ hex_field bytes, sym (append_assoc (codes "set secret ") (hex_field bytes) (10 ∷ [])))
 setting_ends (LimitInitial packets) = (codes "set limit_initial " ++ decimal packets, sym (append_assoc (codes "set limit_initial ") (decimal packets) (10 ∷ [])))
 setting_ends (LimitHandshake packets) = (codes "set limit_handshake " ++ decimal packets, sym (append_assoc (codes "set limit_handshake ") (decimal packets) (10 ∷ [])))

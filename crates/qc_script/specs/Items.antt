@@ -5,19 +5,21 @@ use Rattle.qc_base.specs.declared.side.Side.{Side}
 use Rattle.qc_state.specs.declared.input.Input.{Input}
 use Rattle.qc_script.specs.declared.settings.Settings.{Settings}
 use Rattle.qc_script.specs.declared.settings.Setting.{Setting}
-use Rattle.qc_script.specs.declared.settings.Setting.TheVariants.{Time, Local, Remote, First, Addr, Secret, LimitInitial, LimitHandshake, LimitFailures, Idle}
+use Rattle.qc_script.specs.declared.settings.Setting.TheVariants.{Random, Time, Local, Remote, First, Addr, Token, Secret, LimitInitial, LimitHandshake, LimitFailures, Idle}
 use Rattle.qc_script.specs.declared.items.Item.{Item}
 use Rattle.qc_script.specs.declared.items.Item.TheVariants as It
 use Rattle.qc_script.specs.Fields.{hex_field, address_text, IsAddress}
-use Rattle.qc_script.specs.Script.{IsId, IsRemote, IsFirst, IsSecret, IsWithin, input_line}
+use Rattle.qc_script.specs.Script.{random_text, IsRandom, IsId, IsRemote, IsFirst, IsToken, IsSecret, IsWithin, input_line}
 
 -- the line of a setting
 unfoldable pub setting_line : Setting → List ℕ
+setting_line (Random words) = codes "set random " ++ (random_text words ++ 10 ∷ [])
 setting_line (Time now) = codes "set time " ++ (decimal now ++ 10 ∷ [])
 setting_line (Local id) = codes "set local " ++ (hex_field id ++ 10 ∷ [])
 setting_line (Remote id) = codes "set remote " ++ (hex_field id ++ 10 ∷ [])
 setting_line (First id) = codes "set first " ++ (hex_field id ++ 10 ∷ [])
 setting_line (Addr address) = codes "set addr " ++ (address_text address ++ 10 ∷ [])
+setting_line (Token bytes) = codes "set token " ++ (hex_field bytes ++ 10 ∷ [])
 setting_line (Secret bytes) = codes "set secret " ++ (hex_field bytes ++ 10 ∷ [])
 setting_line (LimitInitial packets) = codes "set limit_initial " ++ (decimal packets ++ 10 ∷ [])
 setting_line (LimitHandshake packets) = codes "set limit_handshake " ++ (decimal packets ++ 10 ∷ [])
@@ -26,11 +28,13 @@ setting_line (Idle limit) = codes "set idle " ++ (decimal limit ++ 10 ∷ [])
 
 -- what a setting says lies within its bounds on this side
 abbrev pub IsSetting : Side → Setting → Type 0
+IsSetting side (Random words) = IsRandom words
 IsSetting side (Time now) = now < 2 ^ 64
 IsSetting side (Local id) = IsId id
 IsSetting side (Remote id) = IsRemote side id
 IsSetting side (First id) = IsFirst side id
 IsSetting side (Addr address) = IsAddress address
+IsSetting side (Token bytes) = IsToken side bytes
 IsSetting side (Secret bytes) = IsSecret bytes
 IsSetting side (LimitInitial packets) = packets < 2 ^ 64
 IsSetting side (LimitHandshake packets) = packets < 2 ^ 64
@@ -49,24 +53,28 @@ IsSettingRead side text (Some setting) = IsNextSetting side text setting
 
 -- the place of a setting's line in the order of set lines; the side's line has place 0
 abbrev pub setting_place : Setting → ℕ
-setting_place (Time now) = 1
-setting_place (Local id) = 2
-setting_place (Remote id) = 3
-setting_place (First id) = 4
-setting_place (Addr address) = 5
-setting_place (Secret bytes) = 6
-setting_place (LimitInitial packets) = 7
-setting_place (LimitHandshake packets) = 8
-setting_place (LimitFailures packets) = 9
-setting_place (Idle limit) = 10
+setting_place (Random words) = 1
+setting_place (Time now) = 2
+setting_place (Local id) = 3
+setting_place (Remote id) = 4
+setting_place (First id) = 5
+setting_place (Addr address) = 6
+setting_place (Token bytes) = 7
+setting_place (Secret bytes) = 8
+setting_place (LimitInitial packets) = 9
+setting_place (LimitHandshake packets) = 10
+setting_place (LimitFailures packets) = 11
+setting_place (Idle limit) = 12
 
 -- the settings with this one among them
 abbrev pub with_setting : Settings → Setting → Settings
+with_setting s (Random words) = record s { random = Some words }
 with_setting s (Time now) = record s { time = Some now }
 with_setting s (Local id) = record s { local = Some id }
 with_setting s (Remote id) = record s { remote = Some id }
 with_setting s (First id) = record s { first = Some id }
 with_setting s (Addr address) = record s { addr = Some address }
+with_setting s (Token bytes) = record s { token = Some bytes }
 with_setting s (Secret bytes) = record s { secret = Some bytes }
 with_setting s (LimitInitial packets) = record s { limit_initial = Some packets }
 with_setting s (LimitHandshake packets) = record s { limit_handshake = Some packets }
@@ -75,7 +83,7 @@ with_setting s (Idle limit) = record s { idle = Some limit }
 
 -- what a script says whose one line names this side
 abbrev pub side_alone : Side → Settings
-side_alone side = record { side = side; time = None; local = None; remote = None; first = None; addr = None; secret = None; limit_initial = None; limit_handshake = None; limit_failures = None; idle = None }
+side_alone side = record { side = side; random = None; time = None; local = None; remote = None; first = None; addr = None; token = None; secret = None; limit_initial = None; limit_handshake = None; limit_failures = None; idle = None }
 
 -- the line of an item
 abbrev pub item_line : Item → List ℕ
@@ -90,7 +98,7 @@ IsItem side (It.Input input) = IsWithin input
 -- the place of an item's line: an input's is that behind all set lines
 abbrev pub item_place : Item → ℕ
 item_place (It.Set setting) = setting_place setting
-item_place (It.Input input) = 11
+item_place (It.Input input) = 13
 
 -- the item's line may follow one of place `before`: a set line follows one of a lesser place, and an input any line
 abbrev pub Follows : (before : ℕ) → Item → Type 0

@@ -3,12 +3,14 @@
 -- A script is set lines and then input lines. Each line is ended by LF. The set lines come in this order, the first of them always
 -- and each other one at most once; without it the value is the usual one, here in parentheses:
 --     set side S        this end is the `client` or the `server`
+--     set random W      where random words come from: `zero`, from zeros alone, or 32 bytes H, from ChaCha20 with this seed (zero)
 --     set time N        the connection is made at time N (0)
 --     set local H       this end's id (8 bytes 01)
 --     set remote H      on a client the destination id of its first packets, of 8 bytes at least, and on a server the client's
 --                       id (8 bytes 02)
 --     set first H       on a server the destination id of the client's first packets (8 bytes 03)
 --     set addr A        the peer's address (::1, port 4433)
+--     set token H       on a client the token that its Initial packets carry (none)
 --     set secret H      the toy's secret, of 5 bytes (zeros)
 --     set limit_initial N    how many packets an Initial key may seal (2^23)
 --     set limit_handshake N  how many packets a Handshake key may seal (2^23)
@@ -32,6 +34,8 @@ use Rattle.qc_base.specs.declared.side.Side.{Side}
 use Rattle.qc_base.specs.declared.side.Side.TheVariants.{Client, Server}
 use Rattle.qc_state.specs.declared.input.Input.{Input}
 use Rattle.qc_state.specs.declared.input.Input.TheVariants.{Datagram, Timeout, Transmit, Close, Ping}
+use Rattle.qc_script.specs.declared.settings.RandomWords.{RandomWords}
+use Rattle.qc_script.specs.declared.settings.RandomWords.TheVariants.{Zeros, Seed}
 use Rattle.qc_script.specs.declared.settings.Settings.{Settings}
 use Rattle.qc_script.specs.declared.script.ScriptError.{ScriptError}
 use Rattle.qc_script.specs.declared.script.ScriptError.TheVariants.{BadLine, OutOfMemory}
@@ -53,6 +57,11 @@ abbrev pub side_text : Side → List ℕ
 side_text Client = codes "client"
 side_text Server = codes "server"
 
+-- the word of a source of random words, or its seed
+abbrev pub random_text : RandomWords → List ℕ
+random_text Zeros = codes "zero"
+random_text (Seed bytes) = hex_field bytes
+
 -- the line of a value, with these words in front, where there is a value
 abbrev pub line_if : {T : Type 0} → (words : List ℕ) → (T → List ℕ) → Option T → List (List ℕ)
 line_if words spell None = []
@@ -66,16 +75,27 @@ side_line side = codes "set side " ++ (side_text side ++ 10 ∷ [])
 unfoldable pub set_lines : Settings → List (List ℕ)
 set_lines s =
     side_line s.side
-    ∷ (line_if (codes "set time ") decimal s.time
+    ∷ (line_if (codes "set random ") random_text s.random
+    ++ (line_if (codes "set time ") decimal s.time
     ++ (line_if (codes "set local ") hex_field s.local
     ++ (line_if (codes "set remote ") hex_field s.remote
     ++ (line_if (codes "set first ") hex_field s.first
     ++ (line_if (codes "set addr ") address_text s.addr
+    ++ (line_if (codes "set token ") hex_field s.token
     ++ (line_if (codes "set secret ") hex_field s.secret
     ++ (line_if (codes "set limit_initial ") decimal s.limit_initial
     ++ (line_if (codes "set limit_handshake ") decimal s.limit_handshake
     ++ (line_if (codes "set limit_failures ") decimal s.limit_failures
-    ++ line_if (codes "set idle ") decimal s.idle)))))))))
+    ++ line_if (codes "set idle ") decimal s.idle)))))))))))
+
+-- a seed has 32 bytes
+abbrev pub IsSeed : List ℕ → Type 0
+IsSeed bytes = IsBytes bytes × (length bytes ≡ 32)
+
+-- a source's seed is one
+abbrev pub IsRandom : RandomWords → Type 0
+IsRandom Zeros = Unit {0}
+IsRandom (Seed bytes) = IsSeed bytes
 
 -- an id has at most 20 bytes
 abbrev pub IsId : List ℕ → Type 0
@@ -91,17 +111,24 @@ abbrev pub IsFirst : Side → List ℕ → Type 0
 IsFirst Client id = ⊥
 IsFirst Server id = IsId id
 
+-- only a client is told a token
+abbrev pub IsToken : Side → List ℕ → Type 0
+IsToken Client bytes = IsBytes bytes
+IsToken Server bytes = ⊥
+
 -- the toy's secret has 5 bytes
 abbrev pub IsSecret : List ℕ → Type 0
 IsSecret bytes = IsBytes bytes × (length bytes ≡ 5)
 
 -- what the set lines say lies within its bounds
 pub record AreSettings (s : Settings) : Type 0 where
+  pub random : IfSome s.random IsRandom
   pub time : IfSome s.time (λ n. n < 2 ^ 64)
   pub local : IfSome s.local IsId
   pub remote : IfSome s.remote (IsRemote s.side)
   pub first : IfSome s.first (IsFirst s.side)
   pub addr : IfSome s.addr IsAddress
+  pub token : IfSome s.token (IsToken s.side)
   pub secret : IfSome s.secret IsSecret
   pub limit_initial : IfSome s.limit_initial (λ n. n < 2 ^ 64)
   pub limit_handshake : IfSome s.limit_handshake (λ n. n < 2 ^ 64)

@@ -1,10 +1,11 @@
 //! The script that a run follows, read into what its set lines say and the inputs of a connection.
 //!
 //! ASCII lines, each ended by LF, fields separated by one space. First come the set lines, in this order: `set side S`,
-//! where S is `client` or `server`, and then at most one each of `set time N`, `set local HEX`, `set remote HEX`,
-//! `set first HEX`, `set addr A`, `set secret HEX`, `set limit_initial N`, `set limit_handshake N`, `set limit_failures N`
-//! and `set idle N`. An id has at most 20 bytes; on a client the remote one has 8 at least (RFC 9000, section 7.2), and
-//! only a server has a first one. A secret has 5 bytes. A key of the Initial or the Handshake packets may seal as many
+//! where S is `client` or `server`, and then at most one each of `set random W`, `set time N`, `set local HEX`,
+//! `set remote HEX`, `set first HEX`, `set addr A`, `set token HEX`, `set secret HEX`, `set limit_initial N`,
+//! `set limit_handshake N`, `set limit_failures N` and `set idle N`. W is `zero` or the 32 bytes of a seed in hex. An id has
+//! at most 20 bytes; on a client the remote one has 8 at least (RFC 9000, section 7.2), and only a server has a first one.
+//! Only a client has a token (RFC 9000, section 8.1). A secret has 5 bytes. A key of the Initial or the Handshake packets may seal as many
 //! packets as its limit says, and as many packets may fail to open as `limit_failures` says (RFC 9001, section 6.6). A
 //! limit on idle time is in milliseconds and below 2^62 (RFC 9000, section 10.1). Then come the input lines
 //! `datagram T A E HEX`, `timeout T`, `transmit T N`, `close T CODE HEX` and `ping T`.
@@ -26,4 +27,4 @@ mod settings;
 mod tests;
 
 pub use script::{Script, ScriptError, read_script};
-pub use settings::Settings;
+pub use settings::{RandomWords, Settings};

@@ -2,12 +2,13 @@
 
 ghost use Rattle.qc_script.specs.Fields.{hex_field};
 ghost use Rattle.qc_script.specs.Items.{IsSettingRead};
-ghost use Rattle.qc_script.specs.Script.{IsId, IsSecret, side_line};
+ghost use Rattle.qc_script.specs.Script.{random_text, IsRandom, IsSeed, IsId, IsSecret, side_line};
+ghost use Rattle.qc_script.specs.declared.settings.RandomWords.{RandomWords};
 ghost use Rattle.std.specs.Prelude.{◌≡◌, ◌≢◌, ℕ, List, ◌++◌, codes, IfOk, MatchOption};
 
 use crate::address::read_address;
 use crate::fields::{after_word, read_code, read_hex, read_number};
-use crate::settings::Setting;
+use crate::settings::{RandomWords, Setting};
 use qc_base::{ConnectionId, Instant, Side};
 use std::alloc::{AllocError, Global};
 
@@ -21,6 +22,35 @@ pub fn read_side(text: &[u8]) -> Option<(Side, &[u8])>
     match after_word(text, b"set side server\n") {
         Some(rest) => Some((Side::Server, rest)),
         None => None,
+    }
+}
+
+/// The seed that a field spells.
+fn read_seed(alloc: Global, field: &[u8]) -> Result<Option<[u8; 32]>, AllocError>
+    ensures { IfOk result (λ r. MatchOption r ((bytes : List ℕ) → IsSeed bytes → field.now ≢ hex_field bytes) (λ bytes. (field.now ≡ hex_field bytes) × IsSeed bytes)) }
+{
+    let Some(bytes) = read_hex(alloc, field)? else {
+        return Ok(None);
+    };
+    let bytes = bytes.as_slice();
+    if bytes.len() != 32 {
+        return Ok(None);
+    }
+    let mut seed = [0; 32];
+    seed.copy_from_slice(bytes);
+    Ok(Some(seed))
+}
+
+/// The source of random words that a field names.
+fn read_random(alloc: Global, field: &[u8]) -> Result<Option<RandomWords>, AllocError>
+    ensures { IfOk result (λ r. MatchOption r ((words : RandomWords) → IsRandom words → field.now ≢ random_text words) (λ words. (field.now ≡ random_text words) × IsRandom words)) }
+{
+    if field == b"zero".as_slice() {
+        return Ok(Some(RandomWords::Zeros));
+    }
+    match read_seed(alloc, field)? {
+        Some(seed) => Ok(Some(RandomWords::Seed(seed))),
+        None => Ok(None),
     }
 }
 
@@ -53,6 +83,16 @@ fn read_secret(alloc: Global, field: &[u8]) -> Result<Option<[u8; 5]>, AllocErro
     let mut secret = [0; 5];
     secret.copy_from_slice(bytes);
     Ok(Some(secret))
+}
+
+/// What a line sets that names a source of random words.
+fn random_line(alloc: Global, field: &[u8]) -> Result<Option<Setting>, AllocError>
+    ensures { IfOk result (λ r. (side : Side) → IsSettingRead side (codes "set random " ++ field.now) r) }
+{
+    match read_random(alloc, field)? {
+        Some(words) => Ok(Some(Setting::Random(words))),
+        None => Ok(None),
+    }
 }
 
 /// What a line sets that gives this time.
@@ -115,6 +155,19 @@ fn addr_line(alloc: Global, field: &[u8]) -> Result<Option<Setting>, AllocError>
     }
 }
 
+/// What a line sets that gives the token.
+fn token_line(alloc: Global, side: Side, field: &[u8]) -> Result<Option<Setting>, AllocError>
+    ensures { IfOk result (IsSettingRead side (codes "set token " ++ field.now)) }
+{
+    match side {
+        Side::Client => match read_hex(alloc, field)? {
+            Some(bytes) => Ok(Some(Setting::Token(bytes))),
+            None => Ok(None),
+        },
+        Side::Server => Ok(None),
+    }
+}
+
 /// What a line sets that gives the secret.
 fn secret_line(alloc: Global, field: &[u8]) -> Result<Option<Setting>, AllocError>
     ensures { IfOk result (λ r. (side : Side) → IsSettingRead side (codes "set secret " ++ field.now) r) }
@@ -169,6 +222,9 @@ fn idle_line(digits: &[u8]) -> Option<Setting>
 pub fn read_setting(alloc: Global, side: Side, text: &[u8]) -> Result<Option<Setting>, AllocError>
     ensures { IfOk result (IsSettingRead side text.now) }
 {
+    if let Some(field) = after_word(text, b"set random ") {
+        return random_line(alloc, field);
+    }
     if let Some(digits) = after_word(text, b"set time ") {
         return Ok(time_line(digits));
     }
@@ -183,6 +239,9 @@ pub fn read_setting(alloc: Global, side: Side, text: &[u8]) -> Result<Option<Set
     }
     if let Some(field) = after_word(text, b"set addr ") {
         return addr_line(alloc, field);
+    }
+    if let Some(field) = after_word(text, b"set token ") {
+        return token_line(alloc, side, field);
     }
     if let Some(field) = after_word(text, b"set secret ") {
         return secret_line(alloc, field);

@@ -4,13 +4,25 @@ ghost use Rattle.qc_script.specs.Items.{setting_place, side_alone, with_setting}
 ghost use Rattle.std.specs.Prelude.{◌≡◌};
 
 use qc_base::{ConnectionId, Instant, Side, VarInt};
+use qc_state::Body;
 use std::net::SocketAddr;
+
+/// Where random words come from.
+#[derive(Clone, Copy, Debug, PartialEq, Eq)]
+pub enum RandomWords {
+    /// From zeros alone.
+    Zeros,
+    /// From ChaCha20 with this seed.
+    Seed([u8; 32]),
+}
 
 /// What the set lines of a script say: which end this one is, and each value for which there is a line.
 #[derive(Drop)]
 pub struct Settings {
     /// This end's side.
     pub side: Side,
+    /// Where random words come from.
+    pub random: Option<RandomWords>,
     /// When the connection is made.
     pub time: Option<Instant>,
     /// This end's id.
@@ -21,6 +33,8 @@ pub struct Settings {
     pub first: Option<ConnectionId>,
     /// The peer's address.
     pub addr: Option<SocketAddr>,
+    /// On a client the token that its Initial packets carry (RFC 9000, 8.1); none on a server.
+    pub token: Option<Body>,
     /// The secret of the toy's keys.
     pub secret: Option<[u8; 5]>,
     /// How many packets an Initial key may seal.
@@ -36,6 +50,8 @@ pub struct Settings {
 /// What one set line behind the first says.
 #[derive(Drop)]
 pub enum Setting {
+    /// Where random words come from.
+    Random(RandomWords),
     /// When the connection is made.
     Time(Instant),
     /// This end's id.
@@ -46,6 +62,8 @@ pub enum Setting {
     First(ConnectionId),
     /// The peer's address.
     Addr(SocketAddr),
+    /// What `Settings::token` is.
+    Token(Body),
     /// The secret of the toy's keys.
     Secret([u8; 5]),
     /// How many packets an Initial key may seal.
@@ -64,16 +82,18 @@ impl Setting {
         ensures { result ≡ setting_place self.now }
     {
         match self {
-            Setting::Time(_) => 1,
-            Setting::Local(_) => 2,
-            Setting::Remote(_) => 3,
-            Setting::First(_) => 4,
-            Setting::Addr(_) => 5,
-            Setting::Secret(_) => 6,
-            Setting::LimitInitial(_) => 7,
-            Setting::LimitHandshake(_) => 8,
-            Setting::LimitFailures(_) => 9,
-            Setting::Idle(_) => 10,
+            Setting::Random(_) => 1,
+            Setting::Time(_) => 2,
+            Setting::Local(_) => 3,
+            Setting::Remote(_) => 4,
+            Setting::First(_) => 5,
+            Setting::Addr(_) => 6,
+            Setting::Token(_) => 7,
+            Setting::Secret(_) => 8,
+            Setting::LimitInitial(_) => 9,
+            Setting::LimitHandshake(_) => 10,
+            Setting::LimitFailures(_) => 11,
+            Setting::Idle(_) => 12,
         }
     }
 }
@@ -85,11 +105,13 @@ impl Settings {
     {
         Settings {
             side,
+            random: None,
             time: None,
             local: None,
             remote: None,
             first: None,
             addr: None,
+            token: None,
             secret: None,
             limit_initial: None,
             limit_handshake: None,
@@ -103,11 +125,13 @@ impl Settings {
         ensures { self.new ≡ with_setting self.old setting }
     {
         match setting {
+            Setting::Random(words) => self.random = Some(words),
             Setting::Time(now) => self.time = Some(now),
             Setting::Local(id) => self.local = Some(id),
             Setting::Remote(id) => self.remote = Some(id),
             Setting::First(id) => self.first = Some(id),
             Setting::Addr(address) => self.addr = Some(address),
+            Setting::Token(bytes) => self.token = Some(bytes),
             Setting::Secret(bytes) => self.secret = Some(bytes),
             Setting::LimitInitial(packets) => self.limit_initial = Some(packets),
             Setting::LimitHandshake(packets) => self.limit_handshake = Some(packets),

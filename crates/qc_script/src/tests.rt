@@ -1,16 +1,16 @@
 //! Lines of each form, and those at the edges of them.
 
 use crate::script::{Script, ScriptError, read_script};
-use crate::settings::Settings;
+use crate::settings::{RandomWords, Settings};
 use qc_base::{ConnectionId, EcnCodepoint, Instant, Side, VarInt};
 use qc_state::Input;
 use std::alloc::Global;
 use std::net::{IpAddr, Ipv4Addr, Ipv6Addr, SocketAddr};
 use std::test::Fail;
 
-/// What a script with this line behind the first says.
-fn script_with(alloc: Global, line: &str) -> Result<Script, Fail> {
-    let script = format!(in alloc; "set side server\n{line}\n")?;
+/// What a script of this side with this line behind the first says.
+fn script_of(alloc: Global, side: &str, line: &str) -> Result<Script, Fail> {
+    let script = format!(in alloc; "set side {side}\n{line}\n")?;
     match read_script(alloc, script.as_str().as_bytes()) {
         Ok(script) => Ok(script),
         Err(_) => Err("a bad line".into()),
@@ -19,7 +19,7 @@ fn script_with(alloc: Global, line: &str) -> Result<Script, Fail> {
 
 /// The one input of a script with this line.
 fn input_of(alloc: Global, line: &str) -> Result<Input, Fail> {
-    let mut script = script_with(alloc, line)?;
+    let mut script = script_of(alloc, "server", line)?;
     Ok(script.inputs.pop().ok_or("no input")?)
 }
 
@@ -186,13 +186,15 @@ fn other_lines_are_bad(rt: HostRuntime) -> Result<(), Fail> {
 }
 
 /// For which values there is a set line, in the order of the lines.
-fn are_set(settings: &Settings) -> [bool; 10] {
+fn are_set(settings: &Settings) -> [bool; 12] {
     [
+        settings.random.is_some(),
         settings.time.is_some(),
         settings.local.is_some(),
         settings.remote.is_some(),
         settings.first.is_some(),
         settings.addr.is_some(),
+        settings.token.is_some(),
         settings.secret.is_some(),
         settings.limit_initial.is_some(),
         settings.limit_handshake.is_some(),
@@ -204,19 +206,21 @@ fn are_set(settings: &Settings) -> [bool; 10] {
 #[test]
 fn each_set_line_stands_alone(rt: HostRuntime) -> Result<(), Fail> {
     let lines = [
-        "set time 0",
-        "set local -",
-        "set remote 01",
-        "set first 02",
-        "set addr c0000201/1",
-        "set secret 0102030405",
-        "set limit_initial 0",
-        "set limit_handshake 0",
-        "set limit_failures 0",
-        "set idle 0",
+        ("server", "set random zero"),
+        ("server", "set time 0"),
+        ("server", "set local -"),
+        ("server", "set remote 01"),
+        ("server", "set first 02"),
+        ("server", "set addr c0000201/1"),
+        ("client", "set token -"),
+        ("server", "set secret 0102030405"),
+        ("server", "set limit_initial 0"),
+        ("server", "set limit_handshake 0"),
+        ("server", "set limit_failures 0"),
+        ("server", "set idle 0"),
     ];
-    for (place, line) in lines.iter().enumerate() {
-        let script = script_with(rt.alloc(), line)?;
+    for (place, (side, line)) in lines.iter().enumerate() {
+        let script = script_of(rt.alloc(), side, line)?;
         for (other, is_set) in are_set(&script.settings).iter().enumerate() {
             assert_eq!(rt; *is_set, other == place, "{line:?}");
         }
@@ -226,15 +230,20 @@ fn each_set_line_stands_alone(rt: HostRuntime) -> Result<(), Fail> {
 }
 
 #[test]
-fn a_server_has_every_set_line(rt: HostRuntime) -> Result<(), Fail> {
+fn a_server_has_every_set_line_but_one(rt: HostRuntime) -> Result<(), Fail> {
     let text =
-        "set side server\nset time 5\nset local 0a0b\nset remote -\nset first 0102030405060708\nset addr c0000201/443\nset secret 00ff010203\nset limit_initial 2\nset limit_handshake 30\nset limit_failures 18446744073709551615\nset idle 30000\nping 6\n";
+        "set side server\nset random 000102030405060708090a0b0c0d0e0f101112131415161718191a1b1c1d1e1f\nset time 5\nset local 0a0b\nset remote -\nset first 0102030405060708\nset addr c0000201/443\nset secret 00ff010203\nset limit_initial 2\nset limit_handshake 30\nset limit_failures 18446744073709551615\nset idle 30000\nping 6\n";
     let script = match read_script(rt.alloc(), text.as_bytes()) {
         Ok(script) => script,
         Err(_) => return Err("a bad line".into()),
     };
     let settings = &script.settings;
     assert_eq!(rt; settings.side, Side::Server);
+    let seed = [
+        0, 1, 2, 3, 4, 5, 6, 7, 8, 9, 10, 11, 12, 13, 14, 15, 16, 17, 18, 19, 20, 21, 22, 23, 24,
+        25, 26, 27, 28, 29, 30, 31,
+    ];
+    assert_eq!(rt; settings.random, Some(RandomWords::Seed(seed)));
     assert_eq!(rt; settings.time, Some(Instant::from_nanos(5)));
     assert_eq!(rt; settings.local, Some(ConnectionId::new(&[10, 11])));
     assert_eq!(rt; settings.remote, Some(ConnectionId::new(&[])));
@@ -251,10 +260,44 @@ fn a_server_has_every_set_line(rt: HostRuntime) -> Result<(), Fail> {
     Ok(())
 }
 
+// A token has any length, and `-` is one without bytes.
+#[test]
+fn a_client_has_a_token(rt: HostRuntime) -> Result<(), Fail> {
+    let script = script_of(rt.alloc(), "client", "set random zero\nset token 00ff7a")?;
+    assert_eq!(rt; script.settings.random, Some(RandomWords::Zeros));
+    let token = script.settings.token.ok_or("no token")?;
+    assert_eq!(rt; token.as_slice(), [0x00, 0xff, 0x7a].as_slice());
+    let script = script_of(rt.alloc(), "client", "set token -")?;
+    let token = script.settings.token.ok_or("no token")?;
+    assert!(rt; token.as_slice().is_empty());
+    Ok(())
+}
+
 // Each line is the second of a client's script. The first of a pair is the last that is taken.
 #[test]
 fn set_lines_have_bounds(rt: HostRuntime) -> Result<(), Fail> {
     let cases = [
+        ("set random zero", false),
+        ("set random zeros", true),
+        ("set random Zero", true),
+        ("set random ", true),
+        ("set random -", true),
+        (
+            "set random ffffffffffffffffffffffffffffffffffffffffffffffffffffffffffffffff",
+            false,
+        ),
+        (
+            "set random ffffffffffffffffffffffffffffffffffffffffffffffffffffffffffffffFF",
+            true,
+        ),
+        (
+            "set random ffffffffffffffffffffffffffffffffffffffffffffffffffffffffffffff",
+            true,
+        ),
+        (
+            "set random ffffffffffffffffffffffffffffffffffffffffffffffffffffffffffffffffff",
+            true,
+        ),
         ("set time 18446744073709551615", false),
         ("set time 18446744073709551616", true),
         ("set local 0102030405060708090a0b0c0d0e0f1011121314", false),
@@ -263,6 +306,10 @@ fn set_lines_have_bounds(rt: HostRuntime) -> Result<(), Fail> {
         ("set remote 01020304050607", true),
         ("set first 0102030405060708", true),
         ("set addr c0000201/65536", true),
+        ("set token -", false),
+        ("set token 0", true),
+        ("set token 0A", true),
+        ("set token ", true),
         ("set secret 01020304", true),
         ("set secret 0102030405", false),
         ("set secret 010203040506", true),
@@ -294,8 +341,13 @@ fn set_lines_have_bounds(rt: HostRuntime) -> Result<(), Fail> {
 
 // Each text's third line is the same as its second, or comes before it in the order of set lines.
 #[test]
-fn limits_stand_once_and_in_order(rt: HostRuntime) -> Result<(), Fail> {
+fn set_lines_stand_once_and_in_order(rt: HostRuntime) -> Result<(), Fail> {
     for lines in [
+        "set random zero\nset random zero",
+        "set time 1\nset random zero",
+        "set token 01\nset token 01",
+        "set token 01\nset addr c0000201/1",
+        "set secret 0102030405\nset token 01",
         "set limit_initial 1\nset limit_initial 1",
         "set limit_handshake 1\nset limit_handshake 1",
         "set limit_failures 1\nset limit_failures 1",
@@ -314,13 +366,14 @@ fn limits_stand_once_and_in_order(rt: HostRuntime) -> Result<(), Fail> {
 // Lines are counted from 1, the first one among them.
 #[test]
 fn the_first_bad_line_is_named(rt: HostRuntime) -> Result<(), Fail> {
-    let cases: [(&str, Option<u64>); 14] = [
+    let cases: [(&str, Option<u64>); 15] = [
         ("", Some(1)),
         ("set side client", Some(1)),
         ("set side other\n", Some(1)),
         ("set time 5\n", Some(1)),
         ("set side server\n", None),
         ("set side client\nset side client\n", Some(2)),
+        ("set side server\nset token 00\n", Some(2)),
         ("set side client\nset time 5", Some(2)),
         ("set side client\nset time 5\nset time 5\n", Some(3)),
         ("set side server\nset local 01\nset time 5\n", Some(3)),

@@ -1,19 +1,14 @@
 //! One transmit. So far it seals at most one packet, which has a datagram of its own.
 
-ghost use Rattle.std.specs.Prelude.{◌≡◌, ◌≤◌, ◌<◌, ◌^◌, [], true, false, OnOk, IfOk};
-ghost use Rattle.qc_state.specs.Numbers.{next_number};
+ghost use Rattle.std.specs.Prelude.{◌≡◌, [], false, OnOk, IfOk};
 ghost use Rattle.qc_state.specs.Sending.{may_be_quiet, SealsOne, Transmits};
 ghost use Rattle.qc_state.specs.Types.{meaning};
 ghost use Rattle.qc_state.specs.View.{ideal, held};
 
 use qc_base::{Instant, Side};
 use qc_core::Core;
-use qc_state::{DATAGRAM_SIZE, Dids, Suite, Transmit};
+use qc_state::{Dids, Suite, Transmit};
 use std::alloc::{AllocError, Global};
-
-/// What of a datagram's size stays free of frames beside the header, in bytes: the tag of 16 bytes, and 4 bytes that
-/// make sure that there is a sample for header protection (RFC 9001, section 5.4.2).
-const RESERVED: usize = 20;
 
 /// Seals one packet into an empty buffer, in a datagram that is begun for it. This end closes behind it where its key may seal only
 /// one more.
@@ -30,15 +25,9 @@ fn seal_one<U: Suite>(
 {
     let space = core.sending_space();
     let nearly = core.is_key_nearly_used_up();
-    core.begin_datagram(space)?;
-    let number = core.next_number(space);
-    let header = core.header(space);
-    let room = DATAGRAM_SIZE as usize - RESERVED - header.encoded_len();
-    let mut frames = core.take(alloc, now, space, room)?;
-    let least = core.least_size(space, &frames);
-    core.seal(space, number, &header, &mut frames, least, buf)?;
-    let counts = core.is_flown(&frames);
-    core.sealed(alloc, did, now, space, number, buf.len() as u64, frames)?;
+    core.begin_datagram(space, did)?;
+    let frames = core.take(alloc, now, space)?;
+    let counts = core.seal(alloc, did, now, space, frames, buf)?;
     core.fly_after(did, now, counts);
     core.leave_initial(Side::Client, false, now, space, did);
     core.spare(did, now, nearly)?;

@@ -1,6 +1,7 @@
 -- Each number that a run acknowledges is that of a packet which was accepted before.
 use Rattle.std.proofs.Common.{◌≡◌, ℕ, ◌+◌, ◌⊎◌, inl, inr, List, [], ◌∷◌, ◌++◌, length, take, refl, ap, sym, ◌∙◌, subst, Bool, true, false, Option, Some, None, if◌then◌else◌, append_assoc, append-nil}
 use Rattle.std.specs.Prelude.{is_none}
+use Rattle.std.specs.List.{list_any}
 use Rattle.std.specs.declared.net.SocketAddr.{SocketAddr}
 use Rattle.qc_base.specs.RangeSet.{Member}
 use Rattle.qc_base.specs.declared.ecn.EcnCodepoint.{EcnCodepoint}
@@ -20,30 +21,35 @@ use Rattle.qc_state.specs.declared.input.Input.{Input}
 use Rattle.qc_state.specs.declared.input.Input.TheVariants as input
 use Rattle.qc_state.specs.declared.life.Close.{Close}
 use Rattle.qc_state.specs.declared.life.ConnectionError.{ConnectionError}
+use Rattle.qc_state.specs.declared.life.Life.{Life}
 use Rattle.qc_state.specs.declared.life.State.TheVariants as state
 use Rattle.qc_state.specs.declared.trace.Step.{Step}
 use Rattle.qc_state.specs.declared.waiting.SpaceWaiting.{SpaceWaiting}
 use Rattle.qc_state.specs.declared.waiting.Waiting.{Waiting}
 use Rattle.qc_state.specs.Headline.{deeds_of, KnownBehind, AcksOnly, SealsKnown, AcksKnown, IsKept, EachAcksKnown}
 use Rattle.qc_state.specs.Life.{is_open, is_drained, rank_of}
-use Rattle.qc_state.specs.Moves.{Move, ClosesOnly, Clock, Ask, Take, Seal, Forget, Enter, Expect, Fail, Accept, Fix, Hear, Ack, Fire, Arm, Begin, Come, Read, Write, Ready, Token, Learn, Want, Confirm, Establish, Tell, Drain, Leave, Owe, Shut, Raise, Give, Say, ReportReady, ReportConnected, ReportLost, ReportToken, ReportWanted, ReportDrained, accepts, state_move, move_to, deeds_move, waiting_move, numbers_move, life_move, MayMove, IsTold, told}
+use Rattle.qc_state.specs.Moves.{Move, ClosesOnly, Clock, Ask, Take, Seal, Forget, Enter, Expect, Fail, Accept, Fix, Hear, Ack, Fire, Arm, Release, Begin, Skip, Come, Read, Write, Ready, Token, Learn, Want, Confirm, Establish, Tell, Drain, Leave, Owe, Shut, Raise, Give, Say, ReportReady, ReportConnected, ReportLost, ReportToken, ReportWanted, ReportDrained, accepts, state_move, move_to, deeds_move, waiting_move, numbers_move, life_move, MayMove, IsTold, told, arrival_of}
 use Rattle.qc_state.specs.Numbers.{next_number}
 use Rattle.qc_state.specs.Numbers as numbers
 use Rattle.qc_state.specs.Run.{time_of, packets_of, began, close_after, input_after, called, reported, step_after, IsAllowed, IsStep, Run, Ran}
 use Rattle.qc_state.specs.Paths.{is_blocked}
-use Rattle.qc_state.specs.Sending.{is_silent, owes, sending_space, is_key_nearly_used_up, limit_met, quiet_after, begun_view, is_flown, flown_after, packet_size, sealed_in, spared_after, packet_after, transmit_after, MaySeal, MayTransmit, owed_quiet_after}
+use Rattle.qc_state.specs.Sending.{is_silent, owes, sending_space, is_key_nearly_used_up, limit_met, quiet_after, begun_after, begun_view, is_flown, flown_after, packet_size, sealed_in, spared_after, packet_after, transmit_after, MaySeal, MayTransmit, owed_quiet_after}
 use Rattle.qc_state.specs.Stopping.{given_after, key_limit_error, killed_after}
 use Rattle.qc_state.specs.Spaces.{space_of, with_space, is_space}
 use Rattle.qc_state.specs.Receiving.{datagram_after}
 use Rattle.qc_state.specs.Timeouts.{timeout_after}
 use Rattle.qc_state.specs.Types.{Types, Meaning}
 use Rattle.qc_state.specs.View.{View, At}
-use Rattle.qc_state.specs.Waiting.{done_asked, ping_asked, waiting_without, close_begun, packet_told, untold, lost_in, packets_lost, acked_in, packets_acked, fired_in, probes_added, begun_in, datagram_begun, came_in, packet_came, crypto_written, nothing_left, space_left}
+use Rattle.qc_state.specs.Waiting.{done_asked, ping_asked, waiting_without, close_begun, packet_told, untold, lost_in, packets_lost, acked_in, packets_acked, fired_in, probes_added, begun_in, datagram_begun, came_in, packet_came, crypto_written, nothing_left, space_left, released, ack_released, bundle_next}
 use Rattle.qc_state.proofs.AcksKnown.{acked_had, begun_keeps, lost_keeps, received_has, KnownSince, known_more, since_more, known_append, since_append, only_more, without_all_keeps, carries_known}
 use Rattle.qc_recovery.specs.Steps as recovery
 use Rattle.qc_recovery.specs.declared.calls.Fired.{Fired}
 use Rattle.qc_recovery.specs.declared.calls.Fired.TheVariants as fired
-use Rattle.qc_path.specs.Acks.{PendingValues}
+use Rattle.qc_path.specs.Acks.{PendingValues, next_bundle}
+use Rattle.qc_path.specs.RoundTrips.{estimate}
+use Rattle.qc_state.specs.Acks.{is_ack}
+use Rattle.qc_state.specs.Setup.{peer_delay}
+use Rattle.qc_state.proofs.Begun.{begun_life, begun_same, holds_begun}
 use Rattle.qc_state.proofs.Receives.{IsReceived, holds_armed, holds_datagram, holds_initial, holds_stopped, in_packet_received}
 use Rattle.qc_state.proofs.Expired.{IsTimed, holds_timeout}
 use Rattle.qc_state.proofs.Telling.{is_none_none, low_rank, open_rank}
@@ -52,32 +58,32 @@ use Rattle.qc_state.proofs.Told.{loud_alive, closes_only}
 -- ---- what is kept in a space, where one space changes
 
 -- a space where no number more is kept
-fewer_kept : (id space : SpaceId) (v : Waiting) (w : SpaceWaiting) (owed : Bool) → ((n : ℕ) → Member n w.acks.ranges → Member n (space_of v.spaces space).acks.ranges)
-    → (n : ℕ) → IsKept id (record { spaces = with_space v.spaces space w; close_owed = owed }) n → IsKept id v n
-fewer_kept Initial Initial v w owed fewer n m = fewer n m
-fewer_kept Initial Handshake v w owed fewer n m = m
-fewer_kept Initial Data v w owed fewer n m = m
-fewer_kept Handshake Initial v w owed fewer n m = m
-fewer_kept Handshake Handshake v w owed fewer n m = fewer n m
-fewer_kept Handshake Data v w owed fewer n m = m
-fewer_kept Data Initial v w owed fewer n m = m
-fewer_kept Data Handshake v w owed fewer n m = m
-fewer_kept Data Data v w owed fewer n m = fewer n m
+fewer_kept : (id space : SpaceId) (v : Waiting) (w : SpaceWaiting) → ((n : ℕ) → Member n w.acks.ranges → Member n (space_of v.spaces space).acks.ranges)
+    → (n : ℕ) → IsKept id (record v { spaces = with_space v.spaces space w }) n → IsKept id v n
+fewer_kept Initial Initial v w fewer n m = fewer n m
+fewer_kept Initial Handshake v w fewer n m = m
+fewer_kept Initial Data v w fewer n m = m
+fewer_kept Handshake Initial v w fewer n m = m
+fewer_kept Handshake Handshake v w fewer n m = fewer n m
+fewer_kept Handshake Data v w fewer n m = m
+fewer_kept Data Initial v w fewer n m = m
+fewer_kept Data Handshake v w fewer n m = m
+fewer_kept Data Data v w fewer n m = fewer n m
 
 -- a space whose numbers to acknowledge stay
-same_kept : (id space : SpaceId) (v : Waiting) (w : SpaceWaiting) (owed : Bool) → w.acks.ranges ≡ (space_of v.spaces space).acks.ranges
-    → (n : ℕ) → IsKept id (record { spaces = with_space v.spaces space w; close_owed = owed }) n → IsKept id v n
-same_kept id space v w owed same = fewer_kept id space v w owed (λ n m. subst (Member n) same m)
+same_kept : (id space : SpaceId) (v : Waiting) (w : SpaceWaiting) → w.acks.ranges ≡ (space_of v.spaces space).acks.ranges
+    → (n : ℕ) → IsKept id (record v { spaces = with_space v.spaces space w }) n → IsKept id v n
+same_kept id space v w same = fewer_kept id space v w (λ n m. subst (Member n) same m)
 
 -- packets were lost
 lost_kept : (id space : SpaceId) (v : Waiting) (es : List Entry) (n : ℕ) → IsKept id (packets_lost v space es) n → IsKept id v n
 unfolding packets_lost
-lost_kept id space v es = same_kept id space v (lost_in (space_of v.spaces space) es) v.close_owed (ap (λ (p : PendingValues). p.ranges) (lost_keeps (space_of v.spaces space) es))
+lost_kept id space v es = same_kept id space v (lost_in (space_of v.spaces space) es) (ap (λ (p : PendingValues). p.ranges) (lost_keeps (space_of v.spaces space) es))
 
 -- packets were acknowledged
 acked_kept : (id space : SpaceId) (v : Waiting) (es : List Entry) (n : ℕ) → IsKept id (packets_acked v space es) n → IsKept id v n
 unfolding packets_acked
-acked_kept id space v es = fewer_kept id space v (acked_in (space_of v.spaces space) es) v.close_owed (λ n m. acked_had n (space_of v.spaces space) es m)
+acked_kept id space v es = fewer_kept id space v (acked_in (space_of v.spaces space) es) (λ n m. acked_had n (space_of v.spaces space) es m)
 
 -- both
 settled_kept : (id space : SpaceId) (v : Waiting) (acked lost : List Entry) (n : ℕ) → IsKept id (packets_lost (packets_acked v space acked) space lost) n → IsKept id v n
@@ -87,13 +93,13 @@ settled_kept id space v acked lost n m = acked_kept id space v acked n (lost_kep
 fired_kept : (id : SpaceId) (v : Waiting) (f : Fired) (n : ℕ) → IsKept id (fired_in v f) n → IsKept id v n
 unfolding probes_added
 fired_kept id v (fired.Lost space es) n m = lost_kept id space v es n m
-fired_kept id v (fired.Probe space count) n m = same_kept id space v _ v.close_owed refl n m
+fired_kept id v (fired.Probe space count) n m = same_kept id space v _ refl n m
 fired_kept id v fired.Nothing n m = m
 
 -- a datagram was begun
 datagram_kept : (id space : SpaceId) (v : Waiting) (oldest : Option SentPacket) (n : ℕ) → IsKept id (datagram_begun v space oldest) n → IsKept id v n
 unfolding datagram_begun
-datagram_kept id space v oldest = same_kept id space v (begun_in (space_of v.spaces space) oldest) v.close_owed (ap (λ (p : PendingValues). p.ranges) (begun_keeps (space_of v.spaces space) oldest))
+datagram_kept id space v oldest = same_kept id space v (begun_in (space_of v.spaces space) oldest) (ap (λ (p : PendingValues). p.ranges) (begun_keeps (space_of v.spaces space) oldest))
 
 -- the frames of a packet were taken
 taken_kept : (space : SpaceId) (v : Waiting) (fs : List FrameValue) (n : ℕ) → IsKept space v n → IsKept space (waiting_without v space fs) n
@@ -104,16 +110,29 @@ taken_kept Data v fs n m = subst (Member n) (sym (without_all_keeps v.spaces.app
 
 -- a close begins to be owed
 begun_kept : (id : SpaceId) (v : Waiting) (b : Bool) (n : ℕ)
-    → IsKept id (if b then v else record { spaces = record { initial = untold v.spaces.initial; handshake = untold v.spaces.handshake; application = untold v.spaces.application }; close_owed = true }) n → IsKept id v n
+    → IsKept id (if b then v else record v { spaces = record { initial = untold v.spaces.initial; handshake = untold v.spaces.handshake; application = untold v.spaces.application }; close_owed = true }) n → IsKept id v n
 begun_kept id v true n m = m
 begun_kept Initial v false n m = m
 begun_kept Handshake v false n m = m
 begun_kept Data v false n m = m
 
 -- a packet was sealed
-sealed_kept : (id space : SpaceId) (v : Waiting) (last : Bool) (n : ℕ) → IsKept id (packet_told v space last) n → IsKept id v n
+bundle_kept : (id : SpaceId) (v : Waiting) (next : ℕ) (b : Bool) (n : ℕ) → IsKept id (if b then record v { bundled = Some next } else v) n → IsKept id v n
+bundle_kept id v next true n m = m
+bundle_kept id v next false n m = m
+
+told_kept : (id space : SpaceId) (v : Waiting) (last : Bool) (n : ℕ) → IsKept id (packet_told v space last) n → IsKept id v n
 unfolding packet_told
-sealed_kept id space v last n m = same_kept id space v (record (space_of v.spaces space) { told = true }) (packet_told v space last).close_owed refl n m
+told_kept id space v last n m = same_kept id space v (record (space_of v.spaces space) { told = true }) refl n m
+
+sealed_kept : (id space : SpaceId) (v : Waiting) (last : Bool) (fs : List FrameValue) (next : ℕ) (n : ℕ) → IsKept id (bundle_next (packet_told v space last) fs next) n → IsKept id v n
+unfolding bundle_next
+sealed_kept id space v last fs next n m = told_kept id space v last n (bundle_kept id (packet_told v space last) next (list_any is_ack fs) n m)
+
+-- an ACK that was held back is owed
+released_kept : (id : SpaceId) (v : Waiting) (n : ℕ) → IsKept id (ack_released v) n → IsKept id v n
+unfolding ack_released
+released_kept id v n m = same_kept id «Data» v (released v.spaces.application) refl n m
 
 -- a packet was accepted: what is kept is its number, or was kept before
 accepted_by : (number n : ℕ) (v : Verdict) (K : Type 0) → accepts v ≡ true → (number ≡ n) ⊎ K → ((if accepts v then Some number else None) ≡ Some n) ⊎ K
@@ -132,7 +151,7 @@ came_kept Handshake Handshake v seen a mark verdict e n m = accepted_by a.number
 came_kept Handshake Data v seen a mark verdict e n m = inr m
 came_kept Data Initial v seen a mark verdict e n m = inr m
 came_kept Data Handshake v seen a mark verdict e n m = inr m
-came_kept Data Data v seen a mark verdict e n m = accepted_by a.number n verdict (IsKept Data v n) e (received_has false seen a v.spaces.application.acks n m)
+came_kept Data Data v seen a mark verdict e n m = accepted_by a.number n verdict (IsKept Data v n) e (received_has true seen a v.spaces.application.acks n m)
 
 -- what a packet acknowledges, said of its space
 said_there : (id space : SpaceId) (v : Waiting) (fs : List FrameValue) → AcksOnly (IsKept space v) fs → is_space id space ≡ true → AcksOnly (IsKept id v) fs
@@ -199,32 +218,34 @@ module _ {t : Types} where
   pub knows_move : (id : SpaceId) (x : Move t) (a : At t) → MayMove x a.state → IsKnowing x a.state → Knows id a (move_to x a)
   unfolding MayMove deeds_move waiting_move ping_asked waiting_without crypto_written done_asked space_left nothing_left close_begun
   knows_move id (Clock time) a h k = absurd h
-  knows_move id (Ask space) a h k = silent_knows id (Ask space) a refl (same_kept id space a.state.waiting _ a.state.waiting.close_owed refl)
-  knows_move id (Take space fs) a h k = silent_knows id (Take space fs) a refl (same_kept id space a.state.waiting _ a.state.waiting.close_owed (without_all_keeps (space_of a.state.waiting.spaces space) fs))
+  knows_move id (Ask space) a h k = silent_knows id (Ask space) a refl (same_kept id space a.state.waiting _ refl)
+  knows_move id (Take space fs) a h k = silent_knows id (Take space fs) a refl (same_kept id space a.state.waiting _ (without_all_keeps (space_of a.state.waiting.spaces space) fs))
   knows_move id (Seal time space n size fs) a h k =
       deed_knows id (Seal time space n size fs) (did.Sealed space n 0 false fs) a refl (said_there id space a.state.waiting fs k)
-      (sealed_kept id space a.state.waiting (is_space space a.state.keys.highest))
-  knows_move id (Forget space) a h k = silent_knows id (Forget space) a refl (same_kept id space a.state.waiting _ a.state.waiting.close_owed refl)
+      (sealed_kept id space a.state.waiting (is_space space a.state.keys.highest) fs (next_bundle time (estimate a.state.lower.path.rtt) (peer_delay a.state.setup.peer)))
+  knows_move id (Forget space) a h k = silent_knows id (Forget space) a refl (same_kept id space a.state.waiting _ refl)
   knows_move id (Enter space n v) a h k = deed_knows id (Enter space n v) _ a refl tt (λ n m. inr m)
   knows_move id (Expect token) a h k = silent_knows id (Expect token) a refl (λ n m. m)
   knows_move id Fail a h k = silent_knows id Fail a refl (λ n m. m)
   knows_move id (Accept time space n e g v) a h k =
       deed_knows id (Accept time space n e g v) (did.Piece (Some space) (Some n) v) a refl tt
-      (came_kept id space a.state.waiting (arrived n (numbers.came_in a.state.numbers space)) (record { number = n; at = time; ack_eliciting = e; ce = false }) g.mark v k)
+      (came_kept id space a.state.waiting (arrived n (numbers.came_in a.state.numbers space)) (arrival_of time n e g) g.mark v k)
   knows_move id (Fix cid) a h k = silent_knows id (Fix cid) a refl (λ n m. m)
   knows_move id (Hear bytes) a h k = silent_knows id (Hear bytes) a refl (λ n m. m)
   knows_move id (Ack space n r) a h k = silent_knows id (Ack space n r) a refl (settled_kept id space a.state.waiting r.acked r.lost)
   knows_move id (Fire r) a h k = silent_knows id (Fire r) a refl (fired_kept id a.state.waiting r.fired)
   knows_move id (Arm at) a h k = silent_knows id (Arm at) a refl (λ n m. m)
+  knows_move id Release a h k = silent_knows id Release a refl (released_kept id a.state.waiting)
+  knows_move id Skip a h k = silent_knows id Skip a refl (λ n m. m)
   knows_move id (Begin space) a h k = silent_knows id (Begin space) a refl (datagram_kept id space a.state.waiting (first_of (recovery.space_of space a.state.lower.recovery).flight))
   knows_move id (Come space offset bytes) a h k = silent_knows id (Come space offset bytes) a refl (λ n m. m)
   knows_move id (Read space count session) a h k = silent_knows id (Read space count session) a refl (λ n m. m)
-  knows_move id (Write bytes keys session) a h k = silent_knows id (Write bytes keys session) a refl (same_kept id a.state.keys.highest a.state.waiting _ a.state.waiting.close_owed refl)
+  knows_move id (Write bytes keys session) a h k = silent_knows id (Write bytes keys session) a refl (same_kept id a.state.keys.highest a.state.waiting _ refl)
   knows_move id Ready a h k = silent_knows id Ready a refl (λ n m. m)
   knows_move id (Token token) a h k = silent_knows id (Token token) a refl (λ n m. m)
   knows_move id (Learn parameters) a h k = silent_knows id (Learn parameters) a refl (λ n m. m)
   knows_move id (Want time count) a h k = silent_knows id (Want time count) a refl (λ n m. m)
-  knows_move id Confirm a h k = silent_knows id Confirm a refl (same_kept id «Data» a.state.waiting _ a.state.waiting.close_owed refl)
+  knows_move id Confirm a h k = silent_knows id Confirm a refl (same_kept id «Data» a.state.waiting _ refl)
   knows_move id Establish a h k = deed_knows id Establish _ a refl tt (λ n m. m)
   knows_move id (Tell d) a h k = tell_knows id d a h
   knows_move id Drain a h k = deed_knows id Drain _ a refl tt (λ n m. m)
@@ -319,13 +340,15 @@ module _ {t : Types} where
       (holds_initial (Knows id) (knows_here id) (knows_next id) (λ x r e may. knows_move id x e may (received_knows x e.state (in_packet_received x r))) Client false time space d)))
 
   knows_packet : (id : SpaceId) (time : ℕ) (fs : List FrameValue) (a : At t) → MaySeal time a.state fs → Knows id a (packet_after time fs a)
-  unfolding packet_after begun_view MayMove move_to state_move life_move
+  unfolding packet_after MayMove
   knows_packet id time fs a may =
       let space : SpaceId = sending_space a.state in
-      let b : At t = move_to (Begin space) a in
+      let b : At t = begun_after space a in
       let c : At t = sealed_in time space fs b in
-      knows_next id a b _ (knows_move id (Begin space) a tt tt)
-      (knows_next id b c _ (knows_sealed id space time fs b (closes_only time a.state fs may) (carries_known time (begun_view a.state) space fs may.carries)) (knows_spared id time (is_key_nearly_used_up a.state) c))
+      let closes_now : ClosesOnly (rank_of b.state.life.state) fs = subst (λ (l : Life). ClosesOnly (rank_of l.state) fs) (sym (begun_life space a)) (closes_only time a.state fs may) in
+      let known : AcksOnly (IsKept space b.state.waiting) fs = subst (λ (s : View t). AcksOnly (IsKept space s.waiting) fs) (sym (begun_same a)) (carries_known time (begun_view a.state) space fs may.carries) in
+      knows_next id a b _ (holds_begun (Knows id) (knows_here id) (knows_next id) space a (λ x. knows_move id (Begin space) x tt tt) (λ x may_skip. knows_move id Skip x may_skip tt))
+      (knows_next id b c _ (knows_sealed id space time fs b closes_now known) (knows_spared id time (is_key_nearly_used_up a.state) c))
 
   -- a transmit seals a packet or none
   knows_transmit : (id : SpaceId) (time : ℕ) (ps : List (List FrameValue)) (a : At t) → MayTransmit time a.state ps → Knows id a (transmit_after time ps a)
@@ -349,6 +372,7 @@ module _ {t : Types} where
   timed_knows : (x : Move t) (s : View t) → IsTimed x → IsKnowing x s
   timed_knows (Fire after) s r = tt
   timed_knows (Arm at) s r = tt
+  timed_knows Release s r = tt
   timed_knows (Raise to) s r = tt
   timed_knows (Give why) s r = tt
   timed_knows _ s r = absurd r

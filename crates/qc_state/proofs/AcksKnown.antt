@@ -243,19 +243,20 @@ says_known : (time : ℕ) (w : SpaceWaiting) (ack : AckValue) → SaysAck time w
 says_known time w ack says n m = reverse_member n w.acks.ranges (subst (Member n) says.ranges m)
 
 -- where there is none, nothing is acknowledged
-part_known : (time : ℕ) (w : SpaceWaiting) (acks : List FrameValue) (b : Bool) → AckPart time w acks b → AcksOnly (λ n. Member n w.acks.ranges) acks
-part_known time w acks true (AckPart.one ack says is) = subst (AcksOnly (λ n. Member n w.acks.ranges)) (sym is) (says_known time w ack says, tt)
-part_known time w acks false (AckPart.none is) = subst (AcksOnly (λ n. Member n w.acks.ranges)) (sym is) tt
+part_known : (time : ℕ) (w : SpaceWaiting) (room : ℕ) (acks : List FrameValue) (b : Bool) → AckPart time w room acks b → AcksOnly (λ n. Member n w.acks.ranges) acks
+part_known time w room acks true (AckPart.one ack says fits is) = subst (AcksOnly (λ n. Member n w.acks.ranges)) (sym is) (says_known time w ack says, tt)
+part_known time w room acks true (AckPart.left_out ack says long is) = subst (AcksOnly (λ n. Member n w.acks.ranges)) (sym is) tt
+part_known time w room acks false (AckPart.none is) = subst (AcksOnly (λ n. Member n w.acks.ranges)) (sym is) tt
 
 -- so do the frames that wait
-wait_known : (time : ℕ) (w : SpaceWaiting) (fs : List FrameValue) → WaitAll time w fs → AcksOnly (λ n. Member n w.acks.ranges) fs
+wait_known : (time : ℕ) (bundled : Option ℕ) (w : SpaceWaiting) (fs : List FrameValue) → WaitAll time bundled w fs → AcksOnly (λ n. Member n w.acks.ranges) fs
 unfolding WaitAll Waits without
-wait_known time w [] h = tt
-wait_known time w (frames.HandshakeDone ∷ fs) h = wait_known time (record w { done = false }) fs h.1
-wait_known time w (frames.Ping ∷ fs) h = wait_known time (record w { ping = false }) fs h.1
-wait_known time w (frames.Ack ack ∷ fs) h = (says_known time w ack h.0.1, wait_known time (record w { acks = ack_sent w.acks }) fs h.1)
-wait_known time w (frames.Crypto offset body ∷ fs) h = wait_known time (record w { crypto = range_sealed offset (offset + length body) w.crypto }) fs h.1
-wait_known time w (_ ∷ fs) h = absurd h.0
+wait_known time bundled w [] h = tt
+wait_known time bundled w (frames.HandshakeDone ∷ fs) h = wait_known time bundled (record w { done = false }) fs h.1
+wait_known time bundled w (frames.Ping ∷ fs) h = wait_known time bundled (record w { ping = false }) fs h.1
+wait_known time bundled w (frames.Ack ack ∷ fs) h = (says_known time w ack h.0.1, wait_known time bundled (record w { acks = ack_sent w.acks }) fs h.1)
+wait_known time bundled w (frames.Crypto offset body ∷ fs) h = wait_known time bundled (record w { crypto = range_sealed offset (offset + length body) w.crypto }) fs h.1
+wait_known time bundled w (_ ∷ fs) h = absurd h.0
 
 -- frames that are sealed leave the numbers to acknowledge
 without_keeps : (w : SpaceWaiting) (f : FrameValue) → (without w f).acks.ranges ≡ w.acks.ranges
@@ -277,7 +278,7 @@ module _ {t : Types} where
   closes_known time s id gs (Closes.closing acks part kept fits is) =
       let w : SpaceWaiting = space_of s.waiting.spaces id in
       let K : ℕ → Type 0 = λ k. Member k w.acks.ranges in
-      subst (AcksOnly K) (sym is) (only_append K acks (closing_frame id kept s.life ∷ []) (part_known time w acks _ part) (close_only K (is_closed s.life.state) id kept s.life.close))
+      subst (AcksOnly K) (sym is) (only_append K acks (closing_frame id kept s.life ∷ []) (part_known time w _ acks _ part) (close_only K (is_closed s.life.state) id kept s.life.close))
 
   -- frames with PADDING behind them acknowledge no more
   padded_known : (K : ℕ → Type 0) (s : View t) (id : SpaceId) (fs gs : List FrameValue) → fs ≡ padded s id gs → AcksOnly K gs → AcksOnly K fs
@@ -287,4 +288,4 @@ module _ {t : Types} where
   -- what a packet carries acknowledges what is kept in its space
   pub carries_known : (time : ℕ) (s : View t) (id : SpaceId) (fs : List FrameValue) → Carries time s id fs → AcksOnly (IsKept id s.waiting) fs
   carries_known time s id fs (Carries.a_close owed gs closes is) = padded_known (IsKept id s.waiting) s id fs gs is (closes_known time s id gs closes)
-  carries_known time s id fs (Carries.what_waits free gs wait some is) = padded_known (IsKept id s.waiting) s id fs gs is (wait_known time (space_of s.waiting.spaces id) gs wait)
+  carries_known time s id fs (Carries.what_waits free gs wait some is) = padded_known (IsKept id s.waiting) s id fs gs is (wait_known time s.waiting.bundled (space_of s.waiting.spaces id) gs wait)

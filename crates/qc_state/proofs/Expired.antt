@@ -1,5 +1,5 @@
--- What holds of each move that a timer makes holds of a timeout; and behind one neither the idle timer nor the close timer is left
--- having come.
+-- What holds of each move that a timer makes holds of a timeout; and behind one neither the idle timer nor the close timer, nor that
+-- of an ACK which is held back, is left having come.
 use Rattle.std.proofs.Common.{◌≡◌, ℕ, refl, sym, ◌∙◌, subst, Bool, true, false, if◌then◌else◌}
 use Rattle.std.specs.Prelude.{is_none}
 use Rattle.qc_recovery.specs.Steps.{FiredAfter}
@@ -7,12 +7,12 @@ use Rattle.qc_state.specs.declared.life.ConnectionError.{ConnectionError}
 use Rattle.qc_state.specs.declared.life.ConnectionError.TheVariants.{TimedOut}
 use Rattle.qc_state.specs.declared.life.State.TheVariants.{Drained}
 use Rattle.qc_state.specs.Life.{is_drained}
-use Rattle.qc_state.specs.Moves.{Move, Fire, Arm, Raise, Give, MayMove, state_move, move_to, life_move, timers_move, armed_after, armed_with}
+use Rattle.qc_state.specs.Moves.{Move, Fire, Arm, Raise, Release, Give, MayMove, state_move, move_to, life_move, timers_move, armed_after, armed_with}
 use Rattle.qc_state.specs.Paths.{is_blocked}
 use Rattle.qc_state.specs.Recovering.{fired_by, loss_time}
 use Rattle.qc_state.specs.Stopping.{given_after, killed_after}
-use Rattle.qc_state.specs.Timeouts.{loss_expired, idle_expired, close_expired, timeout_after}
-use Rattle.qc_state.specs.Timers.{has_come, timers_stopped}
+use Rattle.qc_state.specs.Timeouts.{loss_expired, idle_expired, close_expired, ack_expired, timeout_after}
+use Rattle.qc_state.specs.Timers.{has_come, timers_released, timers_stopped}
 use Rattle.qc_state.specs.Types.{Types, Meaning}
 use Rattle.qc_state.specs.View.{At}
 use Rattle.qc_state.proofs.Telling.{low_rank, is_none_none}
@@ -21,6 +21,7 @@ use Rattle.qc_state.proofs.Telling.{low_rank, is_none_none}
 abbrev pub IsTimed : {t : Types} → Move t → Type 0
 IsTimed (Fire r) = Unit {0}
 IsTimed (Arm at) = Unit {0}
+IsTimed Release = Unit {0}
 IsTimed (Raise to) = Unit {0}
 IsTimed (Give why) = Unit {0}
 IsTimed _ = ⊥
@@ -73,19 +74,27 @@ module _ {t : Types} (R : At t → At t → Type 0) (here : (a : At t) → R a a
       subst (λ (x : Bool). R a (if x then move_to (Raise Drained) c else c)) (sym (killed_stops TimedOut time a (is_none (move_to (Raise Drained) a).state.life.reason))) (holds_killed TimedOut a h)
   ended_by time a false h = raised_by a (has_come a.state.timers.close time) h
 
-  alive_by : (m : Meaning t) (time : ℕ) (a : At t) (b : Bool) → is_drained a.state.life.state ≡ b → R a (if b then a else close_expired time (idle_expired time (loss_expired m time a)))
-  unfolding loss_expired idle_expired
+  -- an ACK that was held back is owed
+  released_by : (a : At t) (b : Bool) → R a (if b then move_to Release a else a)
+  unfolding MayMove
+  released_by a true = move Release tt a tt
+  released_by a false = here a
+
+  alive_by : (m : Meaning t) (time : ℕ) (a : At t) (b : Bool) → is_drained a.state.life.state ≡ b → R a (if b then a else ack_expired time (close_expired time (idle_expired time (loss_expired m time a))))
+  unfolding loss_expired idle_expired ack_expired
   alive_by m time a true h = here a
   alive_by m time a false h =
       let c : At t = loss_expired m time a in
+      let d : At t = close_expired time (idle_expired time c) in
       let r : FiredAfter t.C = fired_by m time a.state in
-      next a c _ (fired_and time r a (has_come a.state.timers.loss_detection time)) (ended_by time c (has_come c.state.timers.idle time) (fired_life time r a (has_come a.state.timers.loss_detection time) ∙ h))
+      next a c _ (fired_and time r a (has_come a.state.timers.loss_detection time))
+      (next c d _ (ended_by time c (has_come c.state.timers.idle time) (fired_life time r a (has_come a.state.timers.loss_detection time) ∙ h)) (released_by d (has_come d.state.timers.max_ack_delay time)))
 
   pub holds_timeout : (m : Meaning t) (time : ℕ) (a : At t) → R a (timeout_after m time a)
   unfolding timeout_after
   holds_timeout m time a = alive_by m time a _ refl
 
--- behind a timeout neither the idle timer nor the close timer is left having come
+-- behind a timeout none of the other timers is left having come
 module _ {t : Types} where
   raised_idle : (time : ℕ) (a : At t) (b : Bool) → has_come a.state.timers.idle time ≡ false → has_come (if b then move_to (Raise Drained) a else a).state.timers.idle time ≡ false
   unfolding move_to state_move timers_move timers_stopped
@@ -114,14 +123,43 @@ module _ {t : Types} where
   unfolding close_expired
   ended_close time a = raised_close time a (has_come a.state.timers.close time) refl
 
-  alive_idle : (m : Meaning t) (time : ℕ) (a : At t) (b : Bool) → b ≡ false → has_come (if b then a else close_expired time (idle_expired time (loss_expired m time a))).state.timers.idle time ≡ false
-  unfolding idle_expired
-  alive_idle m time a true alive = cc
-  alive_idle m time a false alive = let c : At t = loss_expired m time a in ended_idle time c (has_come c.state.timers.idle time) refl
+  -- an ACK that is owed at last leaves the other timers
+  released_idle : (time : ℕ) (a : At t) (b : Bool) → has_come a.state.timers.idle time ≡ false → has_come (if b then move_to Release a else a).state.timers.idle time ≡ false
+  unfolding move_to state_move timers_move timers_released
+  released_idle time a true h = h
+  released_idle time a false h = h
 
-  alive_close : (m : Meaning t) (time : ℕ) (a : At t) (b : Bool) → b ≡ false → has_come (if b then a else close_expired time (idle_expired time (loss_expired m time a))).state.timers.close time ≡ false
+  released_close : (time : ℕ) (a : At t) (b : Bool) → has_come a.state.timers.close time ≡ false → has_come (if b then move_to Release a else a).state.timers.close time ≡ false
+  unfolding move_to state_move timers_move timers_released
+  released_close time a true h = h
+  released_close time a false h = h
+
+  -- and its own one is stopped
+  released_held : (time : ℕ) (a : At t) (b : Bool) → has_come a.state.timers.max_ack_delay time ≡ b → has_come (if b then move_to Release a else a).state.timers.max_ack_delay time ≡ false
+  unfolding move_to state_move timers_move timers_released
+  released_held time a true h = refl
+  released_held time a false h = h
+
+  alive_idle : (m : Meaning t) (time : ℕ) (a : At t) (b : Bool) → b ≡ false → has_come (if b then a else ack_expired time (close_expired time (idle_expired time (loss_expired m time a)))).state.timers.idle time ≡ false
+  unfolding idle_expired ack_expired
+  alive_idle m time a true alive = cc
+  alive_idle m time a false alive =
+      let c : At t = loss_expired m time a in
+      let d : At t = close_expired time (idle_expired time c) in
+      released_idle time d (has_come d.state.timers.max_ack_delay time) (ended_idle time c (has_come c.state.timers.idle time) refl)
+
+  alive_close : (m : Meaning t) (time : ℕ) (a : At t) (b : Bool) → b ≡ false → has_come (if b then a else ack_expired time (close_expired time (idle_expired time (loss_expired m time a)))).state.timers.close time ≡ false
+  unfolding ack_expired
   alive_close m time a true alive = cc
-  alive_close m time a false alive = ended_close time (idle_expired time (loss_expired m time a))
+  alive_close m time a false alive =
+      let c : At t = idle_expired time (loss_expired m time a) in
+      let d : At t = close_expired time c in
+      released_close time d (has_come d.state.timers.max_ack_delay time) (ended_close time c)
+
+  alive_held : (m : Meaning t) (time : ℕ) (a : At t) (b : Bool) → b ≡ false → has_come (if b then a else ack_expired time (close_expired time (idle_expired time (loss_expired m time a)))).state.timers.max_ack_delay time ≡ false
+  unfolding ack_expired
+  alive_held m time a true alive = cc
+  alive_held m time a false alive = let d : At t = close_expired time (idle_expired time (loss_expired m time a)) in released_held time d (has_come d.state.timers.max_ack_delay time) refl
 
   pub idle_later : (m : Meaning t) (time : ℕ) (a : At t) → is_drained a.state.life.state ≡ false → has_come (timeout_after m time a).state.timers.idle time ≡ false
   unfolding timeout_after
@@ -130,3 +168,7 @@ module _ {t : Types} where
   pub close_later : (m : Meaning t) (time : ℕ) (a : At t) → is_drained a.state.life.state ≡ false → has_come (timeout_after m time a).state.timers.close time ≡ false
   unfolding timeout_after
   close_later m time a alive = alive_close m time a (is_drained a.state.life.state) alive
+
+  pub held_later : (m : Meaning t) (time : ℕ) (a : At t) → is_drained a.state.life.state ≡ false → has_come (timeout_after m time a).state.timers.max_ack_delay time ≡ false
+  unfolding timeout_after
+  held_later m time a alive = alive_held m time a (is_drained a.state.life.state) alive

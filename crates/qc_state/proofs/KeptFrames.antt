@@ -4,6 +4,7 @@ use Rattle.std.proofs.lemmas.Bool.Decides.{nat_tests}
 use Rattle.std.specs.List.{list_any}
 use Rattle.qc_frame.specs.Frame.{FrameValue}
 use Rattle.qc_frame.specs.declared.frames.FrameOf.TheVariants.{Padding}
+use Rattle.qc_state.specs.Acks.{is_ack}
 use Rattle.qc_state.specs.Flight.{is_padding, kept_frames, kept_of}
 use Rattle.qc_state.specs.Waiting.{again, all_again, all_confirmed, confirmed}
 use Rattle.qc_state.specs.declared.waiting.SpaceWaiting.{SpaceWaiting}
@@ -31,6 +32,15 @@ any_padded (f ∷ fs) n = any_by (is_padding f) _ _ _ (any_padded fs n)
     any_by : (a b c d : Bool) → b ≡ (c || d) → (a || b) ≡ ((a || c) || d)
     any_by true b c d h = refl
     any_by false b c d h = h
+
+-- PADDING is no ACK
+acks_padding : (n : ℕ) → list_any is_ack (replicate n Padding) ≡ false
+acks_padding zero = refl
+acks_padding (suc n) = acks_padding n
+
+pub acks_padded : (fs : List FrameValue) (n : ℕ) → list_any is_ack (fs ++ replicate n Padding) ≡ list_any is_ack fs
+acks_padded [] n = acks_padding n
+acks_padded (f ∷ fs) n = ap (λ b. is_ack f || b) (acks_padded fs n)
 
 again_padding : (w : SpaceWaiting) (n : ℕ) → all_again w (replicate n Padding) ≡ w
 again_padding w zero = refl

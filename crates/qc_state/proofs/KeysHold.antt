@@ -20,14 +20,15 @@ use Rattle.qc_state.specs.declared.trace.Step.{Step}
 use Rattle.qc_state.specs.KeyLaws.{IsWithinLimit, KeysHold}
 use Rattle.qc_state.specs.Keys.{count_one, failure_counted, key_used, keys_behind, keys_dropped, keys_given, keys_of, reaches_limit}
 use Rattle.qc_state.specs.Life.{is_open}
-use Rattle.qc_state.specs.Moves.{Move, Ask, Begin, Fail, Forget, Give, Raise, Say, Seal, Shut, Take, Write, keys_move, move_to, state_move}
+use Rattle.qc_state.specs.Moves.{Move, Ask, Begin, Fail, Forget, Give, Raise, Say, Seal, Shut, Skip, Take, Write, keys_move, move_to, state_move}
 use Rattle.qc_state.specs.Numbers.{next_number}
 use Rattle.qc_state.specs.Paths.{is_blocked}
 use Rattle.qc_state.specs.Run.{IsAllowed, IsStep, Run, began, called, close_after, input_after, packets_of, reported, step_after, time_of}
-use Rattle.qc_state.specs.Sending.{MayTransmit, flown_after, initial_left, is_flown, is_key_nearly_used_up, is_key_used_up, is_silent, limit_met, limited_keys, owed_quiet_after, owes, packet_after, packet_size, quiet_after, sealed_in, sending_space, spared_after, transmit_after}
+use Rattle.qc_state.specs.Sending.{MayTransmit, begun_after, flown_after, initial_left, is_flown, is_key_nearly_used_up, is_key_used_up, is_silent, limit_met, limited_keys, owed_quiet_after, owes, packet_after, packet_size, quiet_after, sealed_in, sending_space, spared_after, transmit_after}
 use Rattle.qc_state.specs.Stopping.{given_after, key_limit_error, killed_after}
 use Rattle.qc_state.specs.Types.{Types, Meaning}
 use Rattle.qc_state.specs.View.{View, At}
+use Rattle.qc_state.proofs.Begun.{begun_keys, holds_begun}
 use Rattle.qc_state.proofs.Expired.{IsTimed, holds_timeout}
 use Rattle.qc_state.proofs.Receives.{AreUnused, IsReceived, holds_armed, holds_datagram, holds_initial, holds_stopped, in_packet_received}
 
@@ -146,20 +147,15 @@ module _ {t : Types} where
   spared_keeps time true a = holds_stopped Keeps here next (λ x r d k. move_keeps x d (received_spare x d.state (in_packet_received x r))) time key_limit_error a
   spared_keeps time false a = here a
 
-  -- beginning a datagram leaves the keys
-  begun_keys : (id : SpaceId) (a : At t) → (move_to (Begin id) a).state.keys ≡ a.state.keys
-  unfolding move_to state_move keys_move
-  begun_keys id a = refl
-
   transmit_keeps : (time : ℕ) (ps : List (List FrameValue)) (a : At t) → MayTransmit time a.state ps → Keeps a (transmit_after time ps a)
   unfolding MayTransmit transmit_after packet_after is_key_used_up
   transmit_keeps time [] a may = quiet_keeps a
   transmit_keeps time (fs ∷ []) a may =
       let id : SpaceId = sending_space a.state in
-      let b : At t = move_to (Begin id) a in
+      let b : At t = begun_after id a in
       let c : At t = sealed_in time id fs b in
       let d : At t = spared_after time (is_key_nearly_used_up a.state) c in
-      next a b d (move_keeps (Begin id) a tt)
+      next a b d (holds_begun Keeps here next id a (λ x. move_keeps (Begin id) x tt) (λ x k. move_keeps Skip x tt))
       (next b c d (sealed_keeps time id fs b (same_limit id a.state b.state (begun_keys id a) may.fresh)) (spared_keeps time (is_key_nearly_used_up a.state) c))
   transmit_keeps time (fs ∷ gs ∷ rest) a may = absurd may
 

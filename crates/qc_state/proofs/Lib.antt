@@ -6,6 +6,7 @@ pub mod AckLemmas
 pub mod AcksAccepted
 pub mod AcksBefore
 mod AcksKnown
+pub mod Begun
 pub mod DatagramLaws
 pub mod Expansions
 pub mod Expired
@@ -21,6 +22,7 @@ mod Telling
 pub mod Told
 mod ToldReceiving
 pub mod WaitingLemmas
+pub mod Skipping
 pub mod Taking
 pub mod Ready
 pub mod WholeDatagrams

@@ -29,19 +29,20 @@ use Rattle.qc_state.specs.declared.paths.Paths.{Paths}
 use Rattle.qc_state.specs.declared.trace.Step.{Step}
 use Rattle.qc_state.specs.declared.transmit.TheConstants.{DATAGRAM_SIZE}
 use Rattle.qc_state.specs.Life.{is_open}
-use Rattle.qc_state.specs.Moves.{Accept, Ack, Arm, Begin, Come, Confirm, Drain, Enter, Establish, Expect, Fail, Fire, Fix, Forget, Give, Hear, Learn, Leave, MayMove, Move, Owe, Raise, Read, Ready, Say, Seal, Shut, Take, Tell, Token, Want, Write, armed_after, armed_with, deeds_move, move_to, paths_move, state_move, told}
+use Rattle.qc_state.specs.Moves.{Accept, Ack, Arm, Come, Confirm, Drain, Enter, Establish, Expect, Fail, Fire, Fix, Forget, Give, Hear, Learn, Leave, MayMove, Move, Owe, Raise, Read, Ready, Release, Say, Seal, Shut, Take, Tell, Token, Want, Write, armed_after, armed_with, deeds_move, move_to, paths_move, state_move, told}
 use Rattle.qc_state.specs.Numbers.{next_number, received_number}
 use Rattle.qc_state.specs.Headline.{deeds_of}
 use Rattle.qc_state.specs.PathLaws.{PathHolds, all_from, bytes_from, is_handshake_admitted}
 use Rattle.qc_state.specs.Paths.{is_blocked, path_accepted, path_idle, path_received, path_sent, path_spun, peer_fixed, same_address, spun_by}
 use Rattle.qc_state.specs.Receiving.{counted_after, cut_of, datagram_after, first_after, first_token, heard_after, is_readable, lets_in, pieces_after}
 use Rattle.qc_state.specs.Run.{IsAllowed, IsStep, Run, began, called, close_after, input_after, packets_of, reported, step_after, time_of}
-use Rattle.qc_state.specs.Sending.{MaySeal, MayTransmit, begun_view, drops_initial, flown_after, initial_left, is_flown, is_key_nearly_used_up, is_silent, limit_met, owed_quiet_after, owes, packet_after, packet_size, quiet_after, sealed_in, sending_space, spared_after, transmit_after}
+use Rattle.qc_state.specs.Sending.{MaySeal, MayTransmit, begun_after, drops_initial, flown_after, initial_left, is_flown, is_key_nearly_used_up, is_silent, limit_met, owed_quiet_after, owes, packet_after, packet_size, quiet_after, sealed_in, sending_space, spared_after, transmit_after}
 use Rattle.qc_state.specs.Stopping.{given_after, key_limit_error, killed_after, stopped_after}
 use Rattle.qc_state.specs.Setup.{is_first_awaited}
 use Rattle.qc_state.specs.Timeouts.{timeout_after}
 use Rattle.qc_state.specs.Types.{Types, Meaning}
 use Rattle.qc_state.specs.View.{View, At, at}
+use Rattle.qc_state.proofs.Begun.{begun_paths, begun_same}
 use Rattle.qc_state.proofs.Expired.{IsTimed, holds_timeout}
 use Rattle.qc_state.proofs.Receives.{IsInPacket, holds_pieces}
 
@@ -362,15 +363,24 @@ module _ {t : Types} where
       stopped_paths time why (lost.TransportError key_limit_error) a (is_open a.state.life.state) (is_none (move_to (Shut time why) a).state.life.reason)
   path_spared time false a = refl
 
+  -- a packet is sealed, once its datagram was begun
+  path_sealed : (time : ℕ) (id : SpaceId) (fs : List FrameValue) (a : At t) → (sealed_in time id fs a).state.paths ≡ path_sent a.state.paths (packet_size a.state id fs)
+  unfolding sealed_in move_to state_move paths_move
+  path_sealed time id fs a =
+      let b : At t = move_to (Seal time id (next_number a.state.numbers id) (packet_size a.state id fs) fs) (move_to (Take id fs) a) in
+      let c : At t = flown_after time (is_flown a.state fs) b in
+      path_left time id c ∙ path_flown time (is_flown a.state fs) b
+
   path_packet : (time : ℕ) (fs : List FrameValue) (ds : List Did) (a : At t) → MaySeal time a.state fs → PathHolds 0 ds a.state.paths (packet_after time fs a).state.paths
-  unfolding packet_after sealed_in begun_view move_to state_move paths_move
+  unfolding packet_after
   path_packet time fs ds a may =
       let id : SpaceId = sending_space a.state in
-      let b : At t = move_to (Begin id) a in
-      let c : At t = move_to (Seal time id (next_number b.state.numbers id) (packet_size b.state id fs) fs) (move_to (Take id fs) b) in
-      let d : At t = flown_after time (is_flown b.state fs) c in
-      subst (λ (p : Paths). PathHolds 0 ds a.state.paths p) (sym (path_spared time (is_key_nearly_used_up a.state) (initial_left Client false time id d) ∙ path_left time id d ∙ path_flown time (is_flown b.state fs) c))
-      (sent_path 0 ds a.state.paths (packet_size b.state id fs) may.fits may.free)
+      let b : At t = begun_after id a in
+      let c : At t = sealed_in time id fs b in
+      let small : packet_size b.state id fs ≤ DATAGRAM_SIZE = subst (λ (s : View t). packet_size s id fs ≤ DATAGRAM_SIZE) (sym (begun_same a)) may.fits in
+      subst (λ (p : Paths). PathHolds 0 ds a.state.paths p)
+      (sym (path_spared time (is_key_nearly_used_up a.state) c ∙ path_sealed time id fs b ∙ ap (λ (p : Paths). path_sent p (packet_size b.state id fs)) (begun_paths id a)))
+      (sent_path 0 ds a.state.paths (packet_size b.state id fs) small may.free)
 
   path_transmit : (time : ℕ) (ps : List (List FrameValue)) (ds : List Did) (a : At t) → MayTransmit time a.state ps → PathHolds 0 ds a.state.paths (transmit_after time ps a).state.paths
   unfolding MayTransmit transmit_after
@@ -389,6 +399,7 @@ module _ {t : Types} where
   unfolding move_to state_move paths_move
   timed_paths (Fire after) r a h = refl
   timed_paths (Arm at) r a h = refl
+  timed_paths Release r a h = refl
   timed_paths (Raise to) r a h = refl
   timed_paths (Give why) r a h = refl
   timed_paths _ r a h = absurd r

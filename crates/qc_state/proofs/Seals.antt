@@ -1,5 +1,5 @@
 -- What a transmit seals: from what the calls of the core say, to what a transmit may do.
-use Rattle.std.proofs.Common.{◌≡◌, ℕ, ◌+◌, ◌-◌, ◌≤◌, List, [], ◌∷◌, ◌++◌, length, length-append, replicate, refl, ap, sym, ◌∙◌, subst, Bool, true, false, ◌&&◌, ◌||◌, not, if◌then◌else◌, Option, Some, None, is_some, IsSome, nat_le, ◌<◌, ◌^◌, arith}
+use Rattle.std.proofs.Common.{◌≡◌, ℕ, ◌+◌, ◌-◌, ◌≤◌, List, [], ◌∷◌, ◌++◌, length, length-append, replicate, refl, ap, sym, ◌∙◌, subst, Bool, true, false, ◌&&◌, ◌||◌, ◌⊎◌, inl, inr, not, if◌then◌else◌, Option, Some, None, is_some, IsSome, nat_le, nat_lt, ◌<◌, ◌^◌, arith}
 use Rattle.std.specs.Prelude.{unwrap_or}
 use Rattle.std.proofs.lemmas.Bool.Decides.{nat_tests}
 use Rattle.std.proofs.lemmas.List.{length-replicate}
@@ -19,25 +19,30 @@ use Rattle.qc_state.specs.Life.{is_closed}
 use Rattle.qc_state.specs.declared.life.Close.{Close}
 use Rattle.qc_state.specs.declared.life.Close.TheVariants.{Connection, Application}
 use Rattle.qc_header.specs.declared.header.Header.{Header}
-use Rattle.qc_header.specs.HeaderSpelling.{header_spelling, header_number, header_most, initial_spelling, short_spelling, long_start}
+use Rattle.qc_header.specs.HeaderSpelling.{header_spelling, header_number, initial_spelling, short_spelling, long_start}
 use Rattle.qc_packet.specs.Building.{dst_cid_of, min_size_of, padded_size}
 use Rattle.qc_packet.specs.PacketSpelling.{padding_len}
+use Rattle.qc_state.specs.Draws.{bit}
 use Rattle.qc_state.specs.declared.deeds.Did.{Did}
 use Rattle.qc_state.specs.declared.transmit.TheConstants.{DATAGRAM_SIZE}
 use Rattle.qc_state.specs.declared.transmit.Transmit.{Transmit}
+use Rattle.qc_state.specs.declared.keys.KeyGroup.{KeyGroup}
 use Rattle.qc_state.specs.declared.waiting.SpaceWaiting.{SpaceWaiting}
+use Rattle.qc_state.specs.declared.waiting.Waiting.{Waiting}
 use Rattle.qc_state.specs.Keys.{keys_of}
-use Rattle.qc_state.specs.Moves.{Begin, Take, Seal, state_move, move_to, numbers_move, keys_move, life_move, paths_move, timers_move, waiting_move, setup_move, lower_move, deeds_move}
-use Rattle.qc_state.specs.Numbers.{next_number, acked_number}
+use Rattle.qc_state.specs.Moves.{Begin, Skip, Take, Seal, state_move, move_to, numbers_move, keys_move, life_move, paths_move, timers_move, waiting_move, setup_move, lower_move, deeds_move}
+use Rattle.qc_state.specs.Numbers.{next_number, acked_number, coming_number, is_skipped, number_skipped, used_in}
 use Rattle.qc_state.specs.Paths.{is_blocked}
-use Rattle.qc_state.specs.Sending.{close_frame, told_code, told_type, told_application_code, application_close, told_close, closing_frame, IsKeptReason, close_room, Closes, Carries, TakenNow, owes_in, sending_space, owes, is_past_limit, is_used_up, is_key_used_up, is_key_nearly_used_up, may_be_quiet, header_in, sealed_with, packet_bytes, begun_view, initial_left, is_flown, flown_after, sealed_in, spared_after, packet_after, quiet_after, transmit_after, MayTransmit, transmit_bytes, transmit_with, transmit_of, SealsOne, Transmits, is_silent, fills, packet_size, least_size, padding_of, padded}
-use Rattle.qc_state.specs.Spaces.{space_of, with_space}
+use Rattle.qc_state.specs.Setup.{behind_spin, takes_grease}
+use Rattle.qc_state.specs.declared.numbers.Numbers.{Numbers}
+use Rattle.qc_state.specs.Sending.{close_frame, told_code, told_type, told_application_code, application_close, told_close, closing_frame, IsKeptReason, Closes, Carries, TakenNow, LacksAckRoom, owes_in, sending_space, owes, is_past_limit, is_used_up, is_key_used_up, is_key_nearly_used_up, is_token_too_long, may_be_quiet, header_in, spin_now, flips_now, frame_room, sealed_with, packet_bytes, skipped_after, begun_after, begun_view, initial_left, is_flown, flown_after, sealed_in, spared_after, packet_after, quiet_after, transmit_after, MayTransmit, transmit_bytes, transmit_with, transmit_of, SealsOne, Transmits, is_silent, fills, packet_size, least_size, padding_of, padded}
+use Rattle.qc_state.specs.Spaces.{is_space, space_of, with_space}
 use Rattle.qc_state.specs.Types.{Types, Meaning}
 use Rattle.qc_state.specs.View.{View, At, at}
 use Rattle.qc_state.specs.Waiting.{waits_in, waits_here, waiting_without, without, without_all, begun_in, datagram_begun, TakenPart}
 use Rattle.qc_flight.specs.Packets.{first_of}
 use Rattle.qc_recovery.specs.Steps as recovery
-use Rattle.qc_state.proofs.WaitingLemmas.{without_all_append, begun_wanted, is_wanted, taken_waits, taken_some, taken_fits, acks_fit, bytes_append, without_padded}
+use Rattle.qc_state.proofs.WaitingLemmas.{Lacks, without_all_append, begun_wanted, is_wanted, taken_waits, taken_some, taken_fits, ack_fits, bytes_append, without_padded}
 
 -- of two tests that hold the second holds
 and_right : (a b : Bool) → (a && b) ≡ true → b ≡ true
@@ -45,34 +50,13 @@ and_right true b h = h
 and_right false b h = cc
 
 -- none of the tests of silence holds
-not_quiet_1 : (a b c k d : Bool) → (a || not b || c || k || d) ≡ false → a ≡ false
-not_quiet_1 true b c k d h = cc
-not_quiet_1 false b c k d h = refl
-
-not_quiet_2 : (a b c k d : Bool) → (a || not b || c || k || d) ≡ false → b ≡ true
-not_quiet_2 true b c k d h = cc
-not_quiet_2 false true c k d h = refl
-not_quiet_2 false false c k d h = cc
-
-not_quiet_3 : (a b c k d : Bool) → (a || not b || c || k || d) ≡ false → d ≡ false
-not_quiet_3 true b c k d h = cc
-not_quiet_3 false true true k d h = cc
-not_quiet_3 false true false true d h = cc
-not_quiet_3 false true false false d h = h
-not_quiet_3 false false c k d h = cc
-
-not_quiet_4 : (a b c k d : Bool) → (a || not b || c || k || d) ≡ false → c ≡ false
-not_quiet_4 true b c k d h = cc
-not_quiet_4 false true true k d h = cc
-not_quiet_4 false true false k d h = refl
-not_quiet_4 false false c k d h = cc
-
-not_quiet_5 : (a b c k d : Bool) → (a || not b || c || k || d) ≡ false → k ≡ false
-not_quiet_5 true b c k d h = cc
-not_quiet_5 false true true k d h = cc
-not_quiet_5 false true false true d h = cc
-not_quiet_5 false true false false d h = refl
-not_quiet_5 false false c k d h = cc
+none_holds : (a b c k d e : Bool) → (a || not b || c || k || d || e) ≡ false → (a ≡ false) × (b ≡ true) × (c ≡ false) × (k ≡ false) × (d ≡ false) × (e ≡ false)
+none_holds true b c k d e h = cc
+none_holds false false c k d e h = cc
+none_holds false true true k d e h = cc
+none_holds false true false true d e h = cc
+none_holds false true false false true e h = cc
+none_holds false true false false false e h = (refl, refl, refl, refl, refl, h)
 
 -- of two tests of which none holds the first doesn't hold
 neither_left : (a b : Bool) → (a || b) ≡ false → a ≡ false
@@ -148,22 +132,15 @@ module _ {t : Types} where
   close_taken s mid id kept acks fs is_mid is_fs = is_mid ∙ close_behind s id kept acks ∙ ap (λ (x : List FrameValue). state_move (Take id x) s) (sym is_fs)
 
   -- the ACK and the close, with the reason that fits behind the ACK, are the frames that this end takes, where a close is owed
-  pub takes_close : (time : ℕ) (s : View t) (id : SpaceId) (room : ℕ) (kept : List ℕ) (acks fs : List FrameValue) → s.waiting.close_owed ≡ true →
-      AckPart time (space_of s.waiting.spaces id) acks (may_acknowledge (space_of s.waiting.spaces id).acks) → IsKeptReason (close_room s id acks) kept s.life.close →
+  pub takes_close : (time : ℕ) (s : View t) (id : SpaceId) (room : ℕ) (kept : List ℕ) (acks fs : List FrameValue) → s.waiting.close_owed ≡ true → room ≡ frame_room s id →
+      AckPart time (space_of s.waiting.spaces id) (room - 25) acks (may_acknowledge (space_of s.waiting.spaces id).acks) → IsKeptReason (room - length (frames_spelling acks)) kept s.life.close →
       fs ≡ acks ++ closing_frame id kept s.life ∷ [] → TakenNow time s id room fs
-  takes_close time s id room kept acks fs owed part reason is = TakenNow.a_close owed (Closes.closing acks part kept reason is)
-
-  -- the room of a datagram behind a header is that behind the header of its space
-  pub room_behind : (s : View t) (id : SpaceId) (h : Header) (n room : ℕ) → h ≡ header_in s id → n ≡ length (header_spelling h 0) → room ≡ 1180 - n → room ≡ 1180 - length (header_spelling (header_in s id) 0)
-  room_behind s id h n room is_h is_n is_room = is_room ∙ ap (λ (x : ℕ). 1180 - x) (is_n ∙ ap (λ (x : Header). length (header_spelling x 0)) is_h)
-
-  -- what an ACK leaves of that room is the room for a close
-  pub close_room_left : (s : View t) (id : SpaceId) (room : ℕ) (acks : List FrameValue) → room ≡ 1180 - length (header_spelling (header_in s id) 0) → close_room s id acks ≡ room - length (frames_spelling acks)
-  unfolding close_room
-  close_room_left s id room acks is_room = ap (λ (x : ℕ). x - length (frames_spelling acks)) (sym is_room)
+  takes_close time s id room kept acks fs owed is_room part reason is =
+      TakenNow.a_close owed (Closes.closing acks (subst (λ (x : ℕ). AckPart time (space_of s.waiting.spaces id) (x - 25) acks (may_acknowledge (space_of s.waiting.spaces id).acks)) is_room part)
+      kept (subst (λ (x : ℕ). IsKeptReason (x - length (frames_spelling acks)) kept s.life.close) is_room reason) is)
 
   -- and else it takes frames that wait
-  pub takes_waiting : (time : ℕ) (s : View t) (id : SpaceId) (room : ℕ) (fs : List FrameValue) → s.waiting.close_owed ≡ false → TakenPart time (space_of s.waiting.spaces id) room fs → TakenNow time s id room fs
+  pub takes_waiting : (time : ℕ) (s : View t) (id : SpaceId) (room : ℕ) (fs : List FrameValue) → s.waiting.close_owed ≡ false → TakenPart time s.waiting.bundled (space_of s.waiting.spaces id) room fs → TakenNow time s id room fs
   takes_waiting time s id room fs free part = TakenNow.what_waits free part
 
   -- what is owed waits, where it is no close
@@ -171,12 +148,38 @@ module _ {t : Types} where
   unfolding owes owes_in waits_in
   owed_waits s e h = owed_by (space_of s.waiting.spaces (sending_space s)) s.waiting.close_owed _ e (and_right _ _ h)
 
+  -- a number is skipped, or isn't, with no deed
+  skip_at : (a : At t) (b : Bool) → (if b then move_to Skip a else a) ≡ at (if b then move_to Skip (at a.state []) else at a.state []).state a.did
+  unfolding move_to deeds_move
+  skip_at a true = refl
+  skip_at a false = refl
+
+  -- a datagram is begun with no deed
+  begun_at : (id : SpaceId) (a : At t) → begun_after id a ≡ at (begun_after id (at a.state [])).state a.did
+  unfolding begun_after skipped_after move_to deeds_move
+  begun_at id a = skip_at (at (state_move (Begin id) a.state) a.did) (is_skipped (state_move (Begin id) a.state).numbers id)
+
+  -- a skipped number leaves what waits, and the keys
+  skip_waits : (a : At t) (b : Bool) → (if b then move_to Skip a else a).state.waiting ≡ a.state.waiting
+  unfolding move_to state_move waiting_move
+  skip_waits a true = refl
+  skip_waits a false = refl
+
+  skip_keys : (a : At t) (b : Bool) → (if b then move_to Skip a else a).state.keys ≡ a.state.keys
+  unfolding move_to state_move keys_move
+  skip_keys a true = refl
+  skip_keys a false = refl
+
   -- what waits in the space of a datagram that is begun
-  begun_space : (s : View t) (id : SpaceId) → space_of (state_move (Begin id) s).waiting.spaces id ≡ begun_in (space_of s.waiting.spaces id) (first_of (recovery.space_of id s.lower.recovery).flight)
-  unfolding state_move waiting_move datagram_begun
-  begun_space s Initial = refl
-  begun_space s Handshake = refl
-  begun_space s Data = refl
+  first_space : (s : View t) (id : SpaceId) → space_of (move_to (Begin id) (at s [])).state.waiting.spaces id ≡ begun_in (space_of s.waiting.spaces id) (first_of (recovery.space_of id s.lower.recovery).flight)
+  unfolding move_to state_move waiting_move datagram_begun
+  first_space s Initial = refl
+  first_space s Handshake = refl
+  first_space s Data = refl
+
+  begun_space : (s : View t) (id : SpaceId) → space_of (begun_after id (at s [])).state.waiting.spaces id ≡ begun_in (space_of s.waiting.spaces id) (first_of (recovery.space_of id s.lower.recovery).flight)
+  unfolding begun_after skipped_after
+  begun_space s id = ap (λ (w : Waiting). space_of w.spaces id) (skip_waits (move_to (Begin id) (at s [])) (is_skipped (move_to (Begin id) (at s [])).state.numbers id)) ∙ first_space s id
 
   -- a frame waits there, where something is owed that is no close
   begun_waits : (s : View t) → s.waiting.close_owed ≡ false → owes s ≡ true → is_wanted (space_of (begun_view s).waiting.spaces (sending_space s)) ≡ true
@@ -186,17 +189,34 @@ module _ {t : Types} where
       subst (λ (w : SpaceWaiting). is_wanted w ≡ true) (sym (begun_space s id)) (begun_wanted (space_of s.waiting.spaces id) (first_of (recovery.space_of id s.lower.recovery).flight) (owed_waits s e h))
 
   -- a begun datagram owes no close
+  begun_owed : (s : View t) (id : SpaceId) → (begun_after id (at s [])).state.waiting.close_owed ≡ s.waiting.close_owed
+  unfolding begun_after skipped_after move_to state_move waiting_move datagram_begun
+  begun_owed s id = ap (λ (w : Waiting). w.close_owed) (skip_waits (move_to (Begin id) (at s [])) (is_skipped (move_to (Begin id) (at s [])).state.numbers id))
+
   unowed : (s : View t) → (begun_view s).waiting.close_owed ≡ false → s.waiting.close_owed ≡ false
-  unfolding begun_view state_move waiting_move datagram_begun
-  unowed s h = h
+  unfolding begun_view
+  unowed s h = sym (begun_owed s (sending_space s)) ∙ h
+
+  -- an ACK that is all that is wanted has no room in the packet
+  no_room : (time : ℕ) (s : View t) (id : SpaceId) (room : ℕ) (fs : List FrameValue) → room ≡ frame_room s id → (0 < length fs) ⊎ Lacks time (space_of s.waiting.spaces id) room → (0 < length fs) ⊎ LacksAckRoom time s id
+  no_room time s id room fs is_room (inl some) = inl some
+  no_room time s id room fs is_room (inr lacks) = inr (record {
+    owed = lacks.owed;
+    alone = lacks.alone;
+    ack = lacks.ack;
+    says = lacks.says;
+    long = subst (λ (x : ℕ). x < length (frames_spelling (frames.Ack lacks.ack ∷ []))) is_room lacks.long;
+  })
 
   -- the frames that are taken once a datagram is begun, with the PADDING that they need behind them, are what a packet may carry
-  carries : (time : ℕ) (s : View t) (room : ℕ) (fs gs : List FrameValue) → owes s ≡ true → 20 ≤ room → TakenNow time (begun_view s) (sending_space s) room fs → gs ≡ padded (begun_view s) (sending_space s) fs →
-      Carries time (begun_view s) (sending_space s) gs
-  carries time s room fs gs owed wide (TakenNow.a_close e closes) is_gs = Carries.a_close e fs closes is_gs
-  carries time s room fs gs owed wide (TakenNow.what_waits e taken) is_gs =
+  carries : (time : ℕ) (s : View t) (room : ℕ) (fs gs : List FrameValue) → owes s ≡ true → 25 ≤ room → room ≡ frame_room (begun_view s) (sending_space s) → TakenNow time (begun_view s) (sending_space s) room fs →
+      gs ≡ padded (begun_view s) (sending_space s) fs → Carries time (begun_view s) (sending_space s) gs
+  carries time s room fs gs owed wide is_room (TakenNow.a_close e closes) is_gs = Carries.a_close e fs closes is_gs
+  carries time s room fs gs owed wide is_room (TakenNow.what_waits e taken) is_gs =
       let w : SpaceWaiting = space_of (begun_view s).waiting.spaces (sending_space s) in
-      Carries.what_waits e fs (taken_waits time w room fs taken) (taken_some time w room fs taken (begun_waits s (unowed s e) owed) wide) is_gs
+      let bundled : Option ℕ = (begun_view s).waiting.bundled in
+      Carries.what_waits e fs (taken_waits time bundled w room fs taken)
+      (no_room time (begun_view s) (sending_space s) room fs is_room (taken_some time bundled w room fs taken (begun_waits s (unowed s e) owed) wide)) is_gs
 
   -- a header in each space has its destination id
   dst_within : (s : View t) (id : SpaceId) → length (dst_cid_of (header_in s id)) ≤ length (header_spelling (header_in s id) 0)
@@ -210,11 +230,6 @@ module _ {t : Types} where
   unfolding least_size
   least_low s id fs = least_by (fills s.setup.fixed.side id (list_any elicits fs))
 
-  -- as many as before frames were taken
-  least_kept : (s mid : View t) (id : SpaceId) (fs : List FrameValue) → mid ≡ state_move (Take id fs) s → least_size mid id fs ≡ least_size s id fs
-  unfolding least_size state_move setup_move
-  least_kept s mid id fs is = ap (λ (x : View t). if fills x.setup.fixed.side id (list_any elicits fs) then DATAGRAM_SIZE else 0) is
-
   -- so many bytes has a packet with these frames and the PADDING that they need
   pub padded_size_is : (s : View t) (id : SpaceId) (h : Header) (fs : List FrameValue) → h ≡ header_in s id → padded_size h fs (least_size s id fs) ≡ packet_size s id (padded s id fs)
   unfolding packet_size padded padding_of
@@ -223,28 +238,14 @@ module _ {t : Types} where
       let whole : length (frames_spelling (fs ++ replicate n Padding)) ≡ length (frames_spelling fs) + n = bytes_append fs (replicate n Padding) ∙ ap (λ (x : ℕ). length (frames_spelling fs) + x) (padding_bytes n) in
       ap (λ (x : Header). padded_size x fs (least_size s id fs)) is ∙ omega (arith, whole)
 
-  -- which fit into a datagram, where the frames do behind a short header with room for tag and sample
-  pub padded_fits : (s : View t) (id : SpaceId) (h : Header) (fs : List FrameValue) → h ≡ header_in s id → length (header_spelling h 0) ≤ 61 →
-      length (header_spelling h 0) + length (frames_spelling fs) + 20 ≤ DATAGRAM_SIZE → packet_size s id (padded s id fs) ≤ DATAGRAM_SIZE
+  -- which fit into a datagram, where the frames do behind the header with room for the tag, and the header leaves room for 25 bytes
+  pub padded_fits : (s : View t) (id : SpaceId) (h : Header) (fs : List FrameValue) → h ≡ header_in s id → length (header_spelling h 0) ≤ 1159 →
+      length (header_spelling h 0) + length (frames_spelling fs) + 16 ≤ DATAGRAM_SIZE → packet_size s id (padded s id fs) ≤ DATAGRAM_SIZE
   unfolding min_size_of
   padded_fits s id h fs is short room =
       let len : length (header_spelling h 0) ≡ length (header_spelling (header_in s id) 0) = ap (λ (x : Header). length (header_spelling x 0)) is in
       let size : padded_size (header_in s id) fs (least_size s id fs) ≡ packet_size s id (padded s id fs) = padded_size_is s id (header_in s id) fs refl in
       omega (arith, len, size, dst_within s id, least_low s id fs)
-
-  -- what was filled up to so many bytes at least, once frames were taken, has the PADDING that it needs
-  pub padded_now : (s mid : View t) (id : SpaceId) (h : Header) (least : ℕ) (fs gs : List FrameValue) → h ≡ header_in s id → mid ≡ state_move (Take id fs) s → least ≡ least_size mid id fs →
-      gs ≡ fs ++ replicate (padding_len h fs (padded_size h fs least)) Padding → gs ≡ padded s id fs
-  unfolding padded padding_of
-  padded_now s mid id h least fs gs is_h is_mid is_least is_gs =
-      is_gs ∙ ap (λ (x : Header). fs ++ replicate (padding_len x fs (padded_size x fs least)) Padding) is_h
-      ∙ ap (λ (x : ℕ). fs ++ replicate (padding_len (header_in s id) fs (padded_size (header_in s id) fs x)) Padding) (is_least ∙ least_kept s mid id fs is_mid)
-
-  -- and as many bytes as a packet with it
-  pub padded_size_now : (s mid : View t) (id : SpaceId) (h : Header) (least size : ℕ) (fs gs : List FrameValue) → h ≡ header_in s id → mid ≡ state_move (Take id fs) s → least ≡ least_size mid id fs →
-      gs ≡ padded s id fs → size ≡ padded_size h fs least → size ≡ packet_size s id gs
-  padded_size_now s mid id h least size fs gs is_h is_mid is_least is_gs is_size =
-      is_size ∙ ap (λ (x : ℕ). padded_size h fs x) (is_least ∙ least_kept s mid id fs is_mid) ∙ padded_size_is s id h fs is_h ∙ ap (λ (x : List FrameValue). packet_size s id x) (sym is_gs)
 
   -- taking frames leaves whether a packet with these counts as in flight
   flown_taken : (s mid : View t) (id : SpaceId) (fs : List FrameValue) → mid ≡ state_move (Take id fs) s → is_flown mid fs ≡ is_flown s fs
@@ -252,61 +253,106 @@ module _ {t : Types} where
   flown_taken s mid id fs is = ap (λ (x : View t). is_flown x fs) is
 
   -- a packet of the space is sealed, where its frames are taken first
-  sealed_now : (time number size : ℕ) (space : SpaceId) (ds : List Did) (e mid : View t) (b f c : At t) (gs : List FrameValue) → mid ≡ state_move (Take space gs) e →
-      number ≡ next_number e.numbers space → size ≡ packet_size e space gs → b ≡ move_to (Seal time space number size gs) (at mid ds) → f ≡ flown_after time (is_flown mid gs) b → c ≡ initial_left Client false time space f →
+  sealed_now : (time : ℕ) (space : SpaceId) (ds : List Did) (e mid : View t) (b f c : At t) (gs : List FrameValue) → mid ≡ state_move (Take space gs) e →
+      b ≡ move_to (Seal time space (next_number e.numbers space) (packet_size e space gs) gs) (at mid ds) → f ≡ flown_after time (is_flown mid gs) b → c ≡ initial_left Client false time space f →
       c ≡ sealed_in time space gs (at e ds)
   unfolding sealed_in move_to deeds_move
-  sealed_now time number size space ds e mid b f c gs same is_number is_size is_b is_f is_c =
+  sealed_now time space ds e mid b f c gs same is_b is_f is_c =
       is_c ∙ ap (λ (x : At t). initial_left Client false time space x)
       (is_f ∙ ap (λ (x : Bool). flown_after time x b) (flown_taken e mid space gs same)
       ∙ ap (λ (x : At t). flown_after time (is_flown e gs) x)
-      (is_b ∙ ap (λ (x : View t). move_to (Seal time space number size gs) (at x ds)) same
-      ∙ ap (λ (x : ℕ). move_to (Seal time space x size gs) (move_to (Take space gs) (at e ds))) is_number
-      ∙ ap (λ (x : ℕ). move_to (Seal time space (next_number e.numbers space) x gs) (move_to (Take space gs) (at e ds))) is_size))
+      (is_b ∙ ap (λ (x : View t). move_to (Seal time space (next_number e.numbers space) (packet_size e space gs) gs) (at x ds)) same))
 
-  -- these are its bytes
-  sealed_bytes : (m : Meaning t) (number : ℕ) (space : SpaceId) (e mid : View t) (buffer : List ℕ) (gs : List FrameValue) (h : Header) → mid ≡ state_move (Take space gs) e →
-      number ≡ next_number e.numbers space → h ≡ header_in e space → buffer ≡ sealed_with m (keys_of mid.keys space) h number (frames_spelling gs) → buffer ≡ packet_bytes m e space gs
-  unfolding packet_bytes state_move keys_of keys_move
-  sealed_bytes m number space e mid buffer gs h same is_number is_h is_buffer =
-      is_buffer ∙ ap (λ (x : Header). sealed_with m (keys_of mid.keys space) x number (frames_spelling gs)) is_h
-      ∙ ap (λ (x : View t). sealed_with m (keys_of x.keys space) (header_in e space) number (frames_spelling gs)) same
-      ∙ ap (λ (x : ℕ). sealed_with m (keys_of e.keys space) (header_in e space) x (frames_spelling gs)) is_number
+  -- taking frames leaves the header of the next packet
+  header_kept : (s : View t) (id : SpaceId) (fs : List FrameValue) → header_in (state_move (Take id fs) s) id ≡ header_in s id
+  unfolding state_move numbers_move paths_move setup_move spin_now
+  header_kept s Initial fs = refl
+  header_kept s Handshake fs = refl
+  header_kept s Data fs = refl
+
+  header_taken : (s mid : View t) (id : SpaceId) (fs : List FrameValue) → mid ≡ state_move (Take id fs) s → header_in mid id ≡ header_in s id
+  header_taken s mid id fs is = ap (λ (x : View t). header_in x id) is ∙ header_kept s id fs
+
+  -- nor does it change what a packet with given frames is
+  size_kept : (s : View t) (id : SpaceId) (fs gs : List FrameValue) → packet_size (state_move (Take id fs) s) id gs ≡ packet_size s id gs
+  unfolding packet_size
+  size_kept s id fs gs = ap (λ (x : Header). length (header_spelling x 0) + length (frames_spelling gs) + 16) (header_kept s id fs)
+
+  padded_kept : (s : View t) (id : SpaceId) (fs gs : List FrameValue) → padded (state_move (Take id fs) s) id gs ≡ padded s id gs
+  unfolding padded padding_of least_size state_move setup_move
+  padded_kept s id fs gs = ap (λ (x : Header). gs ++ replicate (padding_len x gs (padded_size x gs (if fills s.setup.fixed.side id (list_any elicits gs) then DATAGRAM_SIZE else 0))) Padding) (header_kept s id fs)
+
+  bytes_kept : (m : Meaning t) (s : View t) (id : SpaceId) (fs gs : List FrameValue) → packet_bytes m (state_move (Take id fs) s) id gs ≡ packet_bytes m s id gs
+  unfolding packet_bytes flips_now state_move keys_move setup_move numbers_move
+  bytes_kept m s id fs gs = ap (λ (x : Header). sealed_with m (keys_of s.keys id) (takes_grease s.setup.peer && bit (behind_spin s.setup id)) x (next_number s.numbers id) (frames_spelling gs)) (header_kept s id fs)
+
+  number_kept : (s : View t) (id : SpaceId) (fs : List FrameValue) → (state_move (Take id fs) s).numbers ≡ s.numbers
+  unfolding state_move numbers_move
+  number_kept s id fs = refl
+
+  -- the view once a datagram is begun, of the answer of the call that begins it
+  begun_state : (a : At t) (e : View t) (space : SpaceId) → at e a.did ≡ begun_after space a → e ≡ (begun_after space (at a.state [])).state
+  begun_state a e space is = ap (λ (x : At t). x.state) (is ∙ begun_at space a)
+
+  -- there is room for 25 bytes in an Initial packet, where its token isn't too long, and so there is in the others
+  initial_header : (s : View t) → header_in (begun_after Initial (at s [])).state Initial ≡ header_in s Initial
+  unfolding begun_after skipped_after is_skipped move_to state_move numbers_move paths_move setup_move
+  initial_header s = refl
+
+  initial_wide : (s : View t) → nat_lt (frame_room s Initial) 25 ≡ false → 25 ≤ frame_room (begun_after Initial (at s [])).state Initial
+  unfolding frame_room
+  initial_wide s long = subst (λ (x : Header). 25 ≤ 1184 - length (header_spelling x 0)) (sym (initial_header s)) (grind (arith, nat_tests))
+
+  wide_by : (s : View t) (id : SpaceId) → (is_space id Initial && nat_lt (frame_room s Initial) 25) ≡ false → (is_space id Initial ≡ false → 25 ≤ frame_room (begun_after id (at s [])).state id) →
+      25 ≤ frame_room (begun_after id (at s [])).state id
+  wide_by s Initial long others = initial_wide s long
+  wide_by s Handshake long others = others refl
+  wide_by s Data long others = others refl
+
+  room_wide : (a : At t) (e : View t) (space : SpaceId) → space ≡ sending_space a.state → may_be_quiet a.state ≡ false → at e a.did ≡ begun_after space a → (is_space space Initial ≡ false → 25 ≤ frame_room e space) → 25 ≤ frame_room e space
+  unfolding may_be_quiet is_token_too_long
+  room_wide a e space is_first loud begun others =
+      let s : View t = a.state in
+      let is_e : e ≡ (begun_after space (at s [])).state = begun_state a e space begun in
+      let long : (is_space (sending_space s) Initial && nat_lt (frame_room s Initial) 25) ≡ false = (none_holds (is_silent s) (owes s) (is_blocked s.paths) (is_key_used_up s) (is_used_up s) (is_token_too_long s) loud).5 in
+      subst (λ (v : View t). 25 ≤ frame_room v space) (sym is_e)
+      (wide_by s space (ap (λ (id : SpaceId). is_space id Initial && nat_lt (frame_room s Initial) 25) is_first ∙ long) (λ other. subst (λ (v : View t). 25 ≤ frame_room v space) is_e (others other)))
 
   -- a datagram is begun; frames are taken, filled up with the PADDING that they need, sealed, and counted; the Initial space is
   -- left, and this end closes, where these say so
-  pub seals_one : (m : Meaning t) (time room number size : ℕ) (space : SpaceId) (nearly : Bool) (a : At t) (e mid : View t) (b f c d : At t) (buffer : List ℕ) (fs gs : List FrameValue) (h : Header) →
-      may_be_quiet a.state ≡ false → space ≡ sending_space a.state → e ≡ state_move (Begin space) a.state → 20 ≤ room →
-      TakenNow time e space room fs → gs ≡ padded e space fs →
-      mid ≡ state_move (Take space fs) e → number ≡ next_number e.numbers space → size ≡ packet_size e space gs → size ≤ DATAGRAM_SIZE →
-      b ≡ move_to (Seal time space number size gs) (at mid a.did) → f ≡ flown_after time (is_flown mid gs) b → c ≡ initial_left Client false time space f → nearly ≡ is_key_nearly_used_up a.state → d ≡ spared_after time nearly c →
-      h ≡ header_in e space → buffer ≡ sealed_with m (keys_of mid.keys space) h number (frames_spelling gs) →
-      length buffer ≡ size → SealsOne m time a d buffer
-  unfolding may_be_quiet packet_after begun_view move_to deeds_move
-  seals_one m time room number size space nearly a e mid b f c d buffer fs gs h loud is_space is_e wide taken is_gs is_mid is_number is_size fits is_b is_f is_c is_nearly is_d is_h is_buffer full =
-      let owed : owes a.state ≡ true = not_quiet_2 (is_silent a.state) (owes a.state) (is_blocked a.state.paths) (is_key_used_up a.state) (is_used_up a.state) loud in
+  seals_one : (m : Meaning t) (time : ℕ) (space : SpaceId) (nearly : Bool) (a : At t) (e mid : View t) (b f c d : At t) (buffer : List ℕ) (fs gs : List FrameValue) →
+      may_be_quiet a.state ≡ false → space ≡ sending_space a.state → e ≡ (begun_after space (at a.state [])).state → 25 ≤ frame_room e space →
+      TakenNow time e space (frame_room e space) fs → gs ≡ padded e space fs → mid ≡ state_move (Take space fs) e → packet_size e space gs ≤ DATAGRAM_SIZE →
+      b ≡ move_to (Seal time space (next_number e.numbers space) (packet_size e space gs) gs) (at mid a.did) → f ≡ flown_after time (is_flown mid gs) b → c ≡ initial_left Client false time space f →
+      nearly ≡ is_key_nearly_used_up a.state → d ≡ spared_after time nearly c → buffer ≡ packet_bytes m e space gs → length buffer ≡ packet_size e space gs → SealsOne m time a d buffer
+  unfolding may_be_quiet packet_after begun_view
+  seals_one m time space nearly a e mid b f c d buffer fs gs loud is_first is_e wide taken is_gs is_mid fits is_b is_f is_c is_nearly is_d is_buffer full =
       let first : SpaceId = sending_space a.state in
-      let begun : e ≡ begun_view a.state = is_e ∙ ap (λ (id : SpaceId). state_move (Begin id) a.state) is_space in
+      let none = none_holds (is_silent a.state) (owes a.state) (is_blocked a.state.paths) (is_key_used_up a.state) (is_used_up a.state) (is_token_too_long a.state) loud in
+      let begun : e ≡ begun_view a.state = is_e ∙ ap (λ (id : SpaceId). (begun_after id (at a.state [])).state) is_first in
       let same : mid ≡ state_move (Take space gs) e = is_mid ∙ sym (ap (λ (x : List FrameValue). state_move (Take space x) e) is_gs ∙ take_padded space fs e) in
-      let now : TakenNow time (begun_view a.state) first room fs = subst (λ (v : View t). TakenNow time v first room fs) begun (subst (λ (id : SpaceId). TakenNow time e id room fs) is_space taken) in
-      let filled : gs ≡ padded (begun_view a.state) first fs = is_gs ∙ ap (λ (id : SpaceId). padded e id fs) is_space ∙ ap (λ (v : View t). padded v first fs) begun in
-      let whole : size ≡ packet_size (begun_view a.state) first gs = is_size ∙ ap (λ (id : SpaceId). packet_size e id gs) is_space ∙ ap (λ (v : View t). packet_size v first gs) begun in
+      let room : frame_room e space ≡ frame_room (begun_view a.state) first = ap (λ (id : SpaceId). frame_room e id) is_first ∙ ap (λ (v : View t). frame_room v first) begun in
+      let now : TakenNow time (begun_view a.state) first (frame_room e space) fs =
+      subst (λ (v : View t). TakenNow time v first (frame_room e space) fs) begun (subst (λ (id : SpaceId). TakenNow time e id (frame_room e space) fs) is_first taken) in
+      let filled : gs ≡ padded (begun_view a.state) first fs = is_gs ∙ ap (λ (id : SpaceId). padded e id fs) is_first ∙ ap (λ (v : View t). padded v first fs) begun in
+      let whole : packet_size e space gs ≡ packet_size (begun_view a.state) first gs = ap (λ (id : SpaceId). packet_size e id gs) is_first ∙ ap (λ (v : View t). packet_size v first gs) begun in
       record {
         frames = gs;
         may = record {
-          alive = not_quiet_1 (is_silent a.state) (owes a.state) (is_blocked a.state.paths) (is_key_used_up a.state) (is_used_up a.state) loud;
-          owed = owed;
-          free = not_quiet_4 (is_silent a.state) (owes a.state) (is_blocked a.state.paths) (is_key_used_up a.state) (is_used_up a.state) loud;
-          fresh = not_quiet_5 (is_silent a.state) (owes a.state) (is_blocked a.state.paths) (is_key_used_up a.state) (is_used_up a.state) loud;
-          spelled = not_quiet_3 (is_silent a.state) (owes a.state) (is_blocked a.state.paths) (is_key_used_up a.state) (is_used_up a.state) loud;
-          carries = carries time a.state room fs gs owed wide now filled;
+          alive = none.0;
+          owed = none.1;
+          free = none.2;
+          fresh = none.3;
+          spelled = none.4;
+          roomy = none.5;
+          carries = carries time a.state (frame_room e space) fs gs none.1 wide room now filled;
           fits = subst (λ (x : ℕ). x ≤ DATAGRAM_SIZE) whole fits;
         };
         leads = is_d ∙ ap (λ (x : At t). spared_after time nearly x)
-            (sealed_now time number size space a.did e mid b f c gs same is_number is_size is_b is_f is_c ∙ ap (λ (id : SpaceId). sealed_in time id gs (at e a.did)) is_space
-            ∙ ap (λ (v : View t). sealed_in time first gs (at v a.did)) begun)
-            ∙ ap (λ (x : Bool). spared_after time x (sealed_in time first gs (at (begun_view a.state) a.did))) is_nearly;
-        bytes = sealed_bytes m number space e mid buffer gs h same is_number is_h is_buffer ∙ ap (λ (id : SpaceId). packet_bytes m e id gs) is_space ∙ ap (λ (v : View t). packet_bytes m v first gs) begun;
+            (sealed_now time space a.did e mid b f c gs same is_b is_f is_c ∙ ap (λ (id : SpaceId). sealed_in time id gs (at e a.did)) is_first
+            ∙ ap (λ (v : View t). sealed_in time first gs (at v a.did)) begun ∙ ap (λ (x : At t). sealed_in time first gs x) (sym (begun_at first a)))
+            ∙ ap (λ (x : Bool). spared_after time x (sealed_in time first gs (begun_after first a))) is_nearly;
+        bytes = is_buffer ∙ ap (λ (id : SpaceId). packet_bytes m e id gs) is_first ∙ ap (λ (v : View t). packet_bytes m v first gs) begun;
         full = full ∙ whole;
       }
 
@@ -328,38 +374,78 @@ module _ {t : Types} where
   unfolding MayTransmit transmit_after transmit_of transmit_bytes
   transmits_quiet m time a b buffer q l e = record { packets = []; may = q; leads = l; answer = refl; bytes = e; full = ap length e }
 
-  -- where a packet may be sealed, its number is below the greatest once a datagram is begun for it
-  pub loud_low : (s e : View t) (space : SpaceId) → space ≡ sending_space s → may_be_quiet s ≡ false → e ≡ state_move (Begin space) s → next_number e.numbers space < 2 ^ 62 - 1
-  unfolding may_be_quiet is_used_up state_move numbers_move
-  loud_low s e space is_space h begun =
-      subst (λ (v : View t). next_number v.numbers space < 2 ^ 62 - 1) (sym begun)
-      (subst (λ (id : SpaceId). next_number s.numbers id < 2 ^ 62 - 1) (sym is_space)
-      (number_low (next_number s.numbers (sending_space s)) (acked_number s.numbers (sending_space s)) (not_quiet_3 (is_silent s) (owes s) (is_blocked s.paths) (is_key_used_up s) (is_used_up s) h)))
+  -- once a datagram is begun, the next number is the one that was to come
+  skip_number : (id : SpaceId) (a : At t) (b : Bool) → is_skipped a.state.numbers id ≡ b → next_number (if b then move_to Skip a else a).state.numbers id ≡ (if b then next_number a.state.numbers id + 1 else next_number a.state.numbers id)
+  unfolding is_skipped move_to state_move numbers_move number_skipped used_in next_number
+  skip_number Initial a true e = cc
+  skip_number Handshake a true e = cc
+  skip_number Data a true e = refl
+  skip_number id a false e = refl
 
-  -- and it is near the greatest acknowledged one
-  pub loud_near : (s e : View t) (space : SpaceId) → space ≡ sending_space s → may_be_quiet s ≡ false → e ≡ state_move (Begin space) s → next_number e.numbers space - acked_number e.numbers space < 2 ^ 31
-  unfolding may_be_quiet is_used_up state_move numbers_move
-  loud_near s e space is_space h begun =
-      subst (λ (v : View t). next_number v.numbers space - acked_number v.numbers space < 2 ^ 31) (sym begun)
-      (subst (λ (id : SpaceId). next_number s.numbers id - acked_number s.numbers id < 2 ^ 31) (sym is_space)
-      (number_near (next_number s.numbers (sending_space s)) (acked_number s.numbers (sending_space s)) (not_quiet_3 (is_silent s) (owes s) (is_blocked s.paths) (is_key_used_up s) (is_used_up s) h)))
+  begun_number : (s : View t) (id : SpaceId) → next_number (begun_after id (at s [])).state.numbers id ≡ coming_number s.numbers id
+  unfolding begun_after skipped_after coming_number move_to state_move numbers_move deeds_move
+  begun_number s id = skip_number id (at (state_move (Begin id) s) []) (is_skipped s.numbers id) refl
 
-  -- and its space has keys, once frames were taken too
-  pub loud_keyed : (s e mid : View t) (space : SpaceId) (fs : List FrameValue) → space ≡ sending_space s → may_be_quiet s ≡ false → e ≡ state_move (Begin space) s → mid ≡ state_move (Take space fs) e → IsSome (keys_of mid.keys space)
-  unfolding may_be_quiet owes owes_in state_move keys_move
-  loud_keyed s e mid space fs is_space h begun is_mid =
-      ap (λ (x : View t). is_some (keys_of x.keys space)) (is_mid ∙ ap (λ (x : View t). state_move (Take space fs) x) begun) ∙ ap (λ (id : SpaceId). is_some (keys_of s.keys id)) is_space
-      ∙ and_left _ _ (not_quiet_2 (is_silent s) (owes s) (is_blocked s.paths) (is_key_used_up s) (is_used_up s) h)
+  -- and no packet is acknowledged no longer
+  skip_acked : (id : SpaceId) (a : At t) (b : Bool) → is_skipped a.state.numbers id ≡ b → acked_number a.state.numbers id ≤ acked_number (if b then move_to Skip a else a).state.numbers id
+  unfolding is_skipped move_to state_move numbers_move number_skipped used_in next_number acked_number
+  skip_acked Initial a true e = cc
+  skip_acked Handshake a true e = cc
+  skip_acked Data a true e = omega arith
+  skip_acked id a false e = omega arith
 
-  -- a header in each space has at most 61 bytes
-  most_by : (s : View t) (space : SpaceId) → header_most (header_in s space) ≡ 61
-  most_by s Initial = refl
-  most_by s Handshake = refl
-  most_by s Data = refl
+  begun_acked : (s : View t) (id : SpaceId) → acked_number s.numbers id ≤ acked_number (begun_after id (at s [])).state.numbers id
+  unfolding begun_after skipped_after move_to state_move numbers_move deeds_move
+  begun_acked s id = skip_acked id (at (state_move (Begin id) s) []) (is_skipped s.numbers id) refl
 
-  -- the header is short: an Initial one has no token
-  pub header_is_short : (s : View t) (space : SpaceId) (h : Header) (n : ℕ) → h ≡ header_in s space → n ≤ header_most h → n ≤ 61
-  header_is_short s space h n e most = subst (λ (x : ℕ). n ≤ x) (ap header_most e ∙ most_by s space) most
+  -- where a packet may be sealed, its number is near the greatest acknowledged one once a datagram is begun for it
+  pub loud_near_begun : (a : At t) (e : View t) (space : SpaceId) → space ≡ sending_space a.state → may_be_quiet a.state ≡ false → at e a.did ≡ begun_after space a → next_number e.numbers space - acked_number e.numbers space < 2 ^ 31
+  unfolding may_be_quiet is_used_up
+  loud_near_begun a e space is_first loud begun =
+      let s : View t = a.state in
+      let first : SpaceId = sending_space s in
+      let near : coming_number s.numbers first - acked_number s.numbers first < 2 ^ 31 = number_near (coming_number s.numbers first) (acked_number s.numbers first)
+      (none_holds (is_silent s) (owes s) (is_blocked s.paths) (is_key_used_up s) (is_used_up s) (is_token_too_long s) loud).4 in
+      let close : coming_number s.numbers space - acked_number s.numbers space < 2 ^ 31 = subst (λ (id : SpaceId). coming_number s.numbers id - acked_number s.numbers id < 2 ^ 31) (sym is_first) near in
+      subst (λ (v : View t). next_number v.numbers space - acked_number v.numbers space < 2 ^ 31) (sym (begun_state a e space begun)) (omega (arith, close, begun_number s space, begun_acked s space))
+
+  -- so it is once frames were taken
+  pub loud_near : (a : At t) (e mid : View t) (space : SpaceId) (fs : List FrameValue) → space ≡ sending_space a.state → may_be_quiet a.state ≡ false → at e a.did ≡ begun_after space a → mid ≡ state_move (Take space fs) e →
+      next_number mid.numbers space - acked_number mid.numbers space < 2 ^ 31
+  loud_near a e mid space fs is_first loud begun is_mid =
+      subst (λ (v : Numbers). next_number v space - acked_number v space < 2 ^ 31) (sym (ap (λ (x : View t). x.numbers) is_mid ∙ number_kept e space fs)) (loud_near_begun a e space is_first loud begun)
+
+  -- and it is below the greatest of all
+  pub loud_low : (a : At t) (e mid : View t) (space : SpaceId) (fs : List FrameValue) → space ≡ sending_space a.state → may_be_quiet a.state ≡ false → at e a.did ≡ begun_after space a → mid ≡ state_move (Take space fs) e →
+      next_number mid.numbers space < 2 ^ 62 - 1
+  unfolding may_be_quiet is_used_up
+  loud_low a e mid space fs is_first loud begun is_mid =
+      let s : View t = a.state in
+      let first : SpaceId = sending_space s in
+      let low : coming_number s.numbers first < 2 ^ 62 - 1 = number_low (coming_number s.numbers first) (acked_number s.numbers first)
+      (none_holds (is_silent s) (owes s) (is_blocked s.paths) (is_key_used_up s) (is_used_up s) (is_token_too_long s) loud).4 in
+      let same : next_number mid.numbers space ≡ coming_number s.numbers first =
+      ap (λ (v : Numbers). next_number v space) (ap (λ (x : View t). x.numbers) is_mid ∙ number_kept e space fs) ∙ ap (λ (v : View t). next_number v.numbers space) (begun_state a e space begun) ∙ begun_number s space
+      ∙ ap (λ (id : SpaceId). coming_number s.numbers id) is_first in
+      subst (λ (n : ℕ). n < 2 ^ 62 - 1) (sym same) low
+
+  -- and its space has keys
+  taken_keys : (e : View t) (space : SpaceId) (fs : List FrameValue) → (state_move (Take space fs) e).keys ≡ e.keys
+  unfolding state_move keys_move
+  taken_keys e space fs = refl
+
+  begun_keys : (s : View t) (id : SpaceId) → (begun_after id (at s [])).state.keys ≡ s.keys
+  unfolding begun_after skipped_after move_to state_move keys_move numbers_move deeds_move
+  begun_keys s id = skip_keys (at (state_move (Begin id) s) []) (is_skipped s.numbers id)
+
+  pub loud_keyed : (a : At t) (e mid : View t) (space : SpaceId) (fs : List FrameValue) → space ≡ sending_space a.state → may_be_quiet a.state ≡ false → at e a.did ≡ begun_after space a → mid ≡ state_move (Take space fs) e →
+      IsSome (keys_of mid.keys space)
+  unfolding may_be_quiet owes owes_in
+  loud_keyed a e mid space fs is_first loud begun is_mid =
+      let s : View t = a.state in
+      ap (λ (k : KeyGroup t.H t.P). is_some (keys_of k space)) (ap (λ (x : View t). x.keys) is_mid ∙ taken_keys e space fs ∙ ap (λ (x : View t). x.keys) (begun_state a e space begun) ∙ begun_keys s space)
+      ∙ ap (λ (id : SpaceId). is_some (keys_of s.keys id)) is_first
+      ∙ and_left _ _ (none_holds (is_silent s) (owes s) (is_blocked s.paths) (is_key_used_up s) (is_used_up s) (is_token_too_long s) loud).1
 
   -- a header in each space has a number
   number_by : (s : View t) (space : SpaceId) → IsSome (header_number (header_in s space))
@@ -395,42 +481,51 @@ closing_fits id room kept true (Some (Application c)) reason r = application_fit
 closing_fits id room kept false c reason r = omega (arith, close_short 0x00 None)
 
 -- an ACK and the close fit into the room
-close_fits : {t : Types} (time : ℕ) (s : View t) (space : SpaceId) (room : ℕ) (fs : List FrameValue) → Closes time s space fs → length (space_of s.waiting.spaces space).acks.ranges ≤ 64 → 1090 ≤ room →
-    room ≡ 1180 - length (header_spelling (header_in s space) 0) → length (frames_spelling fs) ≤ room
-close_fits time s space room fs (Closes.closing acks part kept reason is) few r is_room =
-    let acks_short : length (frames_spelling acks) ≤ 1065 = acks_fit time (space_of s.waiting.spaces space) acks (may_acknowledge (space_of s.waiting.spaces space).acks) part few in
-    let left : close_room s space acks ≡ room - length (frames_spelling acks) = close_room_left s space room acks is_room in
+close_fits : {t : Types} (time : ℕ) (s : View t) (space : SpaceId) (fs : List FrameValue) → Closes time s space fs → 25 ≤ frame_room s space → length (frames_spelling fs) ≤ frame_room s space
+close_fits time s space fs (Closes.closing acks part kept reason is) wide =
+    let room : ℕ = frame_room s space in
+    let acks_short : length (frames_spelling acks) ≤ room - 25 = ack_fits time (room - 25) (space_of s.waiting.spaces space) acks (may_acknowledge (space_of s.waiting.spaces space).acks) part in
     let whole : length (frames_spelling fs) ≡ length (frames_spelling acks) + length (frames_spelling (closing_frame space kept s.life ∷ [])) =
     ap (λ (x : List FrameValue). length (frames_spelling x)) is ∙ bytes_append acks (closing_frame space kept s.life ∷ []) in
-    let close : length (frames_spelling (closing_frame space kept s.life ∷ [])) ≤ close_room s space acks =
-    closing_fits space (close_room s space acks) kept (is_closed s.life.state) s.life.close reason (omega (arith, left, acks_short, r)) in
-    omega (arith, acks_short, left, whole, close, r)
+    let close : length (frames_spelling (closing_frame space kept s.life ∷ [])) ≤ room - length (frames_spelling acks) =
+    closing_fits space (room - length (frames_spelling acks)) kept (is_closed s.life.state) s.life.close reason (omega (arith, acks_short, wide)) in
+    omega (arith, acks_short, whole, close, wide)
 
 -- the frames that are taken fit into the room
-now_fits : {t : Types} (time : ℕ) (s : View t) (space : SpaceId) (room : ℕ) (fs : List FrameValue) → TakenNow time s space room fs → length (space_of s.waiting.spaces space).acks.ranges ≤ 64 → 1090 ≤ room →
-    room ≡ 1180 - length (header_spelling (header_in s space) 0) → length (frames_spelling fs) ≤ room
-now_fits time s space room fs (TakenNow.a_close e closes) few r is_room = close_fits time s space room fs closes few r is_room
-now_fits time s space room fs (TakenNow.what_waits e taken) few r is_room = taken_fits time (space_of s.waiting.spaces space) room fs taken few (omega arith)
+now_fits : {t : Types} (time : ℕ) (s : View t) (space : SpaceId) (fs : List FrameValue) → TakenNow time s space (frame_room s space) fs → 25 ≤ frame_room s space → length (frames_spelling fs) ≤ frame_room s space
+now_fits time s space fs (TakenNow.a_close e closes) wide = close_fits time s space fs closes wide
+now_fits time s space fs (TakenNow.what_waits e taken) wide = taken_fits time s.waiting.bundled (space_of s.waiting.spaces space) (frame_room s space) fs taken (omega arith)
 
--- the frames that are taken fit behind the header
-pub taken_room : {t : Types} (time : ℕ) (s : View t) (space : SpaceId) (h : Header) (fs : List FrameValue) (n room : ℕ) → h ≡ header_in s space → n ≡ length (header_spelling h 0) → n ≤ 61 → room ≡ 1180 - n →
-    TakenNow time s space room fs → length (space_of s.waiting.spaces space).acks.ranges ≤ 64 → length (header_spelling h 0) + length (frames_spelling fs) + 20 ≤ DATAGRAM_SIZE
-taken_room time s space h fs n room is_h is_n most is_room taken few =
-    let fits : length (frames_spelling fs) ≤ room = now_fits time s space room fs taken few (omega arith) (room_behind s space h n room is_h is_n is_room) in
-    omega arith
+-- and behind the header
+room_holds : {t : Types} (s : View t) (space : SpaceId) (bytes : ℕ) → 25 ≤ frame_room s space → bytes ≤ frame_room s space → (length (header_spelling (header_in s space) 0) ≤ 1159) × (length (header_spelling (header_in s space) 0) + bytes + 16 ≤ DATAGRAM_SIZE)
+unfolding frame_room
+room_holds s space bytes wide fits = (omega arith, omega arith)
 
--- the same, from what the calls say that begin a datagram, take the frames, fill them up to as many bytes as are asked for, seal
--- them, and count what was sealed
-pub seals_taken : {t : Types} (m : Meaning t) (time n room number least size : ℕ) (space : SpaceId) (nearly : Bool) (a : At t) (e mid : View t) (b f c d : At t) (buffer : List ℕ) (fs gs : List FrameValue) (h : Header) →
-    may_be_quiet a.state ≡ false → space ≡ sending_space a.state → e ≡ state_move (Begin space) a.state → h ≡ header_in e space → n ≡ length (header_spelling h 0) → n ≤ 61 → room ≡ 1180 - n →
-    TakenNow time e space room fs → length (space_of e.waiting.spaces space).acks.ranges ≤ 64 → mid ≡ state_move (Take space fs) e → least ≡ least_size mid space fs →
-    gs ≡ fs ++ replicate (padding_len h fs (padded_size h fs least)) Padding → number ≡ next_number e.numbers space → size ≡ length buffer →
-    b ≡ move_to (Seal time space number size gs) (at mid a.did) → f ≡ flown_after time (is_flown mid gs) b → c ≡ initial_left Client false time space f → nearly ≡ is_key_nearly_used_up a.state → d ≡ spared_after time nearly c →
-    buffer ≡ sealed_with m (keys_of mid.keys space) h number (frames_spelling gs) → length buffer ≡ padded_size h fs least → SealsOne m time a d buffer
-seals_taken m time n room number least size space nearly a e mid b f c d buffer fs gs h loud is_space is_e is_h is_n most is_room taken few is_mid is_least is_gs is_number is_size is_b is_f is_c is_nearly is_d is_buffer full =
-    let filled : gs ≡ padded e space fs = padded_now e mid space h least fs gs is_h is_mid is_least is_gs in
-    let whole : size ≡ packet_size e space gs = padded_size_now e mid space h least size fs gs is_h is_mid is_least filled (is_size ∙ full) in
-    let behind : length (header_spelling h 0) + length (frames_spelling fs) + 20 ≤ DATAGRAM_SIZE = taken_room time e space h fs n room is_h is_n most is_room taken few in
-    let fits : packet_size e space (padded e space fs) ≤ DATAGRAM_SIZE = padded_fits e space h fs is_h (omega (arith, is_n, most)) behind in
-    seals_one m time room number size space nearly a e mid b f c d buffer fs gs h loud is_space is_e (omega (arith, most, is_room)) taken filled is_mid is_number whole
-    (omega (arith, whole, fits, ap (λ (x : List FrameValue). packet_size e space x) filled)) is_b is_f is_c is_nearly is_d is_h is_buffer (sym is_size)
+-- the frames that are taken fit behind the header of their packet
+pub taken_room : {t : Types} (time : ℕ) (a : At t) (e mid : View t) (space : SpaceId) (fs : List FrameValue) → space ≡ sending_space a.state → may_be_quiet a.state ≡ false → at e a.did ≡ begun_after space a →
+    (is_space space Initial ≡ false → 25 ≤ frame_room e space) → TakenNow time e space (frame_room e space) fs → mid ≡ state_move (Take space fs) e →
+    length (header_spelling (header_in mid space) 0) + length (frames_spelling fs) + 16 ≤ DATAGRAM_SIZE
+taken_room time a e mid space fs is_first loud begun others taken is_mid =
+    let wide : 25 ≤ frame_room e space = room_wide a e space is_first loud begun others in
+    subst (λ (x : Header). length (header_spelling x 0) + length (frames_spelling fs) + 16 ≤ DATAGRAM_SIZE) (sym (header_taken e mid space fs is_mid)) (room_holds e space (length (frames_spelling fs)) wide (now_fits time e space fs taken wide)).1
+
+-- the packet is one that a transmit may seal: from what the calls say that begin a datagram, take the frames, seal them, and count
+-- what was sealed
+pub seals_taken : {t : Types} (m : Meaning t) (time : ℕ) (space : SpaceId) (nearly counts : Bool) (a : At t) (e mid : View t) (b f c d : At t) (buffer : List ℕ) (fs : List FrameValue) →
+    may_be_quiet a.state ≡ false → space ≡ sending_space a.state → at e a.did ≡ begun_after space a → (is_space space Initial ≡ false → 25 ≤ frame_room e space) →
+    TakenNow time e space (frame_room e space) fs → mid ≡ state_move (Take space fs) e →
+    b ≡ move_to (Seal time space (next_number mid.numbers space) (length buffer) (padded mid space fs)) (at mid a.did) →
+    buffer ≡ packet_bytes m mid space (padded mid space fs) → length buffer ≡ packet_size mid space (padded mid space fs) → counts ≡ is_flown mid (padded mid space fs) →
+    f ≡ flown_after time counts b → c ≡ initial_left Client false time space f → nearly ≡ is_key_nearly_used_up a.state → d ≡ spared_after time nearly c → SealsOne m time a d buffer
+seals_taken m time space nearly counts a e mid b f c d buffer fs loud is_first begun others taken is_mid is_b is_buffer full is_counts is_f is_c is_nearly is_d =
+    let gs : List FrameValue = padded e space fs in
+    let wide : 25 ≤ frame_room e space = room_wide a e space is_first loud begun others in
+    let filled : padded mid space fs ≡ gs = ap (λ (v : View _). padded v space fs) is_mid ∙ padded_kept e space fs fs in
+    let whole : length buffer ≡ packet_size e space gs = full ∙ ap (λ (x : List FrameValue). packet_size mid space x) filled ∙ ap (λ (v : View _). packet_size v space gs) is_mid ∙ size_kept e space fs gs in
+    let behind = room_holds e space (length (frames_spelling fs)) wide (now_fits time e space fs taken wide) in
+    let number : next_number mid.numbers space ≡ next_number e.numbers space = ap (λ (v : Numbers). next_number v space) (ap (λ (x : View _). x.numbers) is_mid ∙ number_kept e space fs) in
+    seals_one m time space nearly a e mid b f c d buffer fs gs loud is_first (begun_state a e space begun) wide taken refl is_mid (padded_fits e space (header_in e space) fs refl behind.0 behind.1)
+    (is_b ∙ ap (λ (x : List FrameValue). move_to (Seal time space (next_number mid.numbers space) (length buffer) x) (at mid a.did)) filled
+    ∙ ap (λ (x : ℕ). move_to (Seal time space x (length buffer) gs) (at mid a.did)) number ∙ ap (λ (x : ℕ). move_to (Seal time space (next_number e.numbers space) x gs) (at mid a.did)) whole)
+    (is_f ∙ ap (λ (x : Bool). flown_after time x b) (is_counts ∙ ap (λ (x : List FrameValue). is_flown mid x) filled)) is_c is_nearly is_d
+    (is_buffer ∙ ap (λ (x : List FrameValue). packet_bytes m mid space x) filled ∙ ap (λ (v : View _). packet_bytes m v space gs) is_mid ∙ bytes_kept m e space fs gs) whole

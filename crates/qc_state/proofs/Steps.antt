@@ -26,17 +26,18 @@ use Rattle.qc_state.specs.declared.trace.Answer.TheVariants.{Done, Dropped}
 use Rattle.qc_state.specs.declared.trace.Step.{Step}
 use Rattle.qc_state.specs.declared.transmit.Transmit.{Transmit}
 use Rattle.qc_state.specs.Life.{is_open, ready_event, connected_event, lost_event, waiting_events, ready_reported, connected_reported, lost_reported, token_event, wanted_event, drained_event, token_reported, wanted_reported, endpoint_events}
-use Rattle.qc_state.specs.Moves.{Ask, Begin, Clock, Take, Seal, Forget, Shut, Raise, Give, Say, ReportReady, ReportConnected, ReportLost, ReportToken, ReportWanted, ReportDrained, state_move, move_to, deeds_move, life_move, armed_with}
+use Rattle.qc_state.specs.Moves.{Ask, Clock, Take, Seal, Forget, Shut, Raise, Give, Say, ReportReady, ReportConnected, ReportLost, ReportToken, ReportWanted, ReportDrained, state_move, move_to, deeds_move, life_move, armed_with}
 use Rattle.qc_state.specs.Run.{time_of, word_of, packets_of, began, close_after, input_after, called, reported, step_after, IsAllowed, out_of, answer_of, IsStep, Run, Calls, Ran, Adds}
 use Rattle.qc_state.specs.Numbers.{next_number}
 use Rattle.qc_state.specs.Receiving.{is_taken, datagram_after}
 use Rattle.qc_state.specs.Paths.{is_blocked}
-use Rattle.qc_state.specs.Sending.{is_key_nearly_used_up, limit_met, spared_after, quiet_after, packet_size, sending_space, drops_initial, initial_left, is_flown, flown_after, sealed_in, packet_after, transmit_after, MayTransmit, transmit_bytes, transmit_of, Transmits, owed_quiet_after, is_silent, owes}
+use Rattle.qc_state.specs.Sending.{is_key_nearly_used_up, limit_met, spared_after, quiet_after, packet_size, sending_space, begun_after, drops_initial, initial_left, is_flown, flown_after, sealed_in, packet_after, transmit_after, MayTransmit, transmit_bytes, transmit_of, Transmits, owed_quiet_after, is_silent, owes}
 use Rattle.qc_state.specs.Stopping.{given_after, key_limit_error, killed_after, stopped_after}
 use Rattle.qc_state.specs.Timeouts.{timeout_after}
 use Rattle.qc_state.specs.Timers.{next_timeout}
 use Rattle.qc_state.specs.Types.{Types, Meaning}
 use Rattle.qc_state.specs.View.{View, At, at}
+use Rattle.qc_state.proofs.Begun.{begun_did}
 
 -- a deed behind others that seals nothing names no packet
 packets_behind : (ds : List Did) (d : Did) → packets_of (d ∷ []) ≡ [] → packets_of (ds ++ d ∷ []) ≡ packets_of ds
@@ -100,8 +101,10 @@ module _ {t : Types} where
   unfolding MayTransmit transmit_after quiet_after owed_quiet_after killed_after given_after packet_after move_to state_move deeds_move
   packets_told time s [] may = quiet_told s (limit_met s) (is_silent s) (owes s) (is_blocked s.paths) (is_none (state_move (Raise Drained) s).life.reason)
   packets_told time s (fs ∷ []) may =
-      let begun : View t = state_move (Begin (sending_space s)) s in
-      spared_told time (is_key_nearly_used_up s) (sealed_in time (sending_space s) fs (at begun [])) ∙ packet_told time begun (sending_space s) fs
+      let id : SpaceId = sending_space s in
+      let b : At t = begun_after id (at s []) in
+      spared_told time (is_key_nearly_used_up s) (sealed_in time id fs b)
+      ∙ subst (λ (ds : List Did). packets_of (sealed_in time id fs (at b.state ds)).did ≡ fs ∷ []) (sym (begun_did id (at s []))) (packet_told time b.state id fs)
   packets_told time s (fs ∷ gs ∷ rest) may = absurd may
 
   pub calls_transmit : (m : Meaning t) (s : View t) (time max : ℕ) (b : At t) (sent : Option Transmit) (buffer : List ℕ) (answer : Answer) →

@@ -12,16 +12,19 @@ use Rattle.qc_state.specs.declared.life.State.{State}
 use Rattle.qc_state.specs.declared.life.State.TheVariants as state
 use Rattle.qc_path.specs.Arrived.{Window, is_new, arrived}
 use Rattle.qc_state.specs.declared.deeds.Verdict.{Verdict}
-use Rattle.qc_state.specs.Headline.{sealed_in, reasons_in, lives_in, entered_number, entered_in, EachNew, came_with, CloseFrom, RisesFrom, Kernel, kernel_of, kernel_after, Tells}
+use Rattle.qc_state.specs.Headline.{sealed_in, reasons_in, lives_in, entered_number, entered_in, EachNew, came_with, CloseFrom, RisesFrom, Kernel, kernel_of, kernel_after, IsBehind, IsRight, Tells}
 use Rattle.qc_state.specs.Life.{rank_of, is_open, is_drained, reason_given, life_raised, life_closed, life_drained, life_established, data_ready, token_learned, identifiers_wanted, ready_reported, connected_reported, lost_reported, token_reported, wanted_reported, drained_reported}
-use Rattle.qc_state.specs.Moves.{Move, ClosesOnly, Clock, Ask, Take, Seal, Forget, Enter, Expect, Fail, Accept, Fix, Hear, Ack, Fire, Arm, Begin, Come, Read, Write, Ready, Token, Learn, Want, Confirm, Establish, Tell, Drain, Leave, Owe, IsTold, enters, Shut, Raise, Give, Say, ReportReady, ReportConnected, ReportLost, ReportToken, ReportWanted, ReportDrained, state_move, move_to, deeds_move, MayMove, told, numbers_move, life_move, timers_move}
-use Rattle.qc_state.specs.Numbers.{next_number, came_in, is_new_in, number_used, used_in, number_entered, number_accepted, number_acked}
+use Rattle.qc_state.specs.Moves.{Move, ClosesOnly, Clock, Ask, Take, Seal, Forget, Enter, Expect, Fail, Accept, Fix, Hear, Ack, Fire, Arm, Release, Begin, Skip, Come, Read, Write, Ready, Token, Learn, Want, Confirm, Establish, Tell, Drain, Leave, Owe, IsTold, enters, Shut, Raise, Give, Say, ReportReady, ReportConnected, ReportLost, ReportToken, ReportWanted, ReportDrained, state_move, move_to, deeds_move, MayMove, told, arrival_of, numbers_move, life_move, timers_move}
+use Rattle.qc_state.specs.Numbers.{next_number, came_in, is_new_in, number_used, number_skipped, used_in, number_entered, number_accepted, number_acked}
 use Rattle.qc_state.specs.Numbers as numbers
 use Rattle.qc_state.specs.Recovering.{probe_timeout_now}
 use Rattle.qc_state.specs.Setup.{idle_limit_now}
 use Rattle.qc_state.specs.Spaces.{is_space, space_of, with_space}
 use Rattle.qc_state.specs.declared.numbers.SpaceNumbers.{SpaceNumbers}
-use Rattle.qc_state.specs.Timers.{timers_sealed, timers_accepted, timers_armed, timers_stopped, timers_closing}
+use Rattle.qc_state.specs.Timers.{timers_sealed, timers_acking, timers_accepted, timers_holding, timers_released, timers_armed, timers_stopped, timers_closing}
+use Rattle.qc_state.specs.Waiting.{holds_back}
+use Rattle.qc_state.specs.Acks.{is_ack}
+use Rattle.qc_state.specs.Draws.{word}
 use Rattle.qc_state.specs.declared.timers.Timers.{Timers}
 use Rattle.qc_frame.specs.FrameSpelling.{elicits}
 use Rattle.qc_state.specs.Types.{Types}
@@ -32,14 +35,48 @@ pub told_appends : (ds es : List Did) → told ds es ≡ ds ++ es
 told_appends ds [] = sym (append-nil ds)
 told_appends ds (e ∷ es) = told_appends (ds ++ e ∷ []) es ∙ append_assoc ds (e ∷ []) es
 
+-- where nothing came, nothing changed
+pub behind_here : (k : Kernel) → IsBehind k k
+behind_here k = record { next = omega arith; came = refl; reason = refl; rank = refl }
+
+behind_next : (k mid k' : Kernel) → IsBehind k mid → IsBehind mid k' → IsBehind k k'
+behind_next k mid k' a b = record { next = omega (arith, a.next, b.next); came = b.came ∙ a.came; reason = b.reason ∙ a.reason; rank = b.rank ∙ a.rank }
+
+-- what may come once numbers were skipped may come before
+right_before : (id : SpaceId) (k mid : Kernel) (d : Did) → IsBehind k mid → IsRight id mid d → IsRight id k d
+right_before id k mid (did.Sealed space n epoch early fs) a h = (λ same. let least : mid.next ≤ n = h.0 same in omega (arith, a.next, least), subst (λ (r : ℕ). ClosesOnly r fs) a.rank h.1)
+right_before id k mid (did.Piece space number v) a h = subst (λ (w : Window). IfSome (entered_number id space number v) (λ n. is_new w n ≡ true)) a.came h
+right_before id k mid (did.Gave layer body) a h = tt
+right_before id k mid (did.Rose life) a h = subst (λ (r : ℕ). r < life) a.rank h
+right_before id k mid (did.Lost why) a h = sym a.reason ∙ h
+right_before id k mid (did.Quiet why) a h = tt
+
+-- and leaves the same kernel, but for numbers that were skipped
+sealed_behind : (k mid : Kernel) (n : ℕ) (b : Bool) → IsBehind k mid → IsBehind (if b then record k { next = n + 1 } else k) (if b then record mid { next = n + 1 } else mid)
+sealed_behind k mid n true a = record { next = omega arith; came = a.came; reason = a.reason; rank = a.rank }
+sealed_behind k mid n false a = a
+
+after_behind : (id : SpaceId) (k mid : Kernel) (d : Did) → IsBehind k mid → IsBehind (kernel_after id k d) (kernel_after id mid d)
+after_behind id k mid (did.Sealed space n epoch early fs) a = sealed_behind k mid n (is_space id space) a
+after_behind id k mid (did.Piece space number v) a = record { next = a.next; came = ap (came_with (entered_number id space number v)) a.came; reason = a.reason; rank = a.rank }
+after_behind id k mid (did.Gave layer body) a = a
+after_behind id k mid (did.Rose life) a = record { next = a.next; came = a.came; reason = a.reason; rank = refl }
+after_behind id k mid (did.Lost why) a = record { next = a.next; came = a.came; reason = refl; rank = a.rank }
+after_behind id k mid (did.Quiet why) a = a
+
+tells_before : (id : SpaceId) (k mid k' : Kernel) (ds : List Did) → IsBehind k mid → Tells id mid ds k' → Tells id k ds k'
+unfolding Tells
+tells_before id k mid k' [] a h = behind_next k mid k' a h
+tells_before id k mid k' (d ∷ ds) a h = (right_before id k mid d a h.0, tells_before id (kernel_after id k d) (kernel_after id mid d) k' ds (after_behind id k mid d a) h.1)
+
 pub tells_append : (id : SpaceId) (k mid k' : Kernel) (ds es : List Did) → Tells id k ds mid → Tells id mid es k' → Tells id k (ds ++ es) k'
 unfolding Tells
-tells_append id k mid k' [] es a b = subst (λ (x : Kernel). Tells id x es k') a b
+tells_append id k mid k' [] es a b = tells_before id k mid k' es a b
 tells_append id k mid k' (d ∷ ds) es a b = (a.0, tells_append id (kernel_after id k d) mid k' ds es a.1 b)
 
 -- the laws, of deeds that come where they may
-sealed_rises : (k : Kernel) (n : ℕ) (ns : List ℕ) (b : Bool) → (b ≡ true → n ≡ k.next) → RisesFrom (if b then record k { next = n + 1 } else k).next ns → RisesFrom k.next (if b then n ∷ ns else ns)
-sealed_rises k n ns true h r = let e : n ≡ k.next = h refl in (omega arith, r)
+sealed_rises : (k : Kernel) (n : ℕ) (ns : List ℕ) (b : Bool) → (b ≡ true → k.next ≤ n) → RisesFrom (if b then record k { next = n + 1 } else k).next ns → RisesFrom k.next (if b then n ∷ ns else ns)
+sealed_rises k n ns true h r = (h refl, r)
 sealed_rises k n ns false h r = r
 
 pub rises : (id : SpaceId) (k k' : Kernel) (ds : List Did) → Tells id k ds k' → RisesFrom k.next (sealed_in id ds)
@@ -155,6 +192,20 @@ unfolding timers_sealed
 sealed_clock timers limit probe time true = refl
 sealed_clock timers limit probe time false = refl
 
+acking_clock : (timers : Timers) (b : Bool) → (timers_acking timers b).greatest ≡ timers.greatest
+unfolding timers_acking
+acking_clock timers true = refl
+acking_clock timers false = refl
+
+holding_clock : (timers : Timers) (b : Bool) (time : ℕ) → (timers_holding timers b time).greatest ≡ timers.greatest
+unfolding timers_holding
+holding_clock timers true time = refl
+holding_clock timers false time = refl
+
+-- a number that is the next one is not below it
+at_least : (n next : ℕ) → n ≡ next → next ≤ n
+at_least n next e = omega (arith, e)
+
 module _ {t : Types} where
   abbrev pub kernel : SpaceId → View t → Kernel
   kernel id s = kernel_of id s.numbers s.life
@@ -163,100 +214,109 @@ module _ {t : Types} where
   seal_tells : (id space : SpaceId) (s : View t) (n : ℕ) (epoch : ℕ) (early : Bool) (fs : List FrameValue) → n ≡ next_number s.numbers space → ClosesOnly (rank_of s.life.state) fs →
       Tells id (kernel id s) (did.Sealed space n epoch early fs ∷ []) (kernel_of id (number_used s.numbers space n) s.life)
   unfolding Tells next_number came_in number_used used_in
-  seal_tells Initial Initial s n epoch early fs h c = ((λ _. h, c), refl)
-  seal_tells Initial Handshake s n epoch early fs h c = ((λ e. cc, c), refl)
-  seal_tells Initial Data s n epoch early fs h c = ((λ e. cc, c), refl)
-  seal_tells Handshake Initial s n epoch early fs h c = ((λ e. cc, c), refl)
-  seal_tells Handshake Handshake s n epoch early fs h c = ((λ _. h, c), refl)
-  seal_tells Handshake Data s n epoch early fs h c = ((λ e. cc, c), refl)
-  seal_tells Data Initial s n epoch early fs h c = ((λ e. cc, c), refl)
-  seal_tells Data Handshake s n epoch early fs h c = ((λ e. cc, c), refl)
-  seal_tells Data Data s n epoch early fs h c = ((λ _. h, c), refl)
+  seal_tells Initial Initial s n epoch early fs h c = ((λ _. at_least n s.numbers.spaces.initial.next h, c), behind_here _)
+  seal_tells Initial Handshake s n epoch early fs h c = ((λ e. cc, c), behind_here _)
+  seal_tells Initial Data s n epoch early fs h c = ((λ e. cc, c), behind_here _)
+  seal_tells Handshake Initial s n epoch early fs h c = ((λ e. cc, c), behind_here _)
+  seal_tells Handshake Handshake s n epoch early fs h c = ((λ _. at_least n s.numbers.spaces.handshake.next h, c), behind_here _)
+  seal_tells Handshake Data s n epoch early fs h c = ((λ e. cc, c), behind_here _)
+  seal_tells Data Initial s n epoch early fs h c = ((λ e. cc, c), behind_here _)
+  seal_tells Data Handshake s n epoch early fs h c = ((λ e. cc, c), behind_here _)
+  seal_tells Data Data s n epoch early fs h c = ((λ _. at_least n s.numbers.spaces.application.next h, c), behind_here _)
 
   -- what keeps a space's next number, and what came in each space, keeps the kernel
   next_same : (id space : SpaceId) (s : View t) (f : SpaceNumbers → SpaceNumbers) →
       (f (space_of s.numbers.spaces space)).next ≡ (space_of s.numbers.spaces space).next → (f (space_of s.numbers.spaces space)).came ≡ (space_of s.numbers.spaces space).came →
-      kernel_of id (record s.numbers { spaces = with_space s.numbers.spaces space (f (space_of s.numbers.spaces space)) }) s.life ≡ kernel id s
+      IsBehind (kernel id s) (kernel_of id (record s.numbers { spaces = with_space s.numbers.spaces space (f (space_of s.numbers.spaces space)) }) s.life)
   unfolding next_number came_in
-  next_same Initial Initial s f h c = λ i. record { next = h i; came = c i; reason = s.life.reason; rank = rank_of s.life.state }
-  next_same Initial Handshake s f h c = refl
-  next_same Initial Data s f h c = refl
-  next_same Handshake Initial s f h c = refl
-  next_same Handshake Handshake s f h c = λ i. record { next = h i; came = c i; reason = s.life.reason; rank = rank_of s.life.state }
-  next_same Handshake Data s f h c = refl
-  next_same Data Initial s f h c = refl
-  next_same Data Handshake s f h c = refl
-  next_same Data Data s f h c = λ i. record { next = h i; came = c i; reason = s.life.reason; rank = rank_of s.life.state }
+  next_same Initial Initial s f h c = record { next = at_least _ _ h; came = c; reason = refl; rank = refl }
+  next_same Initial Handshake s f h c = behind_here _
+  next_same Initial Data s f h c = behind_here _
+  next_same Handshake Initial s f h c = behind_here _
+  next_same Handshake Handshake s f h c = record { next = at_least _ _ h; came = c; reason = refl; rank = refl }
+  next_same Handshake Data s f h c = behind_here _
+  next_same Data Initial s f h c = behind_here _
+  next_same Data Handshake s f h c = behind_here _
+  next_same Data Data s f h c = record { next = at_least _ _ h; came = c; reason = refl; rank = refl }
+
+  -- where a number is skipped, the next one of its space is greater
+  skip_tells : (id : SpaceId) (s : View t) (word : ℕ) → IsBehind (kernel id s) (kernel_of id (number_skipped s.numbers word) s.life)
+  unfolding next_number came_in number_skipped used_in
+  skip_tells Initial s word = behind_here _
+  skip_tells Handshake s word = behind_here _
+  skip_tells Data s word = record { next = omega arith; came = refl; reason = refl; rank = refl }
 
   -- a new number came in a space and counts there
   enter_tells : (id space : SpaceId) (s : View t) (n : ℕ) (v : Verdict) (f : SpaceNumbers → SpaceNumbers) → is_new_in s.numbers space n ≡ true → enters v ≡ true →
       ((w : SpaceNumbers) → (f w).next ≡ w.next) → ((w : SpaceNumbers) → (f w).came ≡ arrived n w.came) →
       Tells id (kernel id s) (did.Piece (Some space) (Some n) v ∷ []) (kernel_of id (record s.numbers { spaces = with_space s.numbers.spaces space (f (space_of s.numbers.spaces space)) }) s.life)
   unfolding Tells next_number came_in is_new_in
-  enter_tells Initial Initial s n v f new e h c = (rw e new, rw e (λ i. record { next = h s.numbers.spaces.initial i; came = c s.numbers.spaces.initial i; reason = s.life.reason; rank = rank_of s.life.state }))
-  enter_tells Initial Handshake s n v f new e h c = (tt, refl)
-  enter_tells Initial Data s n v f new e h c = (tt, refl)
-  enter_tells Handshake Initial s n v f new e h c = (tt, refl)
-  enter_tells Handshake Handshake s n v f new e h c = (rw e new, rw e (λ i. record { next = h s.numbers.spaces.handshake i; came = c s.numbers.spaces.handshake i; reason = s.life.reason; rank = rank_of s.life.state }))
-  enter_tells Handshake Data s n v f new e h c = (tt, refl)
-  enter_tells Data Initial s n v f new e h c = (tt, refl)
-  enter_tells Data Handshake s n v f new e h c = (tt, refl)
-  enter_tells Data Data s n v f new e h c = (rw e new, rw e (λ i. record { next = h s.numbers.spaces.application i; came = c s.numbers.spaces.application i; reason = s.life.reason; rank = rank_of s.life.state }))
+  enter_tells Initial Initial s n v f new e h c = (rw e new, rw e (record { next = at_least _ _ (h s.numbers.spaces.initial); came = c s.numbers.spaces.initial; reason = refl; rank = refl }))
+  enter_tells Initial Handshake s n v f new e h c = (tt, behind_here _)
+  enter_tells Initial Data s n v f new e h c = (tt, behind_here _)
+  enter_tells Handshake Initial s n v f new e h c = (tt, behind_here _)
+  enter_tells Handshake Handshake s n v f new e h c = (rw e new, rw e (record { next = at_least _ _ (h s.numbers.spaces.handshake); came = c s.numbers.spaces.handshake; reason = refl; rank = refl }))
+  enter_tells Handshake Data s n v f new e h c = (tt, behind_here _)
+  enter_tells Data Initial s n v f new e h c = (tt, behind_here _)
+  enter_tells Data Handshake s n v f new e h c = (tt, behind_here _)
+  enter_tells Data Data s n v f new e h c = (rw e new, rw e (record { next = at_least _ _ (h s.numbers.spaces.application); came = c s.numbers.spaces.application; reason = refl; rank = refl }))
 
   told_tells : (id : SpaceId) (d : Did) (s : View t) → IsTold d → Tells id (kernel id s) (d ∷ []) (kernel id s)
   unfolding Tells
-  told_tells id (did.Piece space number v) s h = let none : entered_number id space number v ≡ None = no_number id space number v h in (rw none tt, rw none refl)
-  told_tells id (did.Gave layer body) s h = (tt, refl)
+  told_tells id (did.Piece space number v) s h = let none : entered_number id space number v ≡ None = no_number id space number v h in (rw none tt, rw none (behind_here _))
+  told_tells id (did.Gave layer body) s h = (tt, behind_here _)
   told_tells id _ s h = absurd h
 
   give_tells : (id : SpaceId) (s : View t) (why : ConnectionError) → s.life.reason ≡ None → Tells id (kernel id s) (did.Lost why ∷ []) (kernel_of id s.numbers (reason_given s.life why))
   unfolding Tells reason_given
-  give_tells id s why h = (h, rw h refl)
+  give_tells id s why h = (h, rw h (behind_here _))
 
   pub move_tells : (id : SpaceId) (x : Move t) (s : View t) → MayMove x s → Tells id (kernel id s) (deeds_move x s) (kernel id (state_move x s))
   unfolding Tells MayMove deeds_move state_move numbers_move life_move life_raised life_closed life_drained lost_reported token_reported wanted_reported drained_reported life_established data_ready token_learned identifiers_wanted ready_reported connected_reported number_entered number_accepted number_acked numbers.entered_in numbers.accepted_in numbers.acked_in
   move_tells id (Clock time) s h = absurd h
-  move_tells id (Ask space) s h = refl
-  move_tells id (Take space fs) s h = refl
-  move_tells id (Forget space) s h = refl
+  move_tells id (Ask space) s h = behind_here _
+  move_tells id (Take space fs) s h = behind_here _
+  move_tells id (Forget space) s h = behind_here _
   move_tells id (Enter space n v) s h = enter_tells id space s n v (λ w. numbers.entered_in n w) h.0 h.1 (λ w. refl) (λ w. refl)
-  move_tells id (Expect token) s h = refl
-  move_tells id Fail s h = refl
+  move_tells id (Expect token) s h = behind_here _
+  move_tells id Fail s h = behind_here _
   move_tells id (Accept time space n e g v) s h = enter_tells id space s n v (λ w. numbers.accepted_in n w) h.0 h.1 (λ w. refl) (λ w. refl)
-  move_tells id (Fix cid) s h = refl
-  move_tells id (Hear bytes) s h = refl
+  move_tells id (Fix cid) s h = behind_here _
+  move_tells id (Hear bytes) s h = behind_here _
   move_tells id (Ack space n r) s h = next_same id space s (λ w. numbers.acked_in n w) refl refl
-  move_tells id (Fire r) s h = refl
-  move_tells id (Arm at) s h = refl
-  move_tells id (Begin space) s h = refl
-  move_tells id (Come space offset bytes) s h = refl
-  move_tells id (Read space count session) s h = refl
-  move_tells id (Write bytes keys session) s h = refl
-  move_tells id Ready s h = refl
-  move_tells id (Token token) s h = refl
-  move_tells id (Learn parameters) s h = refl
-  move_tells id (Want time count) s h = refl
-  move_tells id Confirm s h = refl
-  move_tells id Establish s h = (h, refl)
+  move_tells id (Fire r) s h = behind_here _
+  move_tells id (Arm at) s h = behind_here _
+  move_tells id Release s h = behind_here _
+  move_tells id (Begin space) s h = behind_here _
+  move_tells id Skip s h = skip_tells id s (word s.setup.random)
+  move_tells id (Come space offset bytes) s h = behind_here _
+  move_tells id (Read space count session) s h = behind_here _
+  move_tells id (Write bytes keys session) s h = behind_here _
+  move_tells id Ready s h = behind_here _
+  move_tells id (Token token) s h = behind_here _
+  move_tells id (Learn parameters) s h = behind_here _
+  move_tells id (Want time count) s h = behind_here _
+  move_tells id Confirm s h = behind_here _
+  move_tells id Establish s h = (h, behind_here _)
   move_tells id (Tell d) s h = told_tells id d s h
-  move_tells id Drain s h = (h, refl)
-  move_tells id (Leave time) s h = (h, refl)
-  move_tells id Owe s h = refl
+  move_tells id Drain s h = (h, behind_here _)
+  move_tells id (Leave time) s h = (h, behind_here _)
+  move_tells id Owe s h = behind_here _
   move_tells id (Seal time space n size fs) s h = seal_tells id space s n 0 false fs h.0 h.1
-  move_tells id (Shut time close) s h = (h, refl)
-  move_tells id (Raise to) s h = (h, refl)
+  move_tells id (Shut time close) s h = (h, behind_here _)
+  move_tells id (Raise to) s h = (h, behind_here _)
   move_tells id (Give why) s h = give_tells id s why h
-  move_tells id (Say q) s h = (tt, refl)
-  move_tells id ReportReady s h = refl
-  move_tells id ReportConnected s h = refl
-  move_tells id ReportLost s h = refl
-  move_tells id ReportToken s h = refl
-  move_tells id ReportWanted s h = refl
-  move_tells id ReportDrained s h = refl
+  move_tells id (Say q) s h = (tt, behind_here _)
+  move_tells id ReportReady s h = behind_here _
+  move_tells id ReportConnected s h = behind_here _
+  move_tells id ReportLost s h = behind_here _
+  move_tells id ReportToken s h = behind_here _
+  move_tells id ReportWanted s h = behind_here _
+  move_tells id ReportDrained s h = behind_here _
 
   -- no move but the first of a call sets the clock
   clock_kept : (x : Move t) (s : View t) → MayMove x s → (state_move x s).timers.greatest ≡ s.timers.greatest
-  unfolding MayMove state_move timers_move timers_accepted timers_armed timers_stopped timers_closing
+  unfolding MayMove state_move timers_move timers_accepted timers_armed timers_stopped timers_closing timers_released
   clock_kept (Clock time) s h = absurd h
   clock_kept (Ask space) s h = refl
   clock_kept (Take space fs) s h = refl
@@ -264,13 +324,16 @@ module _ {t : Types} where
   clock_kept (Enter space n v) s h = refl
   clock_kept (Expect token) s h = refl
   clock_kept Fail s h = refl
-  clock_kept (Accept time space n e g v) s h = refl
+  clock_kept (Accept time space n e g v) s h =
+      holding_clock (timers_accepted s.timers (idle_limit_now s.setup) (probe_timeout_now s space) time) (holds_back s.waiting space (arrived n (came_in s.numbers space)) (arrival_of time n e g)) time
   clock_kept (Fix cid) s h = refl
   clock_kept (Hear bytes) s h = refl
   clock_kept (Ack space n r) s h = refl
   clock_kept (Fire r) s h = refl
   clock_kept (Arm at) s h = refl
+  clock_kept Release s h = refl
   clock_kept (Begin space) s h = refl
+  clock_kept Skip s h = refl
   clock_kept (Come space offset bytes) s h = refl
   clock_kept (Read space count session) s h = refl
   clock_kept (Write bytes keys session) s h = refl
@@ -284,7 +347,10 @@ module _ {t : Types} where
   clock_kept Drain s h = refl
   clock_kept (Leave time) s h = refl
   clock_kept Owe s h = refl
-  clock_kept (Seal time space n size fs) s h = sealed_clock s.timers (idle_limit_now s.setup) (probe_timeout_now s space) time (list_any elicits fs)
+  clock_kept (Seal time space n size fs) s h =
+      let b : Bool = list_any elicits fs in
+      let sealed : Timers = if b then timers_sealed s.timers (idle_limit_now s.setup) (probe_timeout_now s space) time else s.timers in
+      acking_clock sealed (list_any is_ack fs) ∙ sealed_clock s.timers (idle_limit_now s.setup) (probe_timeout_now s space) time b
   clock_kept (Shut time close) s h = refl
   clock_kept (Raise to) s h = refl
   clock_kept (Give why) s h = refl
@@ -305,7 +371,7 @@ module _ {t : Types} where
 
   pub told_here : (id : SpaceId) (a : At t) → Told id a a
   unfolding Tells
-  told_here id a = record { since = []; appended = sym (append-nil a.did); clock = refl; tells = refl }
+  told_here id a = record { since = []; appended = sym (append-nil a.did); clock = refl; tells = behind_here (kernel id a.state) }
 
   pub told_next : (id : SpaceId) (a b c : At t) → Told id a b → Told id b c → Told id a c
   told_next id a b c g h = record {

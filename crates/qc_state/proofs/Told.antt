@@ -15,24 +15,25 @@ use Rattle.qc_state.specs.declared.input.Input.TheVariants as input
 use Rattle.qc_state.specs.declared.life.Close.{Close}
 use Rattle.qc_state.specs.declared.life.Close.TheVariants.{Connection, Application}
 use Rattle.qc_state.specs.declared.life.ConnectionError.{ConnectionError}
+use Rattle.qc_state.specs.declared.life.Life.{Life}
 use Rattle.qc_state.specs.declared.life.State.{State}
 use Rattle.qc_state.specs.declared.life.State.TheVariants as state
 use Rattle.qc_state.specs.declared.trace.Step.{Step}
 use Rattle.qc_state.specs.Headline as headline
-use Rattle.qc_state.specs.Headline.{deeds_of, reasons_in, lives_in, entered_in, EachNew, CloseFrom, RisesFrom, Kernel, Tells, EachRises, EachAdmitted, LifeRises, OnlyCloses, LosesOnce}
+use Rattle.qc_state.specs.Headline.{deeds_of, reasons_in, lives_in, entered_in, EachNew, CloseFrom, RisesFrom, Kernel, IsBehind, Tells, EachRises, EachAdmitted, LifeRises, OnlyCloses, LosesOnce}
 use Rattle.qc_state.specs.Life.{rank_of, is_open, is_closed, is_drained, ready_reported, connected_reported, lost_reported, token_reported, wanted_reported, drained_reported}
-use Rattle.qc_state.specs.Moves.{Move, ClosesOnly, is_close, Ask, Begin, Take, Seal, Shut, Raise, Say, state_move, move_to, MayMove, numbers_move, life_move, timers_move, waiting_move}
+use Rattle.qc_state.specs.Moves.{Move, ClosesOnly, is_close, Ask, Begin, Skip, Take, Seal, Shut, Raise, Say, state_move, move_to, MayMove, numbers_move, life_move, timers_move}
 use Rattle.qc_state.specs.Numbers.{next_number, came_in}
 use Rattle.qc_state.specs.Run.{time_of, packets_of, began, close_after, input_after, called, reported, step_after, IsAllowed, IsStep, Run, Ran}
 use Rattle.qc_state.specs.Paths.{is_blocked}
-use Rattle.qc_state.specs.Sending.{close_frame, application_close, told_close, closing_frame, Closes, is_silent, owes, sending_space, is_key_nearly_used_up, limit_met, quiet_after, begun_view, is_flown, flown_after, sealed_in, spared_after, packet_after, transmit_after, Carries, MaySeal, MayTransmit, owed_quiet_after, packet_size, padding_of, padded}
+use Rattle.qc_state.specs.Sending.{close_frame, application_close, told_close, closing_frame, Closes, is_silent, owes, sending_space, is_key_nearly_used_up, limit_met, quiet_after, begun_after, begun_view, is_flown, flown_after, sealed_in, spared_after, packet_after, transmit_after, Carries, MaySeal, MayTransmit, owed_quiet_after, packet_size, padding_of, padded}
 use Rattle.qc_state.specs.Stopping.{given_after, key_limit_error, killed_after}
 use Rattle.qc_state.specs.Timers.{clock_set}
 use Rattle.qc_state.specs.Types.{Types, Meaning}
-use Rattle.qc_state.specs.View.{View, At}
-use Rattle.qc_state.proofs.Telling.{tells_append, rises, reasons, lives, closes, admits, one_at_most, low_rank, open_rank, kernel, Told, told_here, told_next, told_move, given_by}
+use Rattle.qc_state.specs.View.{View, At, at}
+use Rattle.qc_state.proofs.Begun.{begun_life, begun_owed, holds_begun}
+use Rattle.qc_state.proofs.Telling.{behind_here, tells_append, rises, reasons, lives, closes, admits, one_at_most, low_rank, open_rank, kernel, Told, told_here, told_next, told_move, given_by}
 use Rattle.qc_state.proofs.Expired.{holds_timeout}
-use Rattle.qc_state.specs.Waiting.{datagram_begun}
 use Rattle.qc_state.proofs.Receives.{holds_armed, holds_initial, holds_stopped}
 use Rattle.qc_state.proofs.ToldReceiving.{told_datagram}
 
@@ -103,12 +104,12 @@ module _ {t : Types} where
 
   -- a packet that may be sealed holds a close, once the connection has closed
   pub closes_only : (time : ℕ) (s : View t) (fs : List FrameValue) → MaySeal time s fs → ClosesOnly (rank_of s.life.state) fs
-  unfolding is_silent begun_view state_move life_move waiting_move datagram_begun
+  unfolding is_silent begun_view
   closes_only time s fs may = carried_closes may.carries
     where
       carried_closes : Carries time (begun_view s) (sending_space s) fs → ClosesOnly (rank_of s.life.state) fs
       carried_closes (Carries.a_close owed gs holds is) = λ r. padded_closes (begun_view s) (sending_space s) fs gs is (closes_close time (begun_view s) (sending_space s) gs holds)
-      carried_closes (Carries.what_waits free gs wait some is) = λ r. let owes_none : s.waiting.close_owed ≡ false = free in cc (loud_owes s.life.state s.waiting.close_owed may.alive r, owes_none)
+      carried_closes (Carries.what_waits free gs wait some is) = λ r. let owes_none : s.waiting.close_owed ≡ false = sym (begun_owed (sending_space s) (at s [])) ∙ free in cc (loud_owes s.life.state s.waiting.close_owed may.alive r, owes_none)
 
   -- the loss timer is set anew behind a packet in flight, or not
   told_flown : (id : SpaceId) (time : ℕ) (counts : Bool) (a : At t) → Told id a (flown_after time counts a)
@@ -135,13 +136,14 @@ module _ {t : Types} where
       (holds_initial (Told id) (told_here id) (told_next id) (λ x received e may. told_move id x e may) Client false time space d)))
 
   told_packet : (id : SpaceId) (time : ℕ) (fs : List FrameValue) (a : At t) → MaySeal time a.state fs → Told id a (packet_after time fs a)
-  unfolding packet_after MayMove move_to state_move life_move
+  unfolding packet_after MayMove
   told_packet id time fs a may =
       let space : SpaceId = sending_space a.state in
-      let b : At t = move_to (Begin space) a in
+      let b : At t = begun_after space a in
       let c : At t = sealed_in time space fs b in
-      told_next id a b _ (told_move id (Begin space) a tt)
-      (told_next id b c _ (told_sealed id space time fs b (closes_only time a.state fs may)) (told_spared id time (is_key_nearly_used_up a.state) c))
+      let closes_now : ClosesOnly (rank_of b.state.life.state) fs = subst (λ (l : Life). ClosesOnly (rank_of l.state) fs) (sym (begun_life space a)) (closes_only time a.state fs may) in
+      told_next id a b _ (holds_begun (Told id) (told_here id) (told_next id) space a (λ c. told_move id (Begin space) c tt) (λ c may_skip. told_move id Skip c may_skip))
+      (told_next id b c _ (told_sealed id space time fs b closes_now) (told_spared id time (is_key_nearly_used_up a.state) c))
 
   told_transmit : (id : SpaceId) (time : ℕ) (ps : List (List FrameValue)) (a : At t) → MayTransmit time a.state ps → Told id a (transmit_after time ps a)
   unfolding MayTransmit transmit_after quiet_after owed_quiet_after
@@ -182,7 +184,7 @@ module _ {t : Types} where
 
   run_tells : (id : SpaceId) (m : Meaning t) (k : ℕ) (s : View t) (is : List Input) (xs : List Step) (s' : View t) → Run m k s is xs s' → Tells id (kernel id s) (deeds_of xs) (kernel id s')
   unfolding Run Tells
-  run_tells id m k s [] [] s' r = ap (λ (v : View t). kernel id v) r
+  run_tells id m k s [] [] s' r = subst (λ (v : View t). IsBehind (kernel id s) (kernel id v)) (sym r) (behind_here (kernel id s))
   run_tells id m k s (i ∷ is) (x ∷ xs) s' r = tells_append id (kernel id s) (kernel id r.0) (kernel id s') x.did (deeds_of xs) (step_tells id m k s i x r.0 r.1) (run_tells id m (k + 1) r.0 is xs s' r.2)
   run_tells id m k s [] (x ∷ xs) s' r = absurd r
   run_tells id m k s (i ∷ is) [] s' r = absurd r

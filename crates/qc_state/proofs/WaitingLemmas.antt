@@ -1,19 +1,15 @@
 -- What waits once frames are sealed, for lists that are joined, and for the frames that this end takes.
-use Rattle.std.proofs.Common.{◌≡◌, ℕ, zero, suc, ◌+◌, ◌-◌, ◌%◌, ◌<◌, ◌≤◌, List, [], ◌∷◌, ◌++◌, length, replicate, refl, ap, sym, ◌∙◌, subst, Bool, true, false, ◌||◌, not, ◌==◌, if◌then◌else◌, Option, Some, None, arith, length-append, inl, inr}
-use Rattle.std.proofs.lemmas.List.{length-reverse}
+use Rattle.std.proofs.Common.{◌≡◌, ℕ, zero, suc, ◌+◌, ◌-◌, ◌%◌, ◌<◌, ◌≤◌, List, [], ◌∷◌, ◌++◌, length, replicate, refl, ap, sym, ◌∙◌, subst, Bool, true, false, ◌||◌, not, ◌==◌, ◌⊎◌, if◌then◌else◌, Option, arith, length-append, inl, inr}
 use Rattle.std.proofs.lemmas.Grind.{flat_map-append}
 use Rattle.qc_base.specs.Varint.{varint, spelled, limit, one, two, four, eight}
 use Rattle.qc_frame.specs.Frame.{FrameValue, AckValue}
-use Rattle.qc_frame.specs.AckRanges.{ranges_of}
-use Rattle.qc_frame.specs.FrameFits.{Fits}
-use Rattle.qc_frame.specs.FrameSpelling.{spelling, ecn_spelling, frames_spelling}
-use Rattle.qc_frame.specs.declared.frames.EcnCounts.{EcnCounts}
+use Rattle.qc_frame.specs.FrameSpelling.{spelling, frames_spelling}
 use Rattle.qc_frame.specs.declared.frames.FrameOf.TheVariants.{Padding, HandshakeDone, Ping, Ack, Crypto}
-use Rattle.qc_frame.proofs.Lengths.{ack_size_max, counts_size_max}
-use Rattle.qc_state.specs.Acks.{AckPart, SaysAck, is_ack_owed}
+use Rattle.qc_state.specs.Acks.{AckPart, SaysAck, is_ack_first, is_ack_given, is_ack_last, is_ack_owed}
 use Rattle.qc_state.specs.declared.waiting.SpaceWaiting.{SpaceWaiting}
-use Rattle.qc_state.proofs.AckLemmas.{part_same}
-use Rattle.qc_state.specs.Waiting.{Waits, WaitAll, without, without_all, begun_in, crypto_waits, packet_again, probe_sent, waits_here, wants_sending, marks_part, done_part, ping_part, CryptoPart, TakenPart}
+use Rattle.qc_state.proofs.AckLemmas.{first_gives, last_gives, owed_first, part_same}
+use Rattle.qc_state.proofs.Taking.{last_counts, last_same}
+use Rattle.qc_state.specs.Waiting.{Waits, WaitAll, without, without_all, begun_in, crypto_waits, packet_again, probe_sent, room_behind, waits_here, wants_sending, marks_part, done_part, ping_part, CryptoPart, TakenPart}
 use Rattle.qc_flight.specs.declared.sent.SentPacket.{SentPacket}
 
 -- what waits once joined lists are sealed
@@ -23,10 +19,10 @@ without_all_append w [] gs = refl
 without_all_append w (f ∷ fs) gs = without_all_append (without w f) fs gs
 
 -- joined lists wait, where the second one waits behind the first
-pub wait_all_append : (time : ℕ) (w : SpaceWaiting) (fs gs : List FrameValue) → WaitAll time w fs → WaitAll time (without_all w fs) gs → WaitAll time w (fs ++ gs)
+pub wait_all_append : (time : ℕ) (bundled : Option ℕ) (w : SpaceWaiting) (fs gs : List FrameValue) → WaitAll time bundled w fs → WaitAll time bundled (without_all w fs) gs → WaitAll time bundled w (fs ++ gs)
 unfolding WaitAll without_all
-wait_all_append time w [] gs a b = b
-wait_all_append time w (f ∷ fs) gs a b = (a.0, wait_all_append time (without w f) fs gs a.1 b)
+wait_all_append time bundled w [] gs a b = b
+wait_all_append time bundled w (f ∷ fs) gs a b = (a.0, wait_all_append time bundled (without w f) fs gs a.1 b)
 
 -- PADDING changes nothing of what waits
 pub padding_stays : (w : SpaceWaiting) (n : ℕ) → without_all w (replicate n Padding) ≡ w
@@ -39,42 +35,62 @@ pub without_padded : (w : SpaceWaiting) (fs : List FrameValue) (n : ℕ) → wit
 without_padded w fs n = without_all_append w fs (replicate n Padding) ∙ padding_stays (without_all w fs) n
 
 -- the CRYPTO frames that this end takes wait, each behind the one before
-crypto_wait : (time : ℕ) (w : SpaceWaiting) (room : ℕ) (fs : List FrameValue) → CryptoPart w room fs → WaitAll time w fs
+crypto_wait : (time : ℕ) (bundled : Option ℕ) (w : SpaceWaiting) (room : ℕ) (fs : List FrameValue) → CryptoPart w room fs → WaitAll time bundled w fs
 unfolding WaitAll Waits CryptoPart
-crypto_wait time w room [] h = tt
-crypto_wait time w room (Crypto offset body ∷ fs) h = (h.0, crypto_wait time (without w (Crypto offset body)) _ fs h.2)
-crypto_wait time w room (_ ∷ fs) h = absurd h
+crypto_wait time bundled w room [] h = tt
+crypto_wait time bundled w room (Crypto offset body ∷ fs) h = (h.0, crypto_wait time bundled (without w (Crypto offset body)) _ fs h.2)
+crypto_wait time bundled w room (_ ∷ fs) h = absurd h
 
--- the ACK waits where it is owed
-ack_waits : (time : ℕ) (w : SpaceWaiting) (acks : List FrameValue) (b : Bool) → AckPart time w acks b → is_ack_owed w.acks ≡ b → WaitAll time w acks
+-- the ACK waits where it is due and may be given
+ack_waits : (time room : ℕ) (bundled : Option ℕ) (w : SpaceWaiting) (acks : List FrameValue) (b : Bool) → AckPart time w room acks b → (b ≡ true → is_ack_given time bundled w.acks ≡ true) → WaitAll time bundled w acks
 unfolding WaitAll Waits
-ack_waits time w acks true (AckPart.one ack says is) h = subst (λ (x : List FrameValue). WaitAll time w x) (sym is) ((h, says), tt)
-ack_waits time w acks false (AckPart.none is) h = subst (λ (x : List FrameValue). WaitAll time w x) (sym is) tt
+ack_waits time room bundled w acks true (AckPart.one ack says fits is) h = subst (λ (x : List FrameValue). WaitAll time bundled w x) (sym is) ((h refl, says), tt)
+ack_waits time room bundled w acks true (AckPart.left_out ack says long is) h = subst (λ (x : List FrameValue). WaitAll time bundled w x) (sym is) tt
+ack_waits time room bundled w acks false (AckPart.none is) h = subst (λ (x : List FrameValue). WaitAll time bundled w x) (sym is) tt
+
+-- the one behind the other frames waits there
+last_waits : (time room rest left : ℕ) (bundled : Option ℕ) (b : Bool) (w v : SpaceWaiting) (acks crypto last : List FrameValue) → w.acks ≡ v.acks → w.marks ≡ v.marks → AckPart time w room acks (is_ack_first w.acks) →
+    CryptoPart (without_all v acks) rest crypto → is_ack_last time bundled w.acks ≡ b → AckPart time w left last b → WaitAll time bundled (without_all (without_all v acks) crypto) last
+unfolding WaitAll
+last_waits time room rest left bundled true w v acks crypto last same counts part bytes e bundle =
+    let u : SpaceWaiting = without_all (without_all v acks) crypto in
+    let before : u.acks ≡ w.acks = last_same time room rest bundled w v acks crypto same part bytes e in
+    ack_waits time left bundled u last true (part_same time left w u last true (sym before) (sym (last_counts time room rest w v acks crypto (is_ack_first w.acks) counts part bytes)) bundle)
+    (λ _. ap (is_ack_given time bundled) before ∙ last_gives time bundled w.acks e)
+last_waits time room rest left bundled false w v acks crypto last same counts part bytes e (AckPart.none is) = subst (λ (x : List FrameValue). WaitAll time bundled (without_all (without_all v acks) crypto) x) (sym is) tt
+
+-- the HANDSHAKE_DONE and the PING, each where it waits
+abbrev marks_of : (done ping : Bool) → List FrameValue
+marks_of done ping = (if done then HandshakeDone ∷ [] else []) ++ (if ping then Ping ∷ [] else [])
 
 -- the HANDSHAKE_DONE and the PING wait where they were asked for, and the others behind them
-front_waits : (time : ℕ) (w : SpaceWaiting) (room : ℕ) (acks crypto : List FrameValue) (a b : Bool) → w.done ≡ a → w.ping ≡ b → AckPart time w acks (is_ack_owed w.acks) →
-    CryptoPart (without_all w (((if a then HandshakeDone ∷ [] else []) ++ (if b then Ping ∷ [] else [])) ++ acks)) room crypto →
-    WaitAll time w (((if a then HandshakeDone ∷ [] else []) ++ (if b then Ping ∷ [] else [])) ++ (acks ++ crypto))
+front_waits : (time room rest left : ℕ) (bundled : Option ℕ) (w : SpaceWaiting) (acks crypto last : List FrameValue) (a b : Bool) → w.done ≡ a → w.ping ≡ b → AckPart time w room acks (is_ack_first w.acks) →
+    CryptoPart (without_all w (marks_of a b ++ acks)) rest crypto → AckPart time w left last (is_ack_last time bundled w.acks) →
+    WaitAll time bundled w (marks_of a b ++ (acks ++ (crypto ++ last)))
 unfolding WaitAll Waits without without_all
-front_waits time w room acks crypto a b g h part bytes = by_marks a b g h bytes
+front_waits time room rest left bundled w acks crypto last a b g h part bytes bundle = by_marks a b g h bytes
   where
-    behind : (v : SpaceWaiting) → w.acks ≡ v.acks → w.marks ≡ v.marks → CryptoPart (without_all v acks) room crypto → WaitAll time v (acks ++ crypto)
-    behind v same marks rest =
-        wait_all_append time v acks crypto (ack_waits time v acks (is_ack_owed w.acks) (part_same time w v acks (is_ack_owed w.acks) same marks part) (ap is_ack_owed (sym same)))
-        (crypto_wait time (without_all v acks) room crypto rest)
+    behind : (v : SpaceWaiting) → w.acks ≡ v.acks → w.marks ≡ v.marks → CryptoPart (without_all v acks) rest crypto → WaitAll time bundled v (acks ++ (crypto ++ last))
+    behind v same marks bytes =
+        wait_all_append time bundled v acks (crypto ++ last)
+        (ack_waits time room bundled v acks (is_ack_first w.acks) (part_same time room w v acks (is_ack_first w.acks) same marks part) (λ e. ap (is_ack_given time bundled) (sym same) ∙ first_gives time bundled w.acks e))
+        (wait_all_append time bundled (without_all v acks) crypto last (crypto_wait time bundled (without_all v acks) rest crypto bytes)
+        (last_waits time room rest left bundled (is_ack_last time bundled w.acks) w v acks crypto last same marks part bytes refl bundle))
 
-    by_marks : (a b : Bool) → w.done ≡ a → w.ping ≡ b → CryptoPart (without_all w (((if a then HandshakeDone ∷ [] else []) ++ (if b then Ping ∷ [] else [])) ++ acks)) room crypto →
-        WaitAll time w (((if a then HandshakeDone ∷ [] else []) ++ (if b then Ping ∷ [] else [])) ++ (acks ++ crypto))
-    by_marks true true g h rest = (g, (h, behind (record w { done = false; ping = false }) refl refl rest))
-    by_marks true false g h rest = (g, behind (record w { done = false }) refl refl rest)
-    by_marks false true g h rest = (h, behind (record w { ping = false }) refl refl rest)
-    by_marks false false g h rest = behind w refl refl rest
+    by_marks : (a b : Bool) → w.done ≡ a → w.ping ≡ b → CryptoPart (without_all w (marks_of a b ++ acks)) rest crypto →
+        WaitAll time bundled w (marks_of a b ++ (acks ++ (crypto ++ last)))
+    by_marks true true g h bytes = (g, (h, behind (record w { done = false; ping = false }) refl refl bytes))
+    by_marks true false g h bytes = (g, behind (record w { done = false }) refl refl bytes)
+    by_marks false true g h bytes = (h, behind (record w { ping = false }) refl refl bytes)
+    by_marks false false g h bytes = behind w refl refl bytes
 
 -- the frames that this end takes wait
-pub taken_waits : (time : ℕ) (w : SpaceWaiting) (room : ℕ) (fs : List FrameValue) → TakenPart time w room fs → WaitAll time w fs
+pub taken_waits : (time : ℕ) (bundled : Option ℕ) (w : SpaceWaiting) (room : ℕ) (fs : List FrameValue) → TakenPart time bundled w room fs → WaitAll time bundled w fs
 unfolding marks_part done_part ping_part
-taken_waits time w room fs taken =
-    subst (λ (x : List FrameValue). WaitAll time w x) (sym taken.all) (front_waits time w (room - 2 - length (frames_spelling taken.acks)) taken.acks taken.crypto w.done w.ping refl refl taken.ack taken.part)
+taken_waits time bundled w room fs taken =
+    subst (λ (x : List FrameValue). WaitAll time bundled w x) (sym taken.all)
+    (front_waits time (room - length (marks_part w)) (room - length (marks_part w) - length (frames_spelling taken.acks)) (room_behind (room - length (marks_part w) - length (frames_spelling taken.acks)) taken.crypto) bundled w
+    taken.acks taken.crypto taken.last w.done w.ping refl refl taken.ack taken.part taken.bundle)
 
 -- there is a CRYPTO frame, where bytes wait and there is room for more than its head
 crypto_some : (w : SpaceWaiting) (room : ℕ) (fs : List FrameValue) → CryptoPart w room fs → crypto_waits w ≡ true → 17 < room → 0 < length fs
@@ -83,32 +99,72 @@ crypto_some w room [] (inl none) h r = absurd (cc (none, h))
 crypto_some w room [] (inr low) h r = absurd (omega arith)
 crypto_some w room (f ∷ fs) part h r = omega arith
 
--- without marks
-behind_some : (time : ℕ) (w : SpaceWaiting) (room : ℕ) (acks crypto : List FrameValue) (b : Bool) → AckPart time w acks b → CryptoPart (without_all w acks) (room - 2 - length (frames_spelling acks)) crypto →
-    (b || crypto_waits w) ≡ true → 20 ≤ room → 0 < length (acks ++ crypto)
-unfolding without_all
-behind_some time w room acks crypto true (AckPart.one ack says is) part h r = subst (λ (x : List FrameValue). 0 < length (x ++ crypto)) (sym is) (omega arith)
-behind_some time w room acks crypto false (AckPart.none is) part h r =
-    let bytes : CryptoPart w (room - 2 - 0) crypto = subst (λ (x : List FrameValue). CryptoPart (without_all w x) (room - 2 - length (frames_spelling x)) crypto) is part in
-    subst (λ (x : List FrameValue). 0 < length (x ++ crypto)) (sym is) (crypto_some w (room - 2 - 0) crypto bytes h (omega arith))
-
 -- a frame waits
 abbrev pub is_wanted : SpaceWaiting → Bool
 is_wanted w = w.done || w.ping || is_ack_owed w.acks || crypto_waits w
 
--- with marks or without
-front_some : (time : ℕ) (w : SpaceWaiting) (room : ℕ) (acks crypto : List FrameValue) (a b : Bool) → AckPart time w acks (is_ack_owed w.acks) →
-    CryptoPart (without_all w (((if a then HandshakeDone ∷ [] else []) ++ (if b then Ping ∷ [] else [])) ++ acks)) (room - 2 - length (frames_spelling acks)) crypto →
-    (a || b || is_ack_owed w.acks || crypto_waits w) ≡ true → 20 ≤ room →
-    0 < length (((if a then HandshakeDone ∷ [] else []) ++ (if b then Ping ∷ [] else [])) ++ (acks ++ crypto))
-front_some time w room acks crypto true b ack part h r = omega arith
-front_some time w room acks crypto false true ack part h r = omega arith
-front_some time w room acks crypto false false ack part h r = behind_some time w room acks crypto (is_ack_owed w.acks) ack part h r
+-- an ACK is all that is wanted, and has no room
+pub record Lacks (time : ℕ) (w : SpaceWaiting) (room : ℕ) : Type 0 where
+  pub owed : is_ack_owed w.acks ≡ true
+  pub alone : wants_sending w ≡ false
+  pub ack : AckValue
+  pub says : SaysAck time w ack
+  pub long : room < length (frames_spelling (Ack ack ∷ []))
 
--- this end takes some frame, where one waits and there is room for more than the head of a CRYPTO frame
-pub taken_some : (time : ℕ) (w : SpaceWaiting) (room : ℕ) (fs : List FrameValue) → TakenPart time w room fs → is_wanted w ≡ true → 20 ≤ room → 0 < length fs
+-- of two tests the first holds where the second doesn't
+or_left : (a b : Bool) → (a || b) ≡ true → b ≡ false → a ≡ true
+or_left true b h e = refl
+or_left false b h e = cc
+
+or_right : (a b : Bool) → (a || b) ≡ true → a ≡ false → b ≡ true
+or_right true b h e = cc
+or_right false b h e = h
+
+-- an ACK that is left out leaves its room to CRYPTO bytes, where some wait
+left_out_some : (time room : ℕ) (w : SpaceWaiting) (crypto last : List FrameValue) (ack : AckValue) (c : Bool) → w.done ≡ false → w.ping ≡ false → SaysAck time w ack →
+    room - 0 < length (frames_spelling (Ack ack ∷ [])) → CryptoPart w (room - 0 - 0) crypto → (is_ack_owed w.acks || c) ≡ true → crypto_waits w ≡ c → 25 ≤ room →
+    (0 < length (crypto ++ last)) ⊎ Lacks time w room
+left_out_some time room w crypto last ack true g i says long part h e r =
+    let some : 0 < length crypto = crypto_some w (room - 0 - 0) crypto part e (omega arith) in
+    inl (omega (arith, length-append crypto last, some))
+left_out_some time room w crypto last ack false g i says long part h e r = inr (record {
+  owed = or_left (is_ack_owed w.acks) false h refl;
+  alone = ap (λ (b : Bool). b || w.ping || crypto_waits w) g ∙ ap (λ (b : Bool). b || crypto_waits w) i ∙ e;
+  ack = ack;
+  says = says;
+  long = omega (arith, long);
+})
+
+-- without marks
+behind_some : (time room : ℕ) (w : SpaceWaiting) (acks crypto last : List FrameValue) (b : Bool) → w.done ≡ false → w.ping ≡ false → AckPart time w (room - 0) acks b → is_ack_first w.acks ≡ b →
+    CryptoPart (without_all w acks) (room - 0 - length (frames_spelling acks)) crypto → (is_ack_owed w.acks || crypto_waits w) ≡ true → 25 ≤ room → (0 < length (acks ++ (crypto ++ last))) ⊎ Lacks time w room
+unfolding without_all
+behind_some time room w acks crypto last true g i (AckPart.one ack says fits is) first part h r = inl (subst (λ (x : List FrameValue). 0 < length (x ++ (crypto ++ last))) (sym is) (omega arith))
+behind_some time room w acks crypto last true g i (AckPart.left_out ack says long is) first part h r =
+    let bytes : CryptoPart w (room - 0 - 0) crypto = subst (λ (x : List FrameValue). CryptoPart (without_all w x) (room - 0 - length (frames_spelling x)) crypto) is part in
+    subst (λ (x : List FrameValue). (0 < length (x ++ (crypto ++ last))) ⊎ Lacks time w room) (sym is) (left_out_some time room w crypto last ack (crypto_waits w) g i says long bytes h refl r)
+behind_some time room w acks crypto last false g i (AckPart.none is) first part h r =
+    let bytes : CryptoPart w (room - 0 - 0) crypto = subst (λ (x : List FrameValue). CryptoPart (without_all w x) (room - 0 - length (frames_spelling x)) crypto) is part in
+    let some : 0 < length crypto = crypto_some w (room - 0 - 0) crypto bytes (or_right (is_ack_owed w.acks) (crypto_waits w) h (owed_first w.acks first)) (omega arith) in
+    inl (subst (λ (x : List FrameValue). 0 < length (x ++ (crypto ++ last))) (sym is) (omega (arith, length-append crypto last, some)))
+
+-- with marks or without
+front_some : (time room : ℕ) (w : SpaceWaiting) (acks crypto last : List FrameValue) (a b : Bool) → w.done ≡ a → w.ping ≡ b →
+    AckPart time w (room - length (marks_of a b)) acks (is_ack_first w.acks) →
+    CryptoPart (without_all w (marks_of a b ++ acks))
+    (room - length (marks_of a b) - length (frames_spelling acks)) crypto →
+    (a || b || is_ack_owed w.acks || crypto_waits w) ≡ true → 25 ≤ room →
+    (0 < length (marks_of a b ++ (acks ++ (crypto ++ last)))) ⊎ Lacks time w room
+front_some time room w acks crypto last true b g i ack part h r = inl (omega arith)
+front_some time room w acks crypto last false true g i ack part h r = inl (omega arith)
+front_some time room w acks crypto last false false g i ack part h r = behind_some time room w acks crypto last (is_ack_first w.acks) g i ack refl part h r
+
+-- this end takes some frame, where one waits and there is room for more than the head of a CRYPTO frame; unless all that waits is an
+-- ACK that has no room
+pub taken_some : (time : ℕ) (bundled : Option ℕ) (w : SpaceWaiting) (room : ℕ) (fs : List FrameValue) → TakenPart time bundled w room fs → is_wanted w ≡ true → 25 ≤ room → (0 < length fs) ⊎ Lacks time w room
 unfolding marks_part done_part ping_part
-taken_some time w room fs taken h r = subst (λ (x : List FrameValue). 0 < length x) (sym taken.all) (front_some time w room taken.acks taken.crypto w.done w.ping taken.ack taken.part h r)
+taken_some time bundled w room fs taken h r =
+    subst (λ (x : List FrameValue). (0 < length x) ⊎ Lacks time w room) (sym taken.all) (front_some time room w taken.acks taken.crypto taken.last w.done w.ping refl refl taken.ack taken.part h r)
 
 -- where no frame waits, a PING does from then on
 pinged : (w : SpaceWaiting) (b : Bool) → (w.done || w.ping || crypto_waits w) ≡ b → is_wanted (if b then w else record w { ping = true }) ≡ true
@@ -145,22 +201,11 @@ pub begun_wanted : (w : SpaceWaiting) (oldest : Option SentPacket) → waits_her
 unfolding begun_in
 begun_wanted w oldest h = begun_by w oldest (w.probes == 0) h
 
--- the counts of marks have at most 24 bytes
-counts_short : (ecn : Option EcnCounts) → length (ecn_spelling ecn) ≤ 24
-counts_short None = omega arith
-counts_short (Some counts) = counts_size_max counts
-
--- an ACK of at most 64 ranges has at most 1065 bytes
-ack_short : (time : ℕ) (w : SpaceWaiting) (ack : AckValue) → SaysAck time w ack → length w.acks.ranges ≤ 64 → length (frames_spelling (Ack ack ∷ [])) ≤ 1065
-unfolding Fits
-ack_short time w ack says few =
-    let count : length (ranges_of ack) ≡ length w.acks.ranges = ap length says.ranges ∙ length-reverse w.acks.ranges in
-    omega (arith, length-append (spelling (Ack ack)) [], ack_size_max ack says.fits.2, count, counts_short ack.ecn)
-
--- the ACK, where there is one, has at most 1065 bytes
-pub acks_fit : (time : ℕ) (w : SpaceWaiting) (acks : List FrameValue) (b : Bool) → AckPart time w acks b → length w.acks.ranges ≤ 64 → length (frames_spelling acks) ≤ 1065
-acks_fit time w acks true (AckPart.one ack says is) few = subst (λ (x : List FrameValue). length (frames_spelling x) ≤ 1065) (sym is) (ack_short time w ack says few)
-acks_fit time w acks false (AckPart.none is) few = subst (λ (x : List FrameValue). length (frames_spelling x) ≤ 1065) (sym is) (omega arith)
+-- the ACK, where there is one, has no more bytes than there is room for
+pub ack_fits : (time room : ℕ) (w : SpaceWaiting) (acks : List FrameValue) (b : Bool) → AckPart time w room acks b → length (frames_spelling acks) ≤ room
+ack_fits time room w acks true (AckPart.one ack says fits is) = subst (λ (x : List FrameValue). length (frames_spelling x) ≤ room) (sym is) fits
+ack_fits time room w acks true (AckPart.left_out ack says long is) = subst (λ (x : List FrameValue). length (frames_spelling x) ≤ room) (sym is) (omega arith)
+ack_fits time room w acks false (AckPart.none is) = subst (λ (x : List FrameValue). length (frames_spelling x) ≤ room) (sym is) (omega arith)
 
 -- the bytes of joined frames are those of both
 pub bytes_append : (fs gs : List FrameValue) → length (frames_spelling (fs ++ gs)) ≡ length (frames_spelling fs) + length (frames_spelling gs)
@@ -185,39 +230,53 @@ crypto_len : (offset : ℕ) (body : List ℕ) → length (frames_spelling (Crypt
 unfolding spelling
 crypto_len offset body = simp (length-append, type_short) (omega (arith, varint_short offset, varint_short (length body)))
 
--- the CRYPTO frames fit into the room
-crypto_fits : (w : SpaceWaiting) (room : ℕ) (fs : List FrameValue) → CryptoPart w room fs → length (frames_spelling fs) ≤ room
+-- the CRYPTO frames fit into the room, and leave of it what is left behind them
+crypto_fits : (w : SpaceWaiting) (room : ℕ) (fs : List FrameValue) → CryptoPart w room fs → length (frames_spelling fs) + room_behind room fs ≤ room
 unfolding CryptoPart
 crypto_fits w room [] h = omega arith
 crypto_fits w room (Crypto offset body ∷ fs) h =
-    let rest : length (frames_spelling fs) ≤ room - (length body + 17) = crypto_fits (without w (Crypto offset body)) _ fs h.2 in
+    let rest : length (frames_spelling fs) + room_behind (room - (length body + 17)) fs ≤ room - (length body + 17) = crypto_fits (without w (Crypto offset body)) _ fs h.2 in
     let whole : length (frames_spelling (Crypto offset body ∷ fs)) ≡ length (frames_spelling (Crypto offset body ∷ [])) + length (frames_spelling fs) = bytes_append (Crypto offset body ∷ []) fs in
     let fits : length body + 17 ≤ room = h.1 in
     omega (arith, rest, whole, fits, crypto_len offset body)
 crypto_fits w room (_ ∷ fs) h = absurd h
 
-marks_fit_by : (a b : Bool) → length (frames_spelling ((if a then HandshakeDone ∷ [] else []) ++ (if b then Ping ∷ [] else []))) ≤ 2
+-- a HANDSHAKE_DONE and a PING have a byte each
+marks_fit_by : (a b : Bool) → length (frames_spelling (marks_of a b)) ≡ length (marks_of a b)
 unfolding spelling varint
-marks_fit_by true true = omega arith
-marks_fit_by true false = omega arith
-marks_fit_by false true = omega arith
-marks_fit_by false false = omega arith
+marks_fit_by true true = refl
+marks_fit_by true false = refl
+marks_fit_by false true = refl
+marks_fit_by false false = refl
 
-marks_fit : (w : SpaceWaiting) → length (frames_spelling (marks_part w)) ≤ 2
+marks_fit : (w : SpaceWaiting) → length (frames_spelling (marks_part w)) ≡ length (marks_part w)
 unfolding marks_part done_part ping_part
 marks_fit w = marks_fit_by w.done w.ping
 
+marks_few_by : (a b : Bool) → length (marks_of a b) ≤ 2
+marks_few_by true true = omega arith
+marks_few_by true false = omega arith
+marks_few_by false true = omega arith
+marks_few_by false false = omega arith
+
+marks_few : (w : SpaceWaiting) → length (marks_part w) ≤ 2
+unfolding marks_part done_part ping_part
+marks_few w = marks_few_by w.done w.ping
+
 -- the frames that this end takes fit into the room
-pub taken_fits : (time : ℕ) (w : SpaceWaiting) (room : ℕ) (fs : List FrameValue) → TakenPart time w room fs → length w.acks.ranges ≤ 64 → 1067 ≤ room → length (frames_spelling fs) ≤ room
-taken_fits time w room fs taken few r =
-    let rest : List FrameValue = taken.crypto in
-    let same : length (frames_spelling fs) ≡ length (frames_spelling (marks_part w ++ (taken.acks ++ rest))) = ap (λ (x : List FrameValue). length (frames_spelling x)) taken.all in
+pub taken_fits : (time : ℕ) (bundled : Option ℕ) (w : SpaceWaiting) (room : ℕ) (fs : List FrameValue) → TakenPart time bundled w room fs → 2 ≤ room → length (frames_spelling fs) ≤ room
+taken_fits time bundled w room fs taken r =
+    let behind : ℕ = room - length (marks_part w) - length (frames_spelling taken.acks) in
+    let same : length (frames_spelling fs) ≡ length (frames_spelling (marks_part w ++ (taken.acks ++ (taken.crypto ++ taken.last)))) = ap (λ (x : List FrameValue). length (frames_spelling x)) taken.all in
     omega (
       arith,
       same,
-      bytes_append (marks_part w) (taken.acks ++ rest),
-      bytes_append taken.acks rest,
+      bytes_append (marks_part w) (taken.acks ++ (taken.crypto ++ taken.last)),
+      bytes_append taken.acks (taken.crypto ++ taken.last),
+      bytes_append taken.crypto taken.last,
       marks_fit w,
-      acks_fit time w taken.acks (is_ack_owed w.acks) taken.ack few,
-      crypto_fits (without_all w (marks_part w ++ taken.acks)) (room - 2 - length (frames_spelling taken.acks)) taken.crypto taken.part,
+      marks_few w,
+      ack_fits time (room - length (marks_part w)) w taken.acks (is_ack_first w.acks) taken.ack,
+      crypto_fits (without_all w (marks_part w ++ taken.acks)) behind taken.crypto taken.part,
+      ack_fits time (room_behind behind taken.crypto) w taken.last (is_ack_last time bundled w.acks) taken.bundle,
     )

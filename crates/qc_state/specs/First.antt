@@ -1,5 +1,6 @@
 -- The first view of a connection: of a client, and of a server.
 use Rattle.std.specs.Prelude.{ℕ, Bool, true, false, List, [], Option, Some, None}
+use Rattle.rand_core.specs.Stream.{Stream}
 use Rattle.std.specs.declared.net.IpAddr.{IpAddr}
 use Rattle.qc_assembler.specs.Assembly.{nothing}
 use Rattle.qc_base.specs.declared.side.Side.{Side}
@@ -8,10 +9,12 @@ use Rattle.qc_state.specs.declared.keys.SpaceKeys.{SpaceKeys}
 use Rattle.qc_state.specs.Keys.{new_keys}
 use Rattle.qc_base.specs.declared.side.SpaceId.TheVariants as space
 use Rattle.qc_path.specs.Acks.{no_marks}
+use Rattle.qc_path.specs.Filter.{first_skips}
 use Rattle.qc_state.specs.declared.life.State.TheVariants.{Handshake}
 use Rattle.qc_state.specs.declared.paths.Paths.{Paths}
 use Rattle.qc_state.specs.declared.setup.Fixed.{Fixed}
 use Rattle.qc_state.specs.declared.waiting.SpaceWaiting.{SpaceWaiting}
+use Rattle.qc_state.specs.Draws.{word, key_phase_of, spins_of, filter_words, words_left}
 use Rattle.qc_state.specs.Numbers.{no_numbers}
 use Rattle.qc_state.specs.Setup.{idle_limit_of}
 use Rattle.qc_state.specs.Types.{Types, Meaning}
@@ -21,20 +24,22 @@ use Rattle.qc_recovery.specs.Paths.{begun_path}
 use Rattle.qc_recovery.specs.TransportValues.{TransportValues}
 use Rattle.qc_recovery.specs.declared.path.PathData.{PathData}
 use Rattle.qc_send_stream.specs.Buffer.{bytes_written, nothing as nothing_written}
-use Rattle.qc_state.specs.View.{Held}
+use Rattle.qc_state.specs.View.{View}
 use Rattle.std.specs.declared.net.SocketAddr.{SocketAddr}
 
 -- what doesn't change of a connection
-abbrev pub fixed_of : Side → (version : ℕ) → (local_cid first_cid : List ℕ) → Option IpAddr → (max_idle_timeout : Option ℕ) → (crypto_buffer_size : ℕ) → (grease_quic_bit : Bool) → Fixed
-fixed_of side version local_cid first_cid local_ip max_idle_timeout crypto_buffer_size grease_quic_bit = record {
+abbrev pub fixed_of : Side → (version : ℕ) → (local_cid first_cid : List ℕ) → Option IpAddr → TransportValues → (grease_quic_bit : Bool) → (words : Stream) → Fixed
+fixed_of side version local_cid first_cid local_ip transport grease_quic_bit words = record {
   side = side;
   version = version;
   local_cid = local_cid;
   first_cid = first_cid;
   local_ip = local_ip;
-  idle_limit = idle_limit_of max_idle_timeout;
-  crypto_buffer_size = crypto_buffer_size;
+  idle_limit = idle_limit_of transport.max_idle_timeout;
+  crypto_buffer_size = transport.crypto_buffer_size;
   grease_quic_bit = grease_quic_bit;
+  spins = spins_of transport.allow_spin words;
+  key_phase_size = key_phase_of words;
 }
 
 -- a space in which nothing waits but these CRYPTO bytes
@@ -45,16 +50,19 @@ nothing_waits crypto = record { done = false; ping = false; crypto = bytes_writt
 abbrev pub first_path : {C : Type 0} → Control C → TransportValues → C → (time : ℕ) → PathData C
 first_path m transport congestion time = begun_path m time transport congestion false None
 
-module _ {t : Types} {R : Type 0} where
-  -- a connection that was just made at this time: it has the keys of the Initial space, and nothing waits but what its session
-  -- wrote, from the start of that space's CRYPTO stream
-  abbrev pub just_made : SpaceKeys t.H t.P → t.S → (hello : List ℕ) → R → Fixed → Paths → TransportValues → PathData t.C → ℕ → Held t R
-  just_made keys session hello random fixed paths transport path time = record {
-    numbers = record { spaces = record { initial = no_numbers time; handshake = no_numbers time; application = no_numbers time } };
+module _ {t : Types} where
+  -- a connection that was just made at this time: it has the keys of the Initial space, nothing waits but what its session wrote, from
+  -- the start of that space's CRYPTO stream, and it has drawn of these random words
+  abbrev pub just_made : SpaceKeys t.H t.P → t.S → (hello token : List ℕ) → (words : Stream) → Fixed → Paths → TransportValues → PathData t.C → ℕ → View t
+  just_made keys session hello token words fixed paths transport path time = record {
+    numbers = record {
+      spaces = record { initial = no_numbers time; handshake = no_numbers time; application = no_numbers time };
+      filter = first_skips (word (filter_words transport.allow_spin words));
+    };
     keys = record { spaces = record { initial = Some keys; handshake = None; application = None }; highest = space.Initial; failures = 0 };
     life = record { state = Handshake; reason = None; ready = false; connected = false; lost = None; reset_token = None; wanted = None; drained = false; close = None };
     paths = paths;
-    timers = record { loss_detection = None; idle = None; close = None; sets_idle = true; greatest = time };
+    timers = record { loss_detection = None; idle = None; close = None; max_ack_delay = None; sets_idle = true; greatest = time };
     waiting = record {
       spaces = record {
         initial = nothing_waits hello;
@@ -62,21 +70,22 @@ module _ {t : Types} {R : Type 0} where
         application = nothing_waits [];
       };
       close_owed = false;
+      bundled = None;
     };
-    setup = record { fixed = fixed; peer = None; token = None; random = random };
+    setup = record { fixed = fixed; peer = None; token = None; initial_token = token; random = words_left transport.allow_spin words };
     lower = record { session = session; streams = record { initial = nothing; handshake = nothing; application = nothing }; recovery = begun_recovery transport; path = path };
   }
 
   -- a client that was just made: its keys are those of the destination id of its first packets, which packets to the server carry
-  -- until the server chooses one, and its hello waits
-  unfoldable pub first_view : Meaning t → t.S → R → Fixed → SocketAddr → List ℕ → TransportValues → t.C → ℕ → Held t R
-  first_view m session random fixed remote first_cid transport congestion time =
-      just_made (new_keys m.seal_limit m.failure_limit (m.initial session first_cid Client)) (m.after_write session) (m.writes session) random fixed
+  -- until the server chooses one, its hello waits, and its Initial packets carry this token (RFC 9000, section 8.1)
+  unfoldable pub first_view : Meaning t → t.S → (words : Stream) → Fixed → SocketAddr → (first_cid token : List ℕ) → TransportValues → t.C → ℕ → View t
+  first_view m session words fixed remote first_cid token transport congestion time =
+      just_made (new_keys m.seal_limit m.failure_limit (m.initial session first_cid Client)) (m.after_write session) (m.writes session) token words fixed
       (record { remote = remote; remote_cid = first_cid; peer_fixed = false; validated = true; spin = false; sent = 0; received = 0; app_limited = false }) transport (first_path m.control transport congestion time) time
 
   -- a server that was just made: its keys are those of the destination id of the client's first packets, it knows the client's
   -- id, and it waits for the first packet
-  unfoldable pub server_view : Meaning t → t.S → R → Fixed → SocketAddr → (remote_cid : List ℕ) → (validated : Bool) → TransportValues → t.C → ℕ → Held t R
-  server_view m session random fixed remote remote_cid validated transport congestion time =
-      just_made (new_keys m.seal_limit m.failure_limit (m.initial session fixed.first_cid Server)) session [] random fixed
+  unfoldable pub server_view : Meaning t → t.S → (words : Stream) → Fixed → SocketAddr → (remote_cid : List ℕ) → (validated : Bool) → TransportValues → t.C → ℕ → View t
+  server_view m session words fixed remote remote_cid validated transport congestion time =
+      just_made (new_keys m.seal_limit m.failure_limit (m.initial session fixed.first_cid Server)) session [] [] words fixed
       (record { remote = remote; remote_cid = remote_cid; peer_fixed = true; validated = validated; spin = false; sent = 0; received = 0; app_limited = false }) transport (first_path m.control transport congestion time) time

@@ -167,19 +167,27 @@ kernel_after id k (Rose life) = record k { rank = life }
 kernel_after id k (Lost why) = record k { reason = Some why }
 kernel_after id k (Quiet why) = k
 
--- where a deed may come: a packet with the space's next number; a number that came and is new; which holds a close from the rise to Closed on; a rise of
--- the life that rises; a reason after none
+-- where a deed may come: a packet whose number isn't below the space's next one, and which holds a close from the rise to Closed on; a
+-- number that came and is new; a rise of the life that rises; a reason after none
 abbrev pub IsRight : SpaceId → Kernel → Did → Type 0
-IsRight id k (Sealed space number epoch early frames) = (is_space id space ≡ true → number ≡ k.next) × ClosesOnly k.rank frames
+IsRight id k (Sealed space number epoch early frames) = (is_space id space ≡ true → k.next ≤ number) × ClosesOnly k.rank frames
 IsRight id k (Piece space number verdict) = IfSome (entered_number id space number verdict) (λ n. is_new k.came n ≡ true)
 IsRight id k (Gave layer body) = Unit {0}
 IsRight id k (Rose life) = k.rank < life
 IsRight id k (Lost why) = k.reason ≡ None
 IsRight id k (Quiet why) = Unit {0}
 
--- deeds that come where they may, from one kernel to another
+-- from one kernel to another, between which numbers may have been skipped
+pub record IsBehind (k k' : Kernel) : Type 0 where
+  pub next : k.next ≤ k'.next
+  pub came : k'.came ≡ k.came
+  pub reason : k'.reason ≡ k.reason
+  pub rank : k'.rank ≡ k.rank
+
+-- deeds that come where they may, from one kernel to another; before each of them, and behind the last one, numbers may have been
+-- skipped
 unfoldable pub Tells : SpaceId → Kernel → List Did → Kernel → Type 0
-Tells id k [] k' = k' ≡ k
+Tells id k [] k' = IsBehind k k'
 Tells id k (d ∷ ds) k' = IsRight id k d × Tells id (kernel_after id k d) ds k'
 
 -- a deed that tells of a packet which was ignored, or which its key didn't open

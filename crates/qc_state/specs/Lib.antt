@@ -1,5 +1,6 @@
 pub mod Acks
 pub mod DatagramLaws
+pub mod Draws
 pub mod Expansion
 pub mod First
 pub mod Flight

@@ -3,7 +3,10 @@
 use Rattle.std.specs.Prelude.{◌≡◌, ℕ, ◌<◌, ◌≤◌, nat_le, Bool, true, false, if◌then◌else◌, List, [], ◌∷◌, ◌++◌, Option, Some, None}
 use Rattle.std.specs.List.{list_any}
 use Rattle.rand_core.specs.Stream.{Stream}
+use Rattle.qc_base.specs.declared.ecn.EcnCodepoint.{EcnCodepoint}
+use Rattle.qc_base.specs.declared.ecn.EcnCodepoint.TheVariants.{Ce}
 use Rattle.qc_base.specs.declared.side.SpaceId.{SpaceId}
+use Rattle.qc_base.specs.declared.side.SpaceId.TheVariants.{«Data»}
 use Rattle.qc_frame.specs.Frame.{FrameValue}
 use Rattle.qc_frame.specs.FrameSpelling.{elicits}
 use Rattle.qc_frame.specs.declared.frames.FrameOf.TheVariants as frames
@@ -17,7 +20,10 @@ use Rattle.qc_state.specs.declared.life.ConnectionError.{ConnectionError}
 use Rattle.qc_state.specs.declared.paths.Paths.{Paths}
 use Rattle.qc_state.specs.declared.timers.Timers.{Timers}
 use Rattle.qc_params.specs.declared.params.TransportParameters.{TransportParameters}
+use Rattle.qc_path.specs.Acks.{next_bundle}
 use Rattle.qc_path.specs.Arrived.{arrived}
+use Rattle.qc_path.specs.RoundTrips.{estimate}
+use Rattle.qc_path.specs.declared.pending_acks.Arrival.{Arrival}
 use Rattle.qc_state.specs.declared.waiting.Waiting.{Waiting}
 use Rattle.qc_state.specs.declared.setup.Setup.{Setup}
 use Rattle.qc_state.specs.declared.lower.Lower.{Lower}
@@ -30,25 +36,36 @@ use Rattle.qc_state.specs.declared.deeds.Verdict.TheVariants as verdict
 use Rattle.qc_flight.specs.Packets.{first_of}
 use Rattle.qc_recovery.specs.Steps.{After, FiredAfter}
 use Rattle.qc_recovery.specs.Steps as recovery
+use Rattle.qc_state.specs.Acks.{is_ack}
+use Rattle.qc_state.specs.Draws.{word}
 use Rattle.qc_state.specs.Life.{rank_of, reason_given, life_raised, life_closed, life_drained, life_established, data_ready, token_learned, identifiers_wanted, ready_reported, connected_reported, lost_reported, token_reported, wanted_reported, drained_reported}
-use Rattle.qc_state.specs.Numbers.{next_number, received_number, number_used, is_new_in, came_in, number_entered, number_accepted, number_acked}
+use Rattle.qc_state.specs.Numbers.{next_number, received_number, number_used, number_skipped, is_skipped, is_new_in, came_in, number_entered, number_accepted, number_acked}
 use Rattle.qc_state.specs.Keys.{key_used, failure_counted, keys_given, keys_dropped}
 use Rattle.qc_state.specs.Flight.{flown_packet}
 use Rattle.qc_state.specs.Lower.{bytes_came, session_read, session_wrote, flight_dropped, packet_flown, packets_settled, timer_fired}
 use Rattle.qc_state.specs.Paths.{is_blocked, path_idle, path_sent, path_received, path_accepted, path_spun, peer_fixed}
 use Rattle.qc_state.specs.Recovering.{loss_time, probe_timeout_now}
-use Rattle.qc_state.specs.Setup.{idle_limit_now, parameters_known, token_expected}
+use Rattle.qc_state.specs.Setup.{idle_limit_now, packet_drawn, parameters_known, peer_delay, token_expected, word_drawn}
 use Rattle.qc_state.specs.Spaces.{is_space}
-use Rattle.qc_state.specs.Timers.{timers_sealed, timers_stopped, timers_closing, timers_accepted, timers_armed, clock_set}
+use Rattle.qc_state.specs.Timers.{timers_sealed, timers_acking, timers_stopped, timers_closing, timers_accepted, timers_holding, timers_released, timers_armed, clock_set}
 use Rattle.qc_state.specs.Types.{Types}
 use Rattle.qc_state.specs.View.{View, At, at}
-use Rattle.qc_state.specs.Waiting.{ping_asked, done_asked, waiting_without, close_begun, packet_told, packet_came, packets_acked, packets_lost, fired_in, datagram_begun, crypto_written, space_left}
+use Rattle.qc_state.specs.Waiting.{ping_asked, done_asked, waiting_without, close_begun, packet_told, packet_came, packets_acked, packets_lost, fired_in, datagram_begun, crypto_written, space_left, holds_back, ack_released, bundle_next}
 
 -- whether a frame closes the connection (RFC 9000, section 19.19)
 abbrev pub is_close : FrameValue → Bool
 is_close (frames.ConnectionClose code type reason) = true
 is_close (frames.ApplicationClose code reason) = true
 is_close _ = false
+
+-- whether a mark tells of congestion (RFC 3168)
+abbrev pub tells_congestion : Option EcnCodepoint → Bool
+tells_congestion (Some Ce) = true
+tells_congestion _ = false
+
+-- a packet that came at a time, as the space's ACKs are told of it
+abbrev pub arrival_of : (time number : ℕ) → (eliciting : Bool) → Signs → Arrival
+arrival_of time n eliciting signs = record { number = n; at = time; ack_eliciting = eliciting; ce = tells_congestion signs.mark }
 
 -- from the rise to Closed on, a packet holds a close
 abbrev pub ClosesOnly : ℕ → List FrameValue → Type 0
@@ -98,7 +115,9 @@ pub data Move (t : Types) : Type 0 where
   Ack : (id : SpaceId) → (largest : ℕ) → (after : After t.C) → Move t  -- the peer acknowledged packets, which leaves this of loss recovery
   Fire : (after : FiredAfter t.C) → Move t  -- the loss timer fired, which leaves this of loss recovery
   Arm : (at : Option ℕ) → Move t  -- the loss timer is set, or stopped
+  Release : Move t  -- an ACK that was held back is owed
   Begin : (id : SpaceId) → Move t  -- a datagram is begun for a space, which spends a probe that is due there
+  Skip : Move t  -- the next number of 1-RTT packets is skipped
   Come : (id : SpaceId) → (offset : ℕ) → (bytes : List ℕ) → Move t  -- bytes of a CRYPTO stream came
   Read : (id : SpaceId) → (count : ℕ) → (session : t.S) → Move t  -- the session was given so many of them
   Write : (bytes : List ℕ) → (keys : Option (SpaceKeys t.H t.P)) → (session : t.S) → Move t  -- the session wrote bytes, and gave keys
@@ -126,6 +145,7 @@ pub data Move (t : Types) : Type 0 where
 module _ {t : Types} where
   unfoldable pub numbers_move : Move t → View t → Numbers
   numbers_move (Seal time id n size fs) s = number_used s.numbers id n
+  numbers_move Skip s = number_skipped s.numbers (word s.setup.random)
   numbers_move (Enter id n v) s = number_entered s.numbers id n
   numbers_move (Accept time id n e g v) s = number_accepted s.numbers id n
   numbers_move (Ack id n r) s = number_acked s.numbers id n
@@ -166,8 +186,12 @@ module _ {t : Types} where
 
   unfoldable pub timers_move : Move t → View t → Timers
   timers_move (Clock time) s = clock_set s.timers time
-  timers_move (Seal time id n size fs) s = if list_any elicits fs then timers_sealed s.timers (idle_limit_now s.setup) (probe_timeout_now s id) time else s.timers
-  timers_move (Accept time id n e g v) s = timers_accepted s.timers (idle_limit_now s.setup) (probe_timeout_now s id) time
+  timers_move (Seal time id n size fs) s =
+      timers_acking (if list_any elicits fs then timers_sealed s.timers (idle_limit_now s.setup) (probe_timeout_now s id) time else s.timers) (list_any is_ack fs)
+  timers_move (Accept time id n e g v) s =
+      timers_holding (timers_accepted s.timers (idle_limit_now s.setup) (probe_timeout_now s id) time)
+      (holds_back s.waiting id (arrived n (came_in s.numbers id)) (arrival_of time n e g)) time
+  timers_move Release s = timers_released s.timers
   timers_move (Arm at) s = timers_armed s.timers at
   timers_move (Shut time close) s = timers_closing s.timers (probe_timeout_now s s.keys.highest) time
   timers_move (Leave time) s = timers_closing s.timers (probe_timeout_now s s.keys.highest) time
@@ -178,13 +202,15 @@ module _ {t : Types} where
   waiting_move (Ask id) s = ping_asked s.waiting id
   waiting_move (Take id fs) s = waiting_without s.waiting id fs
   waiting_move (Begin id) s = datagram_begun s.waiting id (first_of (recovery.space_of id s.lower.recovery).flight)
-  waiting_move (Seal time id n size fs) s = packet_told s.waiting id (is_space id s.keys.highest)
+  waiting_move (Seal time id n size fs) s =
+      bundle_next (packet_told s.waiting id (is_space id s.keys.highest)) fs (next_bundle time (estimate s.lower.path.rtt) (peer_delay s.setup.peer))
   waiting_move (Forget id) s = space_left s.waiting id
-  waiting_move (Accept time id n e g v) s = packet_came s.waiting id (arrived n (came_in s.numbers id)) (record { number = n; at = time; ack_eliciting = e; ce = false }) g.mark
+  waiting_move (Accept time id n e g v) s = packet_came s.waiting id (arrived n (came_in s.numbers id)) (arrival_of time n e g) g.mark
   waiting_move (Write bytes keys session) s = crypto_written s.waiting s.keys.highest bytes
   waiting_move Confirm s = done_asked s.waiting
   waiting_move (Ack id n r) s = packets_lost (packets_acked s.waiting id r.acked) id r.lost
   waiting_move (Fire r) s = fired_in s.waiting r.fired
+  waiting_move Release s = ack_released s.waiting
   waiting_move Owe s = close_begun s.waiting
   waiting_move (Shut time close) s = close_begun s.waiting
   waiting_move _ s = s.waiting
@@ -192,6 +218,8 @@ module _ {t : Types} where
   unfoldable pub setup_move : Move t → View t → Setup Stream
   setup_move (Expect token) s = token_expected s.setup token
   setup_move (Learn parameters) s = parameters_known s.setup parameters
+  setup_move Skip s = word_drawn s.setup
+  setup_move (Seal time id n size fs) s = packet_drawn s.setup id
   setup_move _ s = s.setup
 
   unfoldable pub lower_move : Move t → View t → Lower t.S t.C
@@ -234,6 +262,7 @@ module _ {t : Types} where
   unfoldable pub MayMove : Move t → View t → Type 0
   MayMove (Clock time) s = ⊥
   MayMove (Seal time id n size fs) s = (n ≡ next_number s.numbers id) × ClosesOnly (rank_of s.life.state) fs
+  MayMove Skip s = is_skipped s.numbers «Data» ≡ true
   MayMove (Accept time id n e g v) s = (is_new_in s.numbers id n ≡ true) × (enters v ≡ true)
   MayMove (Enter id n v) s = (is_new_in s.numbers id n ≡ true) × (enters v ≡ true)
   MayMove Establish s = rank_of s.life.state < 1

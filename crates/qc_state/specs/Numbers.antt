@@ -1,10 +1,12 @@
 -- The packet numbers of a connection (RFC 9000, 12.3).
-use Rattle.std.specs.Prelude.{ℕ, ◌+◌, min, max, Bool}
+use Rattle.std.specs.Prelude.{ℕ, ◌+◌, min, max, Bool, ◌&&◌, ◌==◌, if◌then◌else◌}
 use Rattle.qc_base.specs.declared.side.SpaceId.{SpaceId}
+use Rattle.qc_base.specs.declared.side.SpaceId.TheVariants.{«Data»}
 use Rattle.qc_path.specs.Arrived.{Window, nothing_came, is_new, arrived}
+use Rattle.qc_path.specs.Filter.{numbered}
 use Rattle.qc_state.specs.declared.numbers.Numbers.{Numbers}
 use Rattle.qc_state.specs.declared.numbers.SpaceNumbers.{SpaceNumbers}
-use Rattle.qc_state.specs.Spaces.{space_of, with_space}
+use Rattle.qc_state.specs.Spaces.{is_space, space_of, with_space}
 
 -- a space that began at this time, in which no packet was sealed, and none came
 abbrev pub no_numbers : (time : ℕ) → SpaceNumbers
@@ -29,6 +31,22 @@ used_in n w = record w { next = n + 1 }
 -- a packet was sealed in the space with this number
 unfoldable pub number_used : Numbers → SpaceId → ℕ → Numbers
 number_used v id n = record v { spaces = with_space v.spaces id (used_in n (space_of v.spaces id)) }
+
+-- whether the number that would be next in the space is skipped: some numbers of 1-RTT packets are, so that a peer shows itself that
+-- acknowledges packets which it never saw (RFC 9000, section 21.4)
+unfoldable pub is_skipped : Numbers → SpaceId → Bool
+is_skipped v id = is_space id «Data» && (next_number v id == v.filter.skipped)
+
+-- the number that the space's next packet gets
+unfoldable pub coming_number : Numbers → SpaceId → ℕ
+coming_number v id = if is_skipped v id then next_number v id + 1 else next_number v id
+
+-- the next number of 1-RTT packets is skipped; the number that is skipped after it comes of this random word
+unfoldable pub number_skipped : Numbers → (word : ℕ) → Numbers
+number_skipped v word = record {
+  spaces = with_space v.spaces «Data» (used_in (next_number v «Data») (space_of v.spaces «Data»));
+  filter = numbered (next_number v «Data») word v.filter;
+}
 
 -- the greatest number of the packets that were accepted in the space, 0 before the first
 unfoldable pub received_number : Numbers → SpaceId → ℕ

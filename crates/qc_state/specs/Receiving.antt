@@ -32,6 +32,7 @@ use Rattle.qc_state.specs.declared.opening.Opening.{Opening}
 use Rattle.qc_state.specs.declared.opening.Signs.{Signs}
 use Rattle.qc_state.specs.declared.transmit.TheConstants.{DATAGRAM_SIZE}
 use Rattle.qc_state.specs.declared.opening.Opening.TheVariants.{Unreadable, Unopened, Reserved, Opened}
+use Rattle.qc_state.specs.Acks.{acknowledges_any}
 use Rattle.qc_state.specs.Keys.{fails_too_often}
 use Rattle.qc_state.specs.Life.{is_open, is_over, is_handshake, is_established}
 use Rattle.qc_state.specs.Lower.{ready_bytes, stream_of}
@@ -66,23 +67,23 @@ abbrev pub done_stop : Side → (type : ℕ) → Option TransportError
 done_stop Client type = None
 done_stop Server type = Some (violation_at (Some type))
 
--- the same in a 1-RTT packet that an end of this side receives, where frames of kinds that aren't taken so far stop it with
--- INTERNAL_ERROR
-abbrev pub data_stop : Side → (next type : ℕ) → FrameValue → Option TransportError
-data_stop side next type frames.Padding = None
-data_stop side next type frames.Ping = None
-data_stop side next type (frames.Ack ack) = if nat_le next ack.largest then Some (violation_at None) else None
-data_stop side next type (frames.Crypto offset body) = None
-data_stop side next type (frames.ConnectionClose code frame_type reason) = None
-data_stop side next type (frames.ApplicationClose code reason) = None
-data_stop side next type frames.HandshakeDone = done_stop side type
-data_stop side next type _ = Some (internal_error_at (Some type))
+-- The same in a 1-RTT packet that an end of this side receives, which skipped the number `skipped` last: an ACK of that number
+-- stops it too (RFC 9000, section 21.4), and frames of kinds that aren't taken so far stop it with INTERNAL_ERROR.
+abbrev pub data_stop : Side → (next : ℕ) → (skipped : Option ℕ) → (type : ℕ) → FrameValue → Option TransportError
+data_stop side next skipped type frames.Padding = None
+data_stop side next skipped type frames.Ping = None
+data_stop side next skipped type (frames.Ack ack) = if nat_le next ack.largest || acknowledges_any ack skipped then Some (violation_at None) else None
+data_stop side next skipped type (frames.Crypto offset body) = None
+data_stop side next skipped type (frames.ConnectionClose code frame_type reason) = None
+data_stop side next skipped type (frames.ApplicationClose code reason) = None
+data_stop side next skipped type frames.HandshakeDone = done_stop side type
+data_stop side next skipped type _ = Some (internal_error_at (Some type))
 
 -- by the space of the packet
-abbrev pub stop_in : Side → SpaceId → (next type : ℕ) → FrameValue → Option TransportError
-stop_in side Initial next type frame = frame_stop next type frame
-stop_in side Handshake next type frame = frame_stop next type frame
-stop_in side Data next type frame = data_stop side next type frame
+abbrev pub stop_in : Side → SpaceId → (next : ℕ) → (skipped : Option ℕ) → (type : ℕ) → FrameValue → Option TransportError
+stop_in side Initial next skipped type frame = frame_stop next type frame
+stop_in side Handshake next skipped type frame = frame_stop next type frame
+stop_in side Data next skipped type frame = data_stop side next skipped type frame
 
 -- the reason that a close of the peer's gives for the end
 abbrev pub reason_of : FrameValue → Option ConnectionError
@@ -236,7 +237,7 @@ module _ {t : Types} where
   -- a close, or another frame, which stops its packet or is taken; `close` is the last close so far
   abbrev pub read_and : Meaning t → (time : ℕ) → SpaceId → TypedValue → Option ConnectionError → (close : Option ConnectionError) → (Option ConnectionError → At t → At t) → At t → At t
   read_and m time id read (Some why) close others a = close_and time id read.frame why others a
-  read_and m time id read None close others a = frame_and m time id read (stop_in a.state.setup.fixed.side id (next_number a.state.numbers id) read.ty read.frame) (others close) a
+  read_and m time id read None close others a = frame_and m time id read (stop_in a.state.setup.fixed.side id (next_number a.state.numbers id) a.state.numbers.filter.last read.ty read.frame) (others close) a
 
   -- the frames of a packet, in order, up to the first stop, or the first close of an Initial or Handshake packet
   abbrev pub items_after : Meaning t → (time : ℕ) → SpaceId → List Item → (close : Option ConnectionError) → At t → At t

@@ -1,6 +1,6 @@
 -- What a transmit may send, and what it leaves. Which of the waiting frames a packet carries is free, where no close is
 -- owed; all else is a function of that choice. So far a transmit seals at most one packet, in a datagram of its own.
-use Rattle.std.specs.Prelude.{◌≡◌, ℕ, ◌+◌, ◌-◌, ◌<◌, ◌≤◌, ◌^◌, ◌==◌, Bool, true, false, ◌||◌, ◌&&◌, not, nat_lt, nat_le, if◌then◌else◌, List, [], ◌∷◌, ◌++◌, length, replicate, Option, Some, None, is_some}
+use Rattle.std.specs.Prelude.{◌≡◌, ℕ, ◌+◌, ◌-◌, ◌<◌, ◌≤◌, ◌^◌, ◌==◌, ◌⊎◌, Bool, true, false, ◌||◌, ◌&&◌, not, nat_lt, nat_le, if◌then◌else◌, List, [], ◌∷◌, ◌++◌, length, replicate, Option, Some, None, is_some}
 use Rattle.std.specs.List.{list_any}
 use Rattle.qc_base.specs.declared.ecn.EcnCodepoint.TheVariants.{Ect0}
 use Rattle.qc_base.specs.declared.side.LongType.TheVariants as long
@@ -9,7 +9,7 @@ use Rattle.qc_base.specs.declared.side.SpaceId.{SpaceId}
 use Rattle.qc_base.specs.declared.side.SpaceId.TheVariants.{Initial, Handshake, «Data»}
 use Rattle.qc_base.specs.declared.side.Side.{Side}
 use Rattle.qc_base.specs.PacketNumber.{number_of}
-use Rattle.qc_frame.specs.Frame.{FrameValue}
+use Rattle.qc_frame.specs.Frame.{AckValue, FrameValue}
 use Rattle.qc_frame.specs.FrameSpelling.{elicits, frames_spelling}
 use Rattle.qc_frame.specs.declared.frames.FrameOf.TheVariants as frames
 use Rattle.qc_frame.specs.Sizes.{IsLongestReason}
@@ -17,7 +17,7 @@ use Rattle.qc_header.specs.HeaderSpelling.{header_spelling}
 use Rattle.qc_header.specs.declared.header.Header.{Header}
 use Rattle.qc_header.specs.declared.header.Header.TheVariants as header
 use Rattle.qc_packet.specs.Building.{padded_size}
-use Rattle.qc_packet.specs.PacketSpelling.{packet_spelling, padding_len}
+use Rattle.qc_packet.specs.PacketSpelling.{sealed_packet, padding_len}
 use Rattle.qc_state.specs.declared.deeds.Quiet.TheVariants.{NothingOwed, Silent, Amplification, Killed}
 use Rattle.qc_state.specs.declared.life.Close.{Close}
 use Rattle.qc_state.specs.declared.life.Close.TheVariants.{Connection, Application}
@@ -29,16 +29,18 @@ use Rattle.qc_state.specs.declared.transmit.TheConstants.{DATAGRAM_SIZE}
 use Rattle.qc_state.specs.declared.keys.SpaceKeys.{SpaceKeys}
 use Rattle.qc_state.specs.Keys.{keys_of, reaches_limit}
 use Rattle.qc_state.specs.Life.{is_open, is_closed, is_drained}
-use Rattle.qc_state.specs.Acks.{AckPart, may_acknowledge}
+use Rattle.qc_state.specs.Acks.{AckPart, SaysAck, is_ack_owed, may_acknowledge}
+use Rattle.qc_state.specs.Draws.{bit}
 use Rattle.qc_state.specs.Flight.{counts_in_flight}
-use Rattle.qc_state.specs.Moves.{Begin, Seal, Take, Forget, Say, move_to, state_move, armed_with}
-use Rattle.qc_state.specs.Numbers.{next_number, acked_number}
+use Rattle.qc_state.specs.Moves.{Begin, Skip, Seal, Take, Forget, Say, move_to, state_move, armed_with}
+use Rattle.qc_state.specs.Numbers.{next_number, coming_number, is_skipped, acked_number}
 use Rattle.qc_state.specs.Paths.{is_blocked}
-use Rattle.qc_state.specs.Spaces.{space_of}
-use Rattle.qc_state.specs.Stopping.{key_limit_error, killed_after, stopped_after}
+use Rattle.qc_state.specs.Spaces.{is_space, space_of}
+use Rattle.qc_state.specs.Setup.{behind_spin, takes_grease}
+use Rattle.qc_state.specs.Stopping.{key_limit_error, killed_after, stopped_after, violation_at}
 use Rattle.qc_state.specs.Types.{Types, Meaning}
-use Rattle.qc_state.specs.View.{View, At}
-use Rattle.qc_state.specs.Waiting.{waits_in, WaitAll, TakenPart}
+use Rattle.qc_state.specs.View.{View, At, at}
+use Rattle.qc_state.specs.Waiting.{waits_in, wants_sending, WaitAll, TakenPart}
 
 -- INTERNAL_ERROR (RFC 9000, section 20.1), without the type of a frame
 abbrev pub internal_error : ConnectionError
@@ -127,7 +129,7 @@ module _ {t : Types} where
 
   -- the next packet's number is past the limit
   unfoldable pub is_used_up : View t → Bool
-  is_used_up s = is_past_limit (next_number s.numbers (sending_space s)) (acked_number s.numbers (sending_space s))
+  is_used_up s = is_past_limit (coming_number s.numbers (sending_space s)) (acked_number s.numbers (sending_space s))
 
   -- the keys of a space, where their limit counts: that of 1-RTT keys doesn't so far
   abbrev pub limited_keys : View t → SpaceId → Option (SpaceKeys t.H t.P)
@@ -143,9 +145,13 @@ module _ {t : Types} where
   unfoldable pub is_key_nearly_used_up : View t → Bool
   is_key_nearly_used_up s = reaches_limit 2 (limited_keys s (sending_space s))
 
-  -- nothing may be sealed: the end came before, nothing is owed, the path is blocked, or a limit stands
-  unfoldable pub may_be_quiet : View t → Bool
-  may_be_quiet s = is_silent s || not (owes s) || is_blocked s.paths || is_key_used_up s || is_used_up s
+  -- the spin bit of the next 1-RTT packet: the path's where this connection spins, else it is drawn (RFC 9000, section 17.4)
+  unfoldable pub spin_now : View t → Bool
+  spin_now s = if s.setup.fixed.spins then s.paths.spin else bit s.setup.random
+
+  -- whether the fixed bit of the next packet of a space is flipped, which is drawn where the peer takes such packets (RFC 9287)
+  unfoldable pub flips_now : View t → SpaceId → Bool
+  flips_now s id = takes_grease s.setup.peer && bit (behind_spin s.setup id)
 
   -- the header of the next packet in a space (RFC 9000, sections 17.2.2, 17.2.4 and 17.3.1); a 1-RTT packet has the first key
   -- phase so far
@@ -153,12 +159,24 @@ module _ {t : Types} where
   header_in s Initial = header.Initial (record {
     dst_cid = s.paths.remote_cid;
     src_cid = s.setup.fixed.local_cid;
-    token = [];
+    token = s.setup.initial_token;
     number = number_of (next_number s.numbers Initial) (acked_number s.numbers Initial);
     version = s.setup.fixed.version;
   })
   header_in s Handshake = header.Long long.Handshake s.paths.remote_cid s.setup.fixed.local_cid (number_of (next_number s.numbers Handshake) (acked_number s.numbers Handshake)) s.setup.fixed.version
-  header_in s Data = header.Short s.paths.spin false s.paths.remote_cid (number_of (next_number s.numbers Data) (acked_number s.numbers Data))
+  header_in s Data = header.Short (spin_now s) false s.paths.remote_cid (number_of (next_number s.numbers Data) (acked_number s.numbers Data))
+
+  -- how much room for frames a datagram has behind the header of such a packet, and before its tag of 16 bytes
+  unfoldable pub frame_room : View t → SpaceId → ℕ
+  frame_room s id = DATAGRAM_SIZE - 16 - length (header_spelling (header_in s id) 0)
+
+  -- the token of the next packet, an Initial one, leaves no room for the greatest close without a reason, which has 25 bytes
+  unfoldable pub is_token_too_long : View t → Bool
+  is_token_too_long s = is_space (sending_space s) Initial && nat_lt (frame_room s Initial) 25
+
+  -- nothing may be sealed: the end came before, nothing is owed, the path is blocked, or a limit stands
+  unfoldable pub may_be_quiet : View t → Bool
+  may_be_quiet s = is_silent s || not (owes s) || is_blocked s.paths || is_key_used_up s || is_used_up s || is_token_too_long s
 
   -- how many bytes a packet of this space with these frames has
   unfoldable pub packet_size : View t → SpaceId → List FrameValue → ℕ
@@ -177,40 +195,52 @@ module _ {t : Types} where
   unfoldable pub padded : View t → SpaceId → List FrameValue → List FrameValue
   padded s id fs = fs ++ replicate (padding_of s id fs) frames.Padding
 
-  -- a packet under the local keys; none without keys
-  abbrev pub sealed_with : Meaning t → Option (SpaceKeys t.H t.P) → Header → ℕ → List ℕ → List ℕ
-  sealed_with m (Some k) header number plain = packet_spelling (m.mask k.keys.header.local) (m.seal k.keys.packet.local) header number plain
-  sealed_with m None header number plain = []
+  -- a packet under the local keys, its fixed bit flipped or not; none without keys
+  abbrev pub sealed_with : Meaning t → Option (SpaceKeys t.H t.P) → (flip : Bool) → Header → ℕ → List ℕ → List ℕ
+  sealed_with m (Some k) flip header number plain = sealed_packet (m.mask k.keys.header.local) (m.seal k.keys.packet.local) flip header number plain
+  sealed_with m None flip header number plain = []
 
   -- the bytes of the next packet of a space, with these frames
   unfoldable pub packet_bytes : Meaning t → View t → SpaceId → List FrameValue → List ℕ
-  packet_bytes m s id fs = sealed_with m (keys_of s.keys id) (header_in s id) (next_number s.numbers id) (frames_spelling fs)
+  packet_bytes m s id fs = sealed_with m (keys_of s.keys id) (flips_now s id) (header_in s id) (next_number s.numbers id) (frames_spelling fs)
 
-  -- how much room an ACK leaves for a close in a datagram of its own: beside header, tag and the 4 bytes that make sure of a
-  -- sample (RFC 9001, section 5.4.2)
-  unfoldable pub close_room : View t → SpaceId → List FrameValue → ℕ
-  close_room s id acks = DATAGRAM_SIZE - 20 - length (header_spelling (header_in s id) 0) - length (frames_spelling acks)
-
-  -- an ACK, if there is something to acknowledge, and the close with the reason that fits behind it
+  -- an ACK, if there is something to acknowledge and it leaves 25 bytes, and the close with the reason that fits behind it
   pub data Closes (time : ℕ) (s : View t) (id : SpaceId) (fs : List FrameValue) : Type 0 where
-    closing : (acks : List FrameValue) → AckPart time (space_of s.waiting.spaces id) acks (may_acknowledge (space_of s.waiting.spaces id).acks) →
-        (kept : List ℕ) → IsKeptReason (close_room s id acks) kept s.life.close → fs ≡ acks ++ closing_frame id kept s.life ∷ [] → Closes time s id fs
+    closing : (acks : List FrameValue) → AckPart time (space_of s.waiting.spaces id) (frame_room s id - 25) acks (may_acknowledge (space_of s.waiting.spaces id).acks) →
+        (kept : List ℕ) → IsKeptReason (frame_room s id - length (frames_spelling acks)) kept s.life.close → fs ≡ acks ++ closing_frame id kept s.life ∷ [] → Closes time s id fs
 
   -- the frames that this end takes at a time for a packet of this space with so much room: where a close is owed, it alone, else
   -- frames that wait
   pub data TakenNow (time : ℕ) (s : View t) (id : SpaceId) (room : ℕ) (fs : List FrameValue) : Type 0 where
     a_close : s.waiting.close_owed ≡ true → Closes time s id fs → TakenNow time s id room fs
-    what_waits : s.waiting.close_owed ≡ false → TakenPart time (space_of s.waiting.spaces id) room fs → TakenNow time s id room fs
+    what_waits : s.waiting.close_owed ≡ false → TakenPart time s.waiting.bundled (space_of s.waiting.spaces id) room fs → TakenNow time s id room fs
+
+  -- an ACK is all that is owed in a space, and has more bytes than there is room for behind the header, with its token
+  pub record LacksAckRoom (time : ℕ) (s : View t) (id : SpaceId) : Type 0 where
+    pub owed : is_ack_owed (space_of s.waiting.spaces id).acks ≡ true
+    pub alone : wants_sending (space_of s.waiting.spaces id) ≡ false
+    pub ack : AckValue
+    pub says : SaysAck time (space_of s.waiting.spaces id) ack
+    pub long : frame_room s id < length (frames_spelling (frames.Ack ack ∷ []))
 
   -- the frames of a packet of this space at a time, with the PADDING that it needs and no more: where a close is owed, it alone;
-  -- else each waits as its turn comes, and there is one
+  -- else each waits as its turn comes, and there is one, unless only an ACK is owed that has no room
   pub data Carries (time : ℕ) (s : View t) (id : SpaceId) (fs : List FrameValue) : Type 0 where
     a_close : s.waiting.close_owed ≡ true → (gs : List FrameValue) → Closes time s id gs → fs ≡ padded s id gs → Carries time s id fs
-    what_waits : s.waiting.close_owed ≡ false → (gs : List FrameValue) → WaitAll time (space_of s.waiting.spaces id) gs → 0 < length gs → fs ≡ padded s id gs → Carries time s id fs
+    what_waits : s.waiting.close_owed ≡ false → (gs : List FrameValue) → WaitAll time s.waiting.bundled (space_of s.waiting.spaces id) gs →
+        (0 < length gs) ⊎ LacksAckRoom time s id → fs ≡ padded s id gs → Carries time s id fs
+
+  -- the number that would be next in a space is skipped, where it is to be
+  unfoldable pub skipped_after : SpaceId → At t → At t
+  skipped_after id a = if is_skipped a.state.numbers id then move_to Skip a else a
+
+  -- a datagram is begun for the next packet, which has its number from now on
+  unfoldable pub begun_after : SpaceId → At t → At t
+  begun_after id a = skipped_after id (move_to (Begin id) a)
 
   -- the view once a datagram is begun for the next packet
   unfoldable pub begun_view : View t → View t
-  begun_view s = state_move (Begin (sending_space s)) s
+  begun_view s = (begun_after (sending_space s) (at s [])).state
 
   -- a packet with these frames may be sealed at a time: something is owed, the path isn't blocked, no limit stands, and it carries
   -- what it may
@@ -220,6 +250,7 @@ module _ {t : Types} where
     pub free : is_blocked s.paths ≡ false
     pub fresh : is_key_used_up s ≡ false
     pub spelled : is_used_up s ≡ false
+    pub roomy : is_token_too_long s ≡ false
     pub carries : Carries time (begun_view s) (sending_space s) fs
     pub fits : packet_size (begun_view s) (sending_space s) fs ≤ DATAGRAM_SIZE
 
@@ -254,12 +285,15 @@ module _ {t : Types} where
   -- a datagram is begun for the next packet, which is sealed
   unfoldable pub packet_after : ℕ → List FrameValue → At t → At t
   packet_after time fs a =
-      spared_after time (is_key_nearly_used_up a.state) (sealed_in time (sending_space a.state) fs (move_to (Begin (sending_space a.state)) a))
+      spared_after time (is_key_nearly_used_up a.state) (sealed_in time (sending_space a.state) fs (begun_after (sending_space a.state) a))
 
-  -- why the connection ends where something is owed and the path is free: its key has sealed as many packets as it may, or else
-  -- the packet numbers are used up
+  -- why the connection ends where something is owed and the path is free: its key has sealed as many packets as it may, or the packet
+  -- numbers are used up, or else its token leaves no room for frames
   unfoldable pub limit_met : View t → ConnectionError
-  limit_met s = if is_key_used_up s then lost.TransportError key_limit_error else internal_error
+  limit_met s =
+      if is_key_used_up s then lost.TransportError key_limit_error
+      else if is_used_up s then internal_error
+      else lost.TransportError (violation_at None)
 
   -- nothing is sealed of what is owed: because the path is blocked, or because of a limit, which is now the end
   unfoldable pub owed_quiet_after : At t → At t

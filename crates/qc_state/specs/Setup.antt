@@ -1,17 +1,21 @@
 -- What a connection was made with, what it knows of the peer's parameters, and the limit on idle time that comes of both.
-use Rattle.std.specs.Prelude.{ℕ, min, ◌==◌, Bool, false, if◌then◌else◌, List, Option, Some, None, is_none}
+use Rattle.std.specs.Prelude.{ℕ, min, ◌==◌, ◌&&◌, not, Bool, false, if◌then◌else◌, List, Option, Some, None, is_none}
 use Rattle.rand_core.specs.Stream.{Stream}
 use Rattle.qc_base.specs.Time.{times}
+use Rattle.qc_base.specs.declared.side.SpaceId.{SpaceId}
+use Rattle.qc_base.specs.declared.side.SpaceId.TheVariants.{«Data»}
 use Rattle.qc_base.specs.declared.side.Side.{Side}
 use Rattle.qc_base.specs.declared.side.Side.TheVariants.{Client, Server}
 use Rattle.qc_params.specs.declared.params.TransportParameters.{TransportParameters}
 use Rattle.qc_state.specs.declared.setup.Fixed.{Fixed}
 use Rattle.qc_state.specs.declared.setup.Setup.{Setup}
+use Rattle.qc_state.specs.Draws.{behind, behind_bit}
+use Rattle.qc_state.specs.Spaces.{is_space}
 use Rattle.qc_state.specs.Timers.{least}
 
 -- the same with the source of random words as its stream
 unfoldable pub ideal_setup : {R : Type 0} → (R → Stream) → Setup R → Setup Stream
-ideal_setup stream s = record { fixed = s.fixed; peer = s.peer; token = s.token; random = stream s.random }
+ideal_setup stream s = record { fixed = s.fixed; peer = s.peer; token = s.token; initial_token = s.initial_token; random = stream s.random }
 
 -- a limit on idle time in nanoseconds, of one in milliseconds: none, and 0, are no limit (RFC 9000, section 10.1)
 abbrev pub idle_limit_of : Option ℕ → Option ℕ
@@ -34,6 +38,23 @@ peer_delay (Some peer) = times peer.max_ack_delay 1000000
 abbrev pub peer_exponent : Option TransportParameters → ℕ
 peer_exponent None = 3
 peer_exponent (Some peer) = min peer.ack_delay_exponent 20
+
+-- the peer takes packets whose fixed bit isn't set, as its parameters say (RFC 9287)
+abbrev pub takes_grease : Option TransportParameters → Bool
+takes_grease None = false
+takes_grease (Some peer) = peer.grease_quic_bit
+
+-- a random word was drawn
+unfoldable pub word_drawn : Setup Stream → Setup Stream
+word_drawn s = record s { random = behind s.random }
+
+-- the words behind the spin bit of a packet of this space: it is drawn for a 1-RTT packet where the connection doesn't spin
+unfoldable pub behind_spin : Setup Stream → SpaceId → Stream
+behind_spin s id = if is_space id «Data» && not s.fixed.spins then behind_bit s.random else s.random
+
+-- what is drawn for a packet of this space was drawn: the spin bit, and whether the fixed bit is flipped, where the peer takes that
+unfoldable pub packet_drawn : Setup Stream → SpaceId → Setup Stream
+packet_drawn s id = record s { random = if takes_grease s.peer then behind_bit (behind_spin s id) else behind_spin s id }
 
 -- an end of this side, with this token of a first packet, waits for its first packet: a server does
 abbrev pub awaits_first : Side → Option (List ℕ) → Bool

@@ -36,14 +36,30 @@ timers_accepted v limit probe time = record v { idle = idle_from limit v.idle pr
 unfoldable pub timers_armed : Timers → Option ℕ → Timers
 timers_armed v time = record v { loss_detection = time }
 
+-- for how long an ACK is held back at most: 25 ms (RFC 9000, section 18.2)
+abbrev pub ack_delay_most : ℕ
+ack_delay_most = 25000000
+
+-- a packet of the peer was accepted at this time, whose ACK is held back, or isn't
+unfoldable pub timers_holding : Timers → (holds : Bool) → (time : ℕ) → Timers
+timers_holding v holds time = if holds then record v { max_ack_delay = Some (plus time ack_delay_most) } else v
+
+-- a packet was sealed, with an ACK or without one: with one, none is held back any more
+unfoldable pub timers_acking : Timers → (acks : Bool) → Timers
+timers_acking v acks = if acks then record v { max_ack_delay = None } else v
+
+-- the ACK that was held back is owed at last
+unfoldable pub timers_released : Timers → Timers
+timers_released v = record v { max_ack_delay = None }
+
 -- every timer is stopped
 unfoldable pub timers_stopped : Timers → Timers
-timers_stopped v = record v { loss_detection = None; idle = None; close = None }
+timers_stopped v = record v { loss_detection = None; idle = None; close = None; max_ack_delay = None }
 
 -- the connection closes at this time: every timer is stopped, and the close lasts for three probe timeouts (RFC 9000,
 -- section 10.2)
 unfoldable pub timers_closing : Timers → (probe time : ℕ) → Timers
-timers_closing v probe time = record v { loss_detection = None; idle = None; close = Some (plus time (times probe 3)) }
+timers_closing v probe time = record v { loss_detection = None; idle = None; close = Some (plus time (times probe 3)); max_ack_delay = None }
 
 -- the connection is told a time
 unfoldable pub clock_set : Timers → ℕ → Timers
@@ -51,4 +67,4 @@ clock_set v time = record v { greatest = time }
 
 -- the least time that is set
 unfoldable pub next_timeout : Timers → Option ℕ
-next_timeout v = least (least v.loss_detection v.idle) v.close
+next_timeout v = least (least (least v.loss_detection v.idle) v.close) v.max_ack_delay

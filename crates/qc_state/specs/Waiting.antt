@@ -1,5 +1,6 @@
 -- The frames that wait to be sealed, and what becomes of them.
 use Rattle.std.specs.Prelude.{◌≡◌, ℕ, ◌+◌, ◌-◌, ◌<◌, ◌≤◌, ◌^◌, nat_lt, Bool, true, false, ◌⊎◌, ◌||◌, ◌&&◌, not, ◌==◌, if◌then◌else◌, List, [], ◌∷◌, ◌++◌, length, drop, Option, None, Some}
+use Rattle.std.specs.List.{list_any}
 use Rattle.qc_base.specs.declared.ecn.EcnCodepoint.{EcnCodepoint}
 use Rattle.qc_base.specs.declared.side.SpaceId.{SpaceId}
 use Rattle.qc_base.specs.declared.side.SpaceId.TheVariants.{«Data»}
@@ -9,7 +10,7 @@ use Rattle.qc_frame.specs.declared.frames.FrameOf.TheVariants as frames
 use Rattle.qc_base.specs.Time.{plus}
 use Rattle.qc_flight.specs.Packets.{Entry}
 use Rattle.qc_flight.specs.declared.sent.SentPacket.{SentPacket}
-use Rattle.qc_path.specs.Acks.{acks_confirmed, acks_received}
+use Rattle.qc_path.specs.Acks.{acks_confirmed, acks_received, marks_expired, sets_delay}
 use Rattle.qc_path.specs.Arrived.{Window}
 use Rattle.qc_path.specs.declared.pending_acks.Arrival.{Arrival}
 use Rattle.qc_recovery.specs.declared.calls.Fired.{Fired}
@@ -19,8 +20,8 @@ use Rattle.qc_space.specs.Spaces.{marked}
 use Rattle.qc_state.specs.declared.waiting.TheConstants.{CRYPTO_HEAD}
 use Rattle.qc_state.specs.declared.waiting.Waiting.{Waiting}
 use Rattle.qc_state.specs.declared.waiting.SpaceWaiting.{SpaceWaiting}
-use Rattle.qc_state.specs.Acks.{AckPart, SaysAck, ack_sent, is_ack_owed}
-use Rattle.qc_state.specs.Spaces.{space_of, with_space}
+use Rattle.qc_state.specs.Acks.{AckPart, SaysAck, ack_sent, is_ack, is_ack_first, is_ack_given, is_ack_last, is_ack_owed}
+use Rattle.qc_state.specs.Spaces.{is_space, space_of, with_space}
 
 -- bytes of the space's CRYPTO stream wait: lost ones or fresh ones
 abbrev pub crypto_waits : SpaceWaiting → Bool
@@ -118,12 +119,32 @@ unfoldable pub datagram_begun : Waiting → SpaceId → (oldest : Option SentPac
 datagram_begun v id oldest = record v { spaces = with_space v.spaces id (begun_in (space_of v.spaces id) oldest) }
 
 -- a packet came in the space and was accepted, which `seen` has already; its mark of ECN is counted (RFC 9000, section 13.4.1)
-unfoldable pub came_in : Window → Arrival → Option EcnCodepoint → SpaceWaiting → SpaceWaiting
-came_in seen arrival mark w = record w { acks = acks_received false seen arrival w.acks; marks = marked w.marks mark }
+unfoldable pub came_in : (in_data : Bool) → Window → Arrival → Option EcnCodepoint → SpaceWaiting → SpaceWaiting
+came_in in_data seen arrival mark w = record w { acks = acks_received in_data seen arrival w.acks; marks = marked w.marks mark }
 
--- such a packet came; in each space one that elicits an ACK makes it owed at once so far
+-- such a packet's ACK is held back from now on, and wasn't before: a 1-RTT packet that elicits an ACK and leaves none owed (RFC
+-- 9000, section 13.2.1)
+unfoldable pub holds_back : Waiting → SpaceId → Window → Arrival → Bool
+holds_back v id seen arrival = sets_delay (is_space id «Data») seen arrival (space_of v.spaces id).acks.marks
+
+-- such a packet came; where its ACK is held back, an ACK may be bundled with other frames at once
 unfoldable pub packet_came : Waiting → SpaceId → Window → Arrival → Option EcnCodepoint → Waiting
-packet_came v id seen arrival mark = record v { spaces = with_space v.spaces id (came_in seen arrival mark (space_of v.spaces id)) }
+packet_came v id seen arrival mark = record v {
+  spaces = with_space v.spaces id (came_in (is_space id «Data») seen arrival mark (space_of v.spaces id));
+  bundled = if holds_back v id seen arrival then Some arrival.at else v.bundled;
+}
+
+-- the ACK that was held back is owed at last, where there is something to acknowledge
+abbrev pub released : SpaceWaiting → SpaceWaiting
+released w = record w { acks = record w.acks { marks = marks_expired (length w.acks.ranges == 0) w.acks.marks } }
+
+-- so it is in the space of 1-RTT packets
+unfoldable pub ack_released : Waiting → Waiting
+ack_released v = record v { spaces = with_space v.spaces «Data» (released (space_of v.spaces «Data»)) }
+
+-- a packet with these frames was sealed: with an ACK among them, another one may be bundled with other frames from `next` on
+unfoldable pub bundle_next : Waiting → List FrameValue → (next : ℕ) → Waiting
+bundle_next v fs next = if list_any is_ack fs then record v { bundled = Some next } else v
 
 -- no packet of the space was sealed since a close began to be owed
 abbrev pub untold : SpaceWaiting → SpaceWaiting
@@ -133,11 +154,11 @@ untold w = record w { told = false }
 unfoldable pub close_begun : Waiting → Waiting
 close_begun v =
     if v.close_owed then v
-    else record { spaces = record { initial = untold v.spaces.initial; handshake = untold v.spaces.handshake; application = untold v.spaces.application }; close_owed = true }
+    else record v { spaces = record { initial = untold v.spaces.initial; handshake = untold v.spaces.handshake; application = untold v.spaces.application }; close_owed = true }
 
 -- a packet of the space was sealed; in the last of the spaces it ends the owing of a close
 unfoldable pub packet_told : Waiting → SpaceId → (last : Bool) → Waiting
-packet_told v id last = record { spaces = with_space v.spaces id (record (space_of v.spaces id) { told = true }); close_owed = v.close_owed && not last }
+packet_told v id last = record v { spaces = with_space v.spaces id (record (space_of v.spaces id) { told = true }); close_owed = v.close_owed && not last }
 
 -- the session wrote bytes for a CRYPTO stream, where it has room for them: it ends at 2^62, and a session writes fewer bytes
 unfoldable pub crypto_more : Buffer → List ℕ → Buffer
@@ -169,13 +190,13 @@ pub record StartsWith (b : Buffer) (offset : ℕ) (body : List ℕ) : Type 0 whe
   pub first : waiting b ≡ row (has_bytes (from_lost b.kept)) offset body ++ drop (length body) (waiting b)
   pub within : offset + length body ≤ b.written
 
--- a frame waits at a time: the HANDSHAKE_DONE or the PING that was asked for, the ACK that is owed, or the first CRYPTO bytes
-unfoldable pub Waits : ℕ → SpaceWaiting → FrameValue → Type 0
-Waits time w frames.HandshakeDone = w.done ≡ true
-Waits time w frames.Ping = w.ping ≡ true
-Waits time w (frames.Ack ack) = (is_ack_owed w.acks ≡ true) × SaysAck time w ack
-Waits time w (frames.Crypto offset body) = StartsWith w.crypto offset body
-Waits time w _ = ⊥
+-- a frame waits at a time: the HANDSHAKE_DONE or the PING that was asked for, an ACK that may be given, or the first CRYPTO bytes
+unfoldable pub Waits : (time : ℕ) → (bundled : Option ℕ) → SpaceWaiting → FrameValue → Type 0
+Waits time bundled w frames.HandshakeDone = w.done ≡ true
+Waits time bundled w frames.Ping = w.ping ≡ true
+Waits time bundled w (frames.Ack ack) = (is_ack_given time bundled w.acks ≡ true) × SaysAck time w ack
+Waits time bundled w (frames.Crypto offset body) = StartsWith w.crypto offset body
+Waits time bundled w _ = ⊥
 
 -- what waits once these frames are sealed
 unfoldable pub without_all : SpaceWaiting → List FrameValue → SpaceWaiting
@@ -183,9 +204,9 @@ without_all w [] = w
 without_all w (f ∷ fs) = without_all (without w f) fs
 
 -- each frame waits as its turn comes
-unfoldable pub WaitAll : ℕ → SpaceWaiting → List FrameValue → Type 0
-WaitAll time w [] = Unit {0}
-WaitAll time w (f ∷ fs) = Waits time w f × WaitAll time (without w f) fs
+unfoldable pub WaitAll : (time : ℕ) → (bundled : Option ℕ) → SpaceWaiting → List FrameValue → Type 0
+WaitAll time bundled w [] = Unit {0}
+WaitAll time bundled w (f ∷ fs) = Waits time bundled w f × WaitAll time bundled (without w f) fs
 
 -- the HANDSHAKE_DONE that waits
 unfoldable pub done_part : SpaceWaiting → List FrameValue
@@ -207,29 +228,38 @@ CryptoPart w room (frames.Crypto offset body ∷ fs) =
     StartsWith w.crypto offset body × (length body + CRYPTO_HEAD ≤ room) × CryptoPart (without w (frames.Crypto offset body)) (room - (length body + CRYPTO_HEAD)) fs
 CryptoPart w room (_ ∷ fs) = ⊥
 
--- the frames that this end takes at a time for a packet with so much room: the HANDSHAKE_DONE, the PING, the ACK, and the CRYPTO
--- bytes that fit behind them
-pub record TakenPart (time : ℕ) (w : SpaceWaiting) (room : ℕ) (fs : List FrameValue) : Type 0 where
-  pub acks : List FrameValue
-  pub ack : AckPart time w acks (is_ack_owed w.acks)
-  pub crypto : List FrameValue
-  pub part : CryptoPart (without_all w (marks_part w ++ acks)) (room - 2 - length (frames_spelling acks)) crypto
-  pub all : fs ≡ marks_part w ++ (acks ++ crypto)
+-- how much of the room such CRYPTO frames leave, each counted with the greatest size of its head
+abbrev pub room_behind : (room : ℕ) → (crypto : List FrameValue) → ℕ
+room_behind room [] = room
+room_behind room (frames.Crypto offset body ∷ fs) = room_behind (room - (length body + CRYPTO_HEAD)) fs
+room_behind room (_ ∷ fs) = room_behind room fs
 
--- the ACK was taken where it was due, and put behind other frames; it has so many bytes
-pub record TakesAck (time : ℕ) (due : Bool) (w w' : SpaceWaiting) (fs gs : List FrameValue) (len : ℕ) : Type 0 where
+-- The frames that this end takes at a time for a packet with so much room: the HANDSHAKE_DONE, the PING, the ACK that is owed or
+-- joins, the CRYPTO bytes that fit behind them, and an ACK that is only bundled.
+pub record TakenPart (time : ℕ) (bundled : Option ℕ) (w : SpaceWaiting) (room : ℕ) (fs : List FrameValue) : Type 0 where
   pub acks : List FrameValue
-  pub part : AckPart time w acks due
+  pub ack : AckPart time w (room - length (marks_part w)) acks (is_ack_first w.acks)
+  pub crypto : List FrameValue
+  pub part : CryptoPart (without_all w (marks_part w ++ acks)) (room - length (marks_part w) - length (frames_spelling acks)) crypto
+  pub last : List FrameValue
+  pub bundle : AckPart time w (room_behind (room - length (marks_part w) - length (frames_spelling acks)) crypto) last (is_ack_last time bundled w.acks)
+  pub all : fs ≡ marks_part w ++ (acks ++ (crypto ++ last))
+
+-- the ACK was taken where it was due and had room, and put behind other frames; it has so many bytes
+pub record TakesAck (time : ℕ) (due : Bool) (room : ℕ) (w w' : SpaceWaiting) (fs gs : List FrameValue) (len : ℕ) : Type 0 where
+  pub acks : List FrameValue
+  pub part : AckPart time w room acks due
   pub list : gs ≡ fs ++ acks
   pub rest : w' ≡ without_all w acks
   pub size : len ≡ length (frames_spelling acks)
 
--- CRYPTO frames that fit into the room were taken, and put behind other frames
-pub record TakesCrypto (room : ℕ) (w w' : SpaceWaiting) (fs gs : List FrameValue) : Type 0 where
+-- CRYPTO frames that fit into the room were taken, and put behind other frames; they leave so much of it
+pub record TakesCrypto (room : ℕ) (w w' : SpaceWaiting) (fs gs : List FrameValue) (left : ℕ) : Type 0 where
   pub frames : List FrameValue
   pub part : CryptoPart w room frames
   pub list : gs ≡ fs ++ frames
   pub rest : w' ≡ without_all w frames
+  pub behind : left ≡ room_behind room frames
 
 -- these frames were sealed in the space
 unfoldable pub waiting_without : Waiting → SpaceId → List FrameValue → Waiting

@@ -43,7 +43,7 @@ pub use numbers::{Numbers, SpaceNumbers};
 pub use opening::{Opening, Signs};
 pub use paths::Paths;
 pub use session::SoundSession;
-pub use setup::{Fixed, Setup, negotiate_max_idle_timeout};
+pub use setup::{Drawn, Fixed, Setup, negotiate_max_idle_timeout};
 pub use spaces::Spaces;
 pub use suite::Suite;
 pub use timers::Timers;

@@ -1,11 +1,14 @@
 //! The packet numbers of the three spaces.
 
-ghost use Rattle.std.specs.Prelude.{◌≡◌, ◌≤◌, ◌<◌, ◌^◌};
-ghost use Rattle.qc_state.specs.Numbers.{began_at, no_numbers, next_number, acked_number, number_used, used_in, received_number, came_in, is_new_in, number_entered, entered_in, number_accepted, accepted_in, number_acked, acked_in};
+ghost use Rattle.std.specs.Prelude.{◌≡◌, ◌≤◌, ◌<◌, ◌^◌, true};
+ghost use Rattle.qc_base.specs.declared.side.SpaceId.TheVariants.{«Data»};
+ghost use Rattle.qc_state.specs.Draws.{word, behind};
+ghost use Rattle.qc_state.specs.Numbers.{began_at, no_numbers, next_number, acked_number, number_used, used_in, is_skipped, coming_number, number_skipped, received_number, came_in, is_new_in, number_entered, entered_in, number_accepted, accepted_in, number_acked, acked_in};
 
 use crate::spaces::Spaces;
 use qc_base::{Instant, SpaceId};
-use qc_path::Dedup;
+use qc_path::{Dedup, PacketNumberFilter};
+use rand_core::Rng;
 
 /// The packet numbers of one space (RFC 9000, 12.3).
 #[derive(Drop)]
@@ -27,6 +30,8 @@ pub struct SpaceNumbers {
 pub struct Numbers {
     /// One record a space.
     pub spaces: Spaces<SpaceNumbers>,
+    /// Which numbers of 1-RTT packets are skipped (RFC 9000, 21.4).
+    pub filter: PacketNumberFilter,
 }
 
 #[tactic(auto, unfolding(crate::specs::Numbers::used_in, crate::specs::Numbers::entered_in, crate::specs::Numbers::accepted_in, crate::specs::Numbers::acked_in))]
@@ -71,7 +76,7 @@ impl SpaceNumbers {
     }
 }
 
-#[tactic(auto, unfolding(crate::specs::Numbers::next_number, crate::specs::Numbers::began_at, crate::specs::Numbers::number_used, crate::specs::Numbers::acked_number, crate::specs::Numbers::received_number, crate::specs::Numbers::came_in, crate::specs::Numbers::is_new_in, crate::specs::Numbers::number_entered, crate::specs::Numbers::number_accepted, crate::specs::Numbers::number_acked))]
+#[tactic(auto, unfolding(crate::specs::Numbers::next_number, crate::specs::Numbers::is_skipped, crate::specs::Numbers::coming_number, crate::specs::Numbers::began_at, crate::specs::Numbers::number_used, crate::specs::Numbers::acked_number, crate::specs::Numbers::received_number, crate::specs::Numbers::came_in, crate::specs::Numbers::is_new_in, crate::specs::Numbers::number_entered, crate::specs::Numbers::number_accepted, crate::specs::Numbers::number_acked))]
 impl Numbers {
     /// The number of the next packet that is sealed in the space.
     pub fn next(&self, space: SpaceId) -> u64
@@ -97,6 +102,48 @@ impl Numbers {
             SpaceId::Handshake => self.spaces.handshake.used(number),
             SpaceId::Data => self.spaces.application.used(number),
         }
+    }
+
+    /// Whether the number that would be next in the space is skipped: some numbers of 1-RTT packets are (RFC 9000, 21.4).
+    pub fn is_skipped(&self, space: SpaceId) -> bool
+        ensures { result ≡ is_skipped self.now space }
+    {
+        match space {
+            SpaceId::Initial | SpaceId::Handshake => false,
+            SpaceId::Data => {
+                let next = self.spaces.application.next;
+                self.filter.peek(next) != next
+            }
+        }
+    }
+
+    /// The number that the space's next packet gets.
+    pub fn coming(&self, space: SpaceId) -> u64
+        ensures value { result ≡ coming_number self.now space }
+        ensures least { next_number self.now space ≤ result }
+    {
+        match space {
+            SpaceId::Initial => self.spaces.initial.next,
+            SpaceId::Handshake => self.spaces.handshake.next,
+            SpaceId::Data => self.filter.peek(self.spaces.application.next),
+        }
+    }
+
+    /// The next number of 1-RTT packets is skipped, and the one that is skipped after it is drawn.
+    pub fn skip<R: Rng>(&mut self, random: &mut R)
+        requires { is_skipped self.old Data ≡ true }
+        ensures value { self.new ≡ number_skipped self.old (word (R.stream random.old)) }
+        ensures drawn { R.stream random.new ≡ behind (R.stream random.old) }
+    {
+        let next = self.spaces.application.next;
+        self.spaces.application.next = self.filter.allocate(next, random);
+    }
+
+    /// The number that was skipped last, if one was.
+    pub fn skipped(&self) -> Option<u64>
+        ensures { result ≡ self.now.filter.last }
+    {
+        self.filter.last()
     }
 
     /// The number from which the next one is spelled: the greatest acknowledged one.

@@ -1,12 +1,17 @@
 //! What a connection was made with, and its source of random words.
 
-ghost use Rattle.std.specs.Prelude.{◌≡◌, Some};
-ghost use Rattle.qc_state.specs.Setup.{idle_limit_of, idle_limit_now, peer_delay, peer_exponent, parameters_known, token_expected, is_first_awaited, awaits_first};
+ghost use Rattle.std.specs.Prelude.{◌≡◌, ◌&&◌, not, if◌then◌else◌, Some};
+ghost use Rattle.qc_base.specs.declared.side.SpaceId.TheVariants.{«Data»};
+ghost use Rattle.qc_state.specs.Draws.{bit, behind_bit};
+ghost use Rattle.qc_state.specs.Setup.{ideal_setup, idle_limit_of, idle_limit_now, peer_delay, peer_exponent, takes_grease, behind_spin, packet_drawn, parameters_known, token_expected, is_first_awaited, awaits_first};
+ghost use Rattle.qc_state.specs.Spaces.{is_space};
 ghost use Rattle.qc_state.specs.Timers.{least};
 
+use crate::spaces::is_space;
 use bytes::Bytes;
-use qc_base::{ConnectionId, Duration, Side, VarInt};
+use qc_base::{ConnectionId, Duration, Side, SpaceId, VarInt};
 use qc_params::TransportParameters;
+use rand_core::Rng;
 use std::net::IpAddr;
 
 /// The values that a connection was made with. They don't change.
@@ -28,6 +33,10 @@ pub struct Fixed {
     pub crypto_buffer_size: usize,
     /// Whether this end takes packets whose fixed bit isn't set (RFC 9287).
     pub grease_quic_bit: bool,
+    /// Whether 1-RTT packets carry the spin bit of the path; else each has a drawn one (RFC 9000, 17.4).
+    pub spins: bool,
+    /// How many packets the first 1-RTT keys seal before others take their place (RFC 9001, 6).
+    pub key_phase_size: u64,
 }
 
 /// What a connection was made with, and its source of random words.
@@ -40,8 +49,19 @@ pub struct Setup<R> {
     /// On a server, once its first packet came, that packet's token, which its other Initial packets repeat (RFC 9000,
     /// 17.2.2).
     pub token: Option<Bytes>,
+    /// The token that this end's Initial packets carry, empty where it has none (RFC 9000, 8.1).
+    pub initial_token: Bytes,
     /// The source of random words. Contracts know it by its stream alone.
     pub random: R,
+}
+
+/// What was drawn for a packet.
+#[derive(Clone, Copy, Debug)]
+pub struct Drawn {
+    /// The spin bit of a 1-RTT packet (RFC 9000, 17.4).
+    pub spin: bool,
+    /// Whether the packet's fixed bit is flipped (RFC 9287).
+    pub flip: bool,
 }
 
 /// The limit on idle time of a number of milliseconds: none where it is 0 (RFC 9000, 10.1).
@@ -97,6 +117,24 @@ fn peer_delay(peer: &Option<TransportParameters>) -> Duration
         None => Duration::from_millis(25),
         Some(peer) => Duration::from_millis(peer.max_ack_delay.into_inner()),
     }
+}
+
+/// Whether the peer takes packets whose fixed bit isn't set, as its parameters say (RFC 9287).
+fn takes_grease(peer: &Option<TransportParameters>) -> bool
+    ensures { result ≡ takes_grease peer.now }
+{
+    match peer {
+        None => false,
+        Some(peer) => peer.grease_quic_bit,
+    }
+}
+
+/// Draws a bit.
+fn draw_bit<R: Rng>(random: &mut R) -> bool
+    ensures value { result ≡ bit (R.stream random.old) }
+    ensures left { R.stream random.new ≡ behind_bit (R.stream random.old) }
+{
+    random.next_u32() % 2 == 1
 }
 
 /// Whether an end of this side, with this token of a first packet, waits for its first packet: a server does.
@@ -160,5 +198,42 @@ impl<R> Setup<R> {
         ensures { result ≡ is_first_awaited self.now }
     {
         awaits_first(self.fixed.side, &self.token)
+    }
+}
+
+#[tactic(auto, unfolding(crate::specs::Setup::ideal_setup, crate::specs::Setup::behind_spin, crate::specs::Setup::packet_drawn))]
+impl<R: Rng> Setup<R> {
+    /// Draws the spin bit of a packet of this space: of a 1-RTT packet, where the connection doesn't spin; else it is `spin`.
+    fn draw_spin(&mut self, space: SpaceId, spin: bool) -> bool
+        ensures value { result ≡ (if is_space space Data && not self.old.fixed.spins then bit (R.stream self.old.random) else spin) }
+        ensures left { ideal_setup R.stream self.new ≡ record (ideal_setup R.stream self.old) { random = behind_spin (ideal_setup R.stream self.old) space } }
+    {
+        if is_space(space, SpaceId::Data) && !self.fixed.spins {
+            return draw_bit(&mut self.random);
+        }
+        spin
+    }
+
+    /// Draws whether the fixed bit of a packet is flipped, where the peer takes such packets (RFC 9287).
+    fn draw_flip(&mut self) -> bool
+        ensures value { result ≡ (takes_grease self.old.peer && bit (R.stream self.old.random)) }
+        ensures left { ideal_setup R.stream self.new ≡ record (ideal_setup R.stream self.old) { random = if takes_grease self.old.peer then behind_bit (R.stream self.old.random) else R.stream self.old.random } }
+    {
+        if takes_grease(&self.peer) {
+            return draw_bit(&mut self.random);
+        }
+        false
+    }
+
+    /// Draws what is drawn for a packet of this space, where `spin` is the spin bit of the path: the packet's own spin bit, and
+    /// whether its fixed bit is flipped.
+    pub fn draw_packet(&mut self, space: SpaceId, spin: bool) -> Drawn
+        ensures spin { result.spin ≡ (if is_space space Data && not self.old.fixed.spins then bit (R.stream self.old.random) else spin) }
+        ensures flip { result.flip ≡ (takes_grease self.old.peer && bit (behind_spin (ideal_setup R.stream self.old) space)) }
+        ensures left { ideal_setup R.stream self.new ≡ packet_drawn (ideal_setup R.stream self.old) space }
+    {
+        let spin = self.draw_spin(space, spin);
+        let flip = self.draw_flip();
+        Drawn { spin, flip }
     }
 }

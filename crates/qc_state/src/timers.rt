@@ -1,9 +1,12 @@
 //! The timers, and the greatest time so far.
 
 ghost use Rattle.std.specs.Prelude.{◌≡◌};
-ghost use Rattle.qc_state.specs.Timers.{timers_sealed, timers_stopped, timers_closing, timers_accepted, timers_armed, clock_set, next_timeout, least, idle_from, has_come};
+ghost use Rattle.qc_state.specs.Timers.{timers_sealed, timers_acking, timers_stopped, timers_closing, timers_accepted, timers_holding, timers_released, timers_armed, clock_set, next_timeout, least, idle_from, has_come};
 
 use qc_base::{Duration, Instant};
+
+/// For how long an ACK is held back at most, in milliseconds (RFC 9000, 18.2).
+const ACK_DELAY_MOST: u64 = 25;
 
 /// The timers, each a time or none, and the greatest time that the connection was told.
 #[derive(Drop)]
@@ -14,6 +17,8 @@ pub struct Timers {
     pub idle: Option<Instant>,
     /// When a connection that closed has waited long enough for its peer (RFC 9000, 10.2).
     pub close: Option<Instant>,
+    /// When an ACK that is held back is owed (RFC 9000, 13.2.1).
+    pub max_ack_delay: Option<Instant>,
     /// Whether the next packet that is sealed and elicits an acknowledgement sets `idle`.
     pub sets_idle: bool,
     /// The greatest time so far, creation included.
@@ -65,7 +70,7 @@ fn idle_at(
     }
 }
 
-#[tactic(auto, unfolding(crate::specs::Timers::timers_sealed, crate::specs::Timers::timers_stopped, crate::specs::Timers::timers_closing, crate::specs::Timers::timers_accepted, crate::specs::Timers::timers_armed, crate::specs::Timers::clock_set, crate::specs::Timers::next_timeout))]
+#[tactic(auto, unfolding(crate::specs::Timers::timers_sealed, crate::specs::Timers::timers_stopped, crate::specs::Timers::timers_closing, crate::specs::Timers::timers_accepted, crate::specs::Timers::timers_armed, crate::specs::Timers::timers_holding, crate::specs::Timers::timers_acking, crate::specs::Timers::timers_released, crate::specs::Timers::clock_set, crate::specs::Timers::next_timeout))]
 impl Timers {
     /// A packet that elicits an acknowledgement was sealed at `now`, in a space with this probe timeout.
     pub fn sealed(&mut self, limit: Option<Duration>, probe: Duration, now: Instant)
@@ -85,6 +90,31 @@ impl Timers {
         self.sets_idle = true;
     }
 
+    /// A packet of the peer was accepted at `now`, whose ACK is held back from now on, or isn't.
+    pub fn hold(&mut self, holds: bool, now: Instant)
+        ensures { self.new ≡ timers_holding self.old holds now }
+    {
+        if holds {
+            self.max_ack_delay = Some(now.plus(Duration::from_millis(ACK_DELAY_MOST)));
+        }
+    }
+
+    /// A packet was sealed, with an ACK or without one: with one, none is held back any more.
+    pub fn acknowledging(&mut self, acks: bool)
+        ensures { self.new ≡ timers_acking self.old acks }
+    {
+        if acks {
+            self.max_ack_delay = None;
+        }
+    }
+
+    /// The ACK that was held back is owed at last.
+    pub fn release(&mut self)
+        ensures { self.new ≡ timers_released self.old }
+    {
+        self.max_ack_delay = None;
+    }
+
     /// The loss timer is set to a time, or stopped.
     pub fn arm(&mut self, at: Option<Instant>)
         ensures { self.new ≡ timers_armed self.old at }
@@ -99,6 +129,7 @@ impl Timers {
         self.loss_detection = None;
         self.idle = None;
         self.close = None;
+        self.max_ack_delay = None;
     }
 
     /// The connection closes at `now`: every timer is stopped, and the close lasts for three probe timeouts.
@@ -108,6 +139,7 @@ impl Timers {
         self.loss_detection = None;
         self.idle = None;
         self.close = Some(now.plus(Duration::from_nanos(probe.nanos().saturating_mul(3))));
+        self.max_ack_delay = None;
     }
 
     /// The connection is told a time.
@@ -121,6 +153,7 @@ impl Timers {
     pub fn next(&self) -> Option<Instant>
         ensures { result ≡ next_timeout self.now }
     {
-        earlier(earlier(self.loss_detection, self.idle), self.close)
+        let lost_or_idle = earlier(self.loss_detection, self.idle);
+        earlier(earlier(lost_or_idle, self.close), self.max_ack_delay)
     }
 }

@@ -1,15 +1,18 @@
 //! The frames that wait to be sealed.
 
-ghost use Rattle.std.specs.Prelude.{◌≡◌, ◌<◌, ◌≤◌, ◌^◌, ◌++◌, ◌∷◌, [], true, length, map, OnOk, IfOk};
+ghost use Rattle.std.specs.Prelude.{◌≡◌, ◌<◌, ◌^◌, ◌++◌, ◌∷◌, [], true, length, map, OnOk, IfOk};
+ghost use Rattle.std.specs.List.{list_any};
 ghost use Rattle.std.specs.Option.{option_copied};
 ghost use Rattle.qc_base.specs.Time.{plus};
 ghost use Rattle.qc_frame.specs.AckRanges.{ArePackets};
 ghost use Rattle.qc_frame.specs.Frame.{ack_map, owned};
 ghost use Rattle.qc_frame.specs.FrameSpelling.{frames_spelling};
-ghost use Rattle.qc_state.specs.Acks.{AckPart, SaysAck, is_ack_owed, may_acknowledge, told_count, told_counts};
+ghost use Rattle.qc_state.specs.Acks.{AckPart, SaysAck, is_ack, is_ack_first, is_ack_last, is_ack_owed, may_acknowledge, told_count, told_counts};
 ghost use Rattle.qc_frame.specs.declared.frames.FrameOf.TheVariants as frames;
-ghost use Rattle.qc_state.specs.Spaces.{space_of};
-ghost use Rattle.qc_state.specs.Waiting.{TakenPart, TakesAck, TakesCrypto, acked_in, again, all_again, all_confirmed, begun_in, came_in, close_begun, confirmed, crypto_written, datagram_begun, done_asked, fired_in, lost_in, marks_part, nothing_left, packet_came, packet_told, packets_acked, packets_lost, ping_asked, probe_sent, probes_added, space_left, waiting_without, waits_here, waits_in, wants_sending, without_all};
+ghost use Rattle.qc_base.specs.declared.side.SpaceId.TheVariants.{«Data»};
+ghost use Rattle.qc_path.specs.Acks.{sets_delay};
+ghost use Rattle.qc_state.specs.Spaces.{is_space, space_of, with_space};
+ghost use Rattle.qc_state.specs.Waiting.{TakenPart, TakesAck, TakesCrypto, ack_released, acked_in, again, all_again, all_confirmed, begun_in, bundle_next, came_in, close_begun, confirmed, crypto_written, datagram_begun, done_asked, fired_in, holds_back, lost_in, marks_part, nothing_left, packet_came, packet_told, packets_acked, packets_lost, ping_asked, probe_sent, probes_added, space_left, waiting_without, waits_here, waits_in, wants_sending, without_all};
 
 use crate::crypto_queue::CryptoQueue;
 use crate::spaces::Spaces;
@@ -51,6 +54,8 @@ pub struct Waiting {
     pub spaces: Spaces<SpaceWaiting>,
     /// Whether a close is owed: the connection closed, and no packet of the last space has told so (RFC 9000, 10.2).
     pub close_owed: bool,
+    /// From when on an ACK may be bundled with other frames, in each space; at no time where there is none.
+    pub bundled: Option<Instant>,
 }
 
 /// A frame of a packet that is lost waits again. Want of memory is the only refusal.
@@ -189,7 +194,6 @@ fn waits(space: &SpaceWaiting) -> bool
 fn may_acknowledge(acks: &PendingAcks) -> bool
     ensures value { result ≡ may_acknowledge acks.now }
     ensures packets { result ≡ true → ArePackets acks.now.ranges }
-    ensures most { length acks.now.ranges ≤ 64 }
 {
     let ranges = acks.ranges().as_slice();
     if ranges.is_empty() {
@@ -201,12 +205,31 @@ fn may_acknowledge(acks: &PendingAcks) -> bool
 /// Whether an ACK is owed.
 #[tactic(auto, unfolding(crate::specs::Acks::is_ack_owed))]
 fn is_ack_owed(acks: &PendingAcks) -> bool
-    ensures value { result ≡ is_ack_owed acks.now }
-    ensures packets { result ≡ true → ArePackets acks.now.ranges }
-    ensures most { length acks.now.ranges ≤ 64 }
+    ensures { result ≡ is_ack_owed acks.now }
 {
     let may = may_acknowledge(acks);
     acks.owes() && may
+}
+
+/// Whether an ACK stands in front of other frames: it is owed, or joins them.
+#[tactic(auto, unfolding(crate::specs::Acks::is_ack_first))]
+fn is_ack_first(acks: &PendingAcks) -> bool
+    ensures value { result ≡ is_ack_first acks.now }
+    ensures packets { result ≡ true → ArePackets acks.now.ranges }
+{
+    let may = may_acknowledge(acks);
+    acks.gives(Instant::from_nanos(0), None) && may
+}
+
+/// Whether an ACK stands behind other frames: it is only bundled with them, which it may be from `bundled` on.
+#[tactic(auto, unfolding(crate::specs::Acks::is_ack_last))]
+fn is_ack_last(acks: &PendingAcks, now: Instant, bundled: Option<Instant>) -> bool
+    ensures value { result ≡ is_ack_last now bundled acks.now }
+    ensures packets { result ≡ true → ArePackets acks.now.ranges }
+{
+    let may = may_acknowledge(acks);
+    let first = acks.gives(now, None);
+    !first && (acks.gives(now, bundled) && may)
 }
 
 /// A count as an ACK tells it.
@@ -261,59 +284,68 @@ fn ack_len(alloc: Global, ack: &OwnedAck) -> Result<usize, AllocError>
     Ok(bytes.len())
 }
 
-/// Takes the ACK, where it is due, and answers how many bytes it has. Want of memory is the only refusal.
+/// Takes the ACK, where it is due and has room, and answers how many bytes it has. Want of memory is the only refusal.
 #[tactic(auto, unfolding(crate::specs::Waiting::without_all, crate::specs::Waiting::without))]
 fn take_ack(
     space: &mut SpaceWaiting,
     alloc: Global,
     now: Instant,
     due: bool,
+    room: usize,
     frames: &mut FrameList,
 ) -> Result<usize, AllocError>
     requires { due ≡ true → ArePackets space.old.acks.ranges }
-    ensures { IfOk result (λ n. TakesAck now due space.old space.new frames.old frames.new n) }
+    ensures { IfOk result (λ n. TakesAck now due room space.old space.new frames.old frames.new n) }
 {
     if !due {
         return Ok(0);
     }
     let ack = ack_of(alloc, now, space)?;
     let len = ack_len(alloc, &ack)?;
+    if room < len {
+        return Ok(0);
+    }
     frames.push(FrameOf::Ack(ack))?;
     space.acks.sent();
     Ok(len)
 }
 
-/// Takes the HANDSHAKE_DONE and the PING that wait. Want of memory is the only refusal.
+/// Takes the HANDSHAKE_DONE and the PING that wait, and answers how many frames that are. Want of memory is the only refusal.
 #[tactic(auto, unfolding(crate::specs::Waiting::marks_part, crate::specs::Waiting::done_part, crate::specs::Waiting::ping_part, crate::specs::Waiting::without_all, crate::specs::Waiting::without))]
-fn take_marks(space: &mut SpaceWaiting, frames: &mut FrameList) -> Result<(), AllocError>
+fn take_marks(space: &mut SpaceWaiting, frames: &mut FrameList) -> Result<usize, AllocError>
     ensures frames { OnOk result (frames.new ≡ frames.old ++ marks_part space.old) }
     ensures rest { OnOk result (space.new ≡ without_all space.old (marks_part space.old)) }
+    ensures count { IfOk result (λ n. n ≡ length (marks_part space.old)) }
 {
+    let mut count = 0;
     if space.done {
         frames.push(FrameOf::HandshakeDone)?;
         space.done = false;
+        count += 1;
     }
     if space.ping {
         frames.push(FrameOf::Ping)?;
         space.ping = false;
+        count += 1;
     }
-    Ok(())
+    Ok(count)
 }
 
-/// Takes the CRYPTO bytes that wait first, as many as fit. Want of memory is the only refusal.
+/// Takes the CRYPTO bytes that wait first, as many as fit, and answers how much of the room they leave. Want of memory is the only
+/// refusal.
 #[tactic(auto, unfolding(crate::specs::Waiting::CryptoPart, crate::specs::Waiting::without_all, crate::specs::Waiting::without))]
 fn take_crypto(
     space: &mut SpaceWaiting,
     alloc: Global,
     room: usize,
     frames: &mut FrameList,
-) -> Result<(), AllocError>
-    ensures { OnOk result (TakesCrypto room space.old space.new frames.old frames.new) }
+) -> Result<usize, AllocError>
+    ensures { IfOk result (λ left. TakesCrypto room space.old space.new frames.old frames.new left) }
 {
     let mut left = room;
     while left > CRYPTO_HEAD {
         match space.crypto.take(left - CRYPTO_HEAD)? {
-            None => return Ok(()),
+            None => return Ok(left),
             Some((offset, bytes)) => {
                 left -= bytes.len() + CRYPTO_HEAD;
                 let body = Vec::from_slice(alloc, bytes.as_slice())?;
@@ -321,52 +353,91 @@ fn take_crypto(
             }
         }
     }
-    Ok(())
+    Ok(left)
 }
 
-/// Takes frames that wait at a time for a packet with so much room. Want of memory is the only refusal.
+/// Takes frames that wait at a time for a packet with so much room; an ACK may be bundled with them from `bundled` on. Want of
+/// memory is the only refusal.
 fn take(
+    space: &mut SpaceWaiting,
+    alloc: Global,
+    now: Instant,
+    bundled: Option<Instant>,
+    room: usize,
+) -> Result<FrameList, AllocError>
+    ensures frames { IfOk result (λ frames. TakenPart now bundled space.old room frames) }
+    ensures rest { IfOk result (λ frames. space.new ≡ without_all space.old frames) }
+{
+    let mut frames = FrameList::new(alloc);
+    let first = is_ack_first(&space.acks);
+    let last = is_ack_last(&space.acks, now, bundled);
+    let count = take_marks(space, &mut frames)?;
+    let room = room.saturating_sub(count);
+    let len = take_ack(space, alloc, now, first, room, &mut frames)?;
+    let left = take_crypto(space, alloc, room.saturating_sub(len), &mut frames)?;
+    take_ack(space, alloc, now, last, left, &mut frames)?;
+    Ok(frames)
+}
+
+/// Takes the ACK at a time, where there is something to acknowledge and so much room for it. Want of memory is the only refusal.
+fn ack_alone(
     space: &mut SpaceWaiting,
     alloc: Global,
     now: Instant,
     room: usize,
 ) -> Result<FrameList, AllocError>
-    ensures frames { IfOk result (λ frames. TakenPart now space.old room frames) }
+    ensures frames { IfOk result (λ frames. AckPart now space.old room frames (may_acknowledge space.old.acks)) }
     ensures rest { IfOk result (λ frames. space.new ≡ without_all space.old frames) }
-    ensures most { OnOk result (length space.old.acks.ranges ≤ 64) }
-{
-    let mut frames = FrameList::new(alloc);
-    let due = is_ack_owed(&space.acks);
-    take_marks(space, &mut frames)?;
-    let len = take_ack(space, alloc, now, due, &mut frames)?;
-    take_crypto(
-        space,
-        alloc,
-        room.saturating_sub(2).saturating_sub(len),
-        &mut frames,
-    )?;
-    Ok(frames)
-}
-
-/// Takes the ACK at a time, where there is something to acknowledge. Want of memory is the only refusal.
-fn ack_alone(space: &mut SpaceWaiting, alloc: Global, now: Instant) -> Result<FrameList, AllocError>
-    ensures frames { IfOk result (λ frames. AckPart now space.old frames (may_acknowledge space.old.acks)) }
-    ensures rest { IfOk result (λ frames. space.new ≡ without_all space.old frames) }
-    ensures most { OnOk result (length space.old.acks.ranges ≤ 64) }
 {
     let mut frames = FrameList::new(alloc);
     let due = may_acknowledge(&space.acks);
-    take_ack(space, alloc, now, due, &mut frames)?;
+    take_ack(space, alloc, now, due, room, &mut frames)?;
     Ok(frames)
 }
 
-/// A packet came and was accepted.
+/// A packet came and was accepted. Answers whether its ACK is held back from now on.
 #[tactic(auto, unfolding(crate::specs::Waiting::came_in))]
-fn came(space: &mut SpaceWaiting, seen: &Dedup, packet: &Arrival, mark: Option<EcnCodepoint>)
-    ensures { space.new ≡ came_in seen.now packet.now mark space.old }
+fn came(
+    space: &mut SpaceWaiting,
+    in_data: bool,
+    seen: &Dedup,
+    packet: &Arrival,
+    mark: Option<EcnCodepoint>,
+) -> bool
+    ensures after { space.new ≡ came_in in_data seen.now packet.now mark space.old }
+    ensures holds { result ≡ sets_delay in_data seen.now packet.now space.old.acks.marks }
 {
-    let _ = space.acks.received(false, seen, packet);
+    let holds = space.acks.received(in_data, seen, packet);
     space.marks = with_mark(space.marks, mark);
+    holds
+}
+
+/// Whether a frame is an ACK.
+fn is_ack(frame: &OwnedFrame) -> bool
+    ensures { result ≡ is_ack (owned frame.now) }
+{
+    matches!(frame, FrameOf::Ack(_))
+}
+
+/// Whether one of these frames is an ACK.
+fn any_ack(frames: &[OwnedFrame]) -> bool
+    ensures { result ≡ list_any is_ack (map owned frames.now) }
+{
+    for frame in frames {
+        if is_ack(frame) {
+            return true;
+        }
+    }
+    false
+}
+
+/// Whether one of the frames is an ACK.
+#[tactic(auto, using(crate::proofs::KeptFrames::acks_padded))]
+pub fn holds_ack(frames: &FrameList) -> bool
+    ensures { result ≡ list_any is_ack frames.now }
+{
+    let (listed, _padding) = frames.parts();
+    any_ack(listed)
 }
 
 /// Nothing waits any more.
@@ -380,7 +451,7 @@ fn leave(space: &mut SpaceWaiting)
     space.probes = 0;
 }
 
-#[tactic(auto, unfolding(crate::specs::Waiting::packets_lost, crate::specs::Waiting::packets_acked, crate::specs::Waiting::probes_added, crate::specs::Waiting::datagram_begun, crate::specs::Waiting::packet_came, crate::specs::Waiting::crypto_written, crate::specs::Waiting::space_left, crate::specs::Waiting::close_begun, crate::specs::Waiting::packet_told, crate::specs::Waiting::waits_in, crate::specs::Waiting::ping_asked, crate::specs::Waiting::done_asked, crate::specs::Waiting::waiting_without))]
+#[tactic(auto, unfolding(crate::specs::Waiting::packets_lost, crate::specs::Waiting::packets_acked, crate::specs::Waiting::probes_added, crate::specs::Waiting::datagram_begun, crate::specs::Waiting::packet_came, crate::specs::Waiting::holds_back, crate::specs::Waiting::ack_released, crate::specs::Waiting::bundle_next, crate::specs::Waiting::crypto_written, crate::specs::Waiting::space_left, crate::specs::Waiting::close_begun, crate::specs::Waiting::packet_told, crate::specs::Waiting::waits_in, crate::specs::Waiting::ping_asked, crate::specs::Waiting::done_asked, crate::specs::Waiting::waiting_without))]
 impl Waiting {
     /// Whether something waits in the space.
     pub fn waits(&self, space: SpaceId) -> bool
@@ -475,20 +546,56 @@ impl Waiting {
         }
     }
 
-    /// A packet of the space came with this mark and was accepted, whose number `seen` has already.
+    /// A packet of the space came, which that space takes in. Answers whether its ACK is held back from now on.
+    fn take_in(
+        &mut self,
+        space: SpaceId,
+        seen: &Dedup,
+        packet: &Arrival,
+        mark: Option<EcnCodepoint>,
+    ) -> bool
+        ensures after { self.new ≡ record self.old { spaces = with_space self.old.spaces space (came_in (is_space space Data) seen.now packet.now mark (space_of self.old.spaces space)) } }
+        ensures holds { result ≡ holds_back self.old space seen.now packet.now }
+    {
+        match space {
+            SpaceId::Initial => came(&mut self.spaces.initial, false, seen, packet, mark),
+            SpaceId::Handshake => came(&mut self.spaces.handshake, false, seen, packet, mark),
+            SpaceId::Data => came(&mut self.spaces.application, true, seen, packet, mark),
+        }
+    }
+
+    /// A packet of the space came with this mark and was accepted, whose number `seen` has already. Answers whether its ACK is held
+    /// back from now on; then an ACK may be bundled with other frames at once.
     pub fn came(
         &mut self,
         space: SpaceId,
         seen: &Dedup,
         packet: &Arrival,
         mark: Option<EcnCodepoint>,
-    )
-        ensures { self.new ≡ packet_came self.old space seen.now packet.now mark }
+    ) -> bool
+        ensures after { self.new ≡ packet_came self.old space seen.now packet.now mark }
+        ensures holds { result ≡ holds_back self.old space seen.now packet.now }
     {
-        match space {
-            SpaceId::Initial => came(&mut self.spaces.initial, seen, packet, mark),
-            SpaceId::Handshake => came(&mut self.spaces.handshake, seen, packet, mark),
-            SpaceId::Data => came(&mut self.spaces.application, seen, packet, mark),
+        let holds = self.take_in(space, seen, packet, mark);
+        if holds {
+            self.bundled = Some(packet.at);
+        }
+        holds
+    }
+
+    /// The ACK of 1-RTT packets that was held back is owed at last, where there is something to acknowledge.
+    pub fn release(&mut self)
+        ensures { self.new ≡ ack_released self.old }
+    {
+        self.spaces.application.acks.expired();
+    }
+
+    /// A packet with these frames was sealed: with an ACK among them, another one may be bundled with other frames from `next` on.
+    pub fn bundle_next(&mut self, frames: &FrameList, next: Instant)
+        ensures { self.new ≡ bundle_next self.old frames.now next }
+    {
+        if holds_ack(frames) {
+            self.bundled = Some(next);
         }
     }
 
@@ -541,32 +648,33 @@ impl Waiting {
         space: SpaceId,
         room: usize,
     ) -> Result<FrameList, AllocError>
-        ensures frames { IfOk result (λ frames. TakenPart now (space_of self.old.spaces space) room frames) }
+        ensures frames { IfOk result (λ frames. TakenPart now self.old.bundled (space_of self.old.spaces space) room frames) }
         ensures rest { IfOk result (λ frames. self.new ≡ waiting_without self.old space frames) }
-        ensures most { OnOk result (length (space_of self.old.spaces space).acks.ranges ≤ 64) }
     {
+        let bundled = self.bundled;
         match space {
-            SpaceId::Initial => take(&mut self.spaces.initial, alloc, now, room),
-            SpaceId::Handshake => take(&mut self.spaces.handshake, alloc, now, room),
-            SpaceId::Data => take(&mut self.spaces.application, alloc, now, room),
+            SpaceId::Initial => take(&mut self.spaces.initial, alloc, now, bundled, room),
+            SpaceId::Handshake => take(&mut self.spaces.handshake, alloc, now, bundled, room),
+            SpaceId::Data => take(&mut self.spaces.application, alloc, now, bundled, room),
         }
     }
 
-    /// Takes the ACK of the space at a time, where there is something to acknowledge. Want of memory is the only refusal.
+    /// Takes the ACK of the space at a time, where there is something to acknowledge and so much room for it. Want of memory is the
+    /// only refusal.
     pub fn take_ack(
         &mut self,
         alloc: Global,
         now: Instant,
         space: SpaceId,
+        room: usize,
     ) -> Result<FrameList, AllocError>
-        ensures frames { IfOk result (λ frames. AckPart now (space_of self.old.spaces space) frames (may_acknowledge (space_of self.old.spaces space).acks)) }
+        ensures frames { IfOk result (λ frames. AckPart now (space_of self.old.spaces space) room frames (may_acknowledge (space_of self.old.spaces space).acks)) }
         ensures rest { IfOk result (λ frames. self.new ≡ waiting_without self.old space frames) }
-        ensures most { OnOk result (length (space_of self.old.spaces space).acks.ranges ≤ 64) }
     {
         match space {
-            SpaceId::Initial => ack_alone(&mut self.spaces.initial, alloc, now),
-            SpaceId::Handshake => ack_alone(&mut self.spaces.handshake, alloc, now),
-            SpaceId::Data => ack_alone(&mut self.spaces.application, alloc, now),
+            SpaceId::Initial => ack_alone(&mut self.spaces.initial, alloc, now, room),
+            SpaceId::Handshake => ack_alone(&mut self.spaces.handshake, alloc, now, room),
+            SpaceId::Data => ack_alone(&mut self.spaces.application, alloc, now, room),
         }
     }
 }

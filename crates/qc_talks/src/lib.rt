@@ -11,6 +11,8 @@ mod ends;
 #[cfg(test)]
 mod first_tests;
 #[cfg(test)]
+mod holding_tests;
+#[cfg(test)]
 mod losing_tests;
 #[cfg(test)]
 mod order_tests;

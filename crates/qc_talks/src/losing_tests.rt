@@ -115,7 +115,8 @@ fn two_establish(rt: &impl Abort, alloc: Global, lost: u32) -> Result<u32, Fail>
 }
 
 // Seven datagrams make a handshake: the hello; the server's Initial packet and its Handshake packet; the client's ACK of the first, and
-// its Handshake packet; the HANDSHAKE_DONE, and its ACK. Where none is lost, no other is sent. Each in turn is lost once: timers bring
+// its Handshake packet; the HANDSHAKE_DONE, number 1, and its ACK, which isn't held back, since number 0 is missing. Where none is lost,
+// no other is sent. Each in turn is lost once: timers bring
 // it again, so that more are sent (RFC 9002, section 6.2), and both ends tell once that they are connected. The client's first ACK alone
 // isn't missed: its Handshake packet drops the Initial keys of both.
 #[test]

@@ -57,12 +57,12 @@ fn sees_copies(rt: &impl Abort, alloc: Global, pair: &mut Pair) -> Result<(), Fa
     pair.carry(alloc, TWICE)?;
     let of_client = "piece initial 0 Admitted\npiece initial 0 Seen\n\
         piece handshake 0 Admitted\npiece handshake 0 Seen\n\
-        piece data 0 Admitted\npiece data 0 Seen\n";
+        piece data 1 Admitted\npiece data 1 Seen\n";
     tells(rt, alloc, &pair.client, "piece ", of_client)?;
     let of_server = "piece initial 0 Admitted\npiece initial 0 Seen\n\
         piece initial 1 Admitted\npiece initial 1 Seen\n\
         piece handshake 0 Admitted\npiece handshake - Ignored\n\
-        piece data 0 Admitted\npiece data 0 Seen\n";
+        piece data 1 Admitted\npiece data 1 Seen\n";
     tells(rt, alloc, &pair.server, "piece ", of_server)
 }
 
@@ -139,7 +139,7 @@ fn client_goes_backwards(
     assert_eq!(rt; sent, 2);
     pair.carry(alloc, ONCE)?;
     let pieces =
-        "piece initial 0 Admitted\npiece handshake 0 Admitted\npiece initial - Ignored\npiece data 0 Admitted\n";
+        "piece initial 0 Admitted\npiece handshake 0 Admitted\npiece initial - Ignored\npiece data 1 Admitted\n";
     tells(rt, alloc, &pair.server, "piece ", pieces)?;
     is_alike(rt, alloc, &usual.server, &pair.server, "event ")?;
     is_alike(rt, alloc, &usual.server, &pair.server, "life ")?;
@@ -172,7 +172,7 @@ fn server_goes_backwards(
     assert_eq!(rt; sent, 2);
     pair.carry(alloc, ONCE)?;
     let pieces =
-        "piece handshake - Ignored\npiece initial 0 Admitted\npiece handshake 0 Admitted\npiece initial 0 Seen\npiece data 0 Admitted\n";
+        "piece handshake - Ignored\npiece initial 0 Admitted\npiece handshake 0 Admitted\npiece initial 0 Seen\npiece data 1 Admitted\n";
     tells(rt, alloc, &pair.client, "piece ", pieces)?;
     are_alike(rt, alloc, &usual.client, &pair.client)?;
     are_alike(rt, alloc, &usual.server, &pair.server)
@@ -242,16 +242,17 @@ fn pings_come(
         alloc,
         &pair.server,
         "seal ",
-        "seal data 1 0 ACK/0203000003\n",
+        "seal data 2 0 ACK/0204000003\n",
     )
 }
 
-// The client's 1-RTT packets 1 to 3 have a PING each, and 0, an ACK, came before. They are acknowledged at once: from 3 on 3 more.
+// The client's 1-RTT packets 2 to 4 have a PING each, and 1, an ACK, came before; 0 is skipped, so that the first PING is out of order.
+// They are acknowledged at once: from 4 on 3 more.
 #[test]
 fn pings_come_in_order(rt: HostRuntime) -> Result<(), Fail> {
     let alloc = rt.alloc();
     let mut pair = Pair::new(alloc)?;
-    let pieces = "piece data 1 Admitted\npiece data 2 Admitted\npiece data 3 Admitted\n";
+    let pieces = "piece data 2 Admitted\npiece data 3 Admitted\npiece data 4 Admitted\n";
     pings_come(&rt, alloc, &mut pair, false, pieces)
 }
 
@@ -259,6 +260,6 @@ fn pings_come_in_order(rt: HostRuntime) -> Result<(), Fail> {
 fn pings_come_backwards(rt: HostRuntime) -> Result<(), Fail> {
     let alloc = rt.alloc();
     let mut pair = Pair::new(alloc)?;
-    let pieces = "piece data 3 Admitted\npiece data 2 Admitted\npiece data 1 Admitted\n";
+    let pieces = "piece data 4 Admitted\npiece data 3 Admitted\npiece data 2 Admitted\n";
     pings_come(&rt, alloc, &mut pair, true, pieces)
 }

@@ -28,7 +28,7 @@ use Rattle.qc_recovery.specs.TransportValues.{default_transport, TransportValues
 use Rattle.qc_state.specs.First.{first_view, server_view, fixed_of}
 use Rattle.qc_state.specs.Run.{Run}
 use Rattle.qc_state.specs.Types.{Types, Meaning, meaning}
-use Rattle.qc_state.specs.View.{View, Held, ideal}
+use Rattle.qc_state.specs.View.{View, ideal}
 use Rattle.qc_state.specs.declared.input.Input.{Input}
 use Rattle.qc_state.specs.declared.trace.Step.{Step}
 use Rattle.qc_params.specs.declared.params.TransportParameters.{TransportParameters}
@@ -40,8 +40,8 @@ use Rattle.qc_toy.specs.Start.{session_of}
 use Rattle.qc_toy.specs.declared.header_key.ToyHeaderKey.{ToyHeaderKey}
 use Rattle.qc_toy.specs.declared.packet_key.ToyPacketKey.{ToyPacketKey}
 use Rattle.qc_toy.specs.declared.session.ToySession.{ToySession}
-use Rattle.qc_toy.specs.declared.zero_random.ZeroRandom.{ZeroRandom}
-use Rattle.rand_core.specs.declared.Rng.{Ghosts as RngGhosts}
+use Rattle.qconn.specs.Words.{words_named, words_of}
+use Rattle.qconn.specs.declared.random.ScriptRandom.{ScriptRandom}
 
 -- the usual address of the path: ::1, port 4433
 pub record IsScriptAddress (address : SocketAddr) : Type 0 where
@@ -71,6 +71,10 @@ remote_of s = unwrap_or s.remote (replicate 8 2)
 -- on a server the destination id of the client's first packets
 abbrev pub first_of : Settings → List ℕ
 first_of s = unwrap_or s.first (replicate 8 3)
+
+-- the token that a client's Initial packets carry
+abbrev pub token_of : Settings → List ℕ
+token_of s = unwrap_or s.token []
 
 -- when the connection is made
 abbrev pub start_of : Settings → ℕ
@@ -133,37 +137,37 @@ pub record IsRunText {t : Types} (m : Meaning t) (first : View t) (inputs : List
 abbrev pub Sessions : Type 1
 Sessions = SessionGhosts ToySession ToyHeaderKey ToyPacketKey (Unit {0}) (Unit {0})
 
--- the client that a script sets up, with random words that are zeros: QUIC version 1, room for 16384 bytes of a CRYPTO stream, and
--- no address to send from. s, h, p and c are what its session, its keys and its congestion controller mean
-abbrev pub script_client : Sessions → HeaderMaskGhosts ToyHeaderKey → PacketKeyGhosts ToyPacketKey → ControllerGhosts Reno → Settings → SocketAddr → Held toy ZeroRandom
+-- the client that a script sets up: QUIC version 1, and no address to send from. s, h, p and c are what its session, its keys and
+-- its congestion controller mean
+abbrev pub script_client : Sessions → HeaderMaskGhosts ToyHeaderKey → PacketKeyGhosts ToyPacketKey → ControllerGhosts Reno → Settings → SocketAddr → View toy
 script_client s h p c set remote =
-    first_view (meaning s h p c) (client_session set) (record {}) (fixed_of Client 1 (local_of set) (remote_of set) None (transport_of set.idle).max_idle_timeout (transport_of set.idle).crypto_buffer_size true) remote (remote_of set) (transport_of set.idle) (control_of (transport_of set.idle)) (start_of set)
+    first_view (meaning s h p c) (client_session set) (words_named set.random) (fixed_of Client 1 (local_of set) (remote_of set) None (transport_of set.idle) true (words_named set.random)) remote (remote_of set) (token_of set) (transport_of set.idle) (control_of (transport_of set.idle)) (start_of set)
 
 -- so the server, whose client's address isn't validated
-abbrev pub script_server : Sessions → HeaderMaskGhosts ToyHeaderKey → PacketKeyGhosts ToyPacketKey → ControllerGhosts Reno → Settings → SocketAddr → Held toy ZeroRandom
+abbrev pub script_server : Sessions → HeaderMaskGhosts ToyHeaderKey → PacketKeyGhosts ToyPacketKey → ControllerGhosts Reno → Settings → SocketAddr → View toy
 script_server s h p c set remote =
-    server_view (meaning s h p c) (server_session set) (record {}) (fixed_of Server 1 (local_of set) (first_of set) None (transport_of set.idle).max_idle_timeout (transport_of set.idle).crypto_buffer_size true) remote (remote_of set) false (transport_of set.idle) (control_of (transport_of set.idle)) (start_of set)
+    server_view (meaning s h p c) (server_session set) (words_named set.random) (fixed_of Server 1 (local_of set) (first_of set) None (transport_of set.idle) true (words_named set.random)) remote (remote_of set) false (transport_of set.idle) (control_of (transport_of set.idle)) (start_of set)
 
 -- the end of this side
-abbrev pub view_for : Side → Sessions → HeaderMaskGhosts ToyHeaderKey → PacketKeyGhosts ToyPacketKey → ControllerGhosts Reno → Settings → SocketAddr → Held toy ZeroRandom
+abbrev pub view_for : Side → Sessions → HeaderMaskGhosts ToyHeaderKey → PacketKeyGhosts ToyPacketKey → ControllerGhosts Reno → Settings → SocketAddr → View toy
 view_for Client s h p c set remote = script_client s h p c set remote
 view_for Server s h p c set remote = script_server s h p c set remote
 
 -- the connection that the set lines of a script make, by their side
-abbrev pub script_view : Sessions → HeaderMaskGhosts ToyHeaderKey → PacketKeyGhosts ToyPacketKey → ControllerGhosts Reno → Settings → SocketAddr → Held toy ZeroRandom
+abbrev pub script_view : Sessions → HeaderMaskGhosts ToyHeaderKey → PacketKeyGhosts ToyPacketKey → ControllerGhosts Reno → Settings → SocketAddr → View toy
 script_view s h p c set remote = view_for set.side s h p c set remote
 
 -- the connection is the one that these set lines make
-pub record IsScriptEnd (s : Sessions) (h : HeaderMaskGhosts ToyHeaderKey) (p : PacketKeyGhosts ToyPacketKey) (c : ControllerGhosts Reno) (set : Settings) (end : Seen toy ZeroRandom) : Type 0 where
+pub record IsScriptEnd (s : Sessions) (h : HeaderMaskGhosts ToyHeaderKey) (p : PacketKeyGhosts ToyPacketKey) (c : ControllerGhosts Reno) (set : Settings) (end : Seen toy ScriptRandom) : Type 0 where
   pub remote : SocketAddr
   pub address : IsAddressOf set.addr remote
-  pub made : end.core ≡ script_view s h p c set remote
+  pub made : ideal words_of end.core ≡ script_view s h p c set remote
 
--- the text is that of a run of these inputs from the first view of that connection; r is what its random words mean
-pub record IsToyRun (s : Sessions) (h : HeaderMaskGhosts ToyHeaderKey) (p : PacketKeyGhosts ToyPacketKey) (c : ControllerGhosts Reno) (r : RngGhosts ZeroRandom) (set : Settings) (inputs : List Input) (text : List ℕ) : Type 0 where
+-- the text is that of a run of these inputs from the first view of that connection
+pub record IsToyRun (s : Sessions) (h : HeaderMaskGhosts ToyHeaderKey) (p : PacketKeyGhosts ToyPacketKey) (c : ControllerGhosts Reno) (set : Settings) (inputs : List Input) (text : List ℕ) : Type 0 where
   pub remote : SocketAddr
   pub address : IsAddressOf set.addr remote
-  pub run : IsRunText (meaning s h p c) (ideal r.stream (script_view s h p c set remote)) inputs text
+  pub run : IsRunText (meaning s h p c) (script_view s h p c set remote) inputs text
 
 -- the text is that of the steps of the inputs before the first that is refused, and of the line that names it
 pub record IsRefusalText {t : Types} (m : Meaning t) (first : View t) (inputs : List Input) (text : List ℕ) : Type 0 where
@@ -174,10 +178,10 @@ pub record IsRefusalText {t : Types} (m : Meaning t) (first : View t) (inputs : 
   pub spelled : text ≡ refused_text steps kind
 
 -- so for that connection
-pub record IsToyRefusal (s : Sessions) (h : HeaderMaskGhosts ToyHeaderKey) (p : PacketKeyGhosts ToyPacketKey) (c : ControllerGhosts Reno) (r : RngGhosts ZeroRandom) (set : Settings) (inputs : List Input) (text : List ℕ) : Type 0 where
+pub record IsToyRefusal (s : Sessions) (h : HeaderMaskGhosts ToyHeaderKey) (p : PacketKeyGhosts ToyPacketKey) (c : ControllerGhosts Reno) (set : Settings) (inputs : List Input) (text : List ℕ) : Type 0 where
   pub remote : SocketAddr
   pub address : IsAddressOf set.addr remote
-  pub refused : IsRefusalText (meaning s h p c) (ideal r.stream (script_view s h p c set remote)) inputs text
+  pub refused : IsRefusalText (meaning s h p c) (script_view s h p c set remote) inputs text
 
 -- what is told of a run: the text of the whole, or that of a refusal
 abbrev pub IsToldRun : (IsRun IsRefusal : Settings → List Input → List ℕ → Type 0) → Settings → List Input → Told → Type 0

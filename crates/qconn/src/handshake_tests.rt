@@ -90,7 +90,8 @@ pub(crate) fn text_of(alloc: Global, lines: &str) -> Result<String, Fail> {
 // Handshake packet in a Handshake packet, in which the client's end goes, and each once. The Initial packet fills 1200 bytes: less
 // a header of 27, a tag of 16 and an ACK of 5 they are PADDING. A Handshake packet, with a header of 26 bytes, is filled up to 29
 // bytes before its tag, which its frames reach alone: 26 + 11 + 16 = 53 bytes, and for the close 26 + 5 + 4 + 16 = 51. A 1-RTT
-// packet, with a header of 10 bytes, needs 14 before its tag: the application's close is one byte shorter. A close ends after
+// packet, with a header of 10 bytes, needs 14 before its tag: the application's close is one byte shorter. It has number 1, since of
+// zeros for random words number 0 is skipped. A close ends after
 // 3 times 26.000001 ms: the hello is acknowledged after 1 ns, so a probe timeout is that and the least of 1 ms for its variation
 // (RFC 9002, section 6.2.1), and 25 ms are the delay of the server's ACKs. As long as the server hasn't shown that it validated the
 // client's address, the loss timer stands a probe timeout behind the server's ACK, though nothing is in flight that elicits one
@@ -114,7 +115,7 @@ fn a_client_comes_to_its_end(rt: HostRuntime) -> Result<(), Fail> {
         "step 5 close 5\nlife 2\nanswer done\ntimer 78000008\n",
         "step 6 transmit 6\nseal handshake 1 0 ACK/0200000000 CONNECTION_CLOSE/1c0c0000\n\
             out 00000000000000000000000000000001/4433 51 - - ",
-        "step 7 transmit 7\nseal data 0 0 APPLICATION_CLOSE/1d0700 PADDING*1\nout 00000000000000000000000000000001/4433 30 - - ",
+        "step 7 transmit 7\nseal data 1 0 APPLICATION_CLOSE/1d0700 PADDING*1\nout 00000000000000000000000000000001/4433 30 - - ",
         "step 8 transmit 8\nquiet Silent\n",
     ] {
         assert!(rt; text.as_str().contains(part), "{part} {text}");
@@ -201,16 +202,17 @@ fn each_stop_of_the_handshake_has_its_code(rt: HostRuntime) -> Result<(), Fail> 
 
 /// A client's lines up to the end of its handshake: its hello, what the server answers, the ACK of the Initial packet, and the
 /// Handshake packet with its end.
-fn established(alloc: Global) -> Result<String, Fail> {
+pub(crate) fn established(alloc: Global) -> Result<String, Fail> {
     Ok(format!(in alloc;
         "transmit 0 1\ndatagram 1 {PATH} - {REPLY}{END}\ntransmit 2 1\ntransmit 3 1\n"
     )?)
 }
 
 // Once the handshake is over, 1-RTT packets are opened and acknowledged in 1-RTT packets; a HANDSHAKE_DONE drops the Handshake keys,
-// with which nothing is in flight any more: the loss timer stops. A PING goes in the 1-RTT space, and a close of the application
-// tells its code and its reason there alone. Behind a header of 10 bytes a PING needs 3 of PADDING to end at 14; an ACK of 5 bytes
-// needs none, nor does one with a close of 6: 10 + 5 + 16 = 31 bytes, and 10 + 5 + 6 + 16 = 37.
+// with which nothing is in flight any more: the loss timer stops. The ACK of the HANDSHAKE_DONE is held back for 25 ms, which the
+// timer tells, so that nothing is owed yet. A PING goes in the 1-RTT space, and the ACK goes with it, behind it; a close of the
+// application tells its code and its reason there alone. Behind a header of 10 bytes a PING and an ACK of 5 need no PADDING, nor does
+// an ACK with a close of 6: 10 + 6 + 16 = 32 bytes, and 10 + 5 + 6 + 16 = 37. Number 0 is skipped.
 #[test]
 fn packets_go_in_the_1_rtt_space(rt: HostRuntime) -> Result<(), Fail> {
     let alloc = rt.alloc();
@@ -220,9 +222,9 @@ fn packets_go_in_the_1_rtt_space(rt: HostRuntime) -> Result<(), Fail> {
     )?;
     let text = text_of(alloc, lines.as_str())?;
     for part in [
-        "step 4 datagram 4\npiece data 0 Admitted\ngave life HANDSHAKE_DONE/1e\nanswer done\ntimer 30000000004\n",
-        "step 5 transmit 5\nseal data 0 0 ACK/0200000000\nout 00000000000000000000000000000001/4433 31 - - ",
-        "step 7 transmit 7\nseal data 1 0 PING/01 PADDING*3\nout 00000000000000000000000000000001/4433 30 - - ",
+        "step 4 datagram 4\npiece data 0 Admitted\ngave life HANDSHAKE_DONE/1e\nanswer done\ntimer 25000004\n",
+        "step 5 transmit 5\nquiet NothingOwed\ntimer 25000004\n",
+        "step 7 transmit 7\nseal data 1 0 PING/01 ACK/0200000000\nout 00000000000000000000000000000001/4433 32 - - ",
         "step 8 datagram 8\npiece handshake - Ignored\nanswer done\n",
         "step 10 transmit 10\nseal data 2 0 ACK/0200000000 APPLICATION_CLOSE/1d0703627965\n\
             out 00000000000000000000000000000001/4433 37 - - ",
@@ -274,7 +276,7 @@ fn packets_of_the_1_rtt_space_have_their_verdicts(rt: HostRuntime) -> Result<(),
         };
         assert!(rt; text.as_str().contains(deeds), "{deeds} {text}");
         let closes = text.as_str().contains(
-            "seal data 0 0 ACK/0202000000 CONNECTION_CLOSE/1c000000\nout ",
+            "seal data 1 0 ACK/0202000000 CONNECTION_CLOSE/1c000000\nout ",
         );
         assert_eq!(rt; closes, packet == TWO_CLOSES, "{text}");
     }

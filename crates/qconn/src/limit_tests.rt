@@ -61,7 +61,7 @@ fn an_initial_key_has_its_limit(rt: HostRuntime) -> Result<(), Fail> {
 }
 
 // Of two Handshake packets the first has the client's end, and behind it the client, which is established, closes; the second tells
-// it, and a 1-RTT packet tells it too: 26 + 5 + 4 + 16 = 51 bytes, and 10 + 4 + 16 = 30. The hello was acknowledged after 1 ns,
+// it, and a 1-RTT packet tells it too, number 1, as 0 is skipped: 26 + 5 + 4 + 16 = 51 bytes, and 10 + 4 + 16 = 30. The hello was acknowledged after 1 ns,
 // without counts of marks: so there are no marks any more, and the close lasts for 3 times 1.000001 + 25 ms. Two Initial packets
 // have gone before, which a limit of Handshake keys leaves alone.
 #[test]
@@ -79,7 +79,7 @@ fn a_handshake_key_has_its_limit(rt: HostRuntime) -> Result<(), Fail> {
             out 00000000000000000000000000000001/4433 53 - - ",
         "\nevent lost TransportError 15 -\ntimer 78000006\n\
             step 4 transmit 4\nseal handshake 1 0 ACK/0200000000 CONNECTION_CLOSE/1c0f0000\nout 00000000000000000000000000000001/4433 51 - - ",
-        "\ntimer 78000006\nstep 5 transmit 5\nseal data 0 0 CONNECTION_CLOSE/1c0f0000\nout 00000000000000000000000000000001/4433 30 - - ",
+        "\ntimer 78000006\nstep 5 transmit 5\nseal data 1 0 CONNECTION_CLOSE/1c0f0000\nout 00000000000000000000000000000001/4433 30 - - ",
         "\ntimer 78000006\nstep 6 transmit 6\nquiet Silent\ntimer 78000006\nend\n",
     ] {
         assert!(rt; text.as_str().contains(part), "{part} {text}");

@@ -3,12 +3,17 @@
 #![tactic(auto)]
 
 #[cfg(test)]
+mod ack_tests;
+#[cfg(test)]
 mod handshake_tests;
 #[cfg(test)]
 mod limit_tests;
 #[cfg(test)]
+mod number_tests;
+#[cfg(test)]
 mod peer_tests;
 mod perform;
+mod random;
 #[cfg(test)]
 mod receiving_tests;
 #[cfg(test)]
@@ -25,6 +30,9 @@ mod standard;
 mod tests;
 #[cfg(test)]
 mod timeout_tests;
+mod token;
+#[cfg(test)]
+mod token_tests;
 mod transfer;
 
 use run::{Status, end, run};

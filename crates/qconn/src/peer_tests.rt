@@ -109,17 +109,18 @@ fn a_close_waits_for_the_delay_of_the_server(rt: HostRuntime) -> Result<(), Fail
 // A client with a limit on idle time of 1 ms waits for three probe timeouts: behind the Handshake packet, at 1, 3 times 1.000001 ms,
 // and behind a 1-RTT packet, at 1500001, 3 times 1.000001 + 100 ms. Before that the loss timer comes, a probe timeout after the ACK
 // of the hello at 1; once it fired, at 1500000, it stands two probe timeouts after that, behind the end. With the HANDSHAKE_DONE it
-// stops.
+// stops; the ACK of that is held back for 25 ms, and its timer comes first.
 #[test]
 fn an_idle_client_waits_for_the_delay_of_the_server(rt: HostRuntime) -> Result<(), Fail> {
     let alloc = rt.alloc();
     let lines = format!(in alloc;
-        "set idle 1\ntransmit 0 1\ndatagram 1 {PATH} - {REPLY}{DELAY}\ntimeout 1500000\ndatagram 1500001 {PATH} - {DONE}\n"
+        "set idle 1\ntransmit 0 1\ndatagram 1 {PATH} - {REPLY}{DELAY}\ntimeout 1500000\ndatagram 1500001 {PATH} - {DONE}\ntimeout 26500001\n"
     )?;
     let text = text_of(alloc, lines.as_str())?;
     for told in [
         "event connected\nendpoint need 1 1\ntimer 1000002\nstep 2 timeout 1500000\nanswer done\ntimer 3000004\n",
-        "step 3 datagram 1500001\npiece data 0 Admitted\ngave life HANDSHAKE_DONE/1e\nanswer done\ntimer 304500004\n",
+        "step 3 datagram 1500001\npiece data 0 Admitted\ngave life HANDSHAKE_DONE/1e\nanswer done\ntimer 26500001\n\
+            step 4 timeout 26500001\nanswer done\ntimer 304500004\n",
     ] {
         assert!(rt; text.as_str().contains(told), "{told} {text}");
     }

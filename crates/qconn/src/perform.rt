@@ -3,8 +3,11 @@
 ghost use Rattle.std.specs.Prelude.{true, false, replicate, unwrap_or, ◌≡◌, None, IfOk, IfSome};
 ghost use Rattle.qc_script.specs.Fields.{IsAddress};
 ghost use Rattle.qc_text.specs.OneText.{IsPlainStart};
+ghost use Rattle.qconn.specs.Words.{words_named, words_of};
 ghost use Rattle.qconn.specs.RunText.{IsScriptAddress, IsAddressOf, IsScriptEnd, IsToyRun, IsToyRefusal, IsToldRun, IsRefusalTold, client_session, server_session, parameters_of, reset_token_of, server_parameters_of, settings_of, transport_of, INITIAL_WINDOW, local_of, remote_of, first_of, start_of, view_for};
 
+use crate::random::{ScriptRandom, random_of};
+use crate::token::OneToken;
 use qc_base::{ConnectionId, HeaderMask, Instant, ResetToken, Side, VarInt};
 use qc_config::{NoneTokenStore, announced, reset_token};
 use qc_conn::text::{refused_text, trace_text};
@@ -17,9 +20,7 @@ use qc_script::{Script, Settings};
 use qc_state::{Input, Suite};
 use qc_toy::{
     ToyClient, ToyHeaderKey, ToyHmacKey, ToyPacketKey, ToyServer, ToySession, ToySettings,
-    ZeroRandom,
 };
-use rand_core::Rng;
 use std::alloc::{AllocError, Global};
 use std::default::Default;
 use std::net::{IpAddr, Ipv6Addr, SocketAddr};
@@ -27,7 +28,7 @@ use std::net::{IpAddr, Ipv6Addr, SocketAddr};
 /// The greatest UDP payload that an end takes, in bytes.
 const MAX_UDP_PAYLOAD: u16 = 1472;
 
-/// The types of the connection that a script drives: toy sessions, NewReno, and zeros for random words.
+/// The types of the connection that a script drives: toy sessions, NewReno, and random words that are zeros or those of ChaCha20.
 pub struct Toy;
 
 impl Suite for Toy {
@@ -35,7 +36,7 @@ impl Suite for Toy {
 
     type Control = NewRenoConfig;
 
-    type Random = ZeroRandom;
+    type Random = ScriptRandom;
 }
 
 /// The id that a line gives, or eight times this byte.
@@ -169,6 +170,7 @@ fn client_setup(alloc: Global, set: &Settings) -> Result<ClientSetup<Toy>, Alloc
     ensures fresh { IfOk result (λ setup. ⟦<ToySession as Session>⟧.is_fresh setup.session) }
     ensures client { IfOk result (λ setup. setup.session.side ≡ Side.Client) }
     ensures session { IfOk result (λ setup. setup.session ≡ client_session set.now) }
+    ensures random { IfOk result (λ setup. words_of setup.random ≡ words_named set.now.random) }
     ensures version { IfOk result (λ setup. setup.version ≡ 1) }
     ensures local_cid { IfOk result (λ setup. setup.local_cid ≡ local_of set.now) }
     ensures local_ip { IfOk result (λ setup. setup.local_ip ≡ None) }
@@ -183,7 +185,7 @@ fn client_setup(alloc: Global, set: &Settings) -> Result<ClientSetup<Toy>, Alloc
     let session = session_of_client(alloc, set, &transport)?;
     Ok(ClientSetup {
         session,
-        random: ZeroRandom,
+        random: random_of(set.random),
         control: NewRenoConfig::default(),
         transport,
         grease_quic_bit: true,
@@ -204,6 +206,7 @@ fn client_setup(alloc: Global, set: &Settings) -> Result<ClientSetup<Toy>, Alloc
 fn server_setup(alloc: Global, set: &Settings) -> Result<ServerSetup<Toy>, AllocError>
     ensures fresh { IfOk result (λ setup. ⟦<ToySession as Session>⟧.is_fresh setup.session) }
     ensures session { IfOk result (λ setup. setup.session ≡ server_session set.now) }
+    ensures random { IfOk result (λ setup. words_of setup.random ≡ words_named set.now.random) }
     ensures version { IfOk result (λ setup. setup.version ≡ 1) }
     ensures local_cid { IfOk result (λ setup. setup.local_cid ≡ local_of set.now) }
     ensures local_ip { IfOk result (λ setup. setup.local_ip ≡ None) }
@@ -220,7 +223,7 @@ fn server_setup(alloc: Global, set: &Settings) -> Result<ServerSetup<Toy>, Alloc
     let session = session_of_server(alloc, set, &transport)?;
     Ok(ServerSetup {
         session,
-        random: ZeroRandom,
+        random: random_of(set.random),
         control: NewRenoConfig::default(),
         transport,
         grease_quic_bit: true,
@@ -247,7 +250,8 @@ fn script_client(alloc: Global, set: &Settings) -> Result<Connection<Toy>, Alloc
     ensures plain { IfOk result (λ client. IsPlainStart client.core.waiting client.core.paths client.core.life) }
 {
     let setup = client_setup(alloc, set)?;
-    let client = Connection::new_client(alloc, setup, &mut NoneTokenStore, time_or(set.time))?;
+    let mut store = OneToken::new(alloc, &set.token)?;
+    let client = Connection::new_client(alloc, setup, &mut store, time_or(set.time))?;
     Ok(client)
 }
 
@@ -288,7 +292,7 @@ pub enum Told {
 /// input that can't be taken. Want of memory is the only error.
 pub fn perform(alloc: Global, script: &Script) -> Result<Told, AllocError>
     requires address { IfSome script.now.settings.addr IsAddress }
-    ensures { IfOk result (λ told. IsToldRun (IsToyRun ⟦<ToySession as Session>⟧ ⟦<ToyHeaderKey as HeaderMask>⟧ ⟦<ToyPacketKey as PacketKey>⟧ ⟦<NewReno as Controller>⟧ ⟦<ZeroRandom as Rng>⟧) (IsToyRefusal ⟦<ToySession as Session>⟧ ⟦<ToyHeaderKey as HeaderMask>⟧ ⟦<ToyPacketKey as PacketKey>⟧ ⟦<NewReno as Controller>⟧ ⟦<ZeroRandom as Rng>⟧) script.now.settings script.now.inputs.items told) }
+    ensures { IfOk result (λ told. IsToldRun (IsToyRun ⟦<ToySession as Session>⟧ ⟦<ToyHeaderKey as HeaderMask>⟧ ⟦<ToyPacketKey as PacketKey>⟧ ⟦<NewReno as Controller>⟧) (IsToyRefusal ⟦<ToySession as Session>⟧ ⟦<ToyHeaderKey as HeaderMask>⟧ ⟦<ToyPacketKey as PacketKey>⟧ ⟦<NewReno as Controller>⟧) script.now.settings script.now.inputs.items told) }
 {
     let mut end = script_end(alloc, &script.settings)?;
     match drive(
@@ -330,11 +334,13 @@ mod tests {
     fn a_client_is_called_directly(rt: HostRuntime) -> Result<(), Fail> {
         let set = Settings {
             side: Side::Client,
+            random: None,
             time: None,
             local: None,
             remote: None,
             first: None,
             addr: None,
+            token: None,
             secret: None,
             limit_initial: None,
             limit_handshake: None,

@@ -15,7 +15,7 @@ const HANDSHAKE: &str =
     "e0000000010801010101010101010804040404040404044014c001000060c02080e041a10060c02080e040a000";
 
 /// An Initial packet, number 1, with an ACK of number 0 alone.
-const ACK_OF_0: &str =
+pub(crate) const ACK_OF_0: &str =
     "c6000000010801010101010101010804040404040404040040160706040402020506070607060808090a0b0c0d0e0f10";
 
 /// An Initial packet, number 2, with an ACK of number 9 alone.

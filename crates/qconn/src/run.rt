@@ -16,8 +16,7 @@ use qc_base::HeaderMask;
 use qc_crypto::{PacketKey, Session};
 use qc_path::{Controller, NewReno};
 use qc_script::{ScriptError, read_script};
-use qc_toy::{ToyHeaderKey, ToyPacketKey, ToySession, ZeroRandom};
-use rand_core::Rng;
+use qc_toy::{ToyHeaderKey, ToyPacketKey, ToySession};
 use std::alloc::Global;
 
 /// How a run of the program ends, with the exit status that it stands for.
@@ -53,8 +52,8 @@ pub fn run<So: Source, Si: Sink>(
     source: &mut So,
     sink: &mut Si,
 ) -> Status
-    ensures done { result ≡ Status.Done → Finished (IsToyRun ⟦<ToySession as Session>⟧ ⟦<ToyHeaderKey as HeaderMask>⟧ ⟦<ToyPacketKey as PacketKey>⟧ ⟦<NewReno as Controller>⟧ ⟦<ZeroRandom as Rng>⟧) (So.left source.old) (So.left source.new) (Si.held sink.old) (Si.held sink.new) }
-    ensures refused { result ≡ Status.Refused → Finished (IsToyRefusal ⟦<ToySession as Session>⟧ ⟦<ToyHeaderKey as HeaderMask>⟧ ⟦<ToyPacketKey as PacketKey>⟧ ⟦<NewReno as Controller>⟧ ⟦<ZeroRandom as Rng>⟧) (So.left source.old) (So.left source.new) (Si.held sink.old) (Si.held sink.new) }
+    ensures done { result ≡ Status.Done → Finished (IsToyRun ⟦<ToySession as Session>⟧ ⟦<ToyHeaderKey as HeaderMask>⟧ ⟦<ToyPacketKey as PacketKey>⟧ ⟦<NewReno as Controller>⟧) (So.left source.old) (So.left source.new) (Si.held sink.old) (Si.held sink.new) }
+    ensures refused { result ≡ Status.Refused → Finished (IsToyRefusal ⟦<ToySession as Session>⟧ ⟦<ToyHeaderKey as HeaderMask>⟧ ⟦<ToyPacketKey as PacketKey>⟧ ⟦<NewReno as Controller>⟧) (So.left source.old) (So.left source.new) (Si.held sink.old) (Si.held sink.new) }
     ensures bad_script { result ≡ Status.BadScript → NoScript (So.left source.old) (So.left source.new) (Si.held sink.old) (Si.held sink.new) }
 
     // Words other than `run` alone are told so, and nothing is read.
@@ -104,8 +103,8 @@ pub fn end<Si: Sink>(sink: &mut Si, line: &[u8], status: Status) -> Status
 
 /// Performs the script that these bytes are.
 fn follow<Si: Sink>(alloc: Global, bytes: &[u8], sink: &mut Si) -> Status
-    ensures done { result ≡ Status.Done → (length bytes.now ≤ SCRIPT_LIMIT) × Performed (IsToyRun ⟦<ToySession as Session>⟧ ⟦<ToyHeaderKey as HeaderMask>⟧ ⟦<ToyPacketKey as PacketKey>⟧ ⟦<NewReno as Controller>⟧ ⟦<ZeroRandom as Rng>⟧) bytes.now (Si.held sink.old) (Si.held sink.new) }
-    ensures refused { result ≡ Status.Refused → (length bytes.now ≤ SCRIPT_LIMIT) × Performed (IsToyRefusal ⟦<ToySession as Session>⟧ ⟦<ToyHeaderKey as HeaderMask>⟧ ⟦<ToyPacketKey as PacketKey>⟧ ⟦<NewReno as Controller>⟧ ⟦<ZeroRandom as Rng>⟧) bytes.now (Si.held sink.old) (Si.held sink.new) }
+    ensures done { result ≡ Status.Done → (length bytes.now ≤ SCRIPT_LIMIT) × Performed (IsToyRun ⟦<ToySession as Session>⟧ ⟦<ToyHeaderKey as HeaderMask>⟧ ⟦<ToyPacketKey as PacketKey>⟧ ⟦<NewReno as Controller>⟧) bytes.now (Si.held sink.old) (Si.held sink.new) }
+    ensures refused { result ≡ Status.Refused → (length bytes.now ≤ SCRIPT_LIMIT) × Performed (IsToyRefusal ⟦<ToySession as Session>⟧ ⟦<ToyHeaderKey as HeaderMask>⟧ ⟦<ToyPacketKey as PacketKey>⟧ ⟦<NewReno as Controller>⟧) bytes.now (Si.held sink.old) (Si.held sink.new) }
     ensures bad_script { result ≡ Status.BadScript → NamedBad bytes.now (Si.held sink.old) (Si.held sink.new) }
     ensures no_usage { result ≢ Status.Usage }
     ensures no_read_fault { result ≢ Status.ReadFault }

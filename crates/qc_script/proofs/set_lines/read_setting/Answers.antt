@@ -10,22 +10,25 @@ on_side (Ok x) text side h = h side
 on_side (Err e) text side h = h
 
 pub returns-in-Some : goal.returns-in-Some
-returns-in-Some c = rw c.in-Some.ensures (c.time_line.ensures c.args.side)
+returns-in-Some c = rw c.in-Some.ensures (on_side c.random_line.result (codes "set random " ++ c.in-Some.field.now) c.args.side c.random_line.ensures)
 
-pub returns-in-Some-after_word-5 : goal.returns-in-Some-after_word-5
-returns-in-Some-after_word-5 c = rw c.in-Some-after_word-5.ensures (on_side c.secret_line.result (codes "set secret " ++ c.in-Some-after_word-5.field.now) c.args.side c.secret_line.ensures)
-
-pub returns-in-Some-after_word-6 : goal.returns-in-Some-after_word-6
-returns-in-Some-after_word-6 c = rw c.in-Some-after_word-6.ensures (c.limit_initial_line.ensures c.args.side)
+pub returns-in-Some-after_word : goal.returns-in-Some-after_word
+returns-in-Some-after_word c = rw c.in-Some-after_word.ensures (c.time_line.ensures c.args.side)
 
 pub returns-in-Some-after_word-7 : goal.returns-in-Some-after_word-7
-returns-in-Some-after_word-7 c = rw c.in-Some-after_word-7.ensures (c.limit_handshake_line.ensures c.args.side)
+returns-in-Some-after_word-7 c = rw c.in-Some-after_word-7.ensures (on_side c.secret_line.result (codes "set secret " ++ c.in-Some-after_word-7.field.now) c.args.side c.secret_line.ensures)
 
 pub returns-in-Some-after_word-8 : goal.returns-in-Some-after_word-8
-returns-in-Some-after_word-8 c = rw c.in-Some-after_word-8.ensures (c.limit_failures_line.ensures c.args.side)
+returns-in-Some-after_word-8 c = rw c.in-Some-after_word-8.ensures (c.limit_initial_line.ensures c.args.side)
 
 pub returns-in-Some-after_word-9 : goal.returns-in-Some-after_word-9
-returns-in-Some-after_word-9 c = rw c.in-Some-after_word-9.ensures (c.idle_line.ensures c.args.side)
+returns-in-Some-after_word-9 c = rw c.in-Some-after_word-9.ensures (c.limit_handshake_line.ensures c.args.side)
+
+pub returns-in-Some-after_word-10 : goal.returns-in-Some-after_word-10
+returns-in-Some-after_word-10 c = rw c.in-Some-after_word-10.ensures (c.limit_failures_line.ensures c.args.side)
+
+pub returns-in-Some-after_word-11 : goal.returns-in-Some-after_word-11
+returns-in-Some-after_word-11 c = rw c.in-Some-after_word-11.ensures (c.idle_line.ensures c.args.side)
 
 pub returns-in-None : goal.returns-in-None
-returns-in-None c = no_set_word c.args.text.now c.in_default.ensures c.in_default-after_word.ensures c.in_default-after_word-2.ensures c.in_default-after_word-3.ensures c.in_default-after_word-4.ensures c.in_default-after_word-5.ensures c.in_default-after_word-6.ensures c.in_default-after_word-7.ensures c.in_default-after_word-8.ensures c.in-None.ensures c.args.side
+returns-in-None c = no_set_word c.args.text.now c.in_default.ensures c.in_default-after_word.ensures c.in_default-after_word-2.ensures c.in_default-after_word-3.ensures c.in_default-after_word-4.ensures c.in_default-after_word-5.ensures c.in_default-after_word-6.ensures c.in_default-after_word-7.ensures c.in_default-after_word-8.ensures c.in_default-after_word-9.ensures c.in_default-after_word-10.ensures c.in-None.ensures c.args.side

@@ -3,4 +3,4 @@ use Rattle.qc_conn.proofs.connection.Connection.new_client.Goals as goal
 
 -- its address is that of the setup
 pub returns-clause-plain : goal.returns-clause-plain
-returns-clause-plain g c plain = first_plain _ _ _ _ c.args.setup.remote c.args.setup.first_cid _ _ c.args.now c.in_ok-core.core c.in_ok-core.ensures.made c.in_ok-core.ensures.hello plain
+returns-clause-plain g c plain = first_plain g.U.Random.Rng.stream _ _ _ _ c.args.setup.remote c.args.setup.first_cid _ _ _ c.args.now c.in_ok-core.core c.in_ok-core.ensures.made c.in_ok-core.ensures.hello plain

@@ -1,10 +1,12 @@
 -- What each timer left, one after the other.
-use Rattle.std.proofs.lemmas.Result.{on_ok_weaker}
-use Rattle.qc_core.proofs.Expiring.{no_idle, no_close}
+use Rattle.qc_core.proofs.Expiring.{no_idle, no_close, no_ack}
 use Rattle.qc_core.proofs.state.Core.handle_timeout.Goals as goal
 
 pub returns-clause-idle : goal.returns-clause-idle
-returns-clause-idle g c = on_ok_weaker c.expire_close.result (λ closed alive. no_idle c.args.now _ _ _ c.in_ok-expire_idle.ensures closed) c.expire_close.ensures
+returns-clause-idle g c alive = no_idle c.args.now _ _ _ _ c.in_ok-expire_idle.ensures c.in_ok-expire_close.ensures c.expire_ack.ensures
 
 pub returns-clause-close : goal.returns-clause-close
-returns-clause-close g c = on_ok_weaker c.expire_close.result (λ closed alive. no_close c.args.now _ _ closed) c.expire_close.ensures
+returns-clause-close g c alive = no_close c.args.now _ _ _ c.in_ok-expire_close.ensures c.expire_ack.ensures
+
+pub returns-clause-ack : goal.returns-clause-ack
+returns-clause-ack g c alive = no_ack c.args.now _ _ c.expire_ack.ensures

@@ -1,0 +1,157 @@
+-- The header of a packet for which all was drawn, and what sealing it makes of the view before.
+use Rattle.std.proofs.Common.{◌≡◌, ℕ, ◌+◌, ◌-◌, ◌≤◌, List, [], ◌++◌, length, length-append, refl, ap, sym, ◌∙◌, subst, ◌%◌, replicate, nat_lt, IsSome, Bool, true, false, ◌&&◌, not, if◌then◌else◌, arith}
+use Rattle.rand_core.specs.Stream.{Stream}
+use Rattle.qc_base.specs.declared.side.SpaceId.{SpaceId}
+use Rattle.qc_base.specs.declared.side.SpaceId.TheVariants.{Initial, Handshake, «Data»}
+use Rattle.qc_base.specs.Varint.{varint, spelled, one, two, four, eight}
+use Rattle.qc_frame.specs.Frame.{FrameValue}
+use Rattle.qc_header.specs.declared.header.Header.{Header}
+use Rattle.qc_header.specs.HeaderSpelling.{header_spelling, initial_spelling, short_spelling}
+use Rattle.qc_frame.specs.FrameSpelling.{frames_spelling}
+use Rattle.qc_frame.specs.declared.frames.FrameOf.TheVariants.{Padding}
+use Rattle.qc_packet.specs.Building.{padded_size}
+use Rattle.qc_packet.specs.PacketSpelling.{padding_len}
+use Rattle.qc_core.specs.Drawing.{drawn_for, header_with, sealed_drawn, token_bytes, token_in}
+use Rattle.qc_state.specs.declared.deeds.Did.{Did}
+use Rattle.qc_state.specs.Draws.{bit}
+use Rattle.qc_state.specs.Moves.{Seal, move_to, state_move, numbers_move, keys_move, life_move, paths_move, timers_move, waiting_move, setup_move, lower_move, deeds_move}
+use Rattle.qc_state.specs.Recovering.{around_of, is_validated_by_peer, probe_timeout_now}
+use Rattle.qc_state.specs.Keys.{keys_of}
+use Rattle.qc_state.specs.Numbers.{next_number}
+use Rattle.qc_state.specs.Sending.{flips_now, frame_room, header_in, is_flown, least_size, packet_bytes, packet_size, padded, padding_of, sealed_with, spin_now}
+use Rattle.qc_state.specs.Setup.{behind_spin, ideal_setup, idle_limit_now, packet_drawn, takes_grease}
+use Rattle.qc_state.specs.declared.setup.Setup.{Setup}
+use Rattle.qc_state.specs.Spaces.{is_space}
+use Rattle.qc_state.specs.Types.{Types, Meaning}
+use Rattle.qc_state.specs.View.{Held, View, At, at, ideal}
+use Rattle.qc_state.proofs.Seals.{padded_size_is}
+
+-- a number has a byte at least
+one_of : (n m : ℕ) (a b c : Bool) → 1 ≤ length (if a then spelled one n else if b then spelled two n else if c then spelled four n else spelled eight m)
+one_of n m true b c = omega arith
+one_of n m false true c = omega arith
+one_of n m false false true = omega arith
+one_of n m false false false = omega arith
+
+varint_some : (n : ℕ) → 1 ≤ length (varint n)
+unfolding varint
+varint_some n = one_of n (n % 4611686018427387904) (nat_lt n 64) (nat_lt n 16384) (nat_lt n 1073741824)
+
+varint_0 : length (varint 0) ≡ 1
+unfolding varint
+varint_0 = refl
+
+-- the spin bit of a 1-RTT packet
+spun_by : (spins bit spin : Bool) → (if true && not spins then bit else spin) ≡ (if spins then spin else bit)
+spun_by true bit spin = refl
+spun_by false bit spin = refl
+
+module _ {t : Types} where
+  -- what is drawn changes nothing that the header says
+  header_stays : (s : View t) (id : SpaceId) (spin : Bool) (token : List ℕ) → header_with (drawn_for id s) id spin token ≡ header_with s id spin token
+  unfolding drawn_for packet_drawn
+  header_stays s Initial spin token = refl
+  header_stays s Handshake spin token = refl
+  header_stays s Data spin token = refl
+
+  -- the header by what was drawn
+  header_by : (s : View t) (id : SpaceId) → header_with s id (if is_space id Data && not s.setup.fixed.spins then bit s.setup.random else s.paths.spin) (token_in id s.setup.initial_token) ≡ header_in s id
+  unfolding spin_now
+  header_by s Initial = refl
+  header_by s Handshake = refl
+  header_by s Data = ap (λ (b : Bool). header_with s Data b []) (spun_by s.setup.fixed.spins (bit s.setup.random) s.paths.spin)
+
+  pub header_drawn : (s s' : View t) (id : SpaceId) (spin : Bool) (token : List ℕ) (h : Header) → s' ≡ drawn_for id s → spin ≡ (if is_space id Data && not s.setup.fixed.spins then bit s.setup.random else s.paths.spin) →
+      token ≡ token_in id s.setup.initial_token → h ≡ header_with s' id spin token → h ≡ header_in s id
+  header_drawn s s' id spin token h is_s is_spin is_token is_h =
+      is_h ∙ ap (λ (v : View t). header_with v id spin token) is_s ∙ header_stays s id spin token ∙ ap (λ (b : Bool). header_with s id b token) is_spin
+      ∙ ap (λ (x : List ℕ). header_with s id (if is_space id Data && not s.setup.fixed.spins then bit s.setup.random else s.paths.spin) x) is_token ∙ header_by s id
+
+  -- a packet that was sealed, for which all was drawn before, is the move
+  sealed_is : (time : ℕ) (id : SpaceId) (number size : ℕ) (fs : List FrameValue) (s : View t) (ds : List Did) → sealed_drawn time id number size fs (at (drawn_for id s) ds) ≡ move_to (Seal time id number size fs) (at s ds)
+  unfolding sealed_drawn drawn_for move_to state_move numbers_move keys_move life_move paths_move timers_move waiting_move setup_move lower_move deeds_move packet_drawn idle_limit_now probe_timeout_now around_of is_validated_by_peer
+  sealed_is time id number size fs s ds = refl
+
+  pub seals_drawn : (time : ℕ) (id : SpaceId) (number size : ℕ) (fs : List FrameValue) (s s' : View t) (ds : List Did) (b : At t) → s' ≡ drawn_for id s → b ≡ sealed_drawn time id number size fs (at s' ds) → b ≡ move_to (Seal time id number size fs) (at s ds)
+  seals_drawn time id number size fs s s' ds b is_s is_b = is_b ∙ ap (λ (v : View t). sealed_drawn time id number size fs (at v ds)) is_s ∙ sealed_is time id number size fs s ds
+
+  -- a token makes the header so much longer
+  spelled_len : (s : View t) (id : SpaceId) → length (header_spelling (header_in s id) 0) ≡ length (header_spelling (header_with s id false []) 0) + token_bytes id s.setup.initial_token
+  unfolding header_spelling initial_spelling short_spelling
+  spelled_len s Initial = simp length-append (omega (arith, varint_some (length s.setup.initial_token), varint_0))
+  spelled_len s Handshake = omega arith
+  spelled_len s Data = omega arith
+
+  -- the room for frames, by the length of the header without a token
+  pub room_is : (s : View t) (id : SpaceId) (h : Header) (token none : List ℕ) (bare room more n : ℕ) → none ≡ [] → h ≡ header_with s id false none → bare ≡ length (header_spelling h 0) → room ≡ 1184 - bare →
+      token ≡ s.setup.initial_token → more ≡ token_bytes id token → n ≡ room - more → n ≡ frame_room s id
+  unfolding frame_room
+  room_is s id h token none bare room more n is_none is_h is_bare is_room is_token is_more is_n =
+      let first : bare ≡ length (header_spelling (header_with s id false []) 0) = is_bare ∙ ap (λ (x : Header). length (header_spelling x 0)) (is_h ∙ ap (λ (x : List ℕ). header_with s id false x) is_none) in
+      let rest : more ≡ token_bytes id s.setup.initial_token = is_more ∙ ap (λ (x : List ℕ). token_bytes id x) is_token in
+      omega (arith, spelled_len s id, first, is_room, rest, is_n)
+
+  -- the space has its keys still
+  pub keyed_still : (s s' : View t) (id : SpaceId) → s' ≡ drawn_for id s → IsSome (keys_of s.keys id) → IsSome (keys_of s'.keys id)
+  unfolding drawn_for
+  keyed_still s s' id is_s h = subst (λ (v : View t). IsSome (keys_of v.keys id)) (sym is_s) h
+
+  -- the frames have the PADDING that they need
+  pub filled : (s : View t) (id : SpaceId) (h : Header) (least : ℕ) (fs gs : List FrameValue) → h ≡ header_in s id → least ≡ least_size s id fs → gs ≡ fs ++ replicate (padding_len h fs (padded_size h fs least)) Padding → gs ≡ padded s id fs
+  unfolding padded padding_of
+  filled s id h least fs gs is_h is_least is_gs =
+      is_gs ∙ ap (λ (x : Header). fs ++ replicate (padding_len x fs (padded_size x fs least)) Padding) is_h
+      ∙ ap (λ (n : ℕ). fs ++ replicate (padding_len (header_in s id) fs (padded_size (header_in s id) fs n)) Padding) is_least
+
+  -- the packet has as many bytes as it is to have
+  pub sized : (s : View t) (id : SpaceId) (h : Header) (least n : ℕ) (fs : List FrameValue) → h ≡ header_in s id → least ≡ least_size s id fs → n ≡ padded_size h fs least → n ≡ packet_size s id (padded s id fs)
+  sized s id h least n fs is_h is_least is_n = is_n ∙ ap (λ (x : ℕ). padded_size h fs x) is_least ∙ padded_size_is s id h fs is_h
+
+  -- these are its bytes
+  pub spelled_by : (m : Meaning t) (s s' : View t) (id : SpaceId) (h : Header) (flip : Bool) (number least : ℕ) (fs gs : List FrameValue) (buffer : List ℕ) → s' ≡ drawn_for id s → h ≡ header_in s id → flip ≡ flips_now s id →
+      number ≡ next_number s.numbers id → least ≡ least_size s id fs → gs ≡ fs ++ replicate (padding_len h fs (padded_size h fs least)) Padding → buffer ≡ sealed_with m (keys_of s'.keys id) flip h number (frames_spelling gs) →
+      buffer ≡ packet_bytes m s id (padded s id fs)
+  unfolding packet_bytes drawn_for
+  spelled_by m s s' id h flip number least fs gs buffer is_s is_h is_flip is_number is_least is_gs is =
+      is ∙ ap (λ (v : View t). sealed_with m (keys_of v.keys id) flip h number (frames_spelling gs)) is_s
+      ∙ ap (λ (b : Bool). sealed_with m (keys_of s.keys id) b h number (frames_spelling gs)) is_flip
+      ∙ ap (λ (x : Header). sealed_with m (keys_of s.keys id) (flips_now s id) x number (frames_spelling gs)) is_h
+      ∙ ap (λ (n : ℕ). sealed_with m (keys_of s.keys id) (flips_now s id) (header_in s id) n (frames_spelling gs)) is_number
+      ∙ ap (λ (xs : List FrameValue). sealed_with m (keys_of s.keys id) (flips_now s id) (header_in s id) (next_number s.numbers id) (frames_spelling xs)) (filled s id h least fs gs is_h is_least is_gs)
+
+  -- whether it counts as in flight
+  pub flies_by : (s s' : View t) (id : SpaceId) (h : Header) (least : ℕ) (fs gs : List FrameValue) (counts : Bool) → s' ≡ drawn_for id s → h ≡ header_in s id → least ≡ least_size s id fs →
+      gs ≡ fs ++ replicate (padding_len h fs (padded_size h fs least)) Padding → counts ≡ is_flown s' gs → counts ≡ is_flown s (padded s id fs)
+  unfolding is_flown drawn_for
+  flies_by s s' id h least fs gs counts is_s is_h is_least is_gs is =
+      is ∙ ap (λ (v : View t). is_flown v gs) is_s ∙ ap (λ (xs : List FrameValue). is_flown s xs) (filled s id h least fs gs is_h is_least is_gs)
+
+  -- and sealing it is its move
+  pub moved_by : (s s' : View t) (ds : List Did) (time : ℕ) (id : SpaceId) (h : Header) (number size least len : ℕ) (fs gs : List FrameValue) (b : At t) → s' ≡ drawn_for id s → h ≡ header_in s id → number ≡ next_number s.numbers id →
+      least ≡ least_size s id fs → gs ≡ fs ++ replicate (padding_len h fs (padded_size h fs least)) Padding → size ≡ len → b ≡ sealed_drawn time id number size gs (at s' ds) →
+      b ≡ move_to (Seal time id (next_number s.numbers id) len (padded s id fs)) (at s ds)
+  moved_by s s' ds time id h number size least len fs gs b is_s is_h is_number is_least is_gs is_size is =
+      seals_drawn time id number size gs s s' ds b is_s is ∙ ap (λ (n : ℕ). move_to (Seal time id n size gs) (at s ds)) is_number
+      ∙ ap (λ (n : ℕ). move_to (Seal time id (next_number s.numbers id) n gs) (at s ds)) is_size
+      ∙ ap (λ (xs : List FrameValue). move_to (Seal time id (next_number s.numbers id) len xs) (at s ds)) (filled s id h least fs gs is_h is_least is_gs)
+
+module _ {t : Types} {R : Type 0} (stream : R → Stream) where
+  -- what is drawn for a packet was drawn
+  pub drawn_by : (v w : Held t R) (id : SpaceId) (setup : Setup R) → w ≡ v → ideal_setup stream setup ≡ packet_drawn (ideal_setup stream w.setup) id → ideal stream (record w { setup = setup }) ≡ drawn_for id (ideal stream v)
+  unfolding drawn_for
+  drawn_by v w id setup same left =
+      subst (λ (x : Held t R). ideal stream (record w { setup = setup }) ≡ drawn_for id (ideal stream x)) same (ap (λ (x : Setup Stream). record (ideal stream w) { setup = x }) left)
+
+  -- the header by that
+  pub header_is : (v w : Held t R) (id : SpaceId) (setup : Setup R) (spin : Bool) (token : List ℕ) (h : Header) → w ≡ v → ideal_setup stream setup ≡ packet_drawn (ideal_setup stream w.setup) id →
+      spin ≡ (if is_space id Data && not w.setup.fixed.spins then bit (stream w.setup.random) else w.paths.spin) → token ≡ token_in id v.setup.initial_token → h ≡ header_with (ideal stream (record w { setup = setup })) id spin token →
+      h ≡ header_in (ideal stream v) id
+  unfolding ideal_setup
+  header_is v w id setup spin token h same left is_spin is_token is_h =
+      header_drawn (ideal stream v) (ideal stream (record w { setup = setup })) id spin token h (drawn_by v w id setup same left)
+      (is_spin ∙ ap (λ (x : Held t R). if is_space id Data && not x.setup.fixed.spins then bit (stream x.setup.random) else x.paths.spin) same) is_token is_h
+
+  -- and whether its fixed bit is flipped
+  pub flip_is : (v w : Held t R) (id : SpaceId) (flip : Bool) → w ≡ v → flip ≡ (takes_grease w.setup.peer && bit (behind_spin (ideal_setup stream w.setup) id)) → flip ≡ flips_now (ideal stream v) id
+  unfolding flips_now ideal_setup
+  flip_is v w id flip same is = is ∙ ap (λ (x : Held t R). takes_grease x.setup.peer && bit (behind_spin (ideal_setup stream x.setup) id)) same
