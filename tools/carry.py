@@ -4,7 +4,8 @@
     tools/carry.py           writes examples/client.script and examples/server.script
     tools/carry.py --check   fails where they aren't what the two ends make of one another
 
-The client says hello; when neither end sends any more, it asks for a PING, and then it closes with code 7 and the reason `bye`.
+The client says hello; when neither end sends any more, it asks for a PING, and then the server does, whose ACK the client holds back
+until its timer comes; at last the client closes with code 7 and the reason `bye`.
 A script has no answer of the other end but as datagrams, so each turn runs the whole script of one end again and takes what its
 last transmit sent.
 """
@@ -18,17 +19,20 @@ CLIENT, SERVER = "00000000000000000000000000000001/50000", "00000000000000000000
 
 
 class End:
-    """One end: the lines of its script, and the address that its datagrams come from."""
+    """One end: the lines of its script, the address that its datagrams come from, and the time of its timer, if it has one."""
 
     def __init__(self, lines, address):
-        self.lines, self.address = lines, address
+        self.lines, self.address, self.timer = lines, address, None
 
     def step(self, line):
         """Adds an input line and gives the lines of its step."""
         self.lines.append(line)
         script = "".join(f"{it}\n" for it in self.lines)
         ran = subprocess.run([f"{TOP}/qconn", "run"], input=script.encode(), stdout=subprocess.PIPE, check=True, cwd=TOP)
-        return ran.stdout.decode().rsplit("\nstep ", 1)[1].splitlines()
+        told = ran.stdout.decode().rsplit("\nstep ", 1)[1].splitlines()
+        timer = next(it.split(" ")[1] for it in told if it.startswith("timer "))
+        self.timer = None if timer == "-" else int(timer)
+        return told
 
     def sent(self, time):
         """A transmit: gives the datagram that it sent, if it sent one."""
@@ -66,6 +70,10 @@ def conversation():
     server = End(["set side server", "set local 0404040404040404", "set remote 0101010101010101", f"set addr {CLIENT}"], SERVER)
     time = talk(0, client, server)
     client.step(f"ping {time}")
+    time = talk(time, client, server)
+    server.step(f"ping {time}")
+    time = max(talk(time, client, server), client.timer)
+    client.step(f"timeout {time}")
     time = talk(time, client, server)
     client.step(f"close {time} 7 627965")
     talk(time, client, server)
