@@ -10,6 +10,7 @@ pub mod Reading
 pub mod Refused
 pub mod Sending
 pub mod Sizes
+pub mod Views
 pub mod WaitIds
 pub mod WaitLaw
 pub mod WaitOpened

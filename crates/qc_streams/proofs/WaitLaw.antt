@@ -7,7 +7,7 @@ use Rattle.qc_base.specs.declared.side.Side.{Side}
 use Rattle.qc_base.specs.declared.varint.VarInt.{VarInt}
 use Rattle.qc_recv.specs.declared.recv.Recv.{Recv}
 use Rattle.qc_recv.specs.Owed.{credit_lost as side_credit_lost, credit_sealed as side_credit_sealed, stop_lost, stop_sealed}
-use Rattle.qc_recv.specs.Receiving.{reset_asked, reset_taken, stop_asked, stream_taken}
+use Rattle.qc_recv.specs.Receiving.{opened, reset_asked, reset_taken, stop_asked, stream_taken}
 use Rattle.qc_send_stream.specs.declared.fault.WriteError.{WriteError}
 use Rattle.qc_send_stream.specs.declared.fault.WriteError.TheVariants.{Blocked, ClosedStream, Stopped as WriteStopped, OutOfMemory}
 use Rattle.qc_send_stream.specs.declared.send.SendPart.{SendPart}
@@ -21,7 +21,7 @@ use Rattle.qc_streams.specs.declared.events.StreamEvent.{StreamEvent}
 use Rattle.qc_streams.specs.declared.parts.StreamPart.{StreamPart}
 use Rattle.qc_streams.specs.declared.state.StreamsState.{StreamsState}
 use Rattle.qc_streams.specs.declared.stream.Stream.{Stream}
-use Rattle.qc_streams.specs.Calls.{after_read, gives, if_known, sends, write_refused, wrote}
+use Rattle.qc_streams.specs.Calls.{after_read, gives, if_known, reading_begun, sends, write_refused, wrote}
 use Rattle.qc_streams.specs.Control.{control_acked, control_lost, control_sealed, stop_again}
 use Rattle.qc_streams.specs.Counts.{accepted, by_dir, dir_put, opening_told, own_raised, places_lost, places_sealed}
 use Rattle.qc_streams.specs.Early.{early_refused}
@@ -36,7 +36,7 @@ use Rattle.qc_streams.specs.Stops.{with_stop}
 use Rattle.qc_streams.specs.Stream.{fresh_stream, limit_taken, stop_taken, with_receiving, with_sending}
 use Rattle.qc_streams.specs.Streams.{accepted_one, counted, dir_of, fresh_peer, is_own, is_peer_unopened, limits_set, met, new_streams, next_accepted, opened_with, told_if}
 use Rattle.qc_streams.specs.Waiting.{all_filed, dues_at, entered, filed, left, mark_off, placed, touched, turn_filed, with_mark, with_turn}
-use Rattle.qc_streams.specs.Waits.{ArePossible, IsPossible, Step, LimitsKnown, EarlyRefused, Closed, Opened, Accepted, Wrote, Refused, Finished, WasReset, Read, Stopped, ResetAsked, PrioritySet, SendWindowSet, ReceiveWindowSet, ConcurrentSet, Polled, StreamCame, ResetCame, StopCame, StreamLimitCame, StreamsLimitCame, LimitCame, MarksFiled, ControlSealed, ControlLost, ControlAcked, PartSealed, BytesLost, BytesAcked, WaitWhereBlocked, after, after_step}
+use Rattle.qc_streams.specs.Waits.{ArePossible, IsPossible, Step, LimitsKnown, EarlyRefused, Closed, Failed, Opened, Accepted, Wrote, Refused, Finished, WasReset, Began, Read, Stopped, ResetAsked, PrioritySet, SendWindowSet, ReceiveWindowSet, ConcurrentSet, Polled, StreamCame, ResetCame, StopCame, StreamLimitCame, StreamsLimitCame, LimitCame, MarksFiled, ControlSealed, ControlLost, ControlAcked, PartSealed, BytesLost, BytesAcked, WaitWhereBlocked, after, after_step}
 use Rattle.qc_streams.specs.Writable.{awaits, awaits_at, credit_at, has_credit, held_up, passed, watched}
 use Rattle.qc_streams.proofs.WaitOpened.{met_ok, opened_own_ok, opened_with_ok}
 use Rattle.qc_streams.proofs.WaitSides.{acked_alike, finished_credit, lost_alike, reset_acked_alike, reset_credit, reset_lost_alike, reset_sealed_alike, sealed_alike, side_alike, side_credit, side_limit, side_told, stop_alike, written_credit}
@@ -285,17 +285,19 @@ nothing : (opened : ℕ → Bool) → Sound opened [] []
 nothing opened = record { waits = λ j. refl; set = tt; order = tt; known = λ j is. none_known opened j is }
 
 step_ok : (x : Step) (s : StreamsState) → IsPossible x → Holds s → Holds (after_step x s)
-unfolding after_step IsPossible limits_set early_refused send_window_set receive_window_set max_concurrent_set stream_came reset_came stop_came streams_limit_came limit_came bytes_lost bytes_acked bytes_taken
+unfolding after_step IsPossible reading_begun limits_set early_refused send_window_set receive_window_set max_concurrent_set stream_came reset_came stop_came streams_limit_came limit_came bytes_lost bytes_acked bytes_taken
 step_ok (LimitsKnown p) s can h =
     own_ok (record { bi = own_raised p.bidi_streams s.own.bi; uni = own_raised p.uni_streams s.own.uni }) s (limits_same p.bidi_streams p.uni_streams s.own) h
 step_ok EarlyRefused s can h = nothing _
 step_ok Closed s can h = h
+step_ok Failed s can h = h
 step_ok (Opened dir) s can h = opened_own_ok dir s h
 step_ok (Accepted dir) s can h = accepted_ok dir s h
 step_ok (Wrote id n chunk) s can h = wrote_ok id n chunk s h
 step_ok (Refused e id) s can h = refused_ok e id s h
 step_ok (Finished id) s can h = sends_ok finished finished_credit id s h
 step_ok (WasReset code id) s can h = sends_ok (was_reset code) (reset_credit code) id s h
+step_ok (Began ordered id) s can h = same_ok (with_receiving (opened ordered)) (received_alike (opened ordered)) id s h
 step_ok (Read ordered result id) s can h = gives_ok (after_read ordered result) id s h
 step_ok (Stopped code id) s can h = gives_ok (stop_asked code) id s h
 step_ok (ResetAsked id) s can h = gives_ok reset_asked id s h

@@ -131,6 +131,15 @@ reset_of (Some r) = r.reset
 unfoldable pub gives : (Recv → Recv) → ℕ → StreamsState → StreamsState
 gives f id s = settled id (counted (totals_at id s.records) id (record s { records = changed (with_receiving f) id s.records }))
 
+-- the application begins to read a receiving side
+unfoldable pub reading_begun : Bool → ℕ → StreamsState → StreamsState
+reading_begun ordered id s = record s { records = changed (with_receiving (opened ordered)) id s.records }
+
+-- why a stream can't be read: there is no such side, or the side refuses
+abbrev pub begin_refusal : Bool → Option Recv → Option ReadableError
+begin_refusal ordered None = Some SideClosed
+begin_refusal ordered (Some r) = read_refusal ordered r
+
 -- why a stream can't be read, as a read's fault
 abbrev pub fault_of_open : ReadableError → ReadFault
 fault_of_open SideClosed = ClosedStream

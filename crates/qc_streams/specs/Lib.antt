@@ -21,4 +21,5 @@ pub mod Control
 pub mod Parts
 pub mod Settings
 pub mod Early
+pub mod Views
 pub mod Waits

@@ -67,6 +67,7 @@ unfoldable pub new_streams : Side → ℕ → ℕ → ℕ → ℕ → ℕ → Bo
 new_streams side uni bi window stream_window send_window fair = record {
   side = side;
   closed = false;
+  failed = false;
   records = [];
   own = record { bi = no_own 0; uni = no_own 0 };
   peer = record { bi = no_peer bi; uni = no_peer uni };
@@ -92,6 +93,10 @@ limits_set p s = record s {
 -- the connection is closed
 abbrev pub closed : StreamsState → StreamsState
 closed s = record s { closed = true }
+
+-- memory ran out: the connection has failed
+abbrev pub failed : StreamsState → StreamsState
+failed s = record s { failed = true }
 
 -- a stream that this end opens
 abbrev pub fresh_own : Dir → StreamsState → Stream

@@ -15,7 +15,7 @@ use Rattle.qc_streams.specs.declared.parts.StreamPart.{StreamPart}
 use Rattle.qc_streams.specs.declared.state.PeerLimits.{PeerLimits}
 use Rattle.qc_streams.specs.declared.state.StreamsState.{StreamsState}
 use Rattle.qc_streams.specs.Blocked.{BlockedIds}
-use Rattle.qc_streams.specs.Calls.{after_read, gives, sends, write_refused, wrote}
+use Rattle.qc_streams.specs.Calls.{after_read, gives, reading_begun, sends, write_refused, wrote}
 use Rattle.qc_streams.specs.Control.{control_acked, control_lost, control_sealed}
 use Rattle.qc_streams.specs.Early.{early_refused}
 use Rattle.qc_streams.specs.Frames.{limit_came, reset_came, stop_came, stream_came, stream_limit_came, streams_limit_came}
@@ -23,7 +23,7 @@ use Rattle.qc_streams.specs.Owed.{polled}
 use Rattle.qc_streams.specs.Parts.{bytes_acked, bytes_lost, sealed_part}
 use Rattle.qc_streams.specs.Records.{record_of}
 use Rattle.qc_streams.specs.Settings.{max_concurrent_set, priority_set, receive_window_set, send_window_set}
-use Rattle.qc_streams.specs.Streams.{accepted_one, closed, limits_set, opened_own}
+use Rattle.qc_streams.specs.Streams.{accepted_one, closed, failed, limits_set, opened_own}
 use Rattle.qc_streams.specs.Waiting.{all_filed}
 use Rattle.qc_streams.specs.Writable.{awaits_at}
 
@@ -33,8 +33,9 @@ pub data Step : Type 0 where
   LimitsKnown : PeerLimits → Step
   -- the server refused early data
   EarlyRefused : Step
-  -- the connection is closed
+  -- the connection is closed, or has failed
   Closed : Step
+  Failed : Step
   -- a stream is opened, or accepted
   Opened : Dir → Step
   Accepted : Dir → Step
@@ -44,7 +45,8 @@ pub data Step : Type 0 where
   -- a stream is finished, or reset
   Finished : ℕ → Step
   WasReset : VarInt → ℕ → Step
-  -- a stream is read, with that answer, or stopped, or it is asked for its reset
+  -- the application begins to read a stream, reads it, with that answer, stops it, or asks for its reset
+  Began : Bool → ℕ → Step
   Read : Bool → Result (Option Chunk) ReadFault → ℕ → Step
   Stopped : VarInt → ℕ → Step
   ResetAsked : ℕ → Step
@@ -77,12 +79,14 @@ unfoldable pub after_step : Step → StreamsState → StreamsState
 after_step (LimitsKnown p) s = limits_set p s
 after_step EarlyRefused s = early_refused s
 after_step Closed s = closed s
+after_step Failed s = failed s
 after_step (Opened dir) s = opened_own dir s
 after_step (Accepted dir) s = accepted_one dir s
 after_step (Wrote id n chunk) s = wrote id n chunk s
 after_step (Refused e id) s = write_refused e id s
 after_step (Finished id) s = sends finished id s
 after_step (WasReset code id) s = sends (was_reset code) id s
+after_step (Began ordered id) s = reading_begun ordered id s
 after_step (Read ordered result id) s = gives (after_read ordered result) id s
 after_step (Stopped code id) s = gives (stop_asked code) id s
 after_step (ResetAsked id) s = gives reset_asked id s

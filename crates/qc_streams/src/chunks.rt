@@ -216,7 +216,7 @@ impl StreamsState {
     /// Exactly those of [`StreamsState::write`]; the chunks are as before then, and all else is as that
     /// call leaves it. Or want of memory.
     #[tactic(auto, unfolding(crate::specs::Calls::write_refusal, crate::specs::Calls::write_refused, crate::specs::Calls::IsRefused, crate::specs::Chunks::IsUnwritten))]
-    pub fn write_chunks(
+    pub(crate) fn write_chunks(
         &mut self,
         id: StreamId,
         chunks: &mut [Bytes],

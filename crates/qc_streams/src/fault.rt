@@ -2,9 +2,12 @@
 
 ghost use Rattle.std.specs.Prelude.{◌≡◌};
 ghost use Rattle.qc_streams.specs.Refusals.{code_of};
+ghost use Rattle.qc_streams.specs.Views.{finish_error, write_error};
 
 use qc_base::{TransportErrorCode, VarInt};
 use qc_recv::Refusal as SideRefusal;
+use qc_send_stream::{FinishError as SideFinish, WriteError as SideWrite};
+use thiserror::Error;
 
 /// Why a frame is refused.
 #[derive(Clone, Copy, Debug, PartialEq, Eq)]
@@ -59,4 +62,71 @@ pub enum ReadFault {
     Blocked,
     /// Memory ran out.
     OutOfMemory,
+}
+
+/// Why a write takes no bytes.
+#[derive(Clone, Copy, Debug, PartialEq, Eq, Error)]
+pub enum WriteError {
+    /// The connection is closed, its credit, the send window or the stream's credit is used up
+    /// (RFC 9000, section 4.1).
+    #[error("blocked")]
+    Blocked,
+    /// The stream is unknown, finished or reset.
+    #[error("closed stream")]
+    ClosedStream,
+    /// The peer stopped the stream, with this code (RFC 9000, section 3.5).
+    #[error("stopped")]
+    Stopped(VarInt),
+    /// Memory ran out in this call; the connection has failed.
+    #[error("out of memory")]
+    OutOfMemory,
+    /// The connection had failed before this call.
+    #[error("failed")]
+    Failed,
+}
+
+/// Why a stream can't be finished.
+#[derive(Clone, Copy, Debug, PartialEq, Eq, Error)]
+pub enum FinishError {
+    /// The stream is unknown, finished or reset.
+    #[error("closed stream")]
+    ClosedStream,
+    /// The peer stopped the stream, with this code (RFC 9000, section 3.5).
+    #[error("stopped")]
+    Stopped(VarInt),
+}
+
+/// Why a read gives no chunk and no end.
+#[derive(Clone, Copy, Debug, PartialEq, Eq)]
+pub enum ReadError {
+    /// The peer reset the stream, with this code (RFC 9000, section 3.2).
+    Reset(VarInt),
+    /// No byte that can be read has come.
+    Blocked,
+    /// Memory ran out in this call; the connection has failed.
+    OutOfMemory,
+    /// The connection had failed before this call.
+    Failed,
+}
+
+/// Why a write takes no bytes, as the application is told.
+pub(crate) fn write_error(error: SideWrite) -> WriteError
+    ensures { result ≡ write_error error }
+{
+    match error {
+        SideWrite::Blocked => WriteError::Blocked,
+        SideWrite::ClosedStream => WriteError::ClosedStream,
+        SideWrite::Stopped(code) => WriteError::Stopped(code),
+        SideWrite::OutOfMemory => WriteError::OutOfMemory,
+    }
+}
+
+/// Why a stream can't be finished, as the application is told.
+pub(crate) fn finish_error(error: SideFinish) -> FinishError
+    ensures { result ≡ finish_error error }
+{
+    match error {
+        SideFinish::ClosedStream => FinishError::ClosedStream,
+        SideFinish::Stopped(code) => FinishError::Stopped(code),
+    }
 }

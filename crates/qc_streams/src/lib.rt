@@ -1,6 +1,7 @@
 //! The state over all streams of a connection.
 #![tactic(auto)]
 
+mod begins;
 mod blocked;
 mod calls;
 mod changes;
@@ -11,6 +12,7 @@ mod counts;
 mod credit;
 mod early;
 mod events;
+mod failing;
 mod fates;
 mod fault;
 mod filing;
@@ -22,12 +24,15 @@ mod owed;
 mod parts;
 mod received;
 mod records;
+mod recv_stream;
+mod send_stream;
 mod sends;
 mod settings;
 mod sides;
 mod state;
 mod stops;
 mod stream;
+mod streams;
 mod waiting;
 mod writable;
 
@@ -37,13 +42,17 @@ pub use control::Control;
 pub use counts::{ByDir, OwnStreams, PeerStreams, StreamLimit};
 pub use credit::{Incoming, Outgoing};
 pub use events::{Events, StreamEvent};
-pub use fault::{ClosedStream, ReadFault, Refusal, StreamFault};
+pub use fault::{ClosedStream, FinishError, ReadError, Refusal, StreamFault, WriteError};
 pub use laws::streams_wait_where_blocked;
 pub use parts::StreamPart;
+pub use qc_recv::{Chunk, ReadableError};
 pub use records::Records;
+pub use recv_stream::{Chunks, RecvStream, ShouldTransmit};
+pub use send_stream::SendStream;
 pub use state::{PeerLimits, StreamsState};
 pub use stops::Stops;
 pub use stream::{Stream, Totals};
+pub use streams::Streams;
 pub use waiting::{Dues, Waiting};
 
 #[cfg(test)]
@@ -54,6 +63,8 @@ mod early_tests;
 mod sending_tests;
 #[cfg(test)]
 mod tests;
+#[cfg(test)]
+mod views_tests;
 #[cfg(test)]
 mod window_tests;
 #[cfg(test)]

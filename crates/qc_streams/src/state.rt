@@ -4,7 +4,7 @@ ghost use Rattle.std.specs.Prelude.{◌≡◌, ◌-◌, ◌<◌, ◌^◌, IsTrue
 ghost use Rattle.qc_streams.specs.Counts.{by_dir, has_accepted};
 ghost use Rattle.qc_streams.specs.Kept.{kept_of};
 ghost use Rattle.qc_recv.specs.Receiving.{new_receiving};
-ghost use Rattle.qc_streams.specs.Streams.{accepted_one, closed, fresh_own, fresh_peer, limits_set, may_open, new_streams, next_accepted, next_own, no_limits, no_own, no_peer, opened_own, other};
+ghost use Rattle.qc_streams.specs.Streams.{accepted_one, closed, failed, fresh_own, fresh_peer, limits_set, may_open, new_streams, next_accepted, next_own, no_limits, no_own, no_peer, opened_own, other};
 
 use crate::blocked::Blocked;
 use crate::counts::{ByDir, OwnStreams, PeerStreams, StreamLimit};
@@ -42,6 +42,8 @@ pub struct StreamsState {
     pub side: Side,
     /// Whether the connection is closed.
     pub closed: bool,
+    /// Whether memory ran out in a call of the application: the connection has failed.
+    pub failed: bool,
     /// The streams that are open: those that were opened and haven't ended.
     pub records: Records,
     /// How many streams this end opened, and may open.
@@ -135,6 +137,7 @@ impl StreamsState {
         StreamsState {
             side,
             closed: false,
+            failed: false,
             records: Records::new(alloc),
             own: ByDir {
                 bi: no_own(0),
@@ -294,5 +297,12 @@ impl StreamsState {
         ensures { self.new ≡ closed self.old }
     {
         self.closed = true;
+    }
+
+    /// Memory ran out: the connection has failed.
+    pub(crate) fn fail(&mut self)
+        ensures { self.new ≡ failed self.old }
+    {
+        self.failed = true;
     }
 }

@@ -1,6 +1,7 @@
 //! The refusals at their edges, the order of ids, and credit that comes back.
 
-use crate::{ClosedStream, PeerLimits, ReadFault, Refusal, StreamEvent, StreamFault, StreamsState};
+use crate::fault::ReadFault;
+use crate::{ClosedStream, PeerLimits, Refusal, StreamEvent, StreamFault, StreamsState};
 use bytes::Bytes;
 use qc_base::{Dir, Side, StreamId, VarInt};
 use qc_recv::Refusal as SideRefusal;
