@@ -178,8 +178,7 @@ pub fn drive<U: Suite, G: TokenStore>(
     ensures part { IfErr result (λ e. Ran (meaning U.Session.Session U.Session.HeaderKey.HeaderMask U.Session.PacketKey.PacketKey U.Control.Controller.Controller) 0 (ideal U.Random.stream connection.old.core) inputs.now e.done) }
 
     // No packet number is used twice, only packets that were accepted are acknowledged, the life never falls, all that is
-    // sent after a close is the close, no Initial or Handshake key seals more than it may, and at most one reason for the
-    // end is given.
+    // sent after a close is the close, no key seals more than it may, and at most one reason for the end is given.
     ensures rising { IfOk result (λ trace. EachRises (ideal U.Random.stream connection.old.core) trace) }
     ensures rising_part { IfErr result (λ e. EachRises (ideal U.Random.stream connection.old.core) e.done) }
     ensures admitted { IfOk result (λ trace. EachAdmitted (ideal U.Random.stream connection.old.core) trace) }

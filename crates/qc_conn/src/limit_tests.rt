@@ -14,6 +14,15 @@ use std::test::Fail;
 const CHANGED: [u8; 46] =
     *b"\xcd\x00\x00\x00\x01\x08\x01\x01\x01\x01\x01\x01\x01\x01\x08\x04\x04\x04\x04\x04\x04\x04\x04\x00\x40\x14\x2a\x05\x04\x04\x99\x2e\xc3\x56\xeb\x7e\x14\xa8\x3d\xd2\x67\xfc\x91\x26\xbb\x51";
 
+/// An Initial packet of a server with its reply, and a Handshake packet with its end, sealed by that program too: with them the client
+/// is established.
+const REPLY_AND_END: [u8; 124] =
+    *b"\xc6\x00\x00\x00\x01\x08\x01\x01\x01\x01\x01\x01\x01\x01\x08\x04\x04\x04\x04\x04\x04\x04\x04\x00\x40\x1d\x0c\x06\x04\x04\x02\x02\x06\x01\x04\x02\x00\x01\x00\x77\xea\x5d\xce\x41\xb2\x26\x98\x0b\x7e\xf1\x64\xd7\x4a\xbd\x30\xe3\x00\x00\x00\x01\x08\x01\x01\x01\x01\x01\x01\x01\x01\x08\x04\x04\x04\x04\x04\x04\x04\x04\x40\x2c\x00\x06\x00\x18\x03\x00\x14\x01\x00\x08\x02\x02\x02\x02\x02\x02\x02\x02\x0f\x08\x04\x04\x05\x05\x04\x04\x04\x04\xad\x5a\x07\xb4\x61\x0f\xbc\x68\x15\xc2\x6f\x1c\xc9\x76\x23\xd0";
+
+/// A 1-RTT packet of the server's with a PING.
+const DATA_PING: [u8; 29] =
+    *b"\x42\x01\x01\x01\x01\x01\x01\x01\x01\x05\x01\x00\x00\x82\x04\x86\x08\x8a\x0e\x8f\x10\x92\x14\x96\x18\x9a\x1c\x9e\x20";
+
 /// A transmit at this time.
 fn transmit(nanos: u64) -> Input {
     Input::Transmit {
@@ -141,6 +150,56 @@ fn a_handshake_key_has_its_limit(rt: HostRuntime) -> Result<(), Fail> {
         "step 11 transmit 6\nseal handshake 4 0 CONNECTION_CLOSE/1c0f0000",
         "step 12 datagram 7\npiece handshake 0 ReadForClose\n",
         "step 13 transmit 7\nlife 4\nquiet Killed\nendpoint drained\ntimer -\nend\n",
+    ] {
+        assert!(rt; text.as_str().contains(part), "{part}");
+    }
+    Ok(())
+}
+
+/// What a client does whose 1-RTT key may seal so many packets, and which is to send two PINGs once it is established; once it has
+/// closed, a packet of the server's comes.
+fn data_text(alloc: Global, limit: u64) -> Option<Vec<u8>> {
+    let mut settings = ToySettings::default();
+    settings.limit_data = limit;
+    let client = client_with(alloc, settings)?;
+    let first = Vec::from_slice(alloc, &REPLY_AND_END).ok()?;
+    let behind = Vec::from_slice(alloc, &DATA_PING).ok()?;
+    let inputs = [
+        transmit(0),
+        datagram(1, first),
+        transmit(2),
+        transmit(3),
+        ping(4),
+        transmit(4),
+        ping(5),
+        transmit(5),
+        transmit(6),
+        transmit(7),
+        transmit(8),
+        datagram(9, behind),
+        transmit(9),
+        transmit(10),
+    ];
+    text_of(alloc, client, &inputs)
+}
+
+// Of three packets the second starts the close, which the third tells, behind one of the Handshake space, whose keys the client has
+// still; what is owed after that ends the connection as it is the turn of the 1-RTT space. A 1-RTT header with a number of 1 byte has
+// 10 bytes, so 3 bytes of PADDING behind a PING come to the 14 that it needs before its tag. Number 0 is skipped.
+#[test]
+fn a_data_key_has_its_limit(rt: HostRuntime) -> Result<(), Fail> {
+    let bytes = data_text(rt.alloc(), 3).ok_or("no trace")?;
+    let text = String::from_utf8(bytes)?;
+    for part in [
+        "step 3 transmit 3\nseal handshake 0 0 ACK/0200000000 CRYPTO/060003040000\n",
+        "step 5 transmit 4\nseal data 1 0 PING/01 PADDING*3\nout c0000201/4433 30 ",
+        "step 7 transmit 5\nseal data 2 0 PING/01 PADDING*3\nlife 2\nlost TransportError 15 -\nout c0000201/4433 30 ",
+        "step 8 transmit 6\nseal handshake 1 0 ACK/0200000000 CONNECTION_CLOSE/1c0f0000\nout c0000201/4433 51 ",
+        "step 9 transmit 7\nseal data 3 0 CONNECTION_CLOSE/1c0f0000\nout c0000201/4433 30 ",
+        "step 10 transmit 8\nquiet Silent\n",
+        "step 11 datagram 9\npiece data 1 ReadForClose\n",
+        "step 12 transmit 9\nseal handshake 2 0 ACK/0200000000 CONNECTION_CLOSE/1c0f0000\n",
+        "step 13 transmit 10\nlife 4\nquiet Killed\nendpoint drained\ntimer -\nend\n",
     ] {
         assert!(rt; text.as_str().contains(part), "{part}");
     }

@@ -1,5 +1,5 @@
 -- What is drawn for a packet, before it is sealed; and its header by what was drawn.
-use Rattle.std.specs.Prelude.{ℕ, ◌+◌, ◌-◌, Bool, false, List, [], length}
+use Rattle.std.specs.Prelude.{ℕ, ◌+◌, ◌-◌, Bool, List, [], length}
 use Rattle.qc_base.specs.declared.side.LongType.TheVariants as long
 use Rattle.qc_base.specs.declared.side.SpaceId.{SpaceId}
 use Rattle.qc_base.specs.declared.side.SpaceId.TheVariants.{Initial, Handshake, «Data»}
@@ -8,8 +8,12 @@ use Rattle.qc_base.specs.Varint.{varint}
 use Rattle.qc_frame.specs.Frame.{FrameValue}
 use Rattle.qc_header.specs.declared.header.Header.{Header}
 use Rattle.qc_header.specs.declared.header.Header.TheVariants as header
+use Rattle.qc_packet.specs.declared.slot.Slot.{Slot}
+use Rattle.qc_state.specs.declared.keys.KeyUse.{KeyUse}
+use Rattle.qc_state.specs.Keys.{phase_now}
 use Rattle.qc_state.specs.Moves.{Seal, deeds_move, state_move, told}
 use Rattle.qc_state.specs.Numbers.{next_number, acked_number}
+use Rattle.qc_state.specs.Sending.{slot_with}
 use Rattle.qc_state.specs.Setup.{packet_drawn}
 use Rattle.qc_state.specs.Types.{Types}
 use Rattle.qc_state.specs.View.{View, At, at}
@@ -36,7 +40,11 @@ module _ {t : Types} where
     version = s.setup.fixed.version;
   })
   header_with s Handshake spin token = header.Long long.Handshake s.paths.remote_cid s.setup.fixed.local_cid (number_of (next_number s.numbers Handshake) (acked_number s.numbers Handshake)) s.setup.fixed.version
-  header_with s Data spin token = header.Short spin false s.paths.remote_cid (number_of (next_number s.numbers Data) (acked_number s.numbers Data))
+  header_with s Data spin token = header.Short spin (phase_now s.keys) s.paths.remote_cid (number_of (next_number s.numbers Data) (acked_number s.numbers Data))
+
+  -- what the builder is given of the next packet in a space, where all was drawn for it: its fixed bit is flipped so
+  abbrev pub slot_drawn : View t → SpaceId → (flip : Bool) → KeyUse → Slot
+  slot_drawn s id flip usage = record (slot_with s id usage) { flip = flip }
 
   -- the view once all was drawn for a packet of this space
   unfoldable pub drawn_for : SpaceId → View t → View t

@@ -4,3 +4,4 @@ pub mod Reading
 pub mod Events
 pub mod FirstPacket
 pub mod Drawing
+pub mod Told

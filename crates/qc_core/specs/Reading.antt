@@ -4,12 +4,22 @@ use Rattle.qc_base.specs.declared.side.SpaceId.{SpaceId}
 use Rattle.qc_base.specs.declared.transport_error.TransportError.{TransportError}
 use Rattle.qc_state.specs.declared.deeds.Did.TheVariants as did
 use Rattle.qc_state.specs.declared.deeds.Layer.TheVariants as layer
+use Rattle.qc_crypto.specs.declared.keys.Keys.{Keys}
+use Rattle.qc_state.specs.Keys.{keys_given}
+use Rattle.qc_state.specs.Lower.{session_wrote}
 use Rattle.qc_state.specs.Moves.{Read, Tell, move_to}
-use Rattle.qc_state.specs.Progress.{is_written, write_after}
+use Rattle.qc_state.specs.Progress.{is_written, keys_behind, session_behind, write_after}
 use Rattle.qc_state.specs.Types.{Types, Meaning}
-use Rattle.qc_state.specs.View.{At}
+use Rattle.qc_state.specs.View.{View, At}
 
 module _ {t : Types} where
+  -- keys that the session gave with a write, if it gave any, were taken
+  unfoldable pub keys_taken : Meaning t → Option (Keys t.H t.P) → View t → View t
+  keys_taken m keys s = record s {
+    keys = keys_given s.keys (keys_behind m s.keys.highest keys s.lower.session);
+    lower = session_wrote s.lower (session_behind m s.keys.highest keys s.lower.session);
+  }
+
   -- the session was given these bytes of the space's CRYPTO stream, and answers; none where there are none
   abbrev pub HasRead : Meaning t → SpaceId → List ℕ → Option (Result Bool TransportError) → At t → At t → Type 0
   HasRead m id bytes None a b = (bytes ≡ []) × (b ≡ a)

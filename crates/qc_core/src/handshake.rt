@@ -1,10 +1,9 @@
 //! How the handshake goes on: the bytes of CRYPTO frames, what the session writes, and its end.
 
-ghost use Rattle.std.specs.Prelude.{◌≡◌, ◌+◌, ◌-◌, ◌<◌, ◌^◌, ◌||◌, ◌&&◌, ◌==◌, not, nat_lt, nat_le, if◌then◌else◌, [], true, false, Some, None, length, OnOk, IfOk, IfSome, IfNone, is_none, option_map};
+ghost use Rattle.std.specs.Prelude.{◌≡◌, ◌+◌, ◌-◌, ◌<◌, ◌≤◌, ◌^◌, ◌||◌, ◌&&◌, ◌==◌, not, nat_lt, nat_le, if◌then◌else◌, [], true, false, Some, None, length, OnOk, IfOk, IfSome, IfNone, is_none};
 ghost use Rattle.qc_assembler.specs.Assembly.{inserted, part_count};
 ghost use Rattle.qc_base.specs.declared.transport_error.TransportError.{TransportError};
-ghost use Rattle.qc_core.specs.Reading.{HasRead, HasWritten};
-ghost use Rattle.qc_state.specs.Keys.{new_keys};
+ghost use Rattle.qc_core.specs.Reading.{HasRead, HasWritten, keys_taken};
 ghost use Rattle.qc_state.specs.Lower.{ready_bytes, stream_of};
 ghost use Rattle.qc_state.specs.Progress.{ended_after, ids_fit, is_end, is_server_start, is_written, learned_after, learned_with, names_id, over_after, parameters_and, progress_after, token_after, written_after};
 ghost use Rattle.qc_state.specs.Life.{is_handshake};
@@ -22,9 +21,9 @@ use qc_assembler::InsertError;
 use qc_base::{
     ConnectionId, Instant, ResetToken, Side, SpaceId, TransportError, TransportErrorCode,
 };
-use qc_crypto::{Keys, PacketKey, Session, SessionError};
+use qc_crypto::{Keys, Session, SessionError};
 use qc_params::TransportParameters;
-use qc_state::{Body, Dids, Layer, SoundSession, SpaceKeys, Suite};
+use qc_state::{Body, Dids, Layer, OneRttKeys, SoundSession, SpaceKeys, Suite};
 use std::alloc::{AllocError, Global};
 
 /// Whether bytes at an offset reach past those that were read.
@@ -120,16 +119,6 @@ fn is_nothing<H: Drop, P: Drop>(bytes: &[u8], keys: &Option<Keys<H, P>>) -> bool
     ensures { result ≡ ((length bytes.now == 0) && is_none keys.now) }
 {
     bytes.is_empty() && keys.is_none()
-}
-
-/// Keys that the session gave, if it gave any: nothing was sealed under them yet.
-fn unused<H: Drop, P: PacketKey>(keys: Option<Keys<H, P>>) -> Option<SpaceKeys<H, P>>
-    ensures { result ≡ option_map (new_keys P.seal_limit P.failure_limit) keys }
-{
-    match keys {
-        None => None,
-        Some(keys) => Some(SpaceKeys::new(keys)),
-    }
 }
 
 impl<U: Suite> Core<U> {
@@ -276,6 +265,30 @@ impl<U: Suite> Core<U> {
         }
     }
 
+    /// Keys that the session gave with a write, if it gave any: first those of the Handshake space, then the 1-RTT keys, behind which
+    /// the session is asked for those of the next epoch (RFC 9001, section 6.1); behind these come none.
+    fn take_keys(
+        &mut self,
+        keys: Option<Keys<<U::Session as Session>::HeaderKey, <U::Session as Session>::PacketKey>>,
+    )
+        ensures leads { (ideal U.Random.stream self.new) ≡ keys_taken (meaning U.Session.Session U.Session.HeaderKey.HeaderMask U.Session.PacketKey.PacketKey U.Control.Controller.Controller) keys (ideal U.Random.stream self.old) }
+        ensures left { U.Session.left self.new.lower.session ≤ U.Session.left self.old.lower.session }
+    {
+        let keys = match keys {
+            None => return,
+            Some(keys) => keys,
+        };
+        match self.keys.highest {
+            SpaceId::Initial => self.keys.give_handshake(SpaceKeys::new(keys)),
+            SpaceId::Handshake => {
+                if let Some(next) = self.lower.session.next_keys() {
+                    self.keys.give_data(OneRttKeys::new(keys, next));
+                }
+            }
+            SpaceId::Data => {}
+        }
+    }
+
     /// The session writes once. Answers whether it wrote something or gave keys; otherwise nothing changes. Want of memory
     /// is the only refusal.
     fn write_once(&mut self, alloc: Global, did: &Dids) -> Result<bool, AllocError>
@@ -288,7 +301,7 @@ impl<U: Suite> Core<U> {
         }
         let bytes = Bytes::from_vec(bytes)?;
         self.waiting.write(self.keys.highest, bytes)?;
-        self.keys.give(unused(keys));
+        self.take_keys(keys);
         Ok(true)
     }
 

@@ -11,7 +11,7 @@ ghost use Rattle.qc_state.specs.View.{ideal};
 use crate::state::Core;
 use bytes::Bytes;
 use qc_assembler::Assembler;
-use qc_base::{ConnectionId, Duration, Instant, Side, SpaceId, VarInt};
+use qc_base::{ConnectionId, Duration, Instant, Side, VarInt};
 use qc_crypto::Session;
 use qc_frame::EcnCounts;
 use qc_path::{ControllerFactory, PacketNumberFilter, PendingAcks};
@@ -201,15 +201,7 @@ pub(crate) fn made<U: Suite>(
             },
             filter,
         },
-        keys: KeyGroup {
-            spaces: Spaces {
-                initial: Some(keys),
-                handshake: None,
-                application: None,
-            },
-            highest: SpaceId::Initial,
-            failures: 0,
-        },
+        keys: KeyGroup::new(keys),
         life: life(),
         paths,
         timers: Timers {

@@ -144,7 +144,7 @@ impl<U: Suite> Core<U> {
         self.fly(alloc, now, space, number, size, &frames)?;
         let last = is_space(space, self.keys.highest);
         self.numbers.used(space, number);
-        self.keys.used(space);
+        self.keys.used(space, number);
         self.paths.sent(size);
         self.waiting.tell(space, last);
         self.waiting.bundle_next(&frames, next);

@@ -1,19 +1,22 @@
 //! Taking the protection off a packet that came.
 
-ghost use Rattle.std.specs.Prelude.{◌≡◌, Some, IsSome, IfOk};
-ghost use Rattle.qc_base.specs.Mask.{first_byte};
+ghost use Rattle.std.specs.Prelude.{◌≡◌, IsSome, IfOk};
+ghost use Rattle.std.specs.Option.{option_copied};
+ghost use Rattle.qc_core.specs.Told.{opening_told};
 ghost use Rattle.qc_header.specs.HeaderSpelling.{header_number};
-ghost use Rattle.qc_packet.specs.OpenedPacket.{reserved_bits};
-ghost use Rattle.qc_state.specs.Opening.{is_other_phase, judged, opened_space, source_of, spin_of, token_of, whole_number, opened_by, opened_under, opening_of};
+ghost use Rattle.qc_packet.specs.OpenedPacket.{IsNumberOf};
+ghost use Rattle.qc_state.specs.Opening.{names_next, opened_space, source_of, spin_of, token_of, whole_number, opened_by, opened_under, opening_of};
 ghost use Rattle.qc_state.specs.Types.{meaning};
 ghost use Rattle.qc_state.specs.View.{ideal};
 
 use crate::state::Core;
 use bytes::Bytes;
 use qc_base::{ConnectionId, HeaderMask, LongType, SpaceId};
-use qc_crypto::{Keys, PacketKey};
+use qc_crypto::PacketKey;
 use qc_header::{Header, Packet, PartialDecode, ProtectedHeader};
-use qc_packet::unprotect_header;
+use qc_packet::{
+    DecryptPacketResult, KeyRing, OpenError, OpenKeys, Which, decrypt_packet_body, unprotect_header,
+};
 use qc_state::{Opening, Suite};
 use std::alloc::AllocError;
 
@@ -73,7 +76,8 @@ fn spin_of(header: &Header) -> bool
 
 /// The whole number of a packet: the one that is nearest to the number behind the greatest one that was accepted.
 fn whole_number(header: &Header, rx: u64) -> u64
-    ensures { result ≡ whole_number (header_number header.now) rx }
+    ensures value { result ≡ whole_number (header_number header.now) rx }
+    ensures nearest { IsSome (header_number header.now) → IsNumberOf (header_number header.now) rx result }
 {
     match header.number() {
         None => 0,
@@ -81,50 +85,34 @@ fn whole_number(header: &Header, rx: u64) -> u64
     }
 }
 
-/// The reserved bits of an unmasked first byte (RFC 9000, sections 17.2 and 17.3.1).
-fn reserved_bits(header: &Header, first: u8) -> u8
-    ensures { result ≡ reserved_bits header.now first }
+/// Whether a packet with this number names the keys of the next epoch: its sender updated its keys (RFC 9001, section 6).
+fn names_next<P: PacketKey>(header: &Header, ring: Option<&KeyRing<P>>, number: u64) -> bool
+    ensures { result ≡ names_next header.now (option_copied ring.entry) number }
 {
-    match header {
-        Header::Short { .. } => first / 8 % 4,
-        Header::Initial(_)
-        | Header::Long { .. }
-        | Header::Retry { .. }
-        | Header::VersionNegotiate { .. } => first / 4 % 4,
+    match (header, ring) {
+        (Header::Short { key_phase, .. }, Some(ring)) => match ring.named(*key_phase, number) {
+            Which::Next => true,
+            Which::Current | Which::Previous => false,
+        },
+        _ => false,
     }
 }
 
-/// The first byte, or 0 where there is none.
-fn first_of(bytes: &[u8]) -> u8
-    ensures { result ≡ first_byte bytes.now }
+/// What becomes of a packet with this number by what opening it told. A key update is told of a packet that names the keys of the
+/// next epoch, which isn't taken so far. Want of memory is the only refusal.
+fn judged(
+    told: Result<Option<DecryptPacketResult>, OpenError>,
+    number: u64,
+    packet: Packet,
+) -> Result<Opening, AllocError>
+    ensures { IfOk result (λ o. o ≡ opening_told told number packet) }
 {
-    match bytes {
-        [] => 0,
-        [first, ..] => *first,
-    }
-}
-
-/// Whether a packet is a 1-RTT packet of the other key phase.
-fn is_other_phase(header: &Header) -> bool
-    ensures { result ≡ is_other_phase header.now }
-{
-    match header {
-        Header::Short { key_phase, .. } => *key_phase,
-        Header::Initial(_)
-        | Header::Long { .. }
-        | Header::Retry { .. }
-        | Header::VersionNegotiate { .. } => false,
-    }
-}
-
-/// What becomes of a packet with this number that its key opened: its reserved bits are to be 0. Want of memory is the only
-/// refusal.
-fn judged(number: u64, packet: Packet) -> Result<Opening, AllocError>
-    ensures { IfOk result (λ o. o ≡ judged packet.header number packet.header_data (Some packet.payload.items)) }
-{
-    if reserved_bits(&packet.header, first_of(packet.header_data.as_slice())) != 0 {
-        return Ok(Opening::Reserved { number });
-    }
+    let number = match told {
+        Ok(Some(told)) => told.number,
+        Ok(None) | Err(OpenError::Unopened) => return Ok(Opening::Unopened),
+        Err(OpenError::Reserved) => return Ok(Opening::Reserved { number }),
+        Err(OpenError::KeyUpdate) => return Ok(Opening::Unreadable),
+    };
     let source = source_of(&packet.header);
     let token = token_of(&packet.header)?;
     let spin = spin_of(&packet.header);
@@ -140,37 +128,49 @@ fn judged(number: u64, packet: Packet) -> Result<Opening, AllocError>
     }
 }
 
-/// Opens a packet whose mask was taken off, in place. Want of memory is the only refusal.
+/// Opens a packet whose mask was taken off, in place, under the key that it names: its space's own one, or one of the ring. Want
+/// of memory is the only refusal.
 #[tactic(auto, unfolding(qc_state::specs::Opening::opened_by))]
-fn open_packet<P: PacketKey>(key: &P, rx: u64, packet: Packet) -> Result<Opening, AllocError>
-    ensures { IfOk result (λ o. o ≡ opened_by P.opening key.now rx packet.header packet.header_data packet.payload.items) }
+fn open_packet<'a, P: PacketKey>(
+    plain: Option<&'a P>,
+    ring: Option<&'a KeyRing<P>>,
+    rx: u64,
+    packet: Packet,
+) -> Result<Opening, AllocError>
+    ensures { IfOk result (λ o. o ≡ opened_by P.opening (option_copied plain.entry) (option_copied ring.entry) rx packet.header packet.header_data packet.payload.items) }
 {
-    if is_other_phase(&packet.header) {
+    let number = whole_number(&packet.header, rx);
+    if names_next(&packet.header, ring, number) {
         return Ok(Opening::Unreadable);
     }
+    let keys = OpenKeys {
+        plain,
+        early: None,
+        ring,
+    };
     let mut packet = packet;
-    let number = whole_number(&packet.header, rx);
-    match key.decrypt(number, packet.header_data.as_slice(), &mut packet.payload) {
-        Ok(()) => judged(number, packet),
-        Err(_) => Ok(Opening::Unopened),
-    }
+    let told = decrypt_packet_body(&mut packet, &keys, rx);
+    judged(told, number, packet)
 }
 
-/// Takes the protection off a packet with its space's keys. Want of memory is the only refusal.
+/// Takes the protection off a packet: its mask with this key, and then under the key that it names. Want of memory is the only
+/// refusal.
 #[tactic(auto, using(crate::proofs::Opens::none_is, crate::proofs::Opens::reset_is))]
 fn open_under<H: HeaderMask, P: PacketKey>(
-    keys: &Keys<H, P>,
+    key: &H,
+    plain: Option<&P>,
+    ring: Option<&KeyRing<P>>,
     rx: u64,
     partial: PartialDecode,
 ) -> Result<Opening, AllocError>
     requires form { IsSome (opened_space partial.header) }
-    ensures { IfOk result (λ o. o ≡ opened_under H.mask_of P.opening keys.now rx partial) }
+    ensures { IfOk result (λ o. o ≡ opened_under H.mask_of P.opening key.now (option_copied plain.entry) (option_copied ring.entry) rx partial) }
 {
-    match unprotect_header(partial, Some(&keys.header.remote), None)? {
+    match unprotect_header(partial, Some(key), None)? {
         None => Ok(Opening::Unreadable),
         Some(told) => match told.packet {
             None => Ok(Opening::Unreadable),
-            Some(packet) => open_packet(&keys.packet.remote, rx, packet),
+            Some(packet) => open_packet(plain, ring, rx, packet),
         },
     }
 }
@@ -185,9 +185,10 @@ impl<U: Suite> Core<U> {
             None => return Ok(Opening::Unreadable),
             Some(space) => space,
         };
-        match self.keys.get(space) {
+        let rx = self.numbers.received(space);
+        match self.keys.unmasking(space) {
             None => Ok(Opening::Unreadable),
-            Some(keys) => open_under(&keys.keys, self.numbers.received(space), partial),
+            Some(key) => open_under(key, self.keys.opening(space), self.keys.ring(), rx, partial),
         }
     }
 }

@@ -52,8 +52,7 @@ impl<U: Suite> Core<U> {
         let recovery = &self.lower.recovery;
         let handshake = recovery.was_acknowledged(SpaceId::Handshake);
         let data = recovery.was_acknowledged(SpaceId::Data);
-        let confirmed = self.keys.get(SpaceId::Data).is_some()
-            && self.keys.get(SpaceId::Handshake).is_none();
+        let confirmed = self.keys.has(SpaceId::Data) && !self.keys.has(SpaceId::Handshake);
         validates(
             self.setup.fixed.side,
             handled || (handshake || data),
@@ -72,8 +71,8 @@ impl<U: Suite> Core<U> {
             peer_validated: self.is_validated_by_peer(handled),
             handshake_over: !self.life.is_handshake(),
             highest: self.keys.highest,
-            initial_keys: self.keys.get(SpaceId::Initial).is_some(),
-            handshake_keys: self.keys.get(SpaceId::Handshake).is_some(),
+            initial_keys: self.keys.has(SpaceId::Initial),
+            handshake_keys: self.keys.has(SpaceId::Handshake),
             max_ack_delay: self.setup.peer_delay(),
             ack_delay_exponent: self.setup.peer_exponent(),
             app_limited: self.paths.app_limited,

@@ -1,18 +1,18 @@
 //! The calls that sending needs.
 
-ghost use Rattle.std.specs.Prelude.{◌≡◌, ◌+◌, ◌-◌, ◌<◌, ◌≤◌, ◌^◌, ◌++◌, ◌||◌, [], ◌∷◌, true, false, Some, None, IsSome, if◌then◌else◌, length, replicate, OnOk, IfOk};
-ghost use Rattle.qc_core.specs.Drawing.{drawn_for, header_with, token_bytes, token_in};
+ghost use Rattle.std.specs.Prelude.{◌≡◌, ◌+◌, ◌-◌, ◌<◌, ◌≤◌, ◌^◌, ◌++◌, ◌||◌, [], ◌∷◌, true, false, Some, None, IsSome, IfSome, if◌then◌else◌, length, option_map, replicate, OnOk, IfOk};
+ghost use Rattle.qc_core.specs.Drawing.{drawn_for, header_with, slot_drawn, token_bytes, token_in};
 ghost use Rattle.qc_base.specs.declared.side.SpaceId.TheVariants.{Initial};
 ghost use Rattle.qc_frame.specs.Frame.{owned};
 ghost use Rattle.qc_frame.specs.FrameSpelling.{frames_spelling};
 ghost use Rattle.qc_frame.specs.declared.frames.FrameOf.TheVariants.{Padding};
-ghost use Rattle.qc_packet.specs.Building.{padded_size};
+ghost use Rattle.qc_packet.specs.Building.{kill_of, min_size_of, padded_size};
 ghost use Rattle.qc_packet.specs.PacketSpelling.{padding_len};
 ghost use Rattle.qc_header.specs.HeaderSpelling.{header_spelling, header_number};
-ghost use Rattle.qc_state.specs.Keys.{keys_of, reaches_limit};
+ghost use Rattle.qc_state.specs.Keys.{has_keys, header_key, packet_key, reaches_limit, usage_of};
 ghost use Rattle.qc_state.specs.Moves.{Take, Seal, move_to, state_move};
 ghost use Rattle.qc_state.specs.Numbers.{next_number, acked_number};
-ghost use Rattle.qc_state.specs.Sending.{internal_error, told_code, told_type, told_application_code, application_close, closing_frame, IsKeptReason, TakenNow, close_frame, is_silent, owes, owes_in, sending_space, is_used_up, limited_keys, is_key_used_up, is_key_nearly_used_up, flips_now, header_in, frame_room, is_token_too_long, limit_met, spared_after, may_be_quiet, owed_quiet_after, quiet_after, begun_after, skipped_after, fills, packet_size, least_size, padded, packet_bytes, is_flown, leaves_initial, drops_initial, initial_left, sealed_with, transmit_with};
+ghost use Rattle.qc_state.specs.Sending.{internal_error, told_code, told_type, told_application_code, application_close, closing_frame, IsKeptReason, TakenNow, close_frame, is_silent, owes, owes_in, sending_space, is_used_up, is_key_used_up, is_key_nearly_used_up, flips_now, header_in, frame_room, is_token_too_long, limit_met, spared_after, may_be_quiet, owed_quiet_after, quiet_after, begun_after, skipped_after, fills, packet_size, least_size, padded, packet_bytes, is_flown, leaves_initial, drops_initial, initial_left, sealed_with, transmit_with};
 ghost use Rattle.qc_state.specs.Stopping.{given_after, key_limit_error, killed_after};
 ghost use Rattle.qc_state.specs.Spaces.{is_space, space_of};
 ghost use Rattle.qc_state.specs.Types.{meaning};
@@ -26,7 +26,7 @@ use qc_base::{
 };
 use qc_frame::{FrameList, FrameOf, OwnedFrame, fit_application_reason};
 use qc_header::{Header, InitialHeader};
-use qc_packet::{NUMBER_LIMIT, seal_padded};
+use qc_packet::{NUMBER_LIMIT, Slot, seal_padded};
 use qc_state::spaces::is_space;
 use qc_state::{Close, ConnectionError, DATAGRAM_SIZE, Dids, Quiet, State, Suite, Transmit};
 use std::alloc::{AllocError, Global};
@@ -179,7 +179,7 @@ impl<U: Suite> Core<U> {
     fn owes_in(&self, space: SpaceId) -> bool
         ensures { result ≡ owes_in (ideal U.Random.stream self.now) space }
     {
-        if self.keys.get(space).is_none() {
+        if !self.keys.has(space) {
             return false;
         }
         if self.waiting.close_owed {
@@ -222,16 +222,11 @@ impl<U: Suite> Core<U> {
         GREATEST_NUMBER <= number || NUMBER_LIMIT <= number - acked
     }
 
-    /// Whether the key of the next packet has sealed as many packets as it may, with so many more. The limit of 1-RTT keys isn't
-    /// asked so far.
+    /// Whether the key of the next packet has sealed as many packets as it may, with so many more.
     fn key_reaches(&self, more: u64) -> bool
-        ensures { result ≡ reaches_limit more (limited_keys (ideal U.Random.stream self.now) (sending_space (ideal U.Random.stream self.now))) }
+        ensures { result ≡ reaches_limit more (usage_of self.now.keys (sending_space (ideal U.Random.stream self.now))) }
     {
-        match self.sending_space() {
-            SpaceId::Initial => self.keys.reaches_limit(SpaceId::Initial, more),
-            SpaceId::Handshake => self.keys.reaches_limit(SpaceId::Handshake, more),
-            SpaceId::Data => false,
-        }
+        self.keys.reaches_limit(self.sending_space(), more)
     }
 
     /// Whether the key of the next packet has sealed as many packets as it may (RFC 9001, 6.6).
@@ -278,7 +273,7 @@ impl<U: Suite> Core<U> {
             },
             SpaceId::Data => Header::Short {
                 spin,
-                key_phase: false,
+                key_phase: self.keys.phase(),
                 dst_cid,
                 number,
             },
@@ -531,8 +526,7 @@ impl<U: Suite> Core<U> {
     fn drops_initial(&self, side: Side, space: SpaceId) -> bool
         ensures { result ≡ drops_initial side (ideal U.Random.stream self.now) space }
     {
-        leaves_initial(side, self.setup.fixed.side, space)
-            && self.keys.get(SpaceId::Initial).is_some()
+        leaves_initial(side, self.setup.fixed.side, space) && self.keys.has(SpaceId::Initial)
     }
 
     /// The keys of the Initial space are dropped with a packet of this space, where this end is of the side that leaves it so: a
@@ -591,12 +585,30 @@ impl<U: Suite> Core<U> {
         }
     }
 
-    /// Seals a packet with this number, header and frames into an empty buffer, its fixed bit flipped or not, filled up with PADDING
-    /// to `least` bytes at least, and to what each packet has to have. The PADDING frames are added to the list.
+    /// What the builder is given of the space's next packet, whose fixed bit is flipped or not. None exactly where the space has
+    /// no keys.
+    fn slot(&self, space: SpaceId, flip: bool) -> Option<Slot>
+        ensures { result ≡ option_map (slot_drawn (ideal U.Random.stream self.now) space flip) (usage_of self.now.keys space) }
+    {
+        match self.keys.usage(space) {
+            None => None,
+            Some(usage) => Some(Slot {
+                space,
+                number: self.numbers.next(space),
+                largest_acked: self.numbers.acked_number(space),
+                sealed: usage.sealed,
+                limit: usage.limit,
+                flip,
+            }),
+        }
+    }
+
+    /// Seals the space's next packet with this header and these frames into an empty buffer, its fixed bit flipped or not, filled up
+    /// with PADDING to `least` bytes at least, and to what each packet has to have. The PADDING frames are added to the list. Want of
+    /// memory is the only refusal.
     fn seal_with(
         &self,
         space: SpaceId,
-        number: u64,
         flip: bool,
         header: &Header,
         frames: &mut FrameList,
@@ -604,26 +616,40 @@ impl<U: Suite> Core<U> {
         buf: &mut Vec<u8>,
     ) -> Result<(), AllocError>
         requires empty { buf.old.items ≡ [] }
-        requires keyed { IsSome (keys_of self.now.keys space) }
+        requires keyed { has_keys self.now.keys space ≡ true }
         requires numbered { IsSome (header_number header.now) }
+        requires begins { IfSome (usage_of self.now.keys space) (λ usage. kill_of (slot_drawn (ideal U.Random.stream self.now) space flip usage) header.now 0 DATAGRAM_SIZE ≡ None) }
+        requires sized { min_size_of 0 header.now + 16 ≤ DATAGRAM_SIZE }
         requires room { length (header_spelling header.now 0) + length (frames_spelling frames.old) + 16 ≤ DATAGRAM_SIZE }
         requires small { least ≤ DATAGRAM_SIZE }
         ensures frames { OnOk result (frames.new ≡ frames.old ++ replicate (padding_len header.now frames.old (padded_size header.now frames.old least)) Padding) }
-        ensures bytes { OnOk result (buf.new.items ≡ sealed_with (meaning U.Session.Session U.Session.HeaderKey.HeaderMask U.Session.PacketKey.PacketKey U.Control.Controller.Controller) (keys_of self.now.keys space) flip header.now number (frames_spelling frames.new)) }
+        ensures bytes { OnOk result (buf.new.items ≡ sealed_with (meaning U.Session.Session U.Session.HeaderKey.HeaderMask U.Session.PacketKey.PacketKey U.Control.Controller.Controller) (header_key self.now.keys space) (packet_key self.now.keys space) flip header.now (next_number self.now.numbers space) (frames_spelling frames.new)) }
         ensures full { OnOk result (length buf.new.items ≡ padded_size header.now frames.old least) }
     {
-        match self.keys.get(space) {
-            Some(keys) => seal_padded(
-                &keys.keys.header.local,
-                &keys.keys.packet.local,
-                number,
-                flip,
-                header,
-                frames,
-                least,
-                buf,
-            ),
+        let header_key = match self.keys.header_key(space) {
+            Some(key) => key,
             None => unreachable!(),
+        };
+        let packet_key = match self.keys.packet_key(space) {
+            Some(key) => key,
+            None => unreachable!(),
+        };
+        let slot = match self.slot(space, flip) {
+            Some(slot) => slot,
+            None => unreachable!(),
+        };
+        match seal_padded(
+            header_key,
+            packet_key,
+            &slot,
+            header,
+            frames,
+            DATAGRAM_SIZE as usize,
+            least,
+            buf,
+        ) {
+            Ok(()) => Ok(()),
+            Err(_) => Err(AllocError),
         }
     }
 
@@ -639,9 +665,11 @@ impl<U: Suite> Core<U> {
         buf: &mut Vec<u8>,
     ) -> Result<bool, AllocError>
         requires empty { buf.old.items ≡ [] }
-        requires low { next_number self.old.numbers space < 2 ^ 62 }
+        requires low { next_number self.old.numbers space < 2 ^ 62 - 1 }
         requires near { next_number self.old.numbers space - acked_number self.old.numbers space < 2 ^ 31 }
-        requires keyed { IsSome (keys_of self.old.keys space) }
+        requires keyed { has_keys self.old.keys space ≡ true }
+        requires fresh { reaches_limit 0 (usage_of self.old.keys space) ≡ false }
+        requires wide { 25 ≤ frame_room (ideal U.Random.stream self.old) space }
         requires room { length (header_spelling (header_in (ideal U.Random.stream self.old) space) 0) + length (frames_spelling frames) + 16 ≤ DATAGRAM_SIZE }
         ensures leads { OnOk result ((held U.Random.stream self.new did.new) ≡ move_to (Seal now space (next_number self.old.numbers space) (length buf.new.items) (padded (ideal U.Random.stream self.old) space frames)) (held U.Random.stream self.old did.old)) }
         ensures bytes { OnOk result (buf.new.items ≡ packet_bytes (meaning U.Session.Session U.Session.HeaderKey.HeaderMask U.Session.PacketKey.PacketKey U.Control.Controller.Controller) (ideal U.Random.stream self.old) space (padded (ideal U.Random.stream self.old) space frames)) }
@@ -652,7 +680,7 @@ impl<U: Suite> Core<U> {
         let number = self.next_number(space);
         let least = self.least_size(space, &frames);
         let (header, flip) = self.header_and_flip(space)?;
-        self.seal_with(space, number, flip, &header, &mut frames, least, buf)?;
+        self.seal_with(space, flip, &header, &mut frames, least, buf)?;
         let counts = self.is_flown(&frames);
         self.do_seal(alloc, did, now, space, number, buf.len() as u64, frames)?;
         Ok(counts)

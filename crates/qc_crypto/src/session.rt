@@ -254,6 +254,9 @@ pub trait Session: Drop {
 
     ghost changes_next: { (s : Self) → is_sound s → changes (after_next s) ≡ changes s };
 
+    // The keys of the next epoch leave no more to write.
+    ghost left_next: { (s : Self) → is_sound s → left (after_next s) ≤ left s };
+
     // A handshake ends only after the second change of keys, and never begins again. Where there
     // were early keys, the session knows then whether the peer took them.
     ghost over_late: { (s : Self) → is_sound s → handshaking s ≡ false → changes s ≡ 2 };

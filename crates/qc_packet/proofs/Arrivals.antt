@@ -1,8 +1,8 @@
 -- A packet that was sealed comes back to its receiver.
-use Rattle.std.proofs.Common.{◌≡◌, ℕ, ◌+◌, ◌-◌, ◌*◌, ◌/◌, ◌%◌, ◌<◌, ◌≤◌, ◌^◌, Bool, true, false, List, [], ◌++◌, length, refl, sym, ap, ◌∙◌, subst, arith, ◌⊎◌, inl, inr, min, Option, Some, None, Ok}
+use Rattle.std.proofs.Common.{◌≡◌, ℕ, ◌+◌, ◌/◌, ◌%◌, ◌<◌, ◌≤◌, ◌^◌, Bool, true, false, List, [], length, refl, ap, ◌∙◌, arith, ◌⊎◌, inl, inr, min, Option, Some, None}
 use Rattle.std.proofs.lemmas.Bool.Decides.{nat_tests}
 use Rattle.qc_base.specs.Mask.{first_byte}
-use Rattle.qc_base.specs.PacketNumber.{number_len, number_window, number_low, IsNearest, IsInWindow}
+use Rattle.qc_base.specs.PacketNumber.{number_window, number_low, IsNearest, IsInWindow}
 use Rattle.qc_base.specs.Spelling.{bit}
 use Rattle.qc_base.specs.Time.{plus}
 use Rattle.qc_base.specs.declared.packet_number.PacketNumber.{PacketNumber}
@@ -13,11 +13,10 @@ use Rattle.qc_crypto.specs.Mates.{Sealing, Opening, OpensItsPackets}
 use Rattle.qc_header.specs.declared.finish.Packet.{Packet}
 use Rattle.qc_header.specs.declared.header.Header.{Header}
 use Rattle.qc_header.specs.declared.header.Header.TheVariants.{Initial, Long, Retry, Short, VersionNegotiate}
-use Rattle.qc_header.specs.HeaderReading.{piece_at}
 use Rattle.qc_header.specs.HeaderSpelling.{header_spelling, header_number, initial_spelling, short_spelling, long_start, number_tag}
 use Rattle.qc_header.specs.Piece.{Piece, is_protected}
 use Rattle.qc_header.specs.Unprotected.{IsCut, header_from}
-use Rattle.qc_header.specs.RoundTrip.{IsReadable, IsCounted, ComesBack, packet_of, sent_piece}
+use Rattle.qc_header.specs.RoundTrip.{IsCounted, ComesBack, packet_of}
 use Rattle.qc_header.proofs.RoundTrips.{header_is_read}
 use Rattle.std.specs.Option.{option_copied}
 use Rattle.qc_packet.specs.declared.decrypt.OpenKeys.{OpenKeys}
@@ -25,7 +24,7 @@ use Rattle.qc_packet.specs.Arrival.{CanArrive, sealed_piece, IsSealed, Arrives, 
 use Rattle.qc_packet.specs.Building.{is_short, pn_len}
 use Rattle.qc_packet.specs.OpenedPacket.{IsNumberOf, key_named, reserved_bits, opening_answer, opened_by, opened_payload}
 use Rattle.qc_packet.specs.PacketSpelling.{header_bytes, protected_len, packet_spelling, sealed_packet}
-use Rattle.qc_packet.specs.Unprotected.{is_cut, IsUnprotected}
+use Rattle.qc_packet.specs.Unprotected.{is_cut}
 use Rattle.qc_rings.specs.Keyed.{Keyed}
 use Rattle.qc_packet.proofs.Finishes.{tag_small}
 

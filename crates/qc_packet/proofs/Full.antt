@@ -1,6 +1,6 @@
 -- A packet that fills a datagram.
 use Rattle.std.specs.Prelude.{Bool, true, false, Option, Some, None, IsSome, max, min, replicate, if◌then◌else◌}
-use Rattle.std.proofs.Common.{◌≡◌, ℕ, ◌+◌, ◌-◌, ◌<◌, ◌≤◌, ◌^◌, List, ◌++◌, length, refl, sym, ap, ◌∙◌, arith, length-append}
+use Rattle.std.proofs.Common.{◌≡◌, ℕ, ◌+◌, ◌-◌, ◌<◌, ◌≤◌, ◌^◌, List, [], ◌++◌, length, refl, sym, ap, subst, ◌∙◌, arith, length-append}
 use Rattle.std.proofs.lemmas.Grind.{flat_map-append}
 use Rattle.qc_base.specs.Time.{plus}
 use Rattle.qc_base.specs.PacketNumber.{number_bytes}
@@ -42,9 +42,10 @@ number_there (Some (U16 n)) some = omega arith
 number_there (Some (U24 n)) some = omega arith
 number_there (Some (U32 n)) some = omega arith
 
--- a builder asked for so many bytes at least
-abbrev pub full_builder : SpaceId → ℕ → Header → ℕ → PacketBuilder
-full_builder space number h least = record (builder_for space number h 0 16383 0 true) { min_size = max (min_size_of 0 h) (plus 0 (least - 16)) }
+-- a builder of an empty buffer, asked for so many bytes at least
+abbrev pub full_builder : SpaceId → ℕ → Header → (capacity : ℕ) → (eliciting : Bool) → (least : ℕ) → PacketBuilder
+full_builder space number h capacity eliciting least =
+    record (builder_for space number h 0 capacity 0 eliciting) { min_size = max (min_size_of 0 h) (plus 0 (least - 16)) }
 
 -- where its payload ends, by the size of the packet
 pub full_size : (h : Header) (least frames_len : ℕ) → least < 2 ^ 14
@@ -64,11 +65,13 @@ most_of h size longer small =
       | false ↦ λ e. record { same = omega arith; long = λ f. omega arith }
     ] refl
 
-pub full_ready : (space : SpaceId) (number : ℕ) (h : Header) (least frames_len len : ℕ) → IsSome (header_number h) → pn_len h < header_len h → header_len h + frames_len + 20 ≤ 16383 → least < 2 ^ 14
-    → len ≡ header_len h + frames_len → IsReady (full_builder space number h least) len
+-- it can finish its packet where header, frames and padding are within the capacity
+pub full_ready : (space : SpaceId) (number : ℕ) (h : Header) (capacity : ℕ) (eliciting : Bool) (least frames_len len : ℕ) → IsSome (header_number h) → pn_len h < header_len h
+    → min_size_of 0 h + 16 ≤ capacity → header_len h + frames_len + 16 ≤ capacity → least ≤ capacity → capacity < 2 ^ 14
+    → len ≡ header_len h + frames_len → IsReady (full_builder space number h capacity eliciting least) len
 unfolding min_size_of
-full_ready space number h least frames_len len some longer room small is_len =
-    let most : IsMost h 16383 (max_size_of 0 h 16383) = most_of h 16383 longer (omega arith) in
+full_ready space number h capacity eliciting least frames_len len some longer sized room within small is_len =
+    let most : IsMost h capacity (max_size_of 0 h capacity) = most_of h capacity longer small in
     record {
       sound = record {
         numbered = number_there (header_number h) some;
@@ -78,12 +81,36 @@ full_ready space number h least frames_len len some longer room small is_len =
         length_field = λ e. omega (arith, most.long e);
       };
       begun = omega arith;
-      sizes = omega (arith, most.same, dst_within h);
+      sizes = omega (arith, most.same);
       room = omega (arith, most.same);
     }
 
-pub full_is_of : (space : SpaceId) (number : ℕ) (h : Header) (least : ℕ) → IsSome (header_number h) → IsOf (full_builder space number h least) h
-full_is_of space number h least some = record { header = refl; number = refl; numbered = number_there (header_number h) some; short = refl }
+pub full_is_of : (space : SpaceId) (number : ℕ) (h : Header) (capacity : ℕ) (eliciting : Bool) (least : ℕ) → IsSome (header_number h) → IsOf (full_builder space number h capacity eliciting least) h
+full_is_of space number h capacity eliciting least some = record { header = refl; number = refl; numbered = number_there (header_number h) some; short = refl }
+
+-- a header with 20 bytes behind it within the capacity leaves room for what each packet needs
+pub room_enough : (h : Header) (capacity : ℕ) → header_len h + 20 ≤ capacity → min_size_of 0 h + 16 ≤ capacity
+unfolding min_size_of
+room_enough h capacity room = omega (arith, dst_within h)
+
+-- what begins an empty buffer, and is then asked for so many bytes
+pub full_builder_is : (space : SpaceId) (number : ℕ) (h : Header) (start capacity : ℕ) (eliciting : Bool) (least : ℕ) (begun b : PacketBuilder) → start ≡ 0
+    → begun ≡ builder_for space number h start capacity 0 eliciting → b ≡ record begun { min_size = max begun.min_size (plus begun.datagram_start (least - 16)) }
+    → b ≡ full_builder space number h capacity eliciting least
+full_builder_is space number h start capacity eliciting least begun b is_start is_begun is_b =
+    is_b ∙ ap (λ (x : PacketBuilder). record x { min_size = max x.min_size (plus x.datagram_start (least - 16)) }) (is_begun ∙ ap (λ (n : ℕ). builder_for space number h n capacity 0 eliciting) is_start)
+
+-- its header is longer than its number
+pub longer_header : (space : SpaceId) (number : ℕ) (h : Header) (start capacity : ℕ) (eliciting : Bool) (begun : PacketBuilder)
+    → begun ≡ builder_for space number h start capacity 0 eliciting → IsSound begun → pn_len h < header_len h
+longer_header space number h start capacity eliciting begun is_begun sound =
+    let same : IsSound (builder_for space number h start capacity 0 eliciting) = subst (λ (x : PacketBuilder). IsSound x) is_begun sound in
+    same.first
+
+-- header and frames are all that stands in it
+pub put_is : (header frames before begun out : List ℕ) → before ≡ [] → begun ≡ before ++ header → out ≡ begun ++ frames → out ≡ header ++ frames
+put_is header frames before begun out none is_begun is_out =
+    is_out ∙ ap (λ (x : List ℕ). x ++ frames) (is_begun ∙ ap (λ (x : List ℕ). x ++ header) none)
 
 -- how many bytes header and frames have together, the fixed bit flipped or not
 pub put_size : (flip : Bool) (h : Header) (frames out : List ℕ) → out ≡ with_flip flip (header_spelling h 0) ++ frames → length out ≡ header_len h + length frames
@@ -91,11 +118,11 @@ put_size flip h frames out is_out =
     ap (λ (x : List ℕ). length x) is_out ∙ length-append (with_flip flip (header_spelling h 0)) frames ∙ ap (λ (n : ℕ). n + length frames) (flip_len flip h 0)
 
 -- padding of zeros is so many PADDING frames
-pub full_bytes : (mask : List ℕ → List ℕ) (seal : ℕ → List ℕ → List ℕ → List ℕ) (flip : Bool) (space : SpaceId) (number : ℕ) (h : Header) (fs : List FrameValue) (least : ℕ) (b : PacketBuilder) (items out : List ℕ)
-    → least < 2 ^ 14 → b ≡ full_builder space number h least → length items ≡ header_len h + length (frames_spelling fs)
+pub full_bytes : (mask : List ℕ → List ℕ) (seal : ℕ → List ℕ → List ℕ → List ℕ) (flip : Bool) (space : SpaceId) (number : ℕ) (h : Header) (capacity : ℕ) (eliciting : Bool) (fs : List FrameValue) (least : ℕ) (b : PacketBuilder) (items out : List ℕ)
+    → least < 2 ^ 14 → b ≡ full_builder space number h capacity eliciting least → length items ≡ header_len h + length (frames_spelling fs)
     → out ≡ sealed_packet mask seal flip h b.exact_number (frames_spelling fs ++ replicate (b.min_size - length items) 0)
     → out ≡ sealed_packet mask seal flip h number (frames_spelling (fs ++ replicate (padding_len h fs (padded_size h fs least)) Padding))
-full_bytes mask seal flip space number h fs least b items out small is_b is_len is_out =
+full_bytes mask seal flip space number h capacity eliciting fs least b items out small is_b is_len is_out =
     let pad : b.min_size - length items ≡ padding_len h fs (padded_size h fs least) = omega (arith, ap (λ (x : PacketBuilder). x.min_size) is_b, is_len) in
     let spelled : frames_spelling (fs ++ replicate (padding_len h fs (padded_size h fs least)) Padding) ≡ frames_spelling fs ++ replicate (padding_len h fs (padded_size h fs least)) 0 =
     rw (flat_map-append spelling fs (replicate (padding_len h fs (padded_size h fs least)) Padding), zeros (padding_len h fs (padded_size h fs least))) refl in

@@ -1,15 +1,13 @@
 -- What a receiver makes of a packet that was sealed (RFC 9001, sections 5.3 to 5.5).
-use Rattle.std.specs.Prelude.{◌≡◌, ℕ, ◌+◌, ◌%◌, ◌<◌, ◌≤◌, ◌^◌, Bool, true, false, List, [], ◌++◌, Option, Some, None, Result, Ok, Err, if◌then◌else◌}
+use Rattle.std.specs.Prelude.{◌≡◌, ℕ, ◌%◌, ◌<◌, ◌≤◌, ◌^◌, Bool, true, false, List, [], ◌++◌, Option, Some, None, Result, Ok, Err, if◌then◌else◌}
 use Rattle.std.specs.Option.{option_copied}
 use Rattle.qc_base.specs.Time.{plus}
-use Rattle.qc_base.specs.Mask.{first_byte}
 use Rattle.qc_base.specs.PacketNumber.{number_window, number_low, IsInWindow}
 use Rattle.qc_base.specs.declared.packet_number.PacketNumber.{PacketNumber}
-use Rattle.qc_crypto.specs.Mates.{Sealing, Opening}
+use Rattle.qc_crypto.specs.Mates.{Sealing}
 use Rattle.qc_header.specs.declared.finish.Packet.{Packet}
 use Rattle.qc_header.specs.declared.header.Header.{Header}
 use Rattle.qc_header.specs.HeaderReading.{piece_at}
-use Rattle.qc_header.specs.HeaderSpelling.{header_number}
 use Rattle.qc_header.specs.Piece.{Piece}
 use Rattle.qc_header.specs.RoundTrip.{IsReadable, sent_piece}
 use Rattle.qc_packet.specs.declared.decrypt.DecryptPacketResult.{DecryptPacketResult}

@@ -1,5 +1,5 @@
 -- Opening a packet whose header protection was taken off (RFC 9001, sections 5.5 and 6).
-use Rattle.std.specs.Prelude.{ℕ, ◌+◌, ◌/◌, ◌%◌, Bool, true, false, ◌&&◌, ◌||◌, List, Option, Some, None, Result, Ok, Err, nat_le, ◌==◌, if◌then◌else◌}
+use Rattle.std.specs.Prelude.{ℕ, ◌/◌, ◌%◌, Bool, true, false, ◌&&◌, ◌||◌, List, Option, Some, None, Result, Ok, Err, nat_le, ◌==◌, if◌then◌else◌}
 use Rattle.qc_base.specs.Time.{plus}
 use Rattle.qc_base.specs.PacketNumber.{IsNearest, number_window, number_low}
 use Rattle.qc_base.specs.declared.packet_number.PacketNumber.{PacketNumber}

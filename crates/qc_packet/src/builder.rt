@@ -180,7 +180,7 @@ fn put_header(flip: bool, header: &Header, buf: &mut Vec<u8>) -> Result<(), Allo
 
 /// Begins a packet in a buffer: writes its header.
 #[tactic(auto, using(crate::proofs::Finishes::flip_len))]
-pub(crate) fn begin(
+fn begin(
     space: SpaceId,
     number: u64,
     flip: bool,
@@ -192,7 +192,6 @@ pub(crate) fn begin(
 ) -> Result<PacketBuilder, AllocError>
     ensures header { OnOk result (buf.new.items ≡ buf.old.items ++ with_flip flip (header_spelling header.now 0)) }
     ensures builder { IfOk result (λ b. b ≡ builder_for space number header.now (length buf.old.items) capacity datagram_start ack_eliciting) }
-    ensures longer { OnOk result (IsSome (header_number header.now) → pn_len header.now < length (header_spelling header.now 0)) }
     ensures begun { IfOk result (λ b. b.start + b.header_len ≡ length buf.new.items) }
     ensures sound { IfOk result (λ b. IsSome (header_number header.now) → IsSound b) }
     ensures err { OnErr result (buf.new.items ≡ buf.old.items) }
@@ -332,7 +331,7 @@ impl PacketBuilder {
         if let Some(kill) = kill(slot, header, buf.len(), capacity) {
             return Err(BuildError::Kill(kill));
         }
-        match begin(
+        let builder = begin(
             slot.space,
             slot.number,
             slot.flip,
@@ -341,10 +340,8 @@ impl PacketBuilder {
             capacity,
             datagram_start,
             ack_eliciting,
-        ) {
-            Ok(builder) => Ok(builder),
-            Err(_) => Err(BuildError::OutOfMemory),
-        }
+        )?;
+        Ok(builder)
     }
 
     /// Asks for a datagram of at least `min_size` bytes, tag and all: the packet is padded so far. Below 16

@@ -1,6 +1,7 @@
 //! What a packet that is about to begin is given, and why it may not.
 
 use qc_base::SpaceId;
+use std::alloc::AllocError;
 
 /// The next packet's number, and what is known of its key.
 #[derive(Clone, Copy, Debug, PartialEq, Eq)]
@@ -38,4 +39,15 @@ pub enum BuildError {
     Kill(Kill),
     /// Want of memory.
     OutOfMemory,
+}
+
+impl From<AllocError> for BuildError {
+    ghost use Rattle.std.specs.Prelude.{◌≡◌};
+    ghost use Rattle.qc_packet.specs.declared.slot.BuildError.{BuildError};
+
+    ghost from_gives = { λ _ error. error ≡ BuildError.OutOfMemory };
+
+    fn from(_error: AllocError) -> BuildError {
+        BuildError::OutOfMemory
+    }
 }

@@ -110,34 +110,52 @@ fn a_packet_is_built_and_opened(rt: HostRuntime) -> Result<(), Fail> {
     Ok(())
 }
 
-// The same packet, sealed in one call, and its frames: it is filled up to the 22 bytes that each packet has at least.
-fn sealed_ping(alloc: Global, flip: bool) -> Result<(Vec<u8>, FrameList), Fail> {
-    let header = Header::Short {
+// The header of a 1-RTT packet of the first epoch that has number 7 and goes to an empty id.
+fn short_header() -> Header {
+    Header::Short {
         spin: false,
         key_phase: false,
         dst_cid: ConnectionId::new(b""),
         number: PacketNumber::U8(7),
-    };
+    }
+}
+
+// A PING in a packet of at most 1200 bytes, sealed in one call, and the frames and bytes that there are then.
+#[tactic(auto, using(crate::proofs::Full::room_enough))]
+fn seal_ping(
+    alloc: Global,
+    slot: &Slot,
+    header: &Header,
+) -> Result<(Result<(), BuildError>, Vec<u8>, FrameList), Fail> {
     let header_key = header_key().ok_or("no keys")?;
     let keys = KEYS.keys(Side::Client, 0);
     let mut frames = FrameList::new(alloc);
     frames.push(FrameOf::Ping)?;
     let mut payload = Vec::new(alloc);
     frames.put(&mut payload)?;
-    if header.encoded_len() + payload.len() > 1000 {
+    let len = header.encoded_len();
+    if header.number().is_none() || len > 1180 || len + payload.len() > 1184 {
         return Err("too long".into());
     }
     let mut buf = Vec::new(alloc);
-    seal_padded(
+    let sealed = seal_padded(
         &header_key,
         &keys.local,
-        7,
-        flip,
-        &header,
+        slot,
+        header,
         &mut frames,
+        1200,
         0,
         &mut buf,
-    )?;
+    );
+    Ok((sealed, buf, frames))
+}
+
+// The same packet, sealed in one call, and its frames: it is filled up to the 22 bytes that each packet has at least.
+fn sealed_ping(alloc: Global, flip: bool) -> Result<(Vec<u8>, FrameList), Fail> {
+    let slot = Slot { flip, ..slot(7) };
+    let (sealed, buf, frames) = seal_ping(alloc, &slot, &short_header())?;
+    sealed.ok().ok_or("refused")?;
     Ok((buf, frames))
 }
 
@@ -213,17 +231,22 @@ fn cut_packets_and_resets(rt: HostRuntime) -> Result<(), Fail> {
     Ok(())
 }
 
-// How many bytes an Initial packet with a token of so many has for its frames, up to a capacity of 1200.
-fn room(alloc: Global, token: usize) -> Result<Result<usize, BuildError>, AllocError> {
+// The header of an Initial packet with a token of so many bytes.
+fn initial_header(alloc: Global, token: usize) -> Result<Header, AllocError> {
     let mut bytes = Vec::new(alloc);
     bytes.resize(token, 7)?;
-    let header = Header::Initial(InitialHeader {
+    Ok(Header::Initial(InitialHeader {
         dst_cid: ConnectionId::new(&[2; 20]),
         src_cid: ConnectionId::new(&[1; 8]),
         token: Bytes::copy_from_slice(alloc, bytes.as_slice())?,
         number: PacketNumber::U8(0),
         version: 1,
-    });
+    }))
+}
+
+// How many bytes an Initial packet with a token of so many has for its frames, up to a capacity of 1200.
+fn room(alloc: Global, token: usize) -> Result<Result<usize, BuildError>, AllocError> {
+    let header = initial_header(alloc, token)?;
     let slot = Slot {
         space: SpaceId::Initial,
         number: 0,
@@ -253,19 +276,24 @@ fn tokens_leave_room(rt: HostRuntime) -> Result<(), Fail> {
     Ok(())
 }
 
-fn refusal(alloc: Global, slot: &Slot) -> Option<BuildError> {
-    let header = Header::Short {
-        spin: false,
-        key_phase: false,
-        dst_cid: ConnectionId::new(b""),
-        number: PacketNumber::U8(0),
-    };
-    let mut buf = Vec::new(alloc);
-    PacketBuilder::new(slot, &header, &mut buf, 1200, 0, true).err()
+// What a slot and a header are refused with, which refuse a builder and a padded packet alike: list and buffer are then as
+// before.
+fn refusal(alloc: Global, slot: &Slot, header: &Header) -> Result<Option<BuildError>, Fail> {
+    let mut begun = Vec::new(alloc);
+    let refused = PacketBuilder::new(slot, header, &mut begun, 1200, 0, true).err();
+    let (sealed, buf, frames) = seal_ping(alloc, slot, header)?;
+    if sealed.err() != refused || begun.is_empty() != refused.is_some() {
+        return Err("not alike".into());
+    }
+    let (listed, padding) = frames.parts();
+    if refused.is_some() && (!buf.is_empty() || listed.len() != 1 || padding != 0) {
+        return Err("changed".into());
+    }
+    Ok(refused)
 }
 
 #[test]
-fn limits_of_keys_and_numbers(rt: HostRuntime) {
+fn limits_of_keys_and_numbers(rt: HostRuntime) -> Result<(), Fail> {
     let last = 0x3fff_ffff_ffff_fffe;
     for (number, largest_acked, sealed, want) in [
         (0, 0, 9, None),
@@ -284,6 +312,34 @@ fn limits_of_keys_and_numbers(rt: HostRuntime) {
             limit: 10,
             flip: false,
         };
-        assert_eq!(rt; refusal(rt.alloc(), &slot), want, "at {number}");
+        assert_eq!(rt;
+            refusal(rt.alloc(), &slot, &short_header())?,
+            want,
+            "at {number}"
+        );
     }
+    Ok(())
+}
+
+// With the 40 bytes besides the token and the tag's 16, a token of 1119 bytes leaves 25 of 1200 for frames, and one of 1120
+// leaves 24. The key's limit comes first.
+#[test]
+fn tokens_without_room(rt: HostRuntime) -> Result<(), Fail> {
+    for (token, sealed, want) in [
+        (1119, 0, None),
+        (1120, 0, Some(BuildError::Kill(Kill::TokenRoom))),
+        (1120, 1, Some(BuildError::Kill(Kill::KeyLimit))),
+    ] {
+        let slot = Slot {
+            space: SpaceId::Initial,
+            number: 0,
+            largest_acked: 0,
+            sealed,
+            limit: 1,
+            flip: false,
+        };
+        let header = initial_header(rt.alloc(), token)?;
+        assert_eq!(rt; refusal(rt.alloc(), &slot, &header)?, want, "at {token}");
+    }
+    Ok(())
 }

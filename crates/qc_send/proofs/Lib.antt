@@ -1,1 +1,2 @@
 mod Sized
+mod Wide

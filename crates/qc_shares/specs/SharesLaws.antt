@@ -378,6 +378,9 @@ unwritten_same s = omega arith
 pub shares_unwritten_next : (s : SharesSession) → 1 - (after_next_of s).steps ≤ 1 - s.steps
 shares_unwritten_next s = omega (arith, shares_steps_next s)
 
+pub shares_left_next : (s : SharesSession) → 3 - (after_next_of s).steps ≤ 3 - s.steps
+shares_left_next s = omega (arith, shares_steps_next s)
+
 pub few_changes : (s : SharesSession) → IsSound s → s.steps - 1 ≤ 2
 few_changes s h = omega (arith, h.few)
 

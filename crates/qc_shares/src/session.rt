@@ -235,7 +235,7 @@ impl Session for SharesSession {
     ghost use Rattle.std.specs.Prelude.{refl};
     ghost use Rattle.std.proofs.Common.{ap};
     ghost use Rattle.qc_base.specs.declared.side.SpaceId.TheVariants.{Handshake, Data};
-    ghost use Rattle.qc_shares.specs.SharesLaws.{shares_fresh_sound, shares_sound_read, shares_sound_write, shares_sound_next, shares_hello_first, shares_hello_no_keys, shares_hello_whole, shares_hello_alone, no_early, shares_falls, shares_idle, few_unwritten, shares_unwritten_write, unwritten_same, shares_unwritten_next, few_changes, shares_changes_write, shares_changes_next, shares_over_late, shares_over_write, shares_over_next, shares_ready_once, shares_ready_then, shares_ready_read, shares_ready_write, shares_ready_next, shares_refusal, shares_unreadable, shares_allowed, shares_server_knows, shares_write_parameters, shares_next_parameters, shares_next_writes, shares_next_write_keys, shares_side_write, shares_side_next, shares_given_keys, shares_space_read, shares_space_write, shares_space_next, shares_data_read, shares_epochs_read, shares_epochs_write, shares_epochs_next, shares_given_next, shares_next_epoch, shares_epoch_write, shares_initial_fits};
+    ghost use Rattle.qc_shares.specs.SharesLaws.{shares_fresh_sound, shares_sound_read, shares_sound_write, shares_sound_next, shares_hello_first, shares_hello_no_keys, shares_hello_whole, shares_hello_alone, no_early, shares_falls, shares_idle, few_unwritten, shares_unwritten_write, unwritten_same, shares_unwritten_next, shares_left_next, few_changes, shares_changes_write, shares_changes_next, shares_over_late, shares_over_write, shares_over_next, shares_ready_once, shares_ready_then, shares_ready_read, shares_ready_write, shares_ready_next, shares_refusal, shares_unreadable, shares_allowed, shares_server_knows, shares_write_parameters, shares_next_parameters, shares_next_writes, shares_next_write_keys, shares_side_write, shares_side_next, shares_given_keys, shares_space_read, shares_space_write, shares_space_next, shares_data_read, shares_epochs_read, shares_epochs_write, shares_epochs_next, shares_given_next, shares_next_epoch, shares_epoch_write, shares_initial_fits};
 
     ghost fresh_sound = { shares_fresh_sound };
 
@@ -270,6 +270,8 @@ impl Session for SharesSession {
     ghost unwritten_read = { λ s bytes _. unwritten_same s };
 
     ghost unwritten_next = { λ s _. shares_unwritten_next s };
+
+    ghost left_next = { λ s _. shares_left_next s };
 
     ghost changes_most = { λ s h. few_changes s h };
 

@@ -1,30 +1,33 @@
--- Over a run no Initial or Handshake key seals more packets than it may.
+-- Over a run no key seals more packets than it may.
 use Rattle.std.proofs.Common.{◌≡◌, ℕ, ◌+◌, ◌≤◌, List, [], ◌∷◌, refl, sym, subst, Bool, true, false, Option, Some, None, if◌then◌else◌, arith}
 use Rattle.std.proofs.lemmas.Bool.Decides.{nat_tests}
 use Rattle.std.specs.Prelude.{is_none, nat_le}
+use Rattle.std.specs.Option.{option_map}
 use Rattle.qc_base.specs.Time.{plus}
 use Rattle.qc_base.specs.declared.side.Side.TheVariants.{Client}
 use Rattle.qc_base.specs.declared.side.SpaceId.{SpaceId}
 use Rattle.qc_base.specs.declared.side.SpaceId.TheVariants.{Initial, Handshake, «Data»}
 use Rattle.qc_frame.specs.Frame.{FrameValue}
+use Rattle.qc_rings.specs.Keyed.{keyed_sealed}
 use Rattle.qc_state.specs.declared.deeds.Did.{Did}
 use Rattle.qc_state.specs.declared.deeds.Quiet.TheVariants.{NothingOwed, Silent, Killed, Amplification}
 use Rattle.qc_state.specs.declared.input.Input.{Input}
 use Rattle.qc_state.specs.declared.input.Input.TheVariants as input
 use Rattle.qc_state.specs.declared.keys.KeyGroup.{KeyGroup}
+use Rattle.qc_state.specs.declared.keys.OneRttKeys.{OneRttKeys}
 use Rattle.qc_state.specs.declared.keys.SpaceKeys.{SpaceKeys}
 use Rattle.qc_state.specs.declared.life.Close.{Close}
 use Rattle.qc_state.specs.declared.life.ConnectionError.{ConnectionError}
 use Rattle.qc_state.specs.declared.life.State.TheVariants.{Drained}
 use Rattle.qc_state.specs.declared.trace.Step.{Step}
 use Rattle.qc_state.specs.KeyLaws.{IsWithinLimit, KeysHold}
-use Rattle.qc_state.specs.Keys.{count_one, failure_counted, key_used, keys_behind, keys_dropped, keys_given, keys_of, reaches_limit}
+use Rattle.qc_state.specs.Keys.{NewKeys, NoKeys, HandshakeKeys, DataKeys, count_one, failure_counted, key_used, keys_dropped, keys_given, plain_usage, reaches_limit, ring_usage, ring_used, usage_of}
 use Rattle.qc_state.specs.Life.{is_open}
 use Rattle.qc_state.specs.Moves.{Move, Ask, Begin, Fail, Forget, Give, Raise, Say, Seal, Shut, Skip, Take, Write, keys_move, move_to, state_move}
 use Rattle.qc_state.specs.Numbers.{next_number}
 use Rattle.qc_state.specs.Paths.{is_blocked}
 use Rattle.qc_state.specs.Run.{IsAllowed, IsStep, Run, began, called, close_after, input_after, packets_of, reported, step_after, time_of}
-use Rattle.qc_state.specs.Sending.{MayTransmit, begun_after, flown_after, initial_left, is_flown, is_key_nearly_used_up, is_key_used_up, is_silent, limit_met, limited_keys, owed_quiet_after, owes, packet_after, packet_size, quiet_after, sealed_in, sending_space, spared_after, transmit_after}
+use Rattle.qc_state.specs.Sending.{MayTransmit, begun_after, flown_after, initial_left, is_flown, is_key_nearly_used_up, is_key_used_up, is_silent, limit_met, owed_quiet_after, owes, packet_after, packet_size, quiet_after, sealed_in, sending_space, spared_after, transmit_after}
 use Rattle.qc_state.specs.Stopping.{given_after, key_limit_error, killed_after}
 use Rattle.qc_state.specs.Types.{Types, Meaning}
 use Rattle.qc_state.specs.View.{View, At}
@@ -32,51 +35,75 @@ use Rattle.qc_state.proofs.Begun.{begun_keys, holds_begun}
 use Rattle.qc_state.proofs.Expired.{IsTimed, holds_timeout}
 use Rattle.qc_state.proofs.Receives.{AreUnused, IsReceived, holds_armed, holds_datagram, holds_initial, holds_stopped, in_packet_received}
 
+-- a key that may seal one packet more has sealed no more than it may behind it
+once_more : (sealed limit : ℕ) → nat_le limit (sealed + 0) ≡ false → plus sealed 1 ≤ limit
+once_more sealed limit e = grind (arith, nat_tests)
+
 module _ {H P : Type 0} where
-  -- a key that may seal one packet more has sealed no more than it may behind it
-  used_within : (o : Option (SpaceKeys H P)) → reaches_limit 0 o ≡ false → IsWithinLimit (count_one o)
+  counted_within : (o : Option (SpaceKeys H P)) → reaches_limit 0 (option_map plain_usage o) ≡ false → IsWithinLimit (option_map plain_usage (count_one o))
   unfolding count_one
-  used_within None h = tt
-  used_within (Some k) h = once_more k.sealed k.confidentiality_limit h
-    where
-      once_more : (sealed limit : ℕ) → nat_le limit (sealed + 0) ≡ false → plus sealed 1 ≤ limit
-      once_more sealed limit e = grind (arith, nat_tests)
+  counted_within None h = tt
+  counted_within (Some k) h = once_more k.sealed k.confidentiality_limit h
 
-  dropped_hold : (v : KeyGroup H P) (id : SpaceId) → KeysHold v → KeysHold (keys_dropped v id)
-  unfolding keys_dropped
-  dropped_hold v Initial h = (tt, h.1)
-  dropped_hold v Handshake h = (h.0, tt)
-  dropped_hold v Data h = h
+  ring_within : (n : ℕ) (o : Option (OneRttKeys H P)) → reaches_limit 0 (option_map ring_usage o) ≡ false → IsWithinLimit (option_map ring_usage (ring_used n o))
+  unfolding ring_used keyed_sealed
+  ring_within n None h = tt
+  ring_within n (Some k) h = once_more k.ring.count k.confidentiality_limit h
 
-  behind_hold : (v : KeyGroup H P) (highest : SpaceId) (k : SpaceKeys H P) → k.sealed ≡ 0 → KeysHold v → KeysHold (keys_behind v highest k)
-  behind_hold v Initial k e h = (h.0, omega arith)
-  behind_hold v Handshake k e h = h
-  behind_hold v Data k e h = h
+  -- keys that are dropped seal no more
+  dropped_hold : (v : KeyGroup H P) (id : SpaceId) → KeysHold v → (other : SpaceId) → IsWithinLimit (usage_of (keys_dropped v id) other)
+  unfolding keys_dropped usage_of
+  dropped_hold v Initial h Initial = tt
+  dropped_hold v Initial h Handshake = h Handshake
+  dropped_hold v Initial h Data = h «Data»
+  dropped_hold v Handshake h Initial = h Initial
+  dropped_hold v Handshake h Handshake = tt
+  dropped_hold v Handshake h Data = h «Data»
+  dropped_hold v Data h Initial = h Initial
+  dropped_hold v Data h Handshake = h Handshake
+  dropped_hold v Data h Data = tt
 
-  given_hold : (v : KeyGroup H P) (o : Option (SpaceKeys H P)) → AreUnused o → KeysHold v → KeysHold (keys_given v o)
-  unfolding keys_given
-  given_hold v None e h = h
-  given_hold v (Some k) e h = behind_hold v v.highest k e h
+  -- keys that are given have sealed none
+  given_hold : (v : KeyGroup H P) (keys : NewKeys H P) → AreUnused keys → KeysHold v → (other : SpaceId) → IsWithinLimit (usage_of (keys_given v keys) other)
+  unfolding keys_given usage_of
+  given_hold v NoKeys e h other = h other
+  given_hold v (HandshakeKeys k) e h Initial = h Initial
+  given_hold v (HandshakeKeys k) e h Handshake = omega arith
+  given_hold v (HandshakeKeys k) e h Data = h «Data»
+  given_hold v (DataKeys k) e h Initial = h Initial
+  given_hold v (DataKeys k) e h Handshake = h Handshake
+  given_hold v (DataKeys k) e h Data = omega arith
+
+  -- a packet that didn't open changes none
+  failed_hold : (v : KeyGroup H P) → KeysHold v → (other : SpaceId) → IsWithinLimit (usage_of (failure_counted v) other)
+  unfolding failure_counted usage_of
+  failed_hold v h Initial = h Initial
+  failed_hold v h Handshake = h Handshake
+  failed_hold v h Data = h «Data»
+
+  -- a packet that is sealed counts under its key alone
+  sealed_hold : (v : KeyGroup H P) (id : SpaceId) (n : ℕ) → reaches_limit 0 (usage_of v id) ≡ false → KeysHold v → (other : SpaceId) → IsWithinLimit (usage_of (key_used v id n) other)
+  unfolding key_used usage_of
+  sealed_hold v Initial n fresh h Initial = counted_within v.initial fresh
+  sealed_hold v Initial n fresh h Handshake = h Handshake
+  sealed_hold v Initial n fresh h Data = h «Data»
+  sealed_hold v Handshake n fresh h Initial = h Initial
+  sealed_hold v Handshake n fresh h Handshake = counted_within v.handshake fresh
+  sealed_hold v Handshake n fresh h Data = h «Data»
+  sealed_hold v Data n fresh h Initial = h Initial
+  sealed_hold v Data n fresh h Handshake = h Handshake
+  sealed_hold v Data n fresh h Data = ring_within n v.«data» fresh
 
 module _ {t : Types} where
-  sealed_hold : (s : View t) (id : SpaceId) → reaches_limit 0 (limited_keys s id) ≡ false → KeysHold s.keys → KeysHold (key_used s.keys id)
-  unfolding key_used keys_of
-  sealed_hold s Initial fresh h = (used_within s.keys.spaces.initial fresh, h.1)
-  sealed_hold s Handshake fresh h = (h.0, used_within s.keys.spaces.handshake fresh)
-  sealed_hold s Data fresh h = h
-
   -- where the key may seal one packet more, and keys that are given have sealed none
   abbrev IsSpare : Move t → View t → Type 0
-  IsSpare (Seal time id n size fs) s = reaches_limit 0 (limited_keys s id) ≡ false
+  IsSpare (Seal time id n size fs) s = reaches_limit 0 (usage_of s.keys id) ≡ false
   IsSpare (Write bytes keys session) s = AreUnused keys
   IsSpare _ s = Unit {0}
 
   -- the limit of a key is that of the keys alone
-  same_limit : (id : SpaceId) (s s' : View t) → s'.keys ≡ s.keys → reaches_limit 0 (limited_keys s id) ≡ false → reaches_limit 0 (limited_keys s' id) ≡ false
-  unfolding keys_of
-  same_limit Initial s s' e h = subst (λ (k : KeyGroup t.H t.P). reaches_limit 0 k.spaces.initial ≡ false) (sym e) h
-  same_limit Handshake s s' e h = subst (λ (k : KeyGroup t.H t.P). reaches_limit 0 k.spaces.handshake ≡ false) (sym e) h
-  same_limit Data s s' e h = h
+  same_limit : (id : SpaceId) (s s' : View t) → s'.keys ≡ s.keys → reaches_limit 0 (usage_of s.keys id) ≡ false → reaches_limit 0 (usage_of s'.keys id) ≡ false
+  same_limit id s s' e h = subst (λ (k : KeyGroup t.H t.P). reaches_limit 0 (usage_of k id) ≡ false) (sym e) h
 
   -- what holds of the keys at one moment holds at another
   abbrev Keeps : At t → At t → Type 0
@@ -90,10 +117,10 @@ module _ {t : Types} where
 
   -- over each move
   move_keeps : (x : Move t) (a : At t) → IsSpare x a.state → Keeps a (move_to x a)
-  unfolding move_to state_move keys_move failure_counted
-  move_keeps (Seal time id n size fs) a spare = λ h. sealed_hold a.state id spare h
+  unfolding move_to state_move keys_move
+  move_keeps (Seal time id n size fs) a spare = λ h. sealed_hold a.state.keys id n spare h
   move_keeps (Forget id) a spare = λ h. dropped_hold a.state.keys id h
-  move_keeps Fail a spare = λ h. h
+  move_keeps Fail a spare = λ h. failed_hold a.state.keys h
   move_keeps (Write bytes keys session) a spare = λ h. given_hold a.state.keys keys spare h
   move_keeps _ a spare = λ h. h
 
@@ -129,7 +156,7 @@ module _ {t : Types} where
   flown_keeps time false a = here a
 
   -- a packet is sealed
-  sealed_keeps : (time : ℕ) (id : SpaceId) (fs : List FrameValue) (a : At t) → reaches_limit 0 (limited_keys a.state id) ≡ false → Keeps a (sealed_in time id fs a)
+  sealed_keeps : (time : ℕ) (id : SpaceId) (fs : List FrameValue) (a : At t) → reaches_limit 0 (usage_of a.state.keys id) ≡ false → Keeps a (sealed_in time id fs a)
   unfolding sealed_in move_to state_move keys_move
   sealed_keeps time id fs a fresh =
       let b : At t = move_to (Take id fs) a in

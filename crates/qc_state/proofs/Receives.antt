@@ -1,6 +1,6 @@
 -- What holds of each move that receiving makes holds of a datagram.
 use Rattle.std.proofs.Common.{◌≡◌, ℕ, ◌<◌, List, [], ◌∷◌, length, refl, sym, ◌∙◌, subst, Bool, true, false, Option, Some, None, if◌then◌else◌, arith}
-use Rattle.std.specs.Prelude.{zero, suc, ◌-◌, ◌==◌, min, is_none, not, ◌&&◌, Result, Ok, Err, option_map, IfSome}
+use Rattle.std.specs.Prelude.{zero, suc, ◌-◌, ◌==◌, min, is_none, not, ◌&&◌, Result, Ok, Err}
 use Rattle.std.specs.List.{list_any}
 use Rattle.std.specs.declared.net.SocketAddr.{SocketAddr}
 use Rattle.qc_base.specs.declared.ecn.EcnCodepoint.{EcnCodepoint}
@@ -17,8 +17,8 @@ use Rattle.qc_frame.specs.declared.frames.FrameOf.TheVariants as frames
 use Rattle.qc_header.specs.HeaderGrammar.{DatagramItem}
 use Rattle.qc_header.specs.Piece.{Piece, space_of}
 use Rattle.qc_params.specs.declared.params.TransportParameters.{TransportParameters}
+use Rattle.qc_crypto.specs.declared.keys.KeyPair.{KeyPair}
 use Rattle.qc_crypto.specs.declared.keys.Keys.{Keys}
-use Rattle.qc_state.specs.declared.keys.SpaceKeys.{SpaceKeys}
 use Rattle.qc_state.specs.declared.deeds.Did.TheVariants as did
 use Rattle.qc_state.specs.declared.deeds.Layer.TheVariants as layer
 use Rattle.qc_state.specs.declared.deeds.Verdict.{Verdict}
@@ -31,13 +31,13 @@ use Rattle.qc_state.specs.declared.life.State.TheVariants as state
 use Rattle.qc_state.specs.declared.opening.Opening.{Opening}
 use Rattle.qc_state.specs.declared.opening.Signs.{Signs}
 use Rattle.qc_state.specs.declared.opening.Opening.TheVariants.{Unreadable, Unopened, Reserved, Opened}
-use Rattle.qc_state.specs.Keys.{fails_too_often, new_keys}
+use Rattle.qc_state.specs.Keys.{NewKeys, NoKeys, HandshakeKeys, DataKeys, fails_too_often}
 use Rattle.qc_state.specs.Life.{rank_of, is_open, is_closed, is_handshake, is_over, token_learned, identifiers_wanted}
 use Rattle.qc_state.specs.Lower.{ready_bytes, stream_of}
 use Rattle.qc_state.specs.Moves.{Move, Give, Forget, Enter, Expect, Fail, Accept, Fix, Hear, Ack, Arm, Come, Read, Write, Ready, Token, Learn, Want, Confirm, Establish, Tell, Drain, Leave, Owe, Shut, Raise, move_to, state_move, life_move, MayMove, accepts, enters, armed_after, armed_with}
 use Rattle.qc_state.specs.Numbers.{is_new_in}
 use Rattle.qc_state.specs.Opening.{opening_of}
-use Rattle.qc_state.specs.Progress.{is_written, write_after, writes_after, written_after, ids_fit, token_after, learned_with, parameters_and, is_end, ended_after, progress_after, learned_after, over_after}
+use Rattle.qc_state.specs.Progress.{ring_with, keys_behind, session_behind, is_written, write_after, writes_after, written_after, ids_fit, token_after, learned_with, parameters_and, is_end, ended_after, progress_after, learned_after, over_after}
 use Rattle.qc_state.specs.Receiving.{reason_of, is_close_item, is_eliciting_item, left_after, rearmed_after, settled_after, acked_after, confirmed_after, applied_after, close_given, closed_in_data, close_and, end_after, crypto_stop, answered_and, given_and, kept_and, crypto_and, taken_and, frame_and, read_and, items_after, payload_after, fixes_peer, fixed_after, piece_told, read_for_close, admitted_after, verdict_after, received_after, failed_after, opening_after, piece_after, pieces_after, cut_of, datagram_after, accepted_after, counted_after, heard_after, first_token, first_after}
 use Rattle.qc_state.specs.Paths.{is_blocked}
 use Rattle.qc_recovery.specs.Steps.{After}
@@ -97,12 +97,21 @@ first_holds true b h = refl
 first_holds false b h = cc
 
 -- keys under which nothing was sealed yet, if there are any
-abbrev pub AreUnused : {H P : Type 0} → Option (SpaceKeys H P) → Type 0
-AreUnused keys = IfSome keys (λ k. k.sealed ≡ 0)
+abbrev pub AreUnused : {H P : Type 0} → NewKeys H P → Type 0
+AreUnused NoKeys = Unit {0}
+AreUnused (HandshakeKeys k) = k.sealed ≡ 0
+AreUnused (DataKeys k) = k.ring.count ≡ 0
 
-new_unused : {H P : Type 0} (seals failures : P → ℕ) (keys : Option (Keys H P)) → AreUnused (option_map (new_keys seals failures) keys)
-new_unused seals failures None = tt
-new_unused seals failures (Some k) = refl
+-- those that a write gives are such keys
+ring_unused : {t : Types} (m : Meaning t) (keys : Keys t.H t.P) (next : Option (KeyPair t.P)) → AreUnused (ring_with m keys next)
+ring_unused m keys None = tt
+ring_unused m keys (Some next) = refl
+
+behind_unused : {t : Types} (m : Meaning t) (highest : SpaceId) (keys : Option (Keys t.H t.P)) (session : t.S) → AreUnused (keys_behind m highest keys session)
+behind_unused m highest None session = tt
+behind_unused m Initial (Some k) session = refl
+behind_unused m Handshake (Some k) session = ring_unused m k (m.next_keys session)
+behind_unused m Data (Some k) session = tt
 
 -- the moves that a packet which came makes
 abbrev pub IsInPacket : {t : Types} → Move t → Type 0
@@ -261,7 +270,11 @@ module _ {t : Types} (R : At t → At t → Type 0) (here : (a : At t) → R a a
   -- the session writes once
   holds_write : (m : Meaning t) (a : At t) → R a (write_after m a)
   unfolding write_after MayMove
-  holds_write m a = move (Write (m.writes a.state.lower.session) (option_map (new_keys m.seal_limit m.failure_limit) (m.write_keys a.state.lower.session)) (m.after_write a.state.lower.session)) (new_unused m.seal_limit m.failure_limit (m.write_keys a.state.lower.session)) a tt
+  holds_write m a =
+      let session : t.S = a.state.lower.session in
+      let highest : SpaceId = a.state.keys.highest in
+      let keys : Option (Keys t.H t.P) = m.write_keys session in
+      move (Write (m.writes session) (keys_behind m highest keys (m.after_write session)) (session_behind m highest keys (m.after_write session))) (behind_unused m highest keys (m.after_write session)) a tt
 
   -- it writes once and more, or not at all
   writes_by : (n : ℕ) (m : Meaning t) (a : At t) (b : Bool) → R (write_after m a) (writes_after n m (write_after m a)) → R a (if b then a else writes_after n m (write_after m a))

@@ -1,9 +1,10 @@
 -- What a transmit seals: from what the calls of the core say, to what a transmit may do.
 use Rattle.std.proofs.Common.{◌≡◌, ℕ, ◌+◌, ◌-◌, ◌≤◌, List, [], ◌∷◌, ◌++◌, length, length-append, replicate, refl, ap, sym, ◌∙◌, subst, Bool, true, false, ◌&&◌, ◌||◌, ◌⊎◌, inl, inr, not, if◌then◌else◌, Option, Some, None, is_some, IsSome, nat_le, nat_lt, ◌<◌, ◌^◌, arith}
-use Rattle.std.specs.Prelude.{unwrap_or}
+use Rattle.std.specs.Prelude.{min, unwrap_or}
 use Rattle.std.proofs.lemmas.Bool.Decides.{nat_tests}
 use Rattle.std.proofs.lemmas.List.{length-replicate}
 use Rattle.std.specs.List.{list_any}
+use Rattle.std.specs.Option.{option_map}
 use Rattle.qc_base.specs.declared.side.Side.TheVariants.{Client}
 use Rattle.qc_base.specs.declared.side.SpaceId.{SpaceId}
 use Rattle.qc_base.specs.declared.side.SpaceId.TheVariants.{Initial, Handshake, «Data»}
@@ -20,22 +21,24 @@ use Rattle.qc_state.specs.declared.life.Close.{Close}
 use Rattle.qc_state.specs.declared.life.Close.TheVariants.{Connection, Application}
 use Rattle.qc_header.specs.declared.header.Header.{Header}
 use Rattle.qc_header.specs.HeaderSpelling.{header_spelling, header_number, initial_spelling, short_spelling, long_start}
-use Rattle.qc_packet.specs.Building.{dst_cid_of, min_size_of, padded_size}
+use Rattle.qc_packet.specs.Building.{dst_cid_of, is_initial, is_short, kill_of, lacks_room, max_size_of, min_size_of, padded_size}
 use Rattle.qc_packet.specs.PacketSpelling.{padding_len}
+use Rattle.qc_packet.specs.declared.slot.Kill.TheVariants.{KeyLimit, NumberLimit, TokenRoom}
 use Rattle.qc_state.specs.Draws.{bit}
 use Rattle.qc_state.specs.declared.deeds.Did.{Did}
 use Rattle.qc_state.specs.declared.transmit.TheConstants.{DATAGRAM_SIZE}
 use Rattle.qc_state.specs.declared.transmit.Transmit.{Transmit}
 use Rattle.qc_state.specs.declared.keys.KeyGroup.{KeyGroup}
+use Rattle.qc_state.specs.declared.keys.KeyUse.{KeyUse}
 use Rattle.qc_state.specs.declared.waiting.SpaceWaiting.{SpaceWaiting}
 use Rattle.qc_state.specs.declared.waiting.Waiting.{Waiting}
-use Rattle.qc_state.specs.Keys.{keys_of}
+use Rattle.qc_state.specs.Keys.{has_keys, header_key, packet_key, reaches_limit, usage_of}
 use Rattle.qc_state.specs.Moves.{Begin, Skip, Take, Seal, state_move, move_to, numbers_move, keys_move, life_move, paths_move, timers_move, waiting_move, setup_move, lower_move, deeds_move}
 use Rattle.qc_state.specs.Numbers.{next_number, acked_number, coming_number, is_skipped, number_skipped, used_in}
 use Rattle.qc_state.specs.Paths.{is_blocked}
 use Rattle.qc_state.specs.Setup.{behind_spin, takes_grease}
 use Rattle.qc_state.specs.declared.numbers.Numbers.{Numbers}
-use Rattle.qc_state.specs.Sending.{close_frame, told_code, told_type, told_application_code, application_close, told_close, closing_frame, IsKeptReason, Closes, Carries, TakenNow, LacksAckRoom, owes_in, sending_space, owes, is_past_limit, is_used_up, is_key_used_up, is_key_nearly_used_up, is_token_too_long, may_be_quiet, header_in, spin_now, flips_now, frame_room, sealed_with, packet_bytes, skipped_after, begun_after, begun_view, initial_left, is_flown, flown_after, sealed_in, spared_after, packet_after, quiet_after, transmit_after, MayTransmit, transmit_bytes, transmit_with, transmit_of, SealsOne, Transmits, is_silent, fills, packet_size, least_size, padding_of, padded}
+use Rattle.qc_state.specs.Sending.{close_frame, told_code, told_type, told_application_code, application_close, told_close, closing_frame, IsKeptReason, Closes, Carries, TakenNow, LacksAckRoom, owes_in, sending_space, owes, is_past_limit, is_used_up, is_key_used_up, is_key_nearly_used_up, is_token_too_long, may_be_quiet, header_in, slot_with, spin_now, flips_now, frame_room, sealed_with, packet_bytes, skipped_after, begun_after, begun_view, initial_left, is_flown, flown_after, sealed_in, spared_after, packet_after, quiet_after, transmit_after, MayTransmit, transmit_bytes, transmit_with, transmit_of, SealsOne, Transmits, is_silent, fills, packet_size, least_size, padding_of, padded}
 use Rattle.qc_state.specs.Spaces.{is_space, space_of, with_space}
 use Rattle.qc_state.specs.Types.{Types, Meaning}
 use Rattle.qc_state.specs.View.{View, At, at}
@@ -112,6 +115,80 @@ least_by false = omega arith
 -- PADDING has a byte a frame
 padding_bytes : (n : ℕ) → length (frames_spelling (replicate n Padding)) ≡ n
 padding_bytes n = ap length (zeros n) ∙ length-replicate n 0
+
+-- what is computed of something is there where it is
+some_map : {A B : Type 0} (f : A → B) (o : Option A) → is_some o ≡ true → IsSome (option_map f o)
+some_map f None h = cc
+some_map f (Some x) h = refl
+
+-- a key that may seal one packet more has sealed fewer than it may
+pub fresh_use : (usage : KeyUse) → reaches_limit 0 (Some usage) ≡ false → usage.sealed < usage.limit
+fresh_use usage h = below_limit usage.sealed usage.limit h
+  where
+    below_limit : (sealed limit : ℕ) → nat_le limit (sealed + 0) ≡ false → sealed < limit
+    below_limit sealed limit e = grind (arith, nat_tests)
+
+-- a space with keys has one that masks, one that seals, and how far that one is used
+module _ {H P : Type 0} where
+  pub keyed_header : (v : KeyGroup H P) (id : SpaceId) → has_keys v id ≡ true → IsSome (header_key v id)
+  unfolding has_keys header_key
+  keyed_header v Initial h = some_map _ v.initial h
+  keyed_header v Handshake h = some_map _ v.handshake h
+  keyed_header v Data h = some_map _ v.«data» h
+
+  pub keyed_packet : (v : KeyGroup H P) (id : SpaceId) → has_keys v id ≡ true → IsSome (packet_key v id)
+  unfolding has_keys packet_key
+  keyed_packet v Initial h = some_map _ v.initial h
+  keyed_packet v Handshake h = some_map _ v.handshake h
+  keyed_packet v Data h = some_map _ v.«data» h
+
+  pub keyed_usage : (v : KeyGroup H P) (id : SpaceId) → has_keys v id ≡ true → IsSome (usage_of v id)
+  unfolding has_keys usage_of
+  keyed_usage v Initial h = some_map _ v.initial h
+  keyed_usage v Handshake h = some_map _ v.handshake h
+  keyed_usage v Data h = some_map _ v.«data» h
+
+-- where no cause holds, a packet can be begun
+no_cause : (key number room : Bool) → key ≡ false → number ≡ false → room ≡ false → (if key then Some KeyLimit else (if number then Some NumberLimit else (if room then Some TokenRoom else None))) ≡ None
+no_cause true number room k n r = cc
+no_cause false true room k n r = cc
+no_cause false false true k n r = cc
+no_cause false false false k n r = refl
+
+-- neither of two tests holds
+both_fail : (a b : Bool) → a ≡ false → b ≡ false → (a || b) ≡ false
+both_fail true b x y = cc
+both_fail false b x y = y
+
+-- a test of numbers that fails
+not_le : (m n : ℕ) → n < m → nat_le m n ≡ false
+not_le m n h = grind (arith, nat_tests)
+
+not_lt : (m n : ℕ) → n ≤ m → nat_lt m n ≡ false
+not_lt m n h = grind (arith, nat_tests)
+
+-- a long header's packet may fill a datagram
+long_by : (b : Bool) (n : ℕ) → b ≡ false → (if b then DATAGRAM_SIZE - 16 else min (DATAGRAM_SIZE - 16) (n + 16367)) ≡ 1184
+long_by true n h = cc
+long_by false n h = omega arith
+
+long_size : (h : Header) → is_short h ≡ false → max_size_of 0 h DATAGRAM_SIZE ≡ 1184
+unfolding max_size_of
+long_size h long = long_by (is_short h) _ long
+
+-- a packet whose header leaves room for 25 bytes needs no more than a datagram has
+least_fits : (h : Header) → length (header_spelling h 0) ≤ 1159 → length (dst_cid_of h) ≤ length (header_spelling h 0) → min_size_of 0 h ≤ 1184
+unfolding min_size_of
+least_fits h short dst = omega arith
+
+-- a header that leaves room for 25 bytes and the tag lacks none
+wide_enough : (h : Header) → is_short h ≡ false → length (header_spelling h 0) ≤ 1159 → length (dst_cid_of h) ≤ length (header_spelling h 0) → lacks_room 0 h DATAGRAM_SIZE ≡ false
+unfolding lacks_room
+wide_enough h long short dst =
+    let size : max_size_of 0 h DATAGRAM_SIZE ≡ 1184 = long_size h long in
+    let least : min_size_of 0 h ≤ 1184 = least_fits h short dst in
+    both_fail _ _ (not_lt (max_size_of 0 h DATAGRAM_SIZE) (min_size_of 0 h) (omega (arith, size, least)))
+    (not_lt (max_size_of 0 h DATAGRAM_SIZE - (0 + length (header_spelling h 0))) 25 (omega (arith, size, short)))
 
 module _ {t : Types} where
   -- PADDING changes nothing of what waits
@@ -225,6 +302,26 @@ module _ {t : Types} where
   dst_within s Handshake = simp length-append (omega arith)
   dst_within s Data = simp length-append (omega arith)
 
+  -- where there is room for 25 bytes in a packet, it needs no more than a datagram has
+  pub least_wide : (s : View t) (id : SpaceId) → 25 ≤ frame_room s id → min_size_of 0 (header_in s id) + 16 ≤ DATAGRAM_SIZE
+  unfolding frame_room
+  least_wide s id wide = omega (arith, least_fits (header_in s id) (omega arith) (dst_within s id))
+
+  -- and its token leaves room for frames
+  roomy : (s : View t) (id : SpaceId) → length (header_spelling (header_in s id) 0) ≤ 1159 → (is_initial (header_in s id) && lacks_room 0 (header_in s id) DATAGRAM_SIZE) ≡ false
+  roomy s Initial short = wide_enough (header_in s Initial) refl short (dst_within s Initial)
+  roomy s Handshake short = refl
+  roomy s Data short = refl
+
+  -- so it can be begun, where its key may seal one more and its number can be spelled
+  pub no_kill : (s : View t) (id : SpaceId) (usage : KeyUse) → usage.sealed < usage.limit → next_number s.numbers id < 2 ^ 62 - 1 → next_number s.numbers id - acked_number s.numbers id < 2 ^ 31 → 25 ≤ frame_room s id →
+      kill_of (slot_with s id usage) (header_in s id) 0 DATAGRAM_SIZE ≡ None
+  unfolding kill_of frame_room
+  no_kill s id usage fresh low near wide =
+      no_cause _ _ _ (not_le usage.limit usage.sealed fresh)
+      (both_fail _ _ (not_le 4611686018427387903 (next_number s.numbers id) low) (not_le (acked_number s.numbers id + 2147483648) (next_number s.numbers id) (omega arith)))
+      (roomy s id (omega arith))
+
   -- a packet is asked for no more bytes than a datagram has
   pub least_low : (s : View t) (id : SpaceId) (fs : List FrameValue) → least_size s id fs ≤ DATAGRAM_SIZE
   unfolding least_size
@@ -265,7 +362,7 @@ module _ {t : Types} where
 
   -- taking frames leaves the header of the next packet
   header_kept : (s : View t) (id : SpaceId) (fs : List FrameValue) → header_in (state_move (Take id fs) s) id ≡ header_in s id
-  unfolding state_move numbers_move paths_move setup_move spin_now
+  unfolding state_move numbers_move keys_move paths_move setup_move spin_now
   header_kept s Initial fs = refl
   header_kept s Handshake fs = refl
   header_kept s Data fs = refl
@@ -284,7 +381,7 @@ module _ {t : Types} where
 
   bytes_kept : (m : Meaning t) (s : View t) (id : SpaceId) (fs gs : List FrameValue) → packet_bytes m (state_move (Take id fs) s) id gs ≡ packet_bytes m s id gs
   unfolding packet_bytes flips_now state_move keys_move setup_move numbers_move
-  bytes_kept m s id fs gs = ap (λ (x : Header). sealed_with m (keys_of s.keys id) (takes_grease s.setup.peer && bit (behind_spin s.setup id)) x (next_number s.numbers id) (frames_spelling gs)) (header_kept s id fs)
+  bytes_kept m s id fs gs = ap (λ (x : Header). sealed_with m (header_key s.keys id) (packet_key s.keys id) (takes_grease s.setup.peer && bit (behind_spin s.setup id)) x (next_number s.numbers id) (frames_spelling gs)) (header_kept s id fs)
 
   number_kept : (s : View t) (id : SpaceId) (fs : List FrameValue) → (state_move (Take id fs) s).numbers ≡ s.numbers
   unfolding state_move numbers_move
@@ -429,7 +526,7 @@ module _ {t : Types} where
       ∙ ap (λ (id : SpaceId). coming_number s.numbers id) is_first in
       subst (λ (n : ℕ). n < 2 ^ 62 - 1) (sym same) low
 
-  -- and its space has keys
+  -- taking frames leaves the keys, and so does a datagram that is begun
   taken_keys : (e : View t) (space : SpaceId) (fs : List FrameValue) → (state_move (Take space fs) e).keys ≡ e.keys
   unfolding state_move keys_move
   taken_keys e space fs = refl
@@ -438,14 +535,29 @@ module _ {t : Types} where
   unfolding begun_after skipped_after move_to state_move keys_move numbers_move deeds_move
   begun_keys s id = skip_keys (at (state_move (Begin id) s) []) (is_skipped s.numbers id)
 
+  same_keys : (a : At t) (e mid : View t) (space : SpaceId) (fs : List FrameValue) → at e a.did ≡ begun_after space a → mid ≡ state_move (Take space fs) e → mid.keys ≡ a.state.keys
+  same_keys a e mid space fs begun is_mid =
+      ap (λ (x : View t). x.keys) is_mid ∙ taken_keys e space fs ∙ ap (λ (x : View t). x.keys) (begun_state a e space begun) ∙ begun_keys a.state space
+
+  -- and its space has keys
   pub loud_keyed : (a : At t) (e mid : View t) (space : SpaceId) (fs : List FrameValue) → space ≡ sending_space a.state → may_be_quiet a.state ≡ false → at e a.did ≡ begun_after space a → mid ≡ state_move (Take space fs) e →
-      IsSome (keys_of mid.keys space)
+      has_keys mid.keys space ≡ true
   unfolding may_be_quiet owes owes_in
   loud_keyed a e mid space fs is_first loud begun is_mid =
       let s : View t = a.state in
-      ap (λ (k : KeyGroup t.H t.P). is_some (keys_of k space)) (ap (λ (x : View t). x.keys) is_mid ∙ taken_keys e space fs ∙ ap (λ (x : View t). x.keys) (begun_state a e space begun) ∙ begun_keys s space)
-      ∙ ap (λ (id : SpaceId). is_some (keys_of s.keys id)) is_first
+      ap (λ (k : KeyGroup t.H t.P). has_keys k space) (same_keys a e mid space fs begun is_mid)
+      ∙ ap (λ (id : SpaceId). has_keys s.keys id) is_first
       ∙ and_left _ _ (none_holds (is_silent s) (owes s) (is_blocked s.paths) (is_key_used_up s) (is_used_up s) (is_token_too_long s) loud).1
+
+  -- and its key may seal one packet more
+  pub loud_fresh : (a : At t) (e mid : View t) (space : SpaceId) (fs : List FrameValue) → space ≡ sending_space a.state → may_be_quiet a.state ≡ false → at e a.did ≡ begun_after space a → mid ≡ state_move (Take space fs) e →
+      reaches_limit 0 (usage_of mid.keys space) ≡ false
+  unfolding may_be_quiet is_key_used_up
+  loud_fresh a e mid space fs is_first loud begun is_mid =
+      let s : View t = a.state in
+      ap (λ (k : KeyGroup t.H t.P). reaches_limit 0 (usage_of k space)) (same_keys a e mid space fs begun is_mid)
+      ∙ ap (λ (id : SpaceId). reaches_limit 0 (usage_of s.keys id)) is_first
+      ∙ (none_holds (is_silent s) (owes s) (is_blocked s.paths) (is_key_used_up s) (is_used_up s) (is_token_too_long s) loud).3
 
   -- a header in each space has a number
   number_by : (s : View t) (space : SpaceId) → IsSome (header_number (header_in s space))

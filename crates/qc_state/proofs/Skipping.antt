@@ -4,7 +4,7 @@ use Rattle.std.proofs.lemmas.Bool.Decides.{nat_tests}
 use Rattle.rand_core.specs.Stream.{Stream, next_u64}
 use Rattle.qc_base.specs.declared.side.SpaceId.TheVariants.{«Data»}
 use Rattle.qc_path.specs.Filter.{Skips, number_used, numbered}
-use Rattle.qc_state.specs.Draws.{behind, word}
+use Rattle.qc_state.specs.Draws.{behind}
 use Rattle.qc_state.specs.Numbers.{coming_number, is_skipped, next_number, number_skipped, used_in}
 use Rattle.qc_state.specs.declared.numbers.Numbers.{Numbers}
 

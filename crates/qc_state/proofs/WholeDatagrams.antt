@@ -9,10 +9,10 @@ use Rattle.qc_base.specs.declared.ecn.EcnCodepoint.{EcnCodepoint}
 use Rattle.qc_base.specs.declared.side.SpaceId.{SpaceId}
 use Rattle.qc_base.specs.declared.side.SpaceId.TheVariants as space
 use Rattle.qc_crypto.specs.Mates.{Opening as OpeningFunction}
-use Rattle.qc_crypto.specs.declared.keys.Keys.{Keys}
 use Rattle.qc_header.proofs.Datagrams.{pieces_first}
 use Rattle.qc_header.proofs.FrontPiece.{piece_ends}
 use Rattle.qc_header.specs.HeaderGrammar.{DatagramItem}
+use Rattle.qc_header.specs.HeaderSpelling.{header_number}
 use Rattle.qc_header.specs.HeaderReading.{Heading, header_at, packet_at, piece_at}
 use Rattle.qc_header.specs.Piece.{Piece, space_of}
 use Rattle.qc_header.specs.Unprotected.{header_end, header_from, unprotected}
@@ -22,16 +22,16 @@ use Rattle.qc_header.specs.declared.protected.PacketDecodeError.TheVariants.{Inv
 use Rattle.qc_header.specs.declared.protected.ProtectedHeader.{ProtectedHeader}
 use Rattle.qc_header.specs.declared.protected.ProtectedHeader.TheVariants as protected
 use Rattle.qc_packet.specs.OpenedPacket.{reserved_bits}
+use Rattle.qc_rings.specs.Keyed.{Keyed}
 use Rattle.qc_state.specs.declared.deeds.Verdict.TheVariants as verdict
-use Rattle.qc_state.specs.declared.keys.SpaceKeys.{SpaceKeys}
 use Rattle.qc_state.specs.declared.opening.Opening.{Opening}
 use Rattle.qc_state.specs.declared.opening.Opening.TheVariants.{Unreadable, Reserved, Opened}
 use Rattle.qc_state.specs.declared.transmit.TheConstants.{DATAGRAM_SIZE}
-use Rattle.qc_state.specs.Keys.{keys_of}
+use Rattle.qc_state.specs.Keys.{opening_key, ring_of, unmasking_key}
 use Rattle.qc_state.specs.Life.{is_handshake, is_over}
 use Rattle.qc_state.specs.Moves.{Expect, life_move, move_to, paths_move, setup_move, state_move}
 use Rattle.qc_state.specs.Numbers.{received_number}
-use Rattle.qc_state.specs.Opening.{is_other_phase, judged, opened_at, opened_by, opened_in, opened_space, opened_under, opening_of, source_of, spin_of, token_of}
+use Rattle.qc_state.specs.Opening.{judged, names_next, opened_at, opened_by, opened_in, opened_space, opened_under, opening_of, source_of, spin_of, token_of, whole_number}
 use Rattle.qc_state.specs.Paths.{is_blocked, same_address}
 use Rattle.qc_state.specs.Receiving.{counted_after, cut_of, datagram_after, event_after, first_after, first_packet_after, first_token, has_first_ids, heard_after, is_readable, lets_in, opened_first, opening_after, piece_after, piece_told, pieces_after, received_after, token_in_first, token_in_items}
 use Rattle.qc_state.specs.Setup.{is_first_awaited, token_expected}
@@ -87,26 +87,26 @@ either_spin true x h = tt
 either_spin false x h = h
 
 module _ {P : Type 0} where
-  opened_spin : (opening : P → OpeningFunction) (key : P) (rx : ℕ) (h : Header) (header_data sealed : List ℕ) → spin_of h ≡ false → HasNoSpin (opened_by opening key rx h header_data sealed)
+  opened_spin : (opening : P → OpeningFunction) (plain : Option P) (ring : Option (Keyed P)) (rx : ℕ) (h : Header) (header_data sealed : List ℕ) → spin_of h ≡ false → HasNoSpin (opened_by opening plain ring rx h header_data sealed)
   unfolding opened_by
-  opened_spin opening key rx h header_data sealed e = either_spin (is_other_phase h) _ (judged_spin h _ header_data _ e)
+  opened_spin opening plain ring rx h header_data sealed e = either_spin (names_next h ring (whole_number (header_number h) rx)) _ (judged_spin h _ header_data _ e)
 
 module _ {H P : Type 0} where
-  under_spin : (mask : H → List ℕ → List ℕ) (opening : P → OpeningFunction) (k : Keys H P) (rx : ℕ) (p : Piece) → space_of p.header ≡ Some space.Initial → HasNoSpin (opened_under mask opening k rx p)
+  under_spin : (mask : H → List ℕ → List ℕ) (opening : P → OpeningFunction) (key : H) (plain : Option P) (ring : Option (Keyed P)) (rx : ℕ) (p : Piece) → space_of p.header ≡ Some space.Initial → HasNoSpin (opened_under mask opening key plain ring rx p)
   unfolding opened_under
-  under_spin mask opening k rx p e =
-      let bytes : List ℕ = unprotected (mask k.header.remote) p in
+  under_spin mask opening key plain ring rx p e =
+      let bytes : List ℕ = unprotected (mask key) p in
       let front : List ℕ = take (header_end p bytes) bytes in
-      either_spin (nat_lt (length p.bytes) (p.pn_offset + 20)) _ (opened_spin opening k.packet.remote rx (header_from p.header p.pn_offset front) front (drop (header_end p bytes) bytes) (initial_spin p.header p.pn_offset front e))
+      either_spin (nat_lt (length p.bytes) (p.pn_offset + 20)) _ (opened_spin opening plain ring rx (header_from p.header p.pn_offset front) front (drop (header_end p bytes) bytes) (initial_spin p.header p.pn_offset front e))
 
-  in_spin : (mask : H → List ℕ → List ℕ) (opening : P → OpeningFunction) (k : Option (SpaceKeys H P)) (rx : ℕ) (p : Piece) → space_of p.header ≡ Some space.Initial → HasNoSpin (opened_in mask opening k rx p)
-  in_spin mask opening None rx p e = tt
-  in_spin mask opening (Some k) rx p e = under_spin mask opening k.keys rx p e
+  in_spin : (mask : H → List ℕ → List ℕ) (opening : P → OpeningFunction) (key : Option H) (plain : Option P) (ring : Option (Keyed P)) (rx : ℕ) (p : Piece) → space_of p.header ≡ Some space.Initial → HasNoSpin (opened_in mask opening key plain ring rx p)
+  in_spin mask opening None plain ring rx p e = tt
+  in_spin mask opening (Some key) plain ring rx p e = under_spin mask opening key plain ring rx p e
 
 module _ {t : Types} (m : Meaning t) where
   at_spin : (s : View t) (id : Option SpaceId) (p : Piece) → space_of p.header ≡ Some space.Initial → HasNoSpin (opened_at m s id p)
   at_spin s None p e = tt
-  at_spin s (Some id) p e = in_spin m.mask m.opening (keys_of s.keys id) (received_number s.numbers id) p e
+  at_spin s (Some id) p e = in_spin m.mask m.opening (unmasking_key s.keys id) (opening_key s.keys id) (ring_of s.keys) (received_number s.numbers id) p e
 
   no_spin : (s : View t) (p : Piece) (source token : List ℕ) (spin : Bool) (number : ℕ) (payload : List ℕ) → space_of p.header ≡ Some space.Initial → opening_of m s p ≡ Opened source token spin number payload → spin ≡ false
   unfolding opening_of

@@ -1,13 +1,12 @@
 -- The first view of a connection: of a client, and of a server.
-use Rattle.std.specs.Prelude.{ℕ, Bool, true, false, List, [], Option, Some, None}
+use Rattle.std.specs.Prelude.{ℕ, Bool, true, false, List, [], Option, None}
 use Rattle.rand_core.specs.Stream.{Stream}
 use Rattle.std.specs.declared.net.IpAddr.{IpAddr}
 use Rattle.qc_assembler.specs.Assembly.{nothing}
 use Rattle.qc_base.specs.declared.side.Side.{Side}
 use Rattle.qc_base.specs.declared.side.Side.TheVariants.{Client, Server}
 use Rattle.qc_state.specs.declared.keys.SpaceKeys.{SpaceKeys}
-use Rattle.qc_state.specs.Keys.{new_keys}
-use Rattle.qc_base.specs.declared.side.SpaceId.TheVariants as space
+use Rattle.qc_state.specs.Keys.{first_keys, new_keys}
 use Rattle.qc_path.specs.Acks.{no_marks}
 use Rattle.qc_path.specs.Filter.{first_skips}
 use Rattle.qc_state.specs.declared.life.State.TheVariants.{Handshake}
@@ -59,7 +58,7 @@ module _ {t : Types} where
       spaces = record { initial = no_numbers time; handshake = no_numbers time; application = no_numbers time };
       filter = first_skips (word (filter_words transport.allow_spin words));
     };
-    keys = record { spaces = record { initial = Some keys; handshake = None; application = None }; highest = space.Initial; failures = 0 };
+    keys = first_keys keys;
     life = record { state = Handshake; reason = None; ready = false; connected = false; lost = None; reset_token = None; wanted = None; drained = false; close = None };
     paths = paths;
     timers = record { loss_detection = None; idle = None; close = None; max_ack_delay = None; sets_idle = true; greatest = time };

@@ -1,13 +1,15 @@
 -- Laws over whole runs, said of the keys (RFC 9001, section 6.6).
 use Rattle.std.specs.Prelude.{◌≤◌, Option, IfSome}
+use Rattle.qc_base.specs.declared.side.SpaceId.{SpaceId}
 use Rattle.qc_state.specs.declared.keys.KeyGroup.{KeyGroup}
-use Rattle.qc_state.specs.declared.keys.SpaceKeys.{SpaceKeys}
+use Rattle.qc_state.specs.declared.keys.KeyUse.{KeyUse}
+use Rattle.qc_state.specs.Keys.{usage_of}
+
+-- a sealing key has sealed no more packets than it may
+abbrev pub IsWithinLimit : Option KeyUse → Type 0
+IsWithinLimit usage = IfSome usage (λ (u : KeyUse). u.sealed ≤ u.limit)
 
 module _ {H P : Type 0} where
-  -- a sealing key has sealed no more packets than it may
-  abbrev pub IsWithinLimit : Option (SpaceKeys H P) → Type 0
-  IsWithinLimit keys = IfSome keys (λ k. k.sealed ≤ k.confidentiality_limit)
-
-  -- so it is with the keys of the Initial and the Handshake space
+  -- so it is with the keys of each space; of 1-RTT keys with those of their epoch
   abbrev pub KeysHold : KeyGroup H P → Type 0
-  KeysHold v = IsWithinLimit v.spaces.initial × IsWithinLimit v.spaces.handshake
+  KeysHold v = (id : SpaceId) → IsWithinLimit (usage_of v id)

@@ -1,60 +1,154 @@
 -- The keys of a connection (RFC 9001, sections 4 and 6.6).
-use Rattle.std.specs.Prelude.{ℕ, ◌+◌, nat_le, nat_lt, Bool, false, Option, Some, None}
+use Rattle.std.specs.Prelude.{ℕ, ◌+◌, nat_le, nat_lt, Bool, false, Option, Some, None, is_some}
+use Rattle.std.specs.Option.{option_map}
 use Rattle.qc_base.specs.declared.side.SpaceId.{SpaceId}
 use Rattle.qc_base.specs.declared.side.SpaceId.TheVariants.{Initial, Handshake, «Data»}
+use Rattle.qc_crypto.specs.declared.keys.KeyPair.{KeyPair}
 use Rattle.qc_crypto.specs.declared.keys.Keys.{Keys}
 use Rattle.qc_base.specs.Time.{plus}
+use Rattle.qc_rings.specs.Keyed.{Keyed, first_keyed, keyed_sealed}
+use Rattle.qc_rings.specs.Ring.{phase_of}
 use Rattle.qc_state.specs.declared.keys.KeyGroup.{KeyGroup}
+use Rattle.qc_state.specs.declared.keys.KeyUse.{KeyUse}
+use Rattle.qc_state.specs.declared.keys.OneRttKeys.{OneRttKeys}
 use Rattle.qc_state.specs.declared.keys.SpaceKeys.{SpaceKeys}
-use Rattle.qc_state.specs.Spaces.{space_of, with_space}
+
+-- with so many packets more, a key has sealed as many as it may
+abbrev pub reaches_limit : (more : ℕ) → Option KeyUse → Bool
+reaches_limit more None = false
+reaches_limit more (Some usage) = nat_le usage.limit (usage.sealed + more)
+
+-- more packets didn't open than a key lets pass
+abbrev pub exceeds_limit : (failures : ℕ) → Option ℕ → Bool
+exceeds_limit failures None = false
+exceeds_limit failures (Some limit) = nat_lt limit failures
+
+-- the keys that a session gave with a write: those of the Handshake space, or the 1-RTT keys, or none
+pub data NewKeys (H P : Type 0) : Type 0 where
+  NoKeys : NewKeys H P
+  HandshakeKeys : (keys : SpaceKeys H P) → NewKeys H P
+  DataKeys : (keys : OneRttKeys H P) → NewKeys H P
 
 module _ {H P : Type 0} where
+  -- a connection that was just made has the keys of its Initial space
+  abbrev pub first_keys : SpaceKeys H P → KeyGroup H P
+  first_keys k = record { initial = Some k; handshake = None; «data» = None; highest = Initial; failures = 0 }
+
   -- one more packet sealed, where there are keys
   unfoldable pub count_one : Option (SpaceKeys H P) → Option (SpaceKeys H P)
   count_one None = None
   count_one (Some k) = Some (record k { sealed = plus k.sealed 1 })
 
-  -- the keys of a space
-  unfoldable pub keys_of : KeyGroup H P → SpaceId → Option (SpaceKeys H P)
-  keys_of v id = space_of v.spaces id
+  -- a packet of this number sealed under the 1-RTT keys of their epoch, where there are any
+  unfoldable pub ring_used : ℕ → Option (OneRttKeys H P) → Option (OneRttKeys H P)
+  ring_used n None = None
+  ring_used n (Some k) = Some (record k { ring = keyed_sealed k.ring n })
 
-  -- a packet was sealed in the space
-  unfoldable pub key_used : KeyGroup H P → SpaceId → KeyGroup H P
-  key_used v id = record v { spaces = with_space v.spaces id (count_one (space_of v.spaces id)) }
+  -- a packet of this number was sealed in the space
+  unfoldable pub key_used : KeyGroup H P → SpaceId → ℕ → KeyGroup H P
+  key_used v Initial n = record v { initial = count_one v.initial }
+  key_used v Handshake n = record v { handshake = count_one v.handshake }
+  key_used v «Data» n = record v { «data» = ring_used n v.«data» }
 
   -- a packet didn't open
   unfoldable pub failure_counted : KeyGroup H P → KeyGroup H P
   failure_counted v = record v { failures = plus v.failures 1 }
 
+  -- the keys of the Initial or the Handshake space; 1-RTT keys stand in their ring
+  unfoldable pub plain_keys : KeyGroup H P → SpaceId → Option (SpaceKeys H P)
+  plain_keys v Initial = v.initial
+  plain_keys v Handshake = v.handshake
+  plain_keys v «Data» = None
+
+  -- the space has keys
+  unfoldable pub has_keys : KeyGroup H P → SpaceId → Bool
+  has_keys v Initial = is_some v.initial
+  has_keys v Handshake = is_some v.handshake
+  has_keys v «Data» = is_some v.«data»
+
+  -- the key that masks this end's packets of the space
+  unfoldable pub header_key : KeyGroup H P → SpaceId → Option H
+  header_key v Initial = option_map (λ (k : SpaceKeys H P). k.keys.header.local) v.initial
+  header_key v Handshake = option_map (λ (k : SpaceKeys H P). k.keys.header.local) v.handshake
+  header_key v «Data» = option_map (λ (k : OneRttKeys H P). k.header.local) v.«data»
+
+  -- the key that seals them: of 1-RTT keys that of their epoch
+  unfoldable pub packet_key : KeyGroup H P → SpaceId → Option P
+  packet_key v Initial = option_map (λ (k : SpaceKeys H P). k.keys.packet.local) v.initial
+  packet_key v Handshake = option_map (λ (k : SpaceKeys H P). k.keys.packet.local) v.handshake
+  packet_key v «Data» = option_map (λ (k : OneRttKeys H P). k.ring.current.local) v.«data»
+
+  -- the key that takes the mask off the peer's packets of the space
+  unfoldable pub unmasking_key : KeyGroup H P → SpaceId → Option H
+  unmasking_key v Initial = option_map (λ (k : SpaceKeys H P). k.keys.header.remote) v.initial
+  unmasking_key v Handshake = option_map (λ (k : SpaceKeys H P). k.keys.header.remote) v.handshake
+  unmasking_key v «Data» = option_map (λ (k : OneRttKeys H P). k.header.remote) v.«data»
+
+  -- the key that opens the peer's packets of the Initial or the Handshake space
+  unfoldable pub opening_key : KeyGroup H P → SpaceId → Option P
+  opening_key v id = option_map (λ (k : SpaceKeys H P). k.keys.packet.remote) (plain_keys v id)
+
+  -- the ring of the 1-RTT keys
+  unfoldable pub ring_of : KeyGroup H P → Option (Keyed P)
+  ring_of v = option_map (λ (k : OneRttKeys H P). k.ring) v.«data»
+
+  -- the key phase bit of packets under 1-RTT keys, which is that of the keys' epoch (RFC 9001, section 6)
+  abbrev pub phase_with : Option (OneRttKeys H P) → Bool
+  phase_with None = false
+  phase_with (Some k) = phase_of k.ring.ring.epoch
+
+  -- that of this end's 1-RTT packets
+  unfoldable pub phase_now : KeyGroup H P → Bool
+  phase_now v = phase_with v.«data»
+
   -- keys under which nothing was sealed yet, with the limits of the sealing key
   abbrev pub new_keys : (seals failures : P → ℕ) → Keys H P → SpaceKeys H P
   new_keys seals failures keys = record { keys = keys; sealed = 0; confidentiality_limit = seals keys.packet.local; integrity_limit = failures keys.packet.local }
 
-  -- with so many packets more, the sealing key has sealed as many as it may
-  abbrev pub reaches_limit : (more : ℕ) → Option (SpaceKeys H P) → Bool
-  reaches_limit more None = false
-  reaches_limit more (Some k) = nat_le k.confidentiality_limit (k.sealed + more)
+  -- 1-RTT keys of the first epoch with those of the next, under which nothing was sealed yet, with the limits of the sealing key
+  abbrev pub new_ring : (seals failures : P → ℕ) → Keys H P → (next : KeyPair P) → OneRttKeys H P
+  new_ring seals failures keys next = record { header = keys.header; ring = first_keyed keys.packet next; confidentiality_limit = seals keys.packet.local; integrity_limit = failures keys.packet.local }
 
-  -- more packets didn't open than a key lets pass
-  abbrev pub exceeds_limit : (failures : ℕ) → Option (SpaceKeys H P) → Bool
-  exceeds_limit failures None = false
-  exceeds_limit failures (Some k) = nat_lt k.integrity_limit failures
+  -- how many packets a sealing key has sealed, and how many it may (RFC 9001, section 6.6)
+  abbrev pub plain_usage : SpaceKeys H P → KeyUse
+  plain_usage k = record { sealed = k.sealed; limit = k.confidentiality_limit }
+
+  -- the same of 1-RTT keys: what counts is the key of their epoch
+  abbrev pub ring_usage : OneRttKeys H P → KeyUse
+  ring_usage k = record { sealed = k.ring.count; limit = k.confidentiality_limit }
+
+  -- the same of the sealing key of a space
+  unfoldable pub usage_of : KeyGroup H P → SpaceId → Option KeyUse
+  usage_of v Initial = option_map plain_usage v.initial
+  usage_of v Handshake = option_map plain_usage v.handshake
+  usage_of v «Data» = option_map ring_usage v.«data»
+
+  -- how many packets of the peer may fail to open, by a sealing key
+  abbrev pub plain_integrity : SpaceKeys H P → ℕ
+  plain_integrity k = k.integrity_limit
+
+  -- the same of 1-RTT keys
+  abbrev pub ring_integrity : OneRttKeys H P → ℕ
+  ring_integrity k = k.integrity_limit
+
+  -- the same of the sealing key of a space
+  unfoldable pub integrity_limit_of : KeyGroup H P → SpaceId → Option ℕ
+  integrity_limit_of v Initial = option_map plain_integrity v.initial
+  integrity_limit_of v Handshake = option_map plain_integrity v.handshake
+  integrity_limit_of v «Data» = option_map ring_integrity v.«data»
 
   -- more packets of the peer didn't open than the key of the highest space lets pass
   unfoldable pub fails_too_often : KeyGroup H P → Bool
-  fails_too_often v = exceeds_limit v.failures (keys_of v v.highest)
+  fails_too_often v = exceeds_limit v.failures (integrity_limit_of v v.highest)
 
-  -- the keys of the space behind the one that was the highest, which is the highest from then on; behind Data there is none
-  abbrev pub keys_behind : KeyGroup H P → SpaceId → SpaceKeys H P → KeyGroup H P
-  keys_behind v Initial keys = record v { spaces = with_space v.spaces Handshake (Some keys); highest = Handshake }
-  keys_behind v Handshake keys = record v { spaces = with_space v.spaces «Data» (Some keys); highest = «Data» }
-  keys_behind v «Data» keys = v
-
-  -- the session gave these keys with a write, if it gave any
-  unfoldable pub keys_given : KeyGroup H P → Option (SpaceKeys H P) → KeyGroup H P
-  keys_given v None = v
-  keys_given v (Some keys) = keys_behind v v.highest keys
+  -- the session gave these keys with a write: their space is the highest from then on
+  unfoldable pub keys_given : KeyGroup H P → NewKeys H P → KeyGroup H P
+  keys_given v NoKeys = v
+  keys_given v (HandshakeKeys k) = record v { handshake = Some k; highest = Handshake }
+  keys_given v (DataKeys k) = record v { «data» = Some k; highest = «Data» }
 
   -- the keys of a space are dropped (RFC 9001, section 4.9)
   unfoldable pub keys_dropped : KeyGroup H P → SpaceId → KeyGroup H P
-  keys_dropped v id = record v { spaces = with_space v.spaces id None }
+  keys_dropped v Initial = record v { initial = None }
+  keys_dropped v Handshake = record v { handshake = None }
+  keys_dropped v «Data» = record v { «data» = None }

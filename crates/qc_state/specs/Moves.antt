@@ -12,7 +12,6 @@ use Rattle.qc_frame.specs.FrameSpelling.{elicits}
 use Rattle.qc_frame.specs.declared.frames.FrameOf.TheVariants as frames
 use Rattle.qc_state.specs.declared.numbers.Numbers.{Numbers}
 use Rattle.qc_state.specs.declared.keys.KeyGroup.{KeyGroup}
-use Rattle.qc_state.specs.declared.keys.SpaceKeys.{SpaceKeys}
 use Rattle.qc_state.specs.declared.life.Close.{Close}
 use Rattle.qc_state.specs.declared.life.Life.{Life}
 use Rattle.qc_state.specs.declared.life.State.{State}
@@ -40,7 +39,7 @@ use Rattle.qc_state.specs.Acks.{is_ack}
 use Rattle.qc_state.specs.Draws.{word}
 use Rattle.qc_state.specs.Life.{rank_of, reason_given, life_raised, life_closed, life_drained, life_established, data_ready, token_learned, identifiers_wanted, ready_reported, connected_reported, lost_reported, token_reported, wanted_reported, drained_reported}
 use Rattle.qc_state.specs.Numbers.{next_number, received_number, number_used, number_skipped, is_skipped, is_new_in, came_in, number_entered, number_accepted, number_acked}
-use Rattle.qc_state.specs.Keys.{key_used, failure_counted, keys_given, keys_dropped}
+use Rattle.qc_state.specs.Keys.{NewKeys, key_used, failure_counted, keys_given, keys_dropped}
 use Rattle.qc_state.specs.Flight.{flown_packet}
 use Rattle.qc_state.specs.Lower.{bytes_came, session_read, session_wrote, flight_dropped, packet_flown, packets_settled, timer_fired}
 use Rattle.qc_state.specs.Paths.{is_blocked, path_idle, path_sent, path_received, path_accepted, path_spun, peer_fixed}
@@ -120,7 +119,7 @@ pub data Move (t : Types) : Type 0 where
   Skip : Move t  -- the next number of 1-RTT packets is skipped
   Come : (id : SpaceId) → (offset : ℕ) → (bytes : List ℕ) → Move t  -- bytes of a CRYPTO stream came
   Read : (id : SpaceId) → (count : ℕ) → (session : t.S) → Move t  -- the session was given so many of them
-  Write : (bytes : List ℕ) → (keys : Option (SpaceKeys t.H t.P)) → (session : t.S) → Move t  -- the session wrote bytes, and gave keys
+  Write : (bytes : List ℕ) → (keys : NewKeys t.H t.P) → (session : t.S) → Move t  -- the session wrote bytes, and gave keys
   Ready : Move t  -- what the handshake settles is ready
   Token : (token : List ℕ) → Move t  -- the peer's token for a stateless reset was read
   Learn : (parameters : TransportParameters) → Move t  -- the peer's parameters were read
@@ -152,7 +151,7 @@ module _ {t : Types} where
   numbers_move _ s = s.numbers
 
   unfoldable pub keys_move : Move t → View t → KeyGroup t.H t.P
-  keys_move (Seal time id n size fs) s = key_used s.keys id
+  keys_move (Seal time id n size fs) s = key_used s.keys id n
   keys_move (Forget id) s = keys_dropped s.keys id
   keys_move Fail s = failure_counted s.keys
   keys_move (Write bytes keys session) s = keys_given s.keys keys

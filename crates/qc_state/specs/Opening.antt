@@ -1,5 +1,5 @@
 -- Taking the protection off a packet that came (RFC 9001, sections 5.3 and 5.4). Initial, Handshake and 1-RTT packets are
--- opened, those of the other forms are not taken so far, and neither are 1-RTT packets of another key phase than the first.
+-- opened, those of the other forms are not taken so far, and neither are 1-RTT packets of an epoch to come.
 use Rattle.std.specs.Prelude.{ℕ, ◌+◌, ◌==◌, Bool, false, nat_lt, if◌then◌else◌, List, [], length, take, drop, Option, None, Some}
 use Rattle.qc_base.specs.Mask.{first_byte}
 use Rattle.qc_base.specs.Time.{plus}
@@ -14,14 +14,13 @@ use Rattle.qc_header.specs.declared.protected.ProtectedHeader.TheVariants.{Initi
 use Rattle.qc_header.specs.HeaderSpelling.{header_number}
 use Rattle.qc_header.specs.Piece.{Piece}
 use Rattle.qc_header.specs.Unprotected.{unprotected, header_end, header_from}
-use Rattle.qc_packet.specs.OpenedPacket.{reserved_bits}
+use Rattle.qc_packet.specs.OpenedPacket.{are_next, key_named, opened_by as opened_under_key, reserved_bits, which_in}
 use Rattle.qc_crypto.specs.Mates.{Opening as OpeningFunction}
-use Rattle.qc_crypto.specs.declared.keys.Keys.{Keys}
-use Rattle.qc_state.specs.declared.keys.SpaceKeys.{SpaceKeys}
+use Rattle.qc_rings.specs.Keyed.{Keyed}
 use Rattle.qc_state.specs.declared.opening.Opening.{Opening}
 use Rattle.qc_state.specs.declared.opening.Opening.TheVariants.{Unreadable, Unopened, Reserved, Opened}
 use Rattle.qc_state.specs.Expansion.{expanded}
-use Rattle.qc_state.specs.Keys.{keys_of}
+use Rattle.qc_state.specs.Keys.{opening_key, ring_of, unmasking_key}
 use Rattle.qc_state.specs.Numbers.{received_number}
 use Rattle.qc_state.specs.Types.{Types, Meaning}
 use Rattle.qc_state.specs.View.{View}
@@ -65,11 +64,6 @@ abbrev pub whole_number : Option PacketNumber → ℕ → ℕ
 whole_number None rx = 0
 whole_number (Some number) rx = expanded number (plus rx 1)
 
--- a 1-RTT packet of the other key phase (RFC 9001, section 6)
-abbrev pub is_other_phase : Header → Bool
-is_other_phase (header.Short spin key_phase dst_cid number) = key_phase
-is_other_phase _ = false
-
 -- what its key made of the payload, where the key opens it
 abbrev pub judged : Header → ℕ → List ℕ → Option (List ℕ) → Opening
 judged header number header_data None = Unopened
@@ -77,33 +71,39 @@ judged header number header_data (Some payload) =
     if reserved_bits header (first_byte header_data) == 0 then Opened (source_of header) (token_of header) (spin_of header) number payload else Reserved number
 
 module _ {P : Type 0} where
-  -- an unmasked packet under the peer's packet key: its header, the header's bytes, and the bytes behind it
-  unfoldable pub opened_by : (opening : P → OpeningFunction) → P → (rx : ℕ) → Header → (header_data sealed : List ℕ) → Opening
-  opened_by opening key rx header header_data sealed =
-      if is_other_phase header then Unreadable
-      else judged header (whole_number (header_number header) rx) header_data (opening key (whole_number (header_number header) rx) header_data sealed)
+  -- a 1-RTT packet that names the keys of the next epoch: its sender updated its keys (RFC 9001, section 6)
+  abbrev pub names_next : Header → Option (Keyed P) → ℕ → Bool
+  names_next header ring number = are_next (which_in header ring number)
+
+  -- an unmasked packet under the keys of the peer that it may name, its space's own one or one of the ring: its header, the header's
+  -- bytes, and the bytes behind it
+  unfoldable pub opened_by : (opening : P → OpeningFunction) → (plain : Option P) → (ring : Option (Keyed P)) → (rx : ℕ) → Header → (header_data sealed : List ℕ) → Opening
+  opened_by opening plain ring rx header header_data sealed =
+      if names_next header ring (whole_number (header_number header) rx) then Unreadable
+      else judged header (whole_number (header_number header) rx) header_data
+      (opened_under_key opening (key_named header plain None ring (whole_number (header_number header) rx)) (whole_number (header_number header) rx) header_data sealed)
 
   -- a packet whose mask was taken off
-  abbrev pub unmasked_under : (opening : P → OpeningFunction) → P → (rx : ℕ) → Piece → (bytes : List ℕ) → Opening
-  unmasked_under opening key rx p bytes =
-      opened_by opening key rx (header_from p.header p.pn_offset (take (header_end p bytes) bytes)) (take (header_end p bytes) bytes) (drop (header_end p bytes) bytes)
+  abbrev pub unmasked_under : (opening : P → OpeningFunction) → Option P → Option (Keyed P) → (rx : ℕ) → Piece → (bytes : List ℕ) → Opening
+  unmasked_under opening plain ring rx p bytes =
+      opened_by opening plain ring rx (header_from p.header p.pn_offset (take (header_end p bytes) bytes)) (take (header_end p bytes) bytes) (drop (header_end p bytes) bytes)
 
 module _ {H P : Type 0} where
   -- a packet under the peer's keys; the mask is made of the sample behind its number
-  unfoldable pub opened_under : (mask : H → List ℕ → List ℕ) → (opening : P → OpeningFunction) → Keys H P → (rx : ℕ) → Piece → Opening
-  opened_under mask opening keys rx p =
-      if nat_lt (length p.bytes) (p.pn_offset + 20) then Unreadable else unmasked_under opening keys.packet.remote rx p (unprotected (mask keys.header.remote) p)
+  unfoldable pub opened_under : (mask : H → List ℕ → List ℕ) → (opening : P → OpeningFunction) → H → Option P → Option (Keyed P) → (rx : ℕ) → Piece → Opening
+  opened_under mask opening key plain ring rx p =
+      if nat_lt (length p.bytes) (p.pn_offset + 20) then Unreadable else unmasked_under opening plain ring rx p (unprotected (mask key) p)
 
   -- a packet under the keys of its space, if there are any
-  abbrev pub opened_in : (mask : H → List ℕ → List ℕ) → (opening : P → OpeningFunction) → Option (SpaceKeys H P) → (rx : ℕ) → Piece → Opening
-  opened_in mask opening None rx p = Unreadable
-  opened_in mask opening (Some k) rx p = opened_under mask opening k.keys rx p
+  abbrev pub opened_in : (mask : H → List ℕ → List ℕ) → (opening : P → OpeningFunction) → Option H → Option P → Option (Keyed P) → (rx : ℕ) → Piece → Opening
+  opened_in mask opening None plain ring rx p = Unreadable
+  opened_in mask opening (Some key) plain ring rx p = opened_under mask opening key plain ring rx p
 
 module _ {t : Types} where
   -- a packet in this space
   abbrev pub opened_at : Meaning t → View t → Option SpaceId → Piece → Opening
   opened_at m s None p = Unreadable
-  opened_at m s (Some id) p = opened_in m.mask m.opening (keys_of s.keys id) (received_number s.numbers id) p
+  opened_at m s (Some id) p = opened_in m.mask m.opening (unmasking_key s.keys id) (opening_key s.keys id) (ring_of s.keys) (received_number s.numbers id) p
 
   -- what comes of taking the protection off a packet: the keys are those of its form's space
   unfoldable pub opening_of : Meaning t → View t → Piece → Opening

@@ -1,13 +1,15 @@
 -- How the handshake goes on behind the frames of a packet (RFC 9001, sections 4.1 and 8.2; RFC 9000, section 7.3).
-use Rattle.std.specs.Prelude.{ℕ, zero, suc, ◌-◌, min, ◌==◌, ◌&&◌, not, nat_eq, Bool, true, false, if◌then◌else◌, List, length, Option, None, Some, Result, Ok, Err, is_none, option_map}
+use Rattle.std.specs.Prelude.{ℕ, zero, suc, ◌-◌, min, ◌==◌, ◌&&◌, not, nat_eq, Bool, true, false, if◌then◌else◌, List, length, Option, None, Some, Result, Ok, Err, is_none}
 use Rattle.std.specs.Cmp.Lexicographic.{pointwise}
 use Rattle.qc_base.specs.declared.side.Side.{Side}
 use Rattle.qc_base.specs.declared.side.Side.TheVariants.{Client, Server}
 use Rattle.qc_base.specs.declared.side.SpaceId.{SpaceId}
 use Rattle.qc_base.specs.declared.side.SpaceId.TheVariants.{Initial, Handshake, «Data»}
 use Rattle.qc_base.specs.declared.transport_error.TransportError.{TransportError}
+use Rattle.qc_crypto.specs.declared.keys.KeyPair.{KeyPair}
+use Rattle.qc_crypto.specs.declared.keys.Keys.{Keys}
 use Rattle.qc_params.specs.declared.params.TransportParameters.{TransportParameters}
-use Rattle.qc_state.specs.Keys.{new_keys}
+use Rattle.qc_state.specs.Keys.{NewKeys, NoKeys, HandshakeKeys, DataKeys, new_keys, new_ring}
 use Rattle.qc_state.specs.Life.{is_handshake}
 use Rattle.qc_state.specs.Moves.{Write, Token, Learn, Want, Confirm, Forget, Establish, armed_after, move_to}
 use Rattle.qc_state.specs.Stopping.{missing_parameters, parameter_error, stopped_after}
@@ -37,11 +39,29 @@ module _ {t : Types} where
   unfoldable pub is_written : Meaning t → t.S → Bool
   is_written m session = (length (m.writes session) == 0) && is_none (m.write_keys session)
 
+  -- 1-RTT keys with those of the next epoch, where the session gives these
+  abbrev pub ring_with : Meaning t → Keys t.H t.P → Option (KeyPair t.P) → NewKeys t.H t.P
+  ring_with m keys None = NoKeys
+  ring_with m keys (Some next) = DataKeys (new_ring m.seal_limit m.failure_limit keys next)
+
+  -- the keys that a write gave, if it gave any, are those of the space behind the highest one: first of the Handshake space, then
+  -- the 1-RTT keys, behind which the session is asked for those of the next epoch; behind these come none
+  abbrev pub keys_behind : Meaning t → (highest : SpaceId) → Option (Keys t.H t.P) → (session : t.S) → NewKeys t.H t.P
+  keys_behind m highest None session = NoKeys
+  keys_behind m Initial (Some keys) session = HandshakeKeys (new_keys m.seal_limit m.failure_limit keys)
+  keys_behind m Handshake (Some keys) session = ring_with m keys (m.next_keys session)
+  keys_behind m Data (Some keys) session = NoKeys
+
+  -- the session behind that
+  abbrev pub session_behind : Meaning t → (highest : SpaceId) → Option (Keys t.H t.P) → (session : t.S) → t.S
+  session_behind m Handshake (Some keys) session = m.after_next session
+  session_behind m highest keys session = session
+
   -- the session writes once: its bytes wait in the highest space, and the keys that it gives are those of the next one
   unfoldable pub write_after : Meaning t → At t → At t
   write_after m a =
       let session : t.S = a.state.lower.session in
-      move_to (Write (m.writes session) (option_map (new_keys m.seal_limit m.failure_limit) (m.write_keys session)) (m.after_write session)) a
+      move_to (Write (m.writes session) (keys_behind m a.state.keys.highest (m.write_keys session) (m.after_write session)) (session_behind m a.state.keys.highest (m.write_keys session) (m.after_write session))) a
 
   -- the session writes until it writes nothing, at most so many times
   abbrev pub writes_after : ℕ → Meaning t → At t → At t

@@ -1,6 +1,6 @@
 -- What loss recovery is told of a connection, the timeouts that follow from the round trip time, and the time of the loss timer
 -- (RFC 9002, section 6).
-use Rattle.std.specs.Prelude.{ℕ, Bool, true, false, not, ◌&&◌, ◌||◌, if◌then◌else◌, Option, None, is_some, is_none}
+use Rattle.std.specs.Prelude.{ℕ, Bool, true, false, not, ◌&&◌, ◌||◌, if◌then◌else◌, Option, None}
 use Rattle.qc_base.specs.declared.side.Side.{Side}
 use Rattle.qc_base.specs.declared.side.Side.TheVariants.{Client, Server}
 use Rattle.qc_base.specs.declared.side.SpaceId.{SpaceId}
@@ -9,7 +9,7 @@ use Rattle.qc_frame.specs.Frame.{AckValue}
 use Rattle.qc_recovery.specs.Frames.{ranges_up_of, values_of}
 use Rattle.qc_recovery.specs.Steps.{After, FiredAfter, ack_after, armed_at, probe_timeout, timeout_after, was_acknowledged}
 use Rattle.qc_recovery.specs.declared.calls.Around.{Around}
-use Rattle.qc_state.specs.Keys.{keys_of}
+use Rattle.qc_state.specs.Keys.{has_keys}
 use Rattle.qc_state.specs.Life.{is_handshake, is_open}
 use Rattle.qc_state.specs.Numbers.{began_at, next_number}
 use Rattle.qc_state.specs.Paths.{is_blocked}
@@ -34,7 +34,7 @@ module _ {t : Types} where
   unfoldable pub is_validated_by_peer : View t → (handled : Bool) → Bool
   is_validated_by_peer s handled =
       validates s.setup.fixed.side (handled || was_acknowledged Handshake s.lower.recovery || was_acknowledged «Data» s.lower.recovery)
-      (is_some (keys_of s.keys «Data») && is_none (keys_of s.keys Handshake))
+      (has_keys s.keys «Data» && not (has_keys s.keys Handshake))
 
   -- what loss recovery is told of a connection
   unfoldable pub around_of : View t → (blocked handled : Bool) → Around
@@ -43,8 +43,8 @@ module _ {t : Types} where
     peer_validated = is_validated_by_peer s handled;
     handshake_over = not (is_handshake s.life.state);
     highest = s.keys.highest;
-    initial_keys = is_some (keys_of s.keys Initial);
-    handshake_keys = is_some (keys_of s.keys Handshake);
+    initial_keys = has_keys s.keys Initial;
+    handshake_keys = has_keys s.keys Handshake;
     max_ack_delay = peer_delay s.setup.peer;
     ack_delay_exponent = peer_exponent s.setup.peer;
     app_limited = s.paths.app_limited;

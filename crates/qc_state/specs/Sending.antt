@@ -1,6 +1,6 @@
 -- What a transmit may send, and what it leaves. Which of the waiting frames a packet carries is free, where no close is
 -- owed; all else is a function of that choice. So far a transmit seals at most one packet, in a datagram of its own.
-use Rattle.std.specs.Prelude.{◌≡◌, ℕ, ◌+◌, ◌-◌, ◌<◌, ◌≤◌, ◌^◌, ◌==◌, ◌⊎◌, Bool, true, false, ◌||◌, ◌&&◌, not, nat_lt, nat_le, if◌then◌else◌, List, [], ◌∷◌, ◌++◌, length, replicate, Option, Some, None, is_some}
+use Rattle.std.specs.Prelude.{◌≡◌, ℕ, ◌+◌, ◌-◌, ◌<◌, ◌≤◌, ◌^◌, ◌==◌, ◌⊎◌, Bool, true, false, ◌||◌, ◌&&◌, not, nat_lt, nat_le, if◌then◌else◌, List, [], ◌∷◌, ◌++◌, length, replicate, Option, Some, None}
 use Rattle.std.specs.List.{list_any}
 use Rattle.qc_base.specs.declared.ecn.EcnCodepoint.TheVariants.{Ect0}
 use Rattle.qc_base.specs.declared.side.LongType.TheVariants as long
@@ -16,9 +16,11 @@ use Rattle.qc_frame.specs.Sizes.{IsLongestReason}
 use Rattle.qc_header.specs.HeaderSpelling.{header_spelling}
 use Rattle.qc_header.specs.declared.header.Header.{Header}
 use Rattle.qc_header.specs.declared.header.Header.TheVariants as header
+use Rattle.qc_packet.specs.declared.slot.Slot.{Slot}
 use Rattle.qc_packet.specs.Building.{padded_size}
 use Rattle.qc_packet.specs.PacketSpelling.{sealed_packet, padding_len}
 use Rattle.qc_state.specs.declared.deeds.Quiet.TheVariants.{NothingOwed, Silent, Amplification, Killed}
+use Rattle.qc_state.specs.declared.keys.KeyUse.{KeyUse}
 use Rattle.qc_state.specs.declared.life.Close.{Close}
 use Rattle.qc_state.specs.declared.life.Close.TheVariants.{Connection, Application}
 use Rattle.qc_state.specs.declared.life.ConnectionError.{ConnectionError}
@@ -26,13 +28,12 @@ use Rattle.qc_state.specs.declared.life.ConnectionError.TheVariants as lost
 use Rattle.qc_state.specs.declared.life.Life.{Life}
 use Rattle.qc_state.specs.declared.transmit.Transmit.{Transmit}
 use Rattle.qc_state.specs.declared.transmit.TheConstants.{DATAGRAM_SIZE}
-use Rattle.qc_state.specs.declared.keys.SpaceKeys.{SpaceKeys}
-use Rattle.qc_state.specs.Keys.{keys_of, reaches_limit}
+use Rattle.qc_state.specs.Keys.{has_keys, header_key, packet_key, phase_now, reaches_limit, usage_of}
 use Rattle.qc_state.specs.Life.{is_open, is_closed, is_drained}
 use Rattle.qc_state.specs.Acks.{AckPart, SaysAck, is_ack_owed, may_acknowledge}
 use Rattle.qc_state.specs.Draws.{bit}
 use Rattle.qc_state.specs.Flight.{counts_in_flight}
-use Rattle.qc_state.specs.Moves.{Begin, Skip, Seal, Take, Forget, Say, move_to, state_move, armed_with}
+use Rattle.qc_state.specs.Moves.{Begin, Skip, Seal, Take, Forget, Say, move_to, armed_with}
 use Rattle.qc_state.specs.Numbers.{next_number, coming_number, is_skipped, acked_number}
 use Rattle.qc_state.specs.Paths.{is_blocked}
 use Rattle.qc_state.specs.Spaces.{is_space, space_of}
@@ -117,7 +118,7 @@ module _ {t : Types} where
   -- a space with keys owes what waits there; while a close is owed, it owes a packet that tells it, unless it sealed one
   -- since
   unfoldable pub owes_in : View t → SpaceId → Bool
-  owes_in s id = is_some (keys_of s.keys id) && (if s.waiting.close_owed then not (space_of s.waiting.spaces id).told else waits_in s.waiting id)
+  owes_in s id = has_keys s.keys id && (if s.waiting.close_owed then not (space_of s.waiting.spaces id).told else waits_in s.waiting id)
 
   -- the space of the next packet: the first one that owes something
   unfoldable pub sending_space : View t → SpaceId
@@ -131,19 +132,13 @@ module _ {t : Types} where
   unfoldable pub is_used_up : View t → Bool
   is_used_up s = is_past_limit (coming_number s.numbers (sending_space s)) (acked_number s.numbers (sending_space s))
 
-  -- the keys of a space, where their limit counts: that of 1-RTT keys doesn't so far
-  abbrev pub limited_keys : View t → SpaceId → Option (SpaceKeys t.H t.P)
-  limited_keys s Initial = keys_of s.keys Initial
-  limited_keys s Handshake = keys_of s.keys Handshake
-  limited_keys s Data = None
-
   -- the next packet's key has sealed as many packets as it may (RFC 9001, section 6.6)
   unfoldable pub is_key_used_up : View t → Bool
-  is_key_used_up s = reaches_limit 0 (limited_keys s (sending_space s))
+  is_key_used_up s = reaches_limit 0 (usage_of s.keys (sending_space s))
 
   -- so it will have with two packets more
   unfoldable pub is_key_nearly_used_up : View t → Bool
-  is_key_nearly_used_up s = reaches_limit 2 (limited_keys s (sending_space s))
+  is_key_nearly_used_up s = reaches_limit 2 (usage_of s.keys (sending_space s))
 
   -- the spin bit of the next 1-RTT packet: the path's where this connection spins, else it is drawn (RFC 9000, section 17.4)
   unfoldable pub spin_now : View t → Bool
@@ -153,8 +148,8 @@ module _ {t : Types} where
   unfoldable pub flips_now : View t → SpaceId → Bool
   flips_now s id = takes_grease s.setup.peer && bit (behind_spin s.setup id)
 
-  -- the header of the next packet in a space (RFC 9000, sections 17.2.2, 17.2.4 and 17.3.1); a 1-RTT packet has the first key
-  -- phase so far
+  -- the header of the next packet in a space (RFC 9000, sections 17.2.2, 17.2.4 and 17.3.1); a 1-RTT packet has the
+  -- key phase of its keys' epoch
   abbrev pub header_in : View t → SpaceId → Header
   header_in s Initial = header.Initial (record {
     dst_cid = s.paths.remote_cid;
@@ -164,7 +159,11 @@ module _ {t : Types} where
     version = s.setup.fixed.version;
   })
   header_in s Handshake = header.Long long.Handshake s.paths.remote_cid s.setup.fixed.local_cid (number_of (next_number s.numbers Handshake) (acked_number s.numbers Handshake)) s.setup.fixed.version
-  header_in s Data = header.Short (spin_now s) false s.paths.remote_cid (number_of (next_number s.numbers Data) (acked_number s.numbers Data))
+  header_in s Data = header.Short (spin_now s) (phase_now s.keys) s.paths.remote_cid (number_of (next_number s.numbers Data) (acked_number s.numbers Data))
+
+  -- what the builder is given of the next packet in a space: its number and how far its key is used, where the space has keys
+  abbrev pub slot_with : View t → SpaceId → KeyUse → Slot
+  slot_with s id usage = record { space = id; number = next_number s.numbers id; largest_acked = acked_number s.numbers id; sealed = usage.sealed; limit = usage.limit; flip = flips_now s id }
 
   -- how much room for frames a datagram has behind the header of such a packet, and before its tag of 16 bytes
   unfoldable pub frame_room : View t → SpaceId → ℕ
@@ -196,13 +195,13 @@ module _ {t : Types} where
   padded s id fs = fs ++ replicate (padding_of s id fs) frames.Padding
 
   -- a packet under the local keys, its fixed bit flipped or not; none without keys
-  abbrev pub sealed_with : Meaning t → Option (SpaceKeys t.H t.P) → (flip : Bool) → Header → ℕ → List ℕ → List ℕ
-  sealed_with m (Some k) flip header number plain = sealed_packet (m.mask k.keys.header.local) (m.seal k.keys.packet.local) flip header number plain
-  sealed_with m None flip header number plain = []
+  abbrev pub sealed_with : Meaning t → Option t.H → Option t.P → (flip : Bool) → Header → ℕ → List ℕ → List ℕ
+  sealed_with m (Some h) (Some p) flip header number plain = sealed_packet (m.mask h) (m.seal p) flip header number plain
+  sealed_with m h p flip header number plain = []
 
   -- the bytes of the next packet of a space, with these frames
   unfoldable pub packet_bytes : Meaning t → View t → SpaceId → List FrameValue → List ℕ
-  packet_bytes m s id fs = sealed_with m (keys_of s.keys id) (flips_now s id) (header_in s id) (next_number s.numbers id) (frames_spelling fs)
+  packet_bytes m s id fs = sealed_with m (header_key s.keys id) (packet_key s.keys id) (flips_now s id) (header_in s id) (next_number s.numbers id) (frames_spelling fs)
 
   -- an ACK, if there is something to acknowledge and it leaves 25 bytes, and the close with the reason that fits behind it
   pub data Closes (time : ℕ) (s : View t) (id : SpaceId) (fs : List FrameValue) : Type 0 where
@@ -256,7 +255,7 @@ module _ {t : Types} where
 
   -- such an end drops the keys of its Initial space, if it has them still
   unfoldable pub drops_initial : Side → View t → SpaceId → Bool
-  drops_initial side s id = leaves_initial side s.setup.fixed.side id && is_some (keys_of s.keys Initial)
+  drops_initial side s id = leaves_initial side s.setup.fixed.side id && has_keys s.keys Initial
 
   -- the Initial space is left at a time with a packet of this space, where this end is of the side that leaves it so; `blocked`
   -- says that no datagram may be begun

@@ -4,6 +4,7 @@ use Rattle.qc_base.specs.declared.side.Side.{Side}
 use Rattle.qc_base.specs.declared.transport_error.TransportError.{TransportError}
 use Rattle.qc_base.specs.declared.mask.HeaderMask.{Ghosts as HeaderMaskGhosts}
 use Rattle.qc_crypto.specs.declared.keys.Keys.{Keys}
+use Rattle.qc_crypto.specs.declared.keys.KeyPair.{KeyPair}
 use Rattle.qc_crypto.specs.declared.packet_key.PacketKey.{Ghosts as PacketKeyGhosts}
 use Rattle.qc_crypto.specs.declared.session.Session.{Ghosts as SessionGhosts}
 use Rattle.qc_path.specs.declared.controller.Controller.{Ghosts as ControllerGhosts}
@@ -34,6 +35,8 @@ pub record Meaning (t : Types) : Type 1 where
   pub left : t.S → ℕ
   pub handshaking : t.S → Bool
   pub parameters : t.S → Result (Option TransportParameters) TransportError
+  pub next_keys : t.S → Option (KeyPair t.P)
+  pub after_next : t.S → t.S
   pub control : ControllerGhosts t.C
 
 -- the meaning that the traits give
@@ -53,5 +56,7 @@ meaning s h p c = record {
   left = s.left;
   handshaking = s.handshaking;
   parameters = s.parameters;
+  next_keys = s.next_keys;
+  after_next = s.after_next;
   control = c;
 }

@@ -1,12 +1,12 @@
 //! The keys of the three spaces, with the packets that each has sealed.
 
 ghost use Rattle.std.specs.Prelude.{◌≡◌};
-ghost use Rattle.std.specs.Option.{option_copied};
-ghost use Rattle.qc_state.specs.Keys.{keys_of, key_used, failure_counted, count_one, keys_given, keys_dropped, new_keys, reaches_limit, exceeds_limit, fails_too_often};
+ghost use Rattle.std.specs.Option.{option_copied, option_map};
+ghost use Rattle.qc_state.specs.Keys.{HandshakeKeys, DataKeys, count_one, ring_used, key_used, failure_counted, first_keys, has_keys, header_key, packet_key, unmasking_key, opening_key, ring_of, phase_with, phase_now, new_keys, new_ring, plain_usage, ring_usage, usage_of, plain_integrity, ring_integrity, reaches_limit, integrity_limit_of, exceeds_limit, fails_too_often, keys_given, keys_dropped};
 
-use crate::spaces::Spaces;
 use qc_base::SpaceId;
-use qc_crypto::{Keys, PacketKey};
+use qc_crypto::{KeyPair, Keys, PacketKey};
+use qc_packet::{KeyRing, Which};
 
 /// The keys of one space, and how many packets its sealing key has sealed (RFC 9001, 6.6).
 #[derive(Drop)]
@@ -37,35 +37,73 @@ impl<H, P: PacketKey> SpaceKeys<H, P> {
     }
 }
 
-/// Whether the sealing key has sealed as many packets as it may, with so many more.
-#[tactic(auto)]
-fn reaches_limit<H, P>(keys: &Option<SpaceKeys<H, P>>, more: u64) -> bool
-    ensures { result ≡ reaches_limit more keys.now }
-{
-    match keys {
-        None => false,
-        Some(keys) => {
-            u128::from(keys.confidentiality_limit) <= u128::from(keys.sealed) + u128::from(more)
+/// The 1-RTT keys: the packet keys change with each epoch, and the header keys stay (RFC 9001, 6).
+#[derive(Drop)]
+pub struct OneRttKeys<H, P> {
+    /// Both sides' header keys.
+    pub header: KeyPair<H>,
+    /// Both sides' packet keys, with the packets that were sealed in their epoch.
+    pub ring: KeyRing<P>,
+    /// How many packets the local packet key of an epoch may seal.
+    pub confidentiality_limit: u64,
+    /// How many packets of the peer may fail to open, while these keys are the highest.
+    pub integrity_limit: u64,
+}
+
+impl<H, P: PacketKey> OneRttKeys<H, P> {
+    /// Keys of the first epoch and of the next, under which nothing was sealed yet, with the limits of the local packet key.
+    pub fn new(keys: Keys<H, P>, next: KeyPair<P>) -> OneRttKeys<H, P>
+        ensures { result ≡ new_ring P.seal_limit P.failure_limit keys next }
+    {
+        let confidentiality_limit = keys.packet.local.confidentiality_limit();
+        let integrity_limit = keys.packet.local.integrity_limit();
+        OneRttKeys {
+            header: keys.header,
+            ring: KeyRing::new(keys.packet, next),
+            confidentiality_limit,
+            integrity_limit,
         }
     }
 }
 
-/// Whether more packets didn't open than a key lets pass.
-#[tactic(auto)]
-fn exceeds_limit<H, P>(keys: &Option<SpaceKeys<H, P>>, failures: u64) -> bool
-    ensures { result ≡ exceeds_limit failures keys.now }
+/// How far a sealing key is used (RFC 9001, 6.6).
+#[derive(Clone, Copy, Debug, PartialEq, Eq)]
+pub struct KeyUse {
+    /// How many packets it has sealed.
+    pub sealed: u64,
+    /// How many packets it may seal.
+    pub limit: u64,
+}
+
+/// Whether a key has sealed as many packets as it may, with so many more.
+fn reaches_limit(usage: Option<KeyUse>, more: u64) -> bool
+    ensures { result ≡ reaches_limit more usage }
 {
-    match keys {
+    match usage {
         None => false,
-        Some(keys) => keys.integrity_limit < failures,
+        Some(usage) => u128::from(usage.limit) <= u128::from(usage.sealed) + u128::from(more),
+    }
+}
+
+/// Whether more packets didn't open than a key lets pass.
+fn exceeds_limit(limit: Option<u64>, failures: u64) -> bool
+    ensures { result ≡ exceeds_limit failures limit }
+{
+    match limit {
+        None => false,
+        Some(limit) => limit < failures,
     }
 }
 
 /// The keys of the connection: those of a space, where it has any (RFC 9001, 4).
 #[derive(Drop)]
 pub struct KeyGroup<H, P> {
-    /// One entry a space.
-    pub spaces: Spaces<Option<SpaceKeys<H, P>>>,
+    /// The keys of the Initial space.
+    pub initial: Option<SpaceKeys<H, P>>,
+    /// The keys of the Handshake space.
+    pub handshake: Option<SpaceKeys<H, P>>,
+    /// The 1-RTT keys.
+    pub data: Option<OneRttKeys<H, P>>,
     /// The highest space for which the session gave keys; the Initial space before it gave any. Dropping keys doesn't change
     /// it.
     pub highest: SpaceId,
@@ -83,27 +121,229 @@ fn count<H, P>(keys: &mut Option<SpaceKeys<H, P>>)
     }
 }
 
-#[tactic(auto, unfolding(crate::specs::Keys::keys_of, crate::specs::Keys::key_used, crate::specs::Keys::failure_counted, crate::specs::Keys::keys_given, crate::specs::Keys::keys_dropped, crate::specs::Keys::fails_too_often))]
+/// A packet of this number was sealed under the keys of their epoch, where there are any.
+#[tactic(auto, unfolding(crate::specs::Keys::ring_used))]
+fn count_in_ring<H, P: Drop>(keys: &mut Option<OneRttKeys<H, P>>, number: u64)
+    ensures { keys.new ≡ ring_used number keys.old }
+{
+    if let Some(keys) = keys {
+        keys.ring.sealed(number);
+    }
+}
+
+/// How far the sealing key is used.
+fn plain_usage<H, P>(keys: &Option<SpaceKeys<H, P>>) -> Option<KeyUse>
+    ensures { result ≡ option_map plain_usage keys.now }
+{
+    match keys {
+        None => None,
+        Some(keys) => Some(KeyUse {
+            sealed: keys.sealed,
+            limit: keys.confidentiality_limit,
+        }),
+    }
+}
+
+/// How far the sealing key of the epoch is used.
+fn ring_usage<H, P: Drop>(keys: &Option<OneRttKeys<H, P>>) -> Option<KeyUse>
+    ensures { result ≡ option_map ring_usage keys.now }
+{
+    match keys {
+        None => None,
+        Some(keys) => Some(KeyUse {
+            sealed: keys.ring.count(),
+            limit: keys.confidentiality_limit,
+        }),
+    }
+}
+
+/// How many packets of the peer may fail to open.
+fn plain_integrity<H, P>(keys: &Option<SpaceKeys<H, P>>) -> Option<u64>
+    ensures { result ≡ option_map plain_integrity keys.now }
+{
+    match keys {
+        None => None,
+        Some(keys) => Some(keys.integrity_limit),
+    }
+}
+
+/// How many packets of the peer may fail to open.
+fn ring_integrity<H, P: Drop>(keys: &Option<OneRttKeys<H, P>>) -> Option<u64>
+    ensures { result ≡ option_map ring_integrity keys.now }
+{
+    match keys {
+        None => None,
+        Some(keys) => Some(keys.integrity_limit),
+    }
+}
+
+/// The key phase bit of packets under these keys.
+fn phase_with<H, P: Drop>(keys: &Option<OneRttKeys<H, P>>) -> bool
+    ensures { result ≡ phase_with keys.now }
+{
+    match keys {
+        None => false,
+        Some(keys) => keys.ring.epoch() % 2 == 1,
+    }
+}
+
+#[tactic(auto, unfolding(crate::specs::Keys::key_used, crate::specs::Keys::failure_counted, crate::specs::Keys::has_keys, crate::specs::Keys::header_key, crate::specs::Keys::packet_key, crate::specs::Keys::unmasking_key, crate::specs::Keys::opening_key, crate::specs::Keys::plain_keys, crate::specs::Keys::ring_of, crate::specs::Keys::phase_now, crate::specs::Keys::usage_of, crate::specs::Keys::integrity_limit_of, crate::specs::Keys::keys_given, crate::specs::Keys::keys_dropped, crate::specs::Keys::fails_too_often))]
 impl<H: Drop, P: Drop> KeyGroup<H, P> {
-    /// The keys of the space. None exactly where it has none.
-    pub fn get(&self, space: SpaceId) -> Option<&SpaceKeys<H, P>>
-        ensures { option_copied result ≡ keys_of self.now space }
+    /// The group of a connection that was just made, with the keys of its Initial space.
+    pub fn new(initial: SpaceKeys<H, P>) -> KeyGroup<H, P>
+        ensures { result ≡ first_keys initial }
     {
-        self.spaces.get(space).as_ref()
+        KeyGroup {
+            initial: Some(initial),
+            handshake: None,
+            data: None,
+            highest: SpaceId::Initial,
+            failures: 0,
+        }
+    }
+
+    /// Whether the space has keys.
+    pub fn has(&self, space: SpaceId) -> bool
+        ensures { result ≡ has_keys self.now space }
+    {
+        match space {
+            SpaceId::Initial => self.initial.is_some(),
+            SpaceId::Handshake => self.handshake.is_some(),
+            SpaceId::Data => self.data.is_some(),
+        }
+    }
+
+    /// The key that masks this end's packets of the space. None exactly where it has no keys.
+    pub fn header_key(&self, space: SpaceId) -> Option<&H>
+        ensures { option_copied result ≡ header_key self.now space }
+    {
+        match space {
+            SpaceId::Initial => match &self.initial {
+                None => None,
+                Some(keys) => Some(&keys.keys.header.local),
+            },
+            SpaceId::Handshake => match &self.handshake {
+                None => None,
+                Some(keys) => Some(&keys.keys.header.local),
+            },
+            SpaceId::Data => match &self.data {
+                None => None,
+                Some(keys) => Some(&keys.header.local),
+            },
+        }
+    }
+
+    /// The key that seals this end's packets of the space: of 1-RTT keys that of their epoch. None exactly where it has no keys.
+    pub fn packet_key(&self, space: SpaceId) -> Option<&P>
+        ensures { option_copied result ≡ packet_key self.now space }
+    {
+        match space {
+            SpaceId::Initial => match &self.initial {
+                None => None,
+                Some(keys) => Some(&keys.keys.packet.local),
+            },
+            SpaceId::Handshake => match &self.handshake {
+                None => None,
+                Some(keys) => Some(&keys.keys.packet.local),
+            },
+            SpaceId::Data => match &self.data {
+                None => None,
+                Some(keys) => match keys.ring.key(Which::Current) {
+                    None => None,
+                    Some(pair) => Some(&pair.local),
+                },
+            },
+        }
+    }
+
+    /// The key that takes the mask off the peer's packets of the space. None exactly where it has no keys.
+    pub fn unmasking(&self, space: SpaceId) -> Option<&H>
+        ensures { option_copied result ≡ unmasking_key self.now space }
+    {
+        match space {
+            SpaceId::Initial => match &self.initial {
+                None => None,
+                Some(keys) => Some(&keys.keys.header.remote),
+            },
+            SpaceId::Handshake => match &self.handshake {
+                None => None,
+                Some(keys) => Some(&keys.keys.header.remote),
+            },
+            SpaceId::Data => match &self.data {
+                None => None,
+                Some(keys) => Some(&keys.header.remote),
+            },
+        }
+    }
+
+    /// The key that opens the peer's packets of the Initial or the Handshake space, where it has any.
+    pub fn opening(&self, space: SpaceId) -> Option<&P>
+        ensures { option_copied result ≡ opening_key self.now space }
+    {
+        match space {
+            SpaceId::Initial => match &self.initial {
+                None => None,
+                Some(keys) => Some(&keys.keys.packet.remote),
+            },
+            SpaceId::Handshake => match &self.handshake {
+                None => None,
+                Some(keys) => Some(&keys.keys.packet.remote),
+            },
+            SpaceId::Data => None,
+        }
+    }
+
+    /// The ring of the 1-RTT keys, where there are any.
+    pub fn ring(&self) -> Option<&KeyRing<P>>
+        ensures { option_copied result ≡ ring_of self.now }
+    {
+        match &self.data {
+            None => None,
+            Some(keys) => Some(&keys.ring),
+        }
+    }
+
+    /// The key phase bit of this end's 1-RTT packets: that of their epoch (RFC 9001, 6).
+    pub fn phase(&self) -> bool
+        ensures { result ≡ phase_now self.now }
+    {
+        phase_with(&self.data)
+    }
+
+    /// How far the sealing key of the space is used. None exactly where it has none.
+    pub fn usage(&self, space: SpaceId) -> Option<KeyUse>
+        ensures { result ≡ usage_of self.now space }
+    {
+        match space {
+            SpaceId::Initial => plain_usage(&self.initial),
+            SpaceId::Handshake => plain_usage(&self.handshake),
+            SpaceId::Data => ring_usage(&self.data),
+        }
     }
 
     /// Whether the sealing key of a space has sealed as many packets as it may, with so many more. False where it has none.
     pub fn reaches_limit(&self, space: SpaceId, more: u64) -> bool
-        ensures { result ≡ reaches_limit more (keys_of self.now space) }
+        ensures { result ≡ reaches_limit more (usage_of self.now space) }
     {
-        reaches_limit(self.spaces.get(space), more)
+        reaches_limit(self.usage(space), more)
+    }
+
+    /// How many packets of the peer may fail to open, by the sealing key of the space. None exactly where it has none.
+    fn integrity_limit(&self, space: SpaceId) -> Option<u64>
+        ensures { result ≡ integrity_limit_of self.now space }
+    {
+        match space {
+            SpaceId::Initial => plain_integrity(&self.initial),
+            SpaceId::Handshake => plain_integrity(&self.handshake),
+            SpaceId::Data => ring_integrity(&self.data),
+        }
     }
 
     /// Whether more packets of the peer didn't open than the key of the highest space lets pass.
     pub fn fails_too_often(&self) -> bool
         ensures { result ≡ fails_too_often self.now }
     {
-        exceeds_limit(self.spaces.get(self.highest), self.failures)
+        exceeds_limit(self.integrity_limit(self.highest), self.failures)
     }
 
     /// A packet didn't open.
@@ -113,24 +353,20 @@ impl<H: Drop, P: Drop> KeyGroup<H, P> {
         self.failures = self.failures.saturating_add(1);
     }
 
-    /// The session gave these keys, if it gave any: those of the space behind the highest one, which is the highest from
-    /// then on.
-    pub fn give(&mut self, keys: Option<SpaceKeys<H, P>>)
-        ensures { self.new ≡ keys_given self.old keys }
+    /// The session gave the keys of the Handshake space, which is the highest from then on.
+    pub fn give_handshake(&mut self, keys: SpaceKeys<H, P>)
+        ensures { self.new ≡ keys_given self.old (HandshakeKeys keys) }
     {
-        if let Some(keys) = keys {
-            match self.highest {
-                SpaceId::Initial => {
-                    self.spaces.handshake = Some(keys);
-                    self.highest = SpaceId::Handshake;
-                }
-                SpaceId::Handshake => {
-                    self.spaces.application = Some(keys);
-                    self.highest = SpaceId::Data;
-                }
-                SpaceId::Data => {}
-            }
-        }
+        self.handshake = Some(keys);
+        self.highest = SpaceId::Handshake;
+    }
+
+    /// The session gave the 1-RTT keys, whose space is the highest from then on.
+    pub fn give_data(&mut self, keys: OneRttKeys<H, P>)
+        ensures { self.new ≡ keys_given self.old (DataKeys keys) }
+    {
+        self.data = Some(keys);
+        self.highest = SpaceId::Data;
     }
 
     /// The keys of the space are dropped.
@@ -138,20 +374,20 @@ impl<H: Drop, P: Drop> KeyGroup<H, P> {
         ensures { self.new ≡ keys_dropped self.old space }
     {
         match space {
-            SpaceId::Initial => self.spaces.initial = None,
-            SpaceId::Handshake => self.spaces.handshake = None,
-            SpaceId::Data => self.spaces.application = None,
+            SpaceId::Initial => self.initial = None,
+            SpaceId::Handshake => self.handshake = None,
+            SpaceId::Data => self.data = None,
         }
     }
 
-    /// A packet was sealed in the space: its key's count rises by one.
-    pub fn used(&mut self, space: SpaceId)
-        ensures { self.new ≡ key_used self.old space }
+    /// A packet of this number was sealed in the space: it counts under its key.
+    pub fn used(&mut self, space: SpaceId, number: u64)
+        ensures { self.new ≡ key_used self.old space number }
     {
         match space {
-            SpaceId::Initial => count(&mut self.spaces.initial),
-            SpaceId::Handshake => count(&mut self.spaces.handshake),
-            SpaceId::Data => count(&mut self.spaces.application),
+            SpaceId::Initial => count(&mut self.initial),
+            SpaceId::Handshake => count(&mut self.handshake),
+            SpaceId::Data => count_in_ring(&mut self.data, number),
         }
     }
 }

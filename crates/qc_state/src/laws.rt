@@ -55,8 +55,8 @@ pub fn paths_hold<U: Suite>()
     ensures { (s last : View (record { S = U.Session; H = U.Session.HeaderKey; P = U.Session.PacketKey; D = U.Session.HandshakeData; I = U.Session.PeerIdentity; C = U.Control.Controller })) (k : ℕ) (is : List Input) (xs : List Step) → Run (meaning U.Session.Session U.Session.HeaderKey.HeaderMask U.Session.PacketKey.PacketKey U.Control.Controller.Controller) k s is xs last → PathHolds (all_from s.paths.remote is) (deeds_of xs) s.paths last.paths }
 {}
 
-/// A law, which runs no code. Over a run no Initial or Handshake key seals more packets than it may (RFC 9001, 6.6): each packet that is
-/// sealed under it counts, and the count stays within the limit.
+/// A law, which runs no code. Over a run no key seals more packets than it may (RFC 9001, 6.6): each packet that is sealed under
+/// it counts, and the count stays within the limit. Of 1-RTT keys each epoch has a count of its own.
 pub fn keys_hold<U: Suite>()
     ensures { (s last : View (record { S = U.Session; H = U.Session.HeaderKey; P = U.Session.PacketKey; D = U.Session.HandshakeData; I = U.Session.PeerIdentity; C = U.Control.Controller })) (k : ℕ) (is : List Input) (xs : List Step) → Run (meaning U.Session.Session U.Session.HeaderKey.HeaderMask U.Session.PacketKey.PacketKey U.Control.Controller.Controller) k s is xs last → KeysHold s.keys → KeysHold last.keys }
 {}

@@ -30,7 +30,7 @@ pub use crypto_queue::CryptoQueue;
 pub use deeds::{Did, Dids, Layer, Quiet, Verdict};
 pub use events::{EndpointEvent, EndpointEvents, Event, Events};
 pub use input::{Input, Word};
-pub use keys::{KeyGroup, SpaceKeys};
+pub use keys::{KeyGroup, KeyUse, OneRttKeys, SpaceKeys};
 pub use laws::{
     acks_were_accepted, datagrams_keep, events_are_datagrams, first_packets_are_datagrams,
     harmless_bytes, keys_hold, numbers_count_once, paths_hold, runs_join,

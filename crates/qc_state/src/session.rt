@@ -1,10 +1,10 @@
 //! The session of a connection, from which calls lead on from a fresh one.
 
-ghost use Rattle.std.specs.Prelude.{◌≡◌, ◌^◌, ◌<◌, ◌⊎◌, [], ◌++◌, None, Ok, length, IsSome, IfOk, IfErr, OnOk, OnErr};
+ghost use Rattle.std.specs.Prelude.{◌≡◌, ◌^◌, ◌<◌, ◌≤◌, ◌⊎◌, [], ◌++◌, None, Ok, length, IsSome, IfOk, IfErr, OnOk, OnErr};
 ghost use Rattle.qc_crypto.specs.Refusal.{AnswersError, LeavesAfter};
 
 use qc_base::{ConnectionId, Side, TransportError};
-use qc_crypto::{Keys, Session, SessionError};
+use qc_crypto::{KeyPair, Keys, Session, SessionError};
 use qc_params::TransportParameters;
 use std::alloc::AllocError;
 use std::marker::Model;
@@ -96,5 +96,14 @@ impl<S: Session> SoundSession<S> {
         ensures err_bytes { OnErr result (buf.new.items ≡ buf.old.items) }
     {
         self.session.write_handshake(buf)
+    }
+
+    /// The 1-RTT keys of the next epoch (RFC 9001, 6.1). None before 1-RTT keys were given. They leave no more to write.
+    pub fn next_keys(&mut self) -> Option<KeyPair<S::PacketKey>>
+        ensures keys { result ≡ S.next_keys self.old }
+        ensures after { self.new ≡ S.after_next self.old }
+        ensures left { S.left self.new ≤ S.left self.old }
+    {
+        self.session.next_1rtt_keys()
     }
 }

@@ -119,6 +119,10 @@ pub toy_unwritten_next : (s : ToySession) → bytes_left (session_after_next s) 
 unfolding session_after_next
 toy_unwritten_next s = omega arith
 
+pub toy_left_next : (s : ToySession) → steps_left (session_after_next s) ≤ steps_left s
+unfolding session_after_next
+toy_left_next s = omega arith
+
 -- ---- changes of keys
 
 pub toy_changes_most : (s : ToySession) → IsSound s → changes_of s ≤ 2

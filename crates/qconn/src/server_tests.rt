@@ -31,6 +31,14 @@ pub(crate) const OF_ANOTHER: &str =
 /// A 1-RTT packet, number 0, with a PING.
 const EARLY: &str = "570101010101010101ee01000077ee65dc53cc41b82fa61d940b82f970";
 
+/// A Handshake packet, number 0, with a client's end, to a server whose id is empty.
+const END_WITHOUT_ID: &str =
+    "e4000000010008020202020202020240170006000304000165ca2f94f95fc3288df257bc2186eb50";
+
+/// A 1-RTT packet, number 7, with a PING and three PADDING, to a server whose id is empty: the header 40 07, whose checksum with
+/// the payload and the number is 88, so that the tag's bytes are its multiples.
+const KNOWN: &str = "405f0100000058b00860b81268c01870c82078d02880";
+
 /// A Handshake packet, number 0, with a client's end.
 pub(crate) const END: &str =
     "e400000001080101010101010101080202020202020202401700060003040001c9925b24edb77f4811daa36c35fec790";
@@ -227,5 +235,81 @@ fn a_server_that_closed_takes_no_first_datagram(rt: HostRuntime) -> Result<(), F
             .contains("\nstep 1 datagram 1\nanswer dropped\n"),
         "{text}"
     );
+    Ok(())
+}
+
+// The packet with number 7 is opened, and with its last byte changed it isn't.
+#[test]
+fn a_known_packet_is_opened(rt: HostRuntime) -> Result<(), Fail> {
+    let alloc = rt.alloc();
+    let mut changed = String::from_str(alloc, KNOWN)?;
+    let _last = changed.pop();
+    changed.push_str("1")?;
+    let mut script = String::from_str(alloc, "set side server\nset local -\n")?;
+    for packet in [HELLO, END_WITHOUT_ID, changed.as_str(), KNOWN, KNOWN] {
+        script.push_str("datagram 1 ")?;
+        script.push_str(PATH)?;
+        script.push_str(" - ")?;
+        script.push_str(packet)?;
+        script.push_str("\n")?;
+    }
+    let (status, text) = outcome(alloc, &["run"], script.as_str(), &none())?;
+    assert!(rt; status == Status::Done, "{text}");
+    for told in [
+        "step 1 datagram 1\npiece handshake 0 Admitted\ngave session 040000\nlife 1\nanswer done\nevent connected\n",
+        "step 2 datagram 1\npiece data - Failure\nanswer done\n",
+        "step 3 datagram 1\npiece data 7 Admitted\nanswer done\n",
+        "step 4 datagram 1\npiece data 7 Seen\nanswer done\n",
+    ] {
+        assert!(rt; text.as_str().contains(told), "{told} {text}");
+    }
+    Ok(())
+}
+
+/// 1-RTT packets with a PING and three PADDING each, and what a server tells of them, one after the other: with the numbers 300, 171,
+/// 172, 300 and 301, of which the header has two bytes, a8 2f 30 ea with all four, and a8 2f 9b 32 with the last two.
+const FAR_APART: &[(&str, &str)] = &[
+    (
+        "41010101010101010101bf010000009327b94cdf7405982bbe51e4770a9d30",
+        "piece data 300 Admitted\nanswer done\n",
+    ),
+    (
+        "41010101010101010100d6010000007dfa77f471f06be865e25fdc59d653d0",
+        "piece data 171 Seen\nanswer done\n",
+    ),
+    (
+        "41010101010101010100250100000089129b24ad38bf48d15ae36cf57e0790",
+        "piece data 172 Admitted\nanswer done\n",
+    ),
+    (
+        "41010101010101010101bf010000009327b94cdf7405982bbe51e4770a9d30",
+        "piece data 300 Seen\nanswer done\n",
+    ),
+    (
+        "41010101010101010101b2010000009f3fdd7c1bbc59f89736d57413b251f0",
+        "piece data 301 Admitted\nanswer done\n",
+    ),
+    (
+        "420101010101010101a82f30f4010000001e6c892096b6d2f00e2c4a6886a4c2e0",
+        "piece data 2821665002 Admitted\nanswer done\n",
+    ),
+    (
+        "4101010101010101019bed01000000df59cc245b3c19f8d7b69574533211f0",
+        "piece data 2821692210 Admitted\nanswer done\n",
+    ),
+];
+
+// The window of numbers that came ends 128 below the greatest. Of a number the bytes in the header are those of the nearest one to
+// the number behind the greatest.
+#[test]
+fn numbers_far_apart_are_told(rt: HostRuntime) -> Result<(), Fail> {
+    let alloc = rt.alloc();
+    let mut packets = Vec::new(alloc);
+    packets.push(HELLO)?;
+    packets.push(END)?;
+    for (packet, told) in FAR_APART {
+        packets.push(*packet)?;
+        assert!(rt; tells(alloc, packets.as_slice(), told)?, "{told}");
+    }
     Ok(())
 }

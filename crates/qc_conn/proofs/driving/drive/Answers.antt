@@ -1,7 +1,23 @@
+use Rattle.std.specs.Prelude.{List, Result, Ok, Err, IfOk, OnOk}
 use Rattle.qc_state.proofs.AcksAccepted.{none_acks_known}
+use Rattle.qc_state.proofs.KeysHold.{run_keys_hold}
 use Rattle.qc_state.proofs.Steps.{ran_none}
 use Rattle.qc_state.proofs.Told.{none_rises, none_admits, none_life_rises, none_closes, none_loses_once}
+use Rattle.qc_state.specs.declared.input.Input.{Input}
+use Rattle.qc_state.specs.declared.trace.Step.{Step}
+use Rattle.qc_state.specs.KeyLaws.{KeysHold}
+use Rattle.qc_state.specs.Run.{Run}
+use Rattle.qc_state.specs.Types.{Types, Meaning}
+use Rattle.qc_state.specs.View.{View}
 use Rattle.qc_conn.proofs.driving.drive.Goals as goal
+
+-- no key seals more than it may over a run, if there is one
+keys_kept : {t : Types} {E : Type 0} (m : Meaning t) (s s' : View t) (inputs : List Input) (answer : Result (List Step) E) → IfOk answer (λ trace. Run m 0 s inputs trace s') → KeysHold s.keys → OnOk answer (KeysHold s'.keys)
+keys_kept m s s' inputs (Ok trace) run h = run_keys_hold m 0 s inputs trace s' run h
+keys_kept m s s' inputs (Err e) run h = tt
+
+pub returns-clause-keys : goal.returns-clause-keys
+returns-clause-keys g c = keys_kept _ _ _ _ c.drive_all.result c.drive_all.ensures.run
 
 -- the empty trace is a run over no inputs
 pub returns-then-is_failed-clause-part : goal.returns-then-is_failed-clause-part

@@ -1,7 +1,6 @@
 use Rattle.qc_header.specs.HeaderSpelling.{header_number}
 use Rattle.qc_packet.proofs.Arrivals as law
 use Rattle.qc_packet.specs.PacketSpelling.{header_bytes}
-use Rattle.qc_packet.specs.OpenedPacket.{opened_by}
 use Rattle.qc_packet.proofs.laws.sealed_packet_arrives.Goals as goal
 
 pub returns-clause-arrives : goal.returns-clause-arrives

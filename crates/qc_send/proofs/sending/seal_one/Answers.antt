@@ -1,7 +1,6 @@
-use Rattle.std.proofs.Common.{◌-◌, ◌<◌, ◌^◌, arith}
-use Rattle.qc_state.specs.Numbers.{next_number}
 use Rattle.qc_state.specs.View.{held, ideal}
-use Rattle.qc_state.proofs.Seals.{loud_low, loud_near, loud_near_begun, loud_keyed, taken_room, seals_taken}
+use Rattle.qc_state.proofs.Seals.{loud_low, loud_near, loud_near_begun, loud_keyed, loud_fresh, taken_room, seals_taken}
+use Rattle.qc_send.proofs.Wide.{loud_wide}
 use Rattle.qc_send.proofs.sending.seal_one.Goals as goal
 
 -- the number is near enough to the greatest acknowledged one, before frames were taken
@@ -18,10 +17,8 @@ seal-requires-clause-near g c =
 -- it isn't the greatest of all
 pub seal-requires-clause-low : goal.seal-requires-clause-low
 seal-requires-clause-low g c =
-    let low : next_number c.take.new.self.numbers c.sending_space-space.result < 2 ^ 62 - 1 =
     loud_low (held g.U.Random.Rng.stream c.args.core.now c.args.did.now) (ideal g.U.Random.Rng.stream c.begin_datagram.new.self) (ideal g.U.Random.Rng.stream c.take.new.self) c.sending_space-space.result c.in_ok-frames.frames
-    c.sending_space-space.ensures c.requires.loud c.in_ok-begin_datagram.ensures c.in_ok-frames.ensures.leads in
-    omega (arith, low)
+    c.sending_space-space.ensures c.requires.loud c.in_ok-begin_datagram.ensures c.in_ok-frames.ensures.leads
 
 -- its space has keys
 pub seal-requires-clause-keyed : goal.seal-requires-clause-keyed
@@ -29,7 +26,19 @@ seal-requires-clause-keyed g c =
     loud_keyed (held g.U.Random.Rng.stream c.args.core.now c.args.did.now) (ideal g.U.Random.Rng.stream c.begin_datagram.new.self) (ideal g.U.Random.Rng.stream c.take.new.self) c.sending_space-space.result c.in_ok-frames.frames
     c.sending_space-space.ensures c.requires.loud c.in_ok-begin_datagram.ensures c.in_ok-frames.ensures.leads
 
--- and the frames have room behind its header
+-- which may seal one more
+pub seal-requires-clause-fresh : goal.seal-requires-clause-fresh
+seal-requires-clause-fresh g c =
+    loud_fresh (held g.U.Random.Rng.stream c.args.core.now c.args.did.now) (ideal g.U.Random.Rng.stream c.begin_datagram.new.self) (ideal g.U.Random.Rng.stream c.take.new.self) c.sending_space-space.result c.in_ok-frames.frames
+    c.sending_space-space.ensures c.requires.loud c.in_ok-begin_datagram.ensures c.in_ok-frames.ensures.leads
+
+-- its header leaves room for a close
+pub seal-requires-clause-wide : goal.seal-requires-clause-wide
+seal-requires-clause-wide g c =
+    loud_wide (held g.U.Random.Rng.stream c.args.core.now c.args.did.now) (ideal g.U.Random.Rng.stream c.begin_datagram.new.self) (ideal g.U.Random.Rng.stream c.take.new.self) c.sending_space-space.result c.in_ok-frames.frames
+    c.sending_space-space.ensures c.requires.loud c.in_ok-begin_datagram.ensures c.in_ok-frames.ensures.wide c.in_ok-frames.ensures.leads
+
+-- and the frames have room behind it
 pub seal-requires-clause-room : goal.seal-requires-clause-room
 seal-requires-clause-room g c =
     taken_room c.args.now (held g.U.Random.Rng.stream c.args.core.now c.args.did.now) (ideal g.U.Random.Rng.stream c.begin_datagram.new.self) (ideal g.U.Random.Rng.stream c.take.new.self) c.sending_space-space.result c.in_ok-frames.frames

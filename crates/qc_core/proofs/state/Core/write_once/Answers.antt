@@ -11,6 +11,6 @@ returns-then-is_nothing g c =
 -- the session wrote something, or gave keys
 pub returns : goal.returns
 returns g c =
-    something_written (meaning g.U.Session.Session g.U.Session.HeaderKey.HeaderMask g.U.Session.PacketKey.PacketKey g.U.Control.Controller.Controller) g.U.Random.Rng.stream _ _ c.write.new.buf.items c.new-bytes.result.items c.as_slice.result.now c.in_ok-bytes.bytes c.in_ok-keys.keys c.unused.result c.write.new.self c.give.new.self c.write-2.new.self c.args.did.now c.is_nothing.result
+    something_written (meaning g.U.Session.Session g.U.Session.HeaderKey.HeaderMask g.U.Session.PacketKey.PacketKey g.U.Control.Controller.Controller) g.U.Random.Rng.stream _ _ c.take_keys.new.self c.write.new.buf.items c.new-bytes.result.items c.as_slice.result.now c.in_ok-bytes.bytes c.in_ok-keys.keys c.write.new.self c.write-2.new.self c.args.did.now c.is_nothing.result
     c.self.view_is c.in_ok-keys.ensures.keys c.new-bytes.ensures.items c.in_ok-keys.ensures.bytes c.as_slice.ensures.value c.is_nothing.ensures c.if-is_nothing.false c.in_ok-keys.ensures.falls c.in_ok-keys.ensures.after c.in_ok-bytes.ensures.ok
-    c.in_ok-write.ensures c.unused.ensures c.give.ensures
+    c.in_ok-write.ensures c.take_keys.ensures.leads c.take_keys.ensures.left
