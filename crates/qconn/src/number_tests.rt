@@ -4,7 +4,7 @@
 
 use crate::handshake_tests::{REPLY, established, text_of};
 use crate::receiving_tests::PATH;
-use crate::server_tests::pings;
+use crate::server_tests::{KNOWN, pings};
 use std::alloc::Global;
 use std::test::Fail;
 
@@ -154,6 +154,50 @@ fn bits_of_packets_are_drawn(rt: HostRuntime) -> Result<(), Fail> {
             out 00000000000000000000000000000001/4433 30 - - 60040404040404040477010000007efc7af876f672f06eec6ae866e462e0\n",
     ] {
         assert!(rt; text.as_str().contains(sealed), "{sealed} {text}");
+    }
+    Ok(())
+}
+
+/// An Initial packet, number 10, of a server whose id is empty, with an ACK of number 0 alone and its reply.
+const REPLY_OF_EMPTY: &str =
+    "c6000000010801010101010101010000401d0c060404020206010402000100dfba956e4922fed8b38e69441ffad5b0";
+
+/// A Handshake packet of the same, number 0, with its end: the parameters name the first id, eight bytes 02, and the empty one.
+const END_OF_EMPTY: &str =
+    "e3000000010801010101010101010040240006001003000c01000802020202020202020f00f5eadfd4c9bfb4a89d92877c71665b50";
+
+/// A 1-RTT packet of the same, number 0, with three PADDING.
+const PADDING: &str = "4c0101010101010101d80000006cd844b01c8af560cc38a4107ce854c0";
+
+/// The same, whose spin bit is 1.
+const SPUN_PADDING: &str = "6c0101010101010101180000008c18a430bc4ad560ec7804901ca834c0";
+
+/// The packet `KNOWN`, but with the spin bit 1: its checksum is 88 + 32 = 120.
+const KNOWN_SPUN: &str = "607f0100000078f068e058d248c038b028a018900880";
+
+// A client seals the packet with number 7 that a server opens. Its server's id is empty as well, so that the header is 40 07, or 60 07
+// with the spin bit: the client turns the bit of the server's 1-RTT packet round. That packet elicits no ACK, and none goes with a PING,
+// since the next one that may go so stands more than 26 ms behind the ACK of the Handshake packet. Behind a header without an id a
+// packet needs 4 bytes before its tag, a PING and three PADDING: 2 + 4 + 16 = 22 bytes. Number 0 is skipped, so that the seventh PING
+// goes with number 7. The server's ACK has no counts of marks, so that what is sent then has no mark.
+#[test]
+fn a_known_packet_is_sealed(rt: HostRuntime) -> Result<(), Fail> {
+    let alloc = rt.alloc();
+    let asked = pings(alloc, 5, 7)?;
+    for (packet, sealed) in [(SPUN_PADDING, KNOWN), (PADDING, KNOWN_SPUN)] {
+        let lines = format!(in alloc;
+            "transmit 0 1\ndatagram 1 {PATH} - {REPLY_OF_EMPTY}{END_OF_EMPTY}\ntransmit 2 1\ntransmit 3 1\ndatagram 4 {PATH} - {packet}\n{asked}"
+        )?;
+        let text = text_of(alloc, lines.as_str())?;
+        let told = format!(in alloc;
+            "step 18 transmit 5\nseal data 7 0 PING/01 PADDING*3\nout {PATH} 22 - - {sealed}\n"
+        )?;
+        for part in [
+            "step 4 datagram 4\npiece data 0 Admitted\nanswer done\n",
+            told.as_str(),
+        ] {
+            assert!(rt; text.as_str().contains(part), "{part} {text}");
+        }
     }
     Ok(())
 }

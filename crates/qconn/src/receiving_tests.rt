@@ -233,3 +233,52 @@ fn an_acknowledgement_sets_the_loss_timer_anew(rt: HostRuntime) -> Result<(), Fa
     assert!(rt; text.as_str().ends_with(told), "{text}");
     Ok(())
 }
+
+/// Initial packets of the server with a PING each, and what a client tells of them, one after the other: with the numbers 300, 172 and
+/// 171, of which the header has two bytes, and 300 and 301, of which it has one.
+const AT_THE_EDGE: &[(&str, &str)] = &[
+    (
+        "c70000000108010101010101010108040404040404040400401464260504b2610eba6814c3701ecc7a28d68432e0",
+        "step 0 datagram 0\npiece initial 300 Admitted\nanswer done\n",
+    ),
+    (
+        "c2000000010801010101010101010804040404040404040040142e950504172a3d4e61728698abbed1e4f70a1d30",
+        "step 1 datagram 0\npiece initial 172 Admitted\nanswer done\n",
+    ),
+    (
+        "cf00000001080101010101010101080404040404040404004014f4490504faf0e6dad0c4bbb0a69c92887e746a60",
+        "step 2 datagram 0\npiece initial 171 Seen\nanswer done\n",
+    ),
+    (
+        "cd00000001080101010101010101080404040404040404004014e705040469cf3396fb5ec4288df257bc2186eb50",
+        "step 3 datagram 0\npiece initial 300 Seen\nanswer done\n",
+    ),
+    (
+        "c1000000010801010101010101010804040404040404040040142e0504048507870687068808890a8b0c8d0e8f10",
+        "step 4 datagram 0\npiece initial 301 Admitted\nanswer done\n",
+    ),
+];
+
+// Of the numbers below 300, 172 is the last that the window still holds, 128 less; 171 counts as seen, though it comes for the first
+// time. Of a number the bytes in the header are those of the nearest one to 301 (RFC 9000, A.3): one byte tells 300 and 301, 2c and 2d,
+// but as ac alone 172 would be 428. The ACK has 301 and 300, which is a range of one number more than its greatest, and behind a gap of
+// 300 - 172 - 2 = 126 the number 172 alone.
+#[test]
+fn a_window_of_numbers_is_kept(rt: HostRuntime) -> Result<(), Fail> {
+    let alloc = rt.alloc();
+    let mut script = String::from_str(alloc, "set side client\n")?;
+    for (packet, _told) in AT_THE_EDGE {
+        let line = came(alloc, packet)?;
+        script.push_str(line.as_str())?;
+    }
+    script.push_str("transmit 1 1\n")?;
+    let (status, text) = outcome(alloc, &["run"], script.as_str(), &none())?;
+    assert_eq!(rt; status, Status::Done);
+    for (_packet, told) in AT_THE_EDGE {
+        assert!(rt; text.as_str().contains(told), "{told} {text}");
+    }
+    let sealed =
+        "step 5 transmit 1\nseal initial 0 0 ACK/02412d000101407e00 CRYPTO/0600404801004500";
+    assert!(rt; text.as_str().contains(sealed), "{text}");
+    Ok(())
+}

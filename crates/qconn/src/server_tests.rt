@@ -37,7 +37,7 @@ const END_WITHOUT_ID: &str =
 
 /// A 1-RTT packet, number 7, with a PING and three PADDING, to a server whose id is empty: the header 40 07, whose checksum with
 /// the payload and the number is 88, so that the tag's bytes are its multiples.
-const KNOWN: &str = "405f0100000058b00860b81268c01870c82078d02880";
+pub(crate) const KNOWN: &str = "405f0100000058b00860b81268c01870c82078d02880";
 
 /// A Handshake packet, number 0, with a client's end.
 pub(crate) const END: &str =
