@@ -1,5 +1,5 @@
 //! Runs of a client that receives. The server's packets were sealed by a program of its own in another language: toy keys of a
-//! first id of eight bytes 02, destination eight bytes 01, source eight bytes 04, numbers of one byte.
+//! first id of eight bytes 02, destination eight bytes 01, source eight bytes 04, numbers of one byte, if nothing else is said.
 
 use crate::run::Status;
 use crate::tests::{none, outcome};
@@ -267,14 +267,14 @@ const AT_THE_EDGE: &[(&str, &str)] = &[
 fn a_window_of_numbers_is_kept(rt: HostRuntime) -> Result<(), Fail> {
     let alloc = rt.alloc();
     let mut script = String::from_str(alloc, "set side client\n")?;
-    for (packet, _told) in AT_THE_EDGE {
+    for (packet, _) in AT_THE_EDGE {
         let line = came(alloc, packet)?;
         script.push_str(line.as_str())?;
     }
     script.push_str("transmit 1 1\n")?;
     let (status, text) = outcome(alloc, &["run"], script.as_str(), &none())?;
     assert_eq!(rt; status, Status::Done);
-    for (_packet, told) in AT_THE_EDGE {
+    for (_, told) in AT_THE_EDGE {
         assert!(rt; text.as_str().contains(told), "{told} {text}");
     }
     let sealed =
