@@ -28,7 +28,7 @@ use Rattle.qc_state.specs.declared.waiting.SpaceWaiting.{SpaceWaiting}
 use Rattle.qc_state.specs.declared.waiting.Waiting.{Waiting}
 use Rattle.qc_state.specs.Headline.{deeds_of, KnownBehind, AcksOnly, SealsKnown, AcksKnown, IsKept, EachAcksKnown}
 use Rattle.qc_state.specs.Life.{is_open, is_drained, rank_of}
-use Rattle.qc_state.specs.Moves.{Move, ClosesOnly, Clock, Ask, Take, Seal, Forget, Enter, Expect, Fail, Accept, Fix, Hear, Ack, Fire, Arm, Release, Begin, Skip, Come, Read, Write, Ready, Token, Learn, Want, Confirm, Establish, Tell, Drain, Leave, Owe, Shut, Raise, Give, Say, ReportReady, ReportConnected, ReportLost, ReportToken, ReportWanted, ReportDrained, accepts, state_move, move_to, deeds_move, waiting_move, numbers_move, life_move, MayMove, IsTold, told, arrival_of}
+use Rattle.qc_state.specs.Moves.{Move, ClosesOnly, Clock, Ask, Take, Seal, Forget, Enter, Expect, Fail, Accept, Fix, Hear, Ack, Fire, Arm, Pace, Release, Begin, Skip, Come, Read, Write, Ready, Token, Learn, Want, Confirm, Establish, Tell, Drain, Leave, Owe, Shut, Raise, Give, Say, ReportReady, ReportConnected, ReportLost, ReportToken, ReportWanted, ReportDrained, accepts, state_move, move_to, deeds_move, waiting_move, numbers_move, life_move, MayMove, IsTold, told, arrival_of}
 use Rattle.qc_state.specs.Numbers.{next_number}
 use Rattle.qc_state.specs.Numbers as numbers
 use Rattle.qc_state.specs.Run.{time_of, packets_of, began, close_after, input_after, called, reported, step_after, IsAllowed, IsStep, Run, Ran}
@@ -235,6 +235,7 @@ module _ {t : Types} where
   knows_move id (Ack space n r) a h k = silent_knows id (Ack space n r) a refl (settled_kept id space a.state.waiting r.acked r.lost)
   knows_move id (Fire r) a h k = silent_knows id (Fire r) a refl (fired_kept id a.state.waiting r.fired)
   knows_move id (Arm at) a h k = silent_knows id (Arm at) a refl (λ n m. m)
+  knows_move id Pace a h k = silent_knows id Pace a refl (λ n m. m)
   knows_move id Release a h k = silent_knows id Release a refl (released_kept id a.state.waiting)
   knows_move id Skip a h k = silent_knows id Skip a refl (λ n m. m)
   knows_move id (Begin space) a h k = silent_knows id (Begin space) a refl (datagram_kept id space a.state.waiting (first_of (recovery.space_of space a.state.lower.recovery).flight))
@@ -372,6 +373,7 @@ module _ {t : Types} where
   timed_knows : (x : Move t) (s : View t) → IsTimed x → IsKnowing x s
   timed_knows (Fire after) s r = tt
   timed_knows (Arm at) s r = tt
+  timed_knows Pace s r = tt
   timed_knows Release s r = tt
   timed_knows (Raise to) s r = tt
   timed_knows (Give why) s r = tt

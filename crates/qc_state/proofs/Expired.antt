@@ -1,18 +1,18 @@
 -- What holds of each move that a timer makes holds of a timeout; and behind one neither the idle timer nor the close timer, nor that
--- of an ACK which is held back, is left having come.
-use Rattle.std.proofs.Common.{◌≡◌, ℕ, refl, sym, ◌∙◌, subst, Bool, true, false, if◌then◌else◌}
+-- of the pacer or of an ACK which is held back, is left having come.
+use Rattle.std.proofs.Common.{◌≡◌, ℕ, refl, ap, sym, ◌∙◌, subst, Bool, true, false, if◌then◌else◌, Option}
 use Rattle.std.specs.Prelude.{is_none}
 use Rattle.qc_recovery.specs.Steps.{FiredAfter}
 use Rattle.qc_state.specs.declared.life.ConnectionError.{ConnectionError}
 use Rattle.qc_state.specs.declared.life.ConnectionError.TheVariants.{TimedOut}
 use Rattle.qc_state.specs.declared.life.State.TheVariants.{Drained}
 use Rattle.qc_state.specs.Life.{is_drained}
-use Rattle.qc_state.specs.Moves.{Move, Fire, Arm, Raise, Release, Give, MayMove, state_move, move_to, life_move, timers_move, armed_after, armed_with}
+use Rattle.qc_state.specs.Moves.{Move, Fire, Arm, Pace, Raise, Release, Give, MayMove, state_move, move_to, life_move, timers_move, armed_after, armed_with}
 use Rattle.qc_state.specs.Paths.{is_blocked}
 use Rattle.qc_state.specs.Recovering.{fired_by, loss_time}
 use Rattle.qc_state.specs.Stopping.{given_after, killed_after}
-use Rattle.qc_state.specs.Timeouts.{loss_expired, idle_expired, close_expired, ack_expired, timeout_after}
-use Rattle.qc_state.specs.Timers.{has_come, timers_released, timers_stopped}
+use Rattle.qc_state.specs.Timeouts.{loss_expired, idle_expired, close_expired, pacing_expired, ack_expired, timeout_after}
+use Rattle.qc_state.specs.Timers.{has_come, timers_paced, timers_released, timers_stopped}
 use Rattle.qc_state.specs.Types.{Types, Meaning}
 use Rattle.qc_state.specs.View.{At}
 use Rattle.qc_state.proofs.Telling.{low_rank, is_none_none}
@@ -21,6 +21,7 @@ use Rattle.qc_state.proofs.Telling.{low_rank, is_none_none}
 abbrev pub IsTimed : {t : Types} → Move t → Type 0
 IsTimed (Fire r) = Unit {0}
 IsTimed (Arm at) = Unit {0}
+IsTimed Pace = Unit {0}
 IsTimed Release = Unit {0}
 IsTimed (Raise to) = Unit {0}
 IsTimed (Give why) = Unit {0}
@@ -74,21 +75,34 @@ module _ {t : Types} (R : At t → At t → Type 0) (here : (a : At t) → R a a
       subst (λ (x : Bool). R a (if x then move_to (Raise Drained) c else c)) (sym (killed_stops TimedOut time a (is_none (move_to (Raise Drained) a).state.life.reason))) (holds_killed TimedOut a h)
   ended_by time a false h = raised_by a (has_come a.state.timers.close time) h
 
+  -- a datagram that was held back may go
+  paced_by : (a : At t) (b : Bool) → R a (if b then move_to Pace a else a)
+  unfolding MayMove
+  paced_by a true = move Pace tt a tt
+  paced_by a false = here a
+
   -- an ACK that was held back is owed
   released_by : (a : At t) (b : Bool) → R a (if b then move_to Release a else a)
   unfolding MayMove
   released_by a true = move Release tt a tt
   released_by a false = here a
 
-  alive_by : (m : Meaning t) (time : ℕ) (a : At t) (b : Bool) → is_drained a.state.life.state ≡ b → R a (if b then a else ack_expired time (close_expired time (idle_expired time (loss_expired m time a))))
-  unfolding loss_expired idle_expired ack_expired
+  -- what the last two timers do
+  late_by : (time : ℕ) (a : At t) → R a (ack_expired time (pacing_expired time a))
+  unfolding pacing_expired ack_expired
+  late_by time a =
+      let b : At t = pacing_expired time a in
+      next a b _ (paced_by a (has_come a.state.timers.pacing time)) (released_by b (has_come b.state.timers.max_ack_delay time))
+
+  alive_by : (m : Meaning t) (time : ℕ) (a : At t) (b : Bool) → is_drained a.state.life.state ≡ b → R a (if b then a else ack_expired time (pacing_expired time (close_expired time (idle_expired time (loss_expired m time a)))))
+  unfolding loss_expired idle_expired
   alive_by m time a true h = here a
   alive_by m time a false h =
       let c : At t = loss_expired m time a in
       let d : At t = close_expired time (idle_expired time c) in
       let r : FiredAfter t.C = fired_by m time a.state in
       next a c _ (fired_and time r a (has_come a.state.timers.loss_detection time))
-      (next c d _ (ended_by time c (has_come c.state.timers.idle time) (fired_life time r a (has_come a.state.timers.loss_detection time) ∙ h)) (released_by d (has_come d.state.timers.max_ack_delay time)))
+      (next c d _ (ended_by time c (has_come c.state.timers.idle time) (fired_life time r a (has_come a.state.timers.loss_detection time) ∙ h)) (late_by time d))
 
   pub holds_timeout : (m : Meaning t) (time : ℕ) (a : At t) → R a (timeout_after m time a)
   unfolding timeout_after
@@ -123,52 +137,82 @@ module _ {t : Types} where
   unfolding close_expired
   ended_close time a = raised_close time a (has_come a.state.timers.close time) refl
 
-  -- an ACK that is owed at last leaves the other timers
-  released_idle : (time : ℕ) (a : At t) (b : Bool) → has_come a.state.timers.idle time ≡ false → has_come (if b then move_to Release a else a).state.timers.idle time ≡ false
-  unfolding move_to state_move timers_move timers_released
-  released_idle time a true h = h
-  released_idle time a false h = h
+  -- the pacer, and an ACK that is owed at last, leave the timers before them
+  late_idle : (time : ℕ) (a : At t) (p q : Bool) → let b : At t = if p then move_to Pace a else a in (if q then move_to Release b else b).state.timers.idle ≡ a.state.timers.idle
+  unfolding move_to state_move timers_move timers_paced timers_released
+  late_idle time a true true = refl
+  late_idle time a true false = refl
+  late_idle time a false true = refl
+  late_idle time a false false = refl
 
-  released_close : (time : ℕ) (a : At t) (b : Bool) → has_come a.state.timers.close time ≡ false → has_come (if b then move_to Release a else a).state.timers.close time ≡ false
-  unfolding move_to state_move timers_move timers_released
-  released_close time a true h = h
-  released_close time a false h = h
+  late_close : (time : ℕ) (a : At t) (p q : Bool) → let b : At t = if p then move_to Pace a else a in (if q then move_to Release b else b).state.timers.close ≡ a.state.timers.close
+  unfolding move_to state_move timers_move timers_paced timers_released
+  late_close time a true true = refl
+  late_close time a true false = refl
+  late_close time a false true = refl
+  late_close time a false false = refl
 
-  -- and its own one is stopped
+  idle_left : (time : ℕ) (a : At t) → (ack_expired time (pacing_expired time a)).state.timers.idle ≡ a.state.timers.idle
+  unfolding pacing_expired ack_expired
+  idle_left time a = late_idle time a (has_come a.state.timers.pacing time) (has_come (pacing_expired time a).state.timers.max_ack_delay time)
+
+  close_left : (time : ℕ) (a : At t) → (ack_expired time (pacing_expired time a)).state.timers.close ≡ a.state.timers.close
+  unfolding pacing_expired ack_expired
+  close_left time a = late_close time a (has_come a.state.timers.pacing time) (has_come (pacing_expired time a).state.timers.max_ack_delay time)
+
+  -- their own ones are stopped
+  paced_pacing : (time : ℕ) (a : At t) (b : Bool) → has_come a.state.timers.pacing time ≡ b → has_come (if b then move_to Pace a else a).state.timers.pacing time ≡ false
+  unfolding move_to state_move timers_move timers_paced
+  paced_pacing time a true h = refl
+  paced_pacing time a false h = h
+
+  released_pacing : (a : At t) (b : Bool) → (if b then move_to Release a else a).state.timers.pacing ≡ a.state.timers.pacing
+  unfolding move_to state_move timers_move timers_released
+  released_pacing a true = refl
+  released_pacing a false = refl
+
+  pacing_left : (time : ℕ) (a : At t) → has_come (ack_expired time (pacing_expired time a)).state.timers.pacing time ≡ false
+  unfolding pacing_expired ack_expired
+  pacing_left time a =
+      let b : At t = pacing_expired time a in
+      ap (λ (x : Option ℕ). has_come x time) (released_pacing b (has_come b.state.timers.max_ack_delay time)) ∙ paced_pacing time a (has_come a.state.timers.pacing time) refl
+
   released_held : (time : ℕ) (a : At t) (b : Bool) → has_come a.state.timers.max_ack_delay time ≡ b → has_come (if b then move_to Release a else a).state.timers.max_ack_delay time ≡ false
   unfolding move_to state_move timers_move timers_released
   released_held time a true h = refl
   released_held time a false h = h
 
-  alive_idle : (m : Meaning t) (time : ℕ) (a : At t) (b : Bool) → b ≡ false → has_come (if b then a else ack_expired time (close_expired time (idle_expired time (loss_expired m time a)))).state.timers.idle time ≡ false
-  unfolding idle_expired ack_expired
-  alive_idle m time a true alive = cc
-  alive_idle m time a false alive =
+  held_left : (time : ℕ) (a : At t) → has_come (ack_expired time a).state.timers.max_ack_delay time ≡ false
+  unfolding ack_expired
+  held_left time a = released_held time a (has_come a.state.timers.max_ack_delay time) refl
+
+  -- a timeout of a connection that hasn't ended
+  alive_is : (m : Meaning t) (time : ℕ) (a : At t) (b : Bool) → b ≡ false → (if b then a else ack_expired time (pacing_expired time (close_expired time (idle_expired time (loss_expired m time a))))) ≡ ack_expired time (pacing_expired time (close_expired time (idle_expired time (loss_expired m time a))))
+  alive_is m time a true alive = cc
+  alive_is m time a false alive = refl
+
+  pub timeout_is : (m : Meaning t) (time : ℕ) (a : At t) → is_drained a.state.life.state ≡ false → timeout_after m time a ≡ ack_expired time (pacing_expired time (close_expired time (idle_expired time (loss_expired m time a))))
+  unfolding timeout_after
+  timeout_is m time a alive = alive_is m time a (is_drained a.state.life.state) alive
+
+  idle_stops : (m : Meaning t) (time : ℕ) (a : At t) → has_come (ack_expired time (pacing_expired time (close_expired time (idle_expired time (loss_expired m time a))))).state.timers.idle time ≡ false
+  unfolding idle_expired
+  idle_stops m time a =
       let c : At t = loss_expired m time a in
-      let d : At t = close_expired time (idle_expired time c) in
-      released_idle time d (has_come d.state.timers.max_ack_delay time) (ended_idle time c (has_come c.state.timers.idle time) refl)
-
-  alive_close : (m : Meaning t) (time : ℕ) (a : At t) (b : Bool) → b ≡ false → has_come (if b then a else ack_expired time (close_expired time (idle_expired time (loss_expired m time a)))).state.timers.close time ≡ false
-  unfolding ack_expired
-  alive_close m time a true alive = cc
-  alive_close m time a false alive =
-      let c : At t = idle_expired time (loss_expired m time a) in
-      let d : At t = close_expired time c in
-      released_close time d (has_come d.state.timers.max_ack_delay time) (ended_close time c)
-
-  alive_held : (m : Meaning t) (time : ℕ) (a : At t) (b : Bool) → b ≡ false → has_come (if b then a else ack_expired time (close_expired time (idle_expired time (loss_expired m time a)))).state.timers.max_ack_delay time ≡ false
-  unfolding ack_expired
-  alive_held m time a true alive = cc
-  alive_held m time a false alive = let d : At t = close_expired time (idle_expired time (loss_expired m time a)) in released_held time d (has_come d.state.timers.max_ack_delay time) refl
+      ap (λ (x : Option ℕ). has_come x time) (idle_left time (close_expired time (idle_expired time c))) ∙ ended_idle time c (has_come c.state.timers.idle time) refl
 
   pub idle_later : (m : Meaning t) (time : ℕ) (a : At t) → is_drained a.state.life.state ≡ false → has_come (timeout_after m time a).state.timers.idle time ≡ false
-  unfolding timeout_after
-  idle_later m time a alive = alive_idle m time a (is_drained a.state.life.state) alive
+  idle_later m time a alive = ap (λ (x : At t). has_come x.state.timers.idle time) (timeout_is m time a alive) ∙ idle_stops m time a
 
   pub close_later : (m : Meaning t) (time : ℕ) (a : At t) → is_drained a.state.life.state ≡ false → has_come (timeout_after m time a).state.timers.close time ≡ false
-  unfolding timeout_after
-  close_later m time a alive = alive_close m time a (is_drained a.state.life.state) alive
+  close_later m time a alive =
+      let c : At t = idle_expired time (loss_expired m time a) in
+      ap (λ (x : At t). has_come x.state.timers.close time) (timeout_is m time a alive) ∙ ap (λ (x : Option ℕ). has_come x time) (close_left time (close_expired time c)) ∙ ended_close time c
+
+  pub paced_later : (m : Meaning t) (time : ℕ) (a : At t) → is_drained a.state.life.state ≡ false → has_come (timeout_after m time a).state.timers.pacing time ≡ false
+  paced_later m time a alive =
+      ap (λ (x : At t). has_come x.state.timers.pacing time) (timeout_is m time a alive) ∙ pacing_left time (close_expired time (idle_expired time (loss_expired m time a)))
 
   pub held_later : (m : Meaning t) (time : ℕ) (a : At t) → is_drained a.state.life.state ≡ false → has_come (timeout_after m time a).state.timers.max_ack_delay time ≡ false
-  unfolding timeout_after
-  held_later m time a alive = alive_held m time a (is_drained a.state.life.state) alive
+  held_later m time a alive =
+      ap (λ (x : At t). has_come x.state.timers.max_ack_delay time) (timeout_is m time a alive) ∙ held_left time (pacing_expired time (close_expired time (idle_expired time (loss_expired m time a))))

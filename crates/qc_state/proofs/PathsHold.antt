@@ -29,7 +29,7 @@ use Rattle.qc_state.specs.declared.paths.Paths.{Paths}
 use Rattle.qc_state.specs.declared.trace.Step.{Step}
 use Rattle.qc_state.specs.declared.transmit.TheConstants.{DATAGRAM_SIZE}
 use Rattle.qc_state.specs.Life.{is_open}
-use Rattle.qc_state.specs.Moves.{Accept, Ack, Arm, Come, Confirm, Drain, Enter, Establish, Expect, Fail, Fire, Fix, Forget, Give, Hear, Learn, Leave, MayMove, Move, Owe, Raise, Read, Ready, Release, Say, Seal, Shut, Take, Tell, Token, Want, Write, armed_after, armed_with, deeds_move, move_to, paths_move, state_move, told}
+use Rattle.qc_state.specs.Moves.{Accept, Ack, Arm, Come, Confirm, Drain, Enter, Establish, Expect, Fail, Fire, Fix, Forget, Give, Hear, Learn, Leave, MayMove, Move, Owe, Pace, Raise, Read, Ready, Release, Say, Seal, Shut, Take, Tell, Token, Want, Write, armed_after, armed_with, deeds_move, move_to, paths_move, state_move, told}
 use Rattle.qc_state.specs.Numbers.{next_number, received_number}
 use Rattle.qc_state.specs.Headline.{deeds_of}
 use Rattle.qc_state.specs.PathLaws.{PathHolds, all_from, bytes_from, is_handshake_admitted}
@@ -399,6 +399,7 @@ module _ {t : Types} where
   unfolding move_to state_move paths_move
   timed_paths (Fire after) r a h = refl
   timed_paths (Arm at) r a h = refl
+  timed_paths Pace r a h = refl
   timed_paths Release r a h = refl
   timed_paths (Raise to) r a h = refl
   timed_paths (Give why) r a h = refl

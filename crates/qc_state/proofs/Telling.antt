@@ -14,14 +14,14 @@ use Rattle.qc_path.specs.Arrived.{Window, is_new, arrived}
 use Rattle.qc_state.specs.declared.deeds.Verdict.{Verdict}
 use Rattle.qc_state.specs.Headline.{sealed_in, reasons_in, lives_in, entered_number, entered_in, EachNew, came_with, CloseFrom, RisesFrom, Kernel, kernel_of, kernel_after, IsBehind, IsRight, Tells}
 use Rattle.qc_state.specs.Life.{rank_of, is_open, is_drained, reason_given, life_raised, life_closed, life_drained, life_established, data_ready, token_learned, identifiers_wanted, ready_reported, connected_reported, lost_reported, token_reported, wanted_reported, drained_reported}
-use Rattle.qc_state.specs.Moves.{Move, ClosesOnly, Clock, Ask, Take, Seal, Forget, Enter, Expect, Fail, Accept, Fix, Hear, Ack, Fire, Arm, Release, Begin, Skip, Come, Read, Write, Ready, Token, Learn, Want, Confirm, Establish, Tell, Drain, Leave, Owe, IsTold, enters, Shut, Raise, Give, Say, ReportReady, ReportConnected, ReportLost, ReportToken, ReportWanted, ReportDrained, state_move, move_to, deeds_move, MayMove, told, arrival_of, numbers_move, life_move, timers_move}
+use Rattle.qc_state.specs.Moves.{Move, ClosesOnly, Clock, Ask, Take, Seal, Forget, Enter, Expect, Fail, Accept, Fix, Hear, Ack, Fire, Arm, Pace, Release, Begin, Skip, Come, Read, Write, Ready, Token, Learn, Want, Confirm, Establish, Tell, Drain, Leave, Owe, IsTold, enters, Shut, Raise, Give, Say, ReportReady, ReportConnected, ReportLost, ReportToken, ReportWanted, ReportDrained, state_move, move_to, deeds_move, MayMove, told, arrival_of, numbers_move, life_move, timers_move}
 use Rattle.qc_state.specs.Numbers.{next_number, came_in, is_new_in, number_used, number_skipped, used_in, number_entered, number_accepted, number_acked}
 use Rattle.qc_state.specs.Numbers as numbers
 use Rattle.qc_state.specs.Recovering.{probe_timeout_now}
 use Rattle.qc_state.specs.Setup.{idle_limit_now}
 use Rattle.qc_state.specs.Spaces.{is_space, space_of, with_space}
 use Rattle.qc_state.specs.declared.numbers.SpaceNumbers.{SpaceNumbers}
-use Rattle.qc_state.specs.Timers.{timers_sealed, timers_acking, timers_accepted, timers_holding, timers_released, timers_armed, timers_stopped, timers_closing}
+use Rattle.qc_state.specs.Timers.{timers_sealed, timers_acking, timers_accepted, timers_holding, timers_paced, timers_released, timers_armed, timers_stopped, timers_closing}
 use Rattle.qc_state.specs.Waiting.{holds_back}
 use Rattle.qc_state.specs.Acks.{is_ack}
 use Rattle.qc_state.specs.Draws.{word}
@@ -286,6 +286,7 @@ module _ {t : Types} where
   move_tells id (Ack space n r) s h = next_same id space s (λ w. numbers.acked_in n w) refl refl
   move_tells id (Fire r) s h = behind_here _
   move_tells id (Arm at) s h = behind_here _
+  move_tells id Pace s h = behind_here _
   move_tells id Release s h = behind_here _
   move_tells id (Begin space) s h = behind_here _
   move_tells id Skip s h = skip_tells id s (word s.setup.random)
@@ -316,7 +317,7 @@ module _ {t : Types} where
 
   -- no move but the first of a call sets the clock
   clock_kept : (x : Move t) (s : View t) → MayMove x s → (state_move x s).timers.greatest ≡ s.timers.greatest
-  unfolding MayMove state_move timers_move timers_accepted timers_armed timers_stopped timers_closing timers_released
+  unfolding MayMove state_move timers_move timers_accepted timers_armed timers_stopped timers_closing timers_paced timers_released
   clock_kept (Clock time) s h = absurd h
   clock_kept (Ask space) s h = refl
   clock_kept (Take space fs) s h = refl
@@ -331,6 +332,7 @@ module _ {t : Types} where
   clock_kept (Ack space n r) s h = refl
   clock_kept (Fire r) s h = refl
   clock_kept (Arm at) s h = refl
+  clock_kept Pace s h = refl
   clock_kept Release s h = refl
   clock_kept (Begin space) s h = refl
   clock_kept Skip s h = refl

@@ -61,7 +61,7 @@ module _ {t : Types} where
     keys = first_keys keys;
     life = record { state = Handshake; reason = None; ready = false; connected = false; lost = None; reset_token = None; wanted = None; drained = false; close = None };
     paths = paths;
-    timers = record { loss_detection = None; idle = None; close = None; max_ack_delay = None; sets_idle = true; greatest = time };
+    timers = record { loss_detection = None; idle = None; close = None; pacing = None; max_ack_delay = None; sets_idle = true; greatest = time };
     waiting = record {
       spaces = record {
         initial = nothing_waits hello;

@@ -46,7 +46,7 @@ use Rattle.qc_state.specs.Paths.{is_blocked, path_idle, path_sent, path_received
 use Rattle.qc_state.specs.Recovering.{loss_time, probe_timeout_now}
 use Rattle.qc_state.specs.Setup.{idle_limit_now, packet_drawn, parameters_known, peer_delay, token_expected, word_drawn}
 use Rattle.qc_state.specs.Spaces.{is_space}
-use Rattle.qc_state.specs.Timers.{timers_sealed, timers_acking, timers_stopped, timers_closing, timers_accepted, timers_holding, timers_released, timers_armed, clock_set}
+use Rattle.qc_state.specs.Timers.{timers_sealed, timers_acking, timers_stopped, timers_closing, timers_accepted, timers_holding, timers_paced, timers_released, timers_armed, clock_set}
 use Rattle.qc_state.specs.Types.{Types}
 use Rattle.qc_state.specs.View.{View, At, at}
 use Rattle.qc_state.specs.Waiting.{ping_asked, done_asked, waiting_without, close_begun, packet_told, packet_came, packets_acked, packets_lost, fired_in, datagram_begun, crypto_written, space_left, holds_back, ack_released, bundle_next}
@@ -114,6 +114,7 @@ pub data Move (t : Types) : Type 0 where
   Ack : (id : SpaceId) → (largest : ℕ) → (after : After t.C) → Move t  -- the peer acknowledged packets, which leaves this of loss recovery
   Fire : (after : FiredAfter t.C) → Move t  -- the loss timer fired, which leaves this of loss recovery
   Arm : (at : Option ℕ) → Move t  -- the loss timer is set, or stopped
+  Pace : Move t  -- a datagram that the pacer held back may go
   Release : Move t  -- an ACK that was held back is owed
   Begin : (id : SpaceId) → Move t  -- a datagram is begun for a space, which spends a probe that is due there
   Skip : Move t  -- the next number of 1-RTT packets is skipped
@@ -190,6 +191,7 @@ module _ {t : Types} where
   timers_move (Accept time id n e g v) s =
       timers_holding (timers_accepted s.timers (idle_limit_now s.setup) (probe_timeout_now s id) time)
       (holds_back s.waiting id (arrived n (came_in s.numbers id)) (arrival_of time n e g)) time
+  timers_move Pace s = timers_paced s.timers
   timers_move Release s = timers_released s.timers
   timers_move (Arm at) s = timers_armed s.timers at
   timers_move (Shut time close) s = timers_closing s.timers (probe_timeout_now s s.keys.highest) time

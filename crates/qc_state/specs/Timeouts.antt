@@ -3,7 +3,7 @@ use Rattle.std.specs.Prelude.{ℕ, if◌then◌else◌}
 use Rattle.qc_state.specs.declared.life.ConnectionError.TheVariants.{TimedOut}
 use Rattle.qc_state.specs.declared.life.State.TheVariants.{Drained}
 use Rattle.qc_state.specs.Life.{is_drained}
-use Rattle.qc_state.specs.Moves.{Fire, Raise, Release, armed_after, move_to}
+use Rattle.qc_state.specs.Moves.{Fire, Pace, Raise, Release, armed_after, move_to}
 use Rattle.qc_state.specs.Recovering.{fired_by}
 use Rattle.qc_state.specs.Stopping.{killed_after}
 use Rattle.qc_state.specs.Timers.{has_come}
@@ -23,10 +23,14 @@ module _ {t : Types} where
   unfoldable pub close_expired : (time : ℕ) → At t → At t
   close_expired time a = if has_come a.state.timers.close time then move_to (Raise Drained) a else a
 
+  -- the pacer held a datagram back for long enough: it may go, by a transmit
+  unfoldable pub pacing_expired : (time : ℕ) → At t → At t
+  pacing_expired time a = if has_come a.state.timers.pacing time then move_to Pace a else a
+
   -- an ACK was held back for as long as it may be
   unfoldable pub ack_expired : (time : ℕ) → At t → At t
   ack_expired time a = if has_come a.state.timers.max_ack_delay time then move_to Release a else a
 
   -- the timers that have come at this time, one after the other; in a connection that has ended none is left
   unfoldable pub timeout_after : Meaning t → (time : ℕ) → At t → At t
-  timeout_after m time a = if is_drained a.state.life.state then a else ack_expired time (close_expired time (idle_expired time (loss_expired m time a)))
+  timeout_after m time a = if is_drained a.state.life.state then a else ack_expired time (pacing_expired time (close_expired time (idle_expired time (loss_expired m time a))))

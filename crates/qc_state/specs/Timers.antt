@@ -48,18 +48,22 @@ timers_holding v holds time = if holds then record v { max_ack_delay = Some (plu
 unfoldable pub timers_acking : Timers → (acks : Bool) → Timers
 timers_acking v acks = if acks then record v { max_ack_delay = None } else v
 
+-- the datagram that the pacer held back may go
+unfoldable pub timers_paced : Timers → Timers
+timers_paced v = record v { pacing = None }
+
 -- the ACK that was held back is owed at last
 unfoldable pub timers_released : Timers → Timers
 timers_released v = record v { max_ack_delay = None }
 
 -- every timer is stopped
 unfoldable pub timers_stopped : Timers → Timers
-timers_stopped v = record v { loss_detection = None; idle = None; close = None; max_ack_delay = None }
+timers_stopped v = record v { loss_detection = None; idle = None; close = None; pacing = None; max_ack_delay = None }
 
 -- the connection closes at this time: every timer is stopped, and the close lasts for three probe timeouts (RFC 9000,
 -- section 10.2)
 unfoldable pub timers_closing : Timers → (probe time : ℕ) → Timers
-timers_closing v probe time = record v { loss_detection = None; idle = None; close = Some (plus time (times probe 3)); max_ack_delay = None }
+timers_closing v probe time = record v { loss_detection = None; idle = None; close = Some (plus time (times probe 3)); pacing = None; max_ack_delay = None }
 
 -- the connection is told a time
 unfoldable pub clock_set : Timers → ℕ → Timers
@@ -67,4 +71,4 @@ clock_set v time = record v { greatest = time }
 
 -- the least time that is set
 unfoldable pub next_timeout : Timers → Option ℕ
-next_timeout v = least (least (least v.loss_detection v.idle) v.close) v.max_ack_delay
+next_timeout v = least (least (least (least v.loss_detection v.idle) v.close) v.pacing) v.max_ack_delay

@@ -1,7 +1,7 @@
 //! The timers, and the greatest time so far.
 
 ghost use Rattle.std.specs.Prelude.{◌≡◌};
-ghost use Rattle.qc_state.specs.Timers.{timers_sealed, timers_acking, timers_stopped, timers_closing, timers_accepted, timers_holding, timers_released, timers_armed, clock_set, next_timeout, least, idle_from, has_come};
+ghost use Rattle.qc_state.specs.Timers.{timers_sealed, timers_acking, timers_stopped, timers_closing, timers_accepted, timers_holding, timers_paced, timers_released, timers_armed, clock_set, next_timeout, least, idle_from, has_come};
 
 use qc_base::{Duration, Instant};
 
@@ -17,6 +17,8 @@ pub struct Timers {
     pub idle: Option<Instant>,
     /// When a connection that closed has waited long enough for its peer (RFC 9000, 10.2).
     pub close: Option<Instant>,
+    /// When a datagram that the pacer holds back may go. No call sets it so far, since sending isn't paced yet.
+    pub pacing: Option<Instant>,
     /// When an ACK that is held back is owed (RFC 9000, 13.2.1).
     pub max_ack_delay: Option<Instant>,
     /// Whether the next packet that is sealed and elicits an acknowledgement sets `idle`.
@@ -70,7 +72,7 @@ fn idle_at(
     }
 }
 
-#[tactic(auto, unfolding(crate::specs::Timers::timers_sealed, crate::specs::Timers::timers_stopped, crate::specs::Timers::timers_closing, crate::specs::Timers::timers_accepted, crate::specs::Timers::timers_armed, crate::specs::Timers::timers_holding, crate::specs::Timers::timers_acking, crate::specs::Timers::timers_released, crate::specs::Timers::clock_set, crate::specs::Timers::next_timeout))]
+#[tactic(auto, unfolding(crate::specs::Timers::timers_sealed, crate::specs::Timers::timers_stopped, crate::specs::Timers::timers_closing, crate::specs::Timers::timers_accepted, crate::specs::Timers::timers_armed, crate::specs::Timers::timers_holding, crate::specs::Timers::timers_acking, crate::specs::Timers::timers_paced, crate::specs::Timers::timers_released, crate::specs::Timers::clock_set, crate::specs::Timers::next_timeout))]
 impl Timers {
     /// A packet that elicits an acknowledgement was sealed at `now`, in a space with this probe timeout.
     pub fn sealed(&mut self, limit: Option<Duration>, probe: Duration, now: Instant)
@@ -108,6 +110,13 @@ impl Timers {
         }
     }
 
+    /// The datagram that the pacer held back may go.
+    pub fn pace(&mut self)
+        ensures { self.new ≡ timers_paced self.old }
+    {
+        self.pacing = None;
+    }
+
     /// The ACK that was held back is owed at last.
     pub fn release(&mut self)
         ensures { self.new ≡ timers_released self.old }
@@ -129,6 +138,7 @@ impl Timers {
         self.loss_detection = None;
         self.idle = None;
         self.close = None;
+        self.pacing = None;
         self.max_ack_delay = None;
     }
 
@@ -139,6 +149,7 @@ impl Timers {
         self.loss_detection = None;
         self.idle = None;
         self.close = Some(now.plus(Duration::from_nanos(probe.nanos().saturating_mul(3))));
+        self.pacing = None;
         self.max_ack_delay = None;
     }
 
@@ -154,6 +165,7 @@ impl Timers {
         ensures { result ≡ next_timeout self.now }
     {
         let lost_or_idle = earlier(self.loss_detection, self.idle);
-        earlier(earlier(lost_or_idle, self.close), self.max_ack_delay)
+        let paced_or_before = earlier(earlier(lost_or_idle, self.close), self.pacing);
+        earlier(paced_or_before, self.max_ack_delay)
     }
 }
