@@ -49,7 +49,7 @@ use Rattle.qc_state.specs.declared.trace.Answer.TheVariants as answer
 use Rattle.qc_state.specs.declared.waiting.SpaceWaiting.{SpaceWaiting}
 use Rattle.qc_state.specs.declared.waiting.Waiting.{Waiting}
 use Rattle.qc_state.specs.Life.{is_closed, is_open, data_ready, drained_event, endpoint_events, identifiers_wanted, life_closed, life_drained, life_established, life_raised, reason_given, token_event, token_learned, token_reported, wanted_event, wanted_reported, drained_reported, lost_reported, connected_reported, ready_reported}
-use Rattle.qc_state.specs.Moves.{Move, Clock, Take, Seal, Forget, Raise, Say, Give, Enter, Fail, Accept, Fix, Hear, Ack, Fire, Arm, Release, Begin, Skip, Come, Read, Write, Ready, Learn, Establish, Tell, Drain, Leave, Owe, Shut, IsTold, MayMove, state_move, move_to, deeds_move, life_move, paths_move, waiting_move, keys_move, armed_with, Expect, Confirm, Token, Want}
+use Rattle.qc_state.specs.Moves.{Move, Clock, Take, Seal, Forget, Raise, Say, Give, Enter, Fail, Accept, Fix, Hear, Ack, Fire, Arm, Pace, Release, Begin, Skip, Come, Read, Write, Ready, Learn, Establish, Tell, Drain, Leave, Owe, Shut, IsTold, MayMove, state_move, move_to, deeds_move, life_move, paths_move, waiting_move, keys_move, armed_with, Expect, Confirm, Token, Want}
 use Rattle.qc_state.specs.Numbers.{next_number, received_number}
 use Rattle.qc_state.specs.Paths.{path_idle, path_sent, path_received, peer_fixed, path_accepted, path_spun, is_blocked}
 use Rattle.qc_state.specs.Receiving.{datagram_after, is_taken}
@@ -598,6 +598,7 @@ module _ {t : Types} where
   unfolding MayMove move_to state_move deeds_move waiting_move ack_released paths_move life_move life_raised
   keeps_timed (Fire after) r a h = record { deeds = λ p. p; crypto = fired_below a.state.waiting after.fired; path = refl; token = λ p k. k }
   keeps_timed (Arm time) r a h = record { deeds = λ p. p; crypto = λ p. p; path = refl; token = λ p k. k }
+  keeps_timed Pace r a h = record { deeds = λ p. p; crypto = λ p. p; path = refl; token = λ p k. k }
   keeps_timed Release r a h = record { deeds = λ p. p; crypto = λ p. p; path = refl; token = λ p k. k }
   keeps_timed (Raise to) r a h = record { deeds = one_more a.did _ tt; crypto = λ p. p; path = refl; token = λ p k. k }
   keeps_timed (Give why) r a h = record { deeds = one_more a.did _ tt; crypto = λ p. p; path = refl; token = λ p k. same_token a.state.life (reason_given a.state.life why) (given_token a.state.life why) k }

@@ -248,8 +248,9 @@ impl<U: Suite> Connection<U> {
 
     /// Timers may have come by `now`: each that has, to that time or an earlier one, does what it is for, in this order. The loss
     /// timer: packets are lost, whose frames wait again, or probes are due (RFC 9002, 6.1.2 and 6.2.4); it is set anew. The idle
-    /// timer: the connection ends at once, for `TimedOut`. The close timer: the connection, which closed before, ends. The timer of an
-    /// ACK that was held back: it is owed at last (RFC 9000, 13.2.1). Afterwards none of these three is left that has come; the loss
+    /// timer: the connection ends at once, for `TimedOut`. The close timer: the connection, which closed before, ends. The pacing
+    /// timer: a datagram that was held back may go, by a transmit; so far none is held back, and the timer isn't set. The timer of an
+    /// ACK that was held back: it is owed at last (RFC 9000, 13.2.1). Afterwards none of these four is left that has come; the loss
     /// timer may stand at a time that has come again, as a probe timeout counts from the last packet that was sent. In a connection
     /// that had ended nothing happens.
     ///
@@ -261,6 +262,7 @@ impl<U: Suite> Connection<U> {
         ensures leads { OnOk result ((ideal U.Random.stream self.new.core) ≡ (timeout_after (meaning U.Session.Session U.Session.HeaderKey.HeaderMask U.Session.PacketKey.PacketKey U.Control.Controller.Controller) now (began (ideal U.Random.stream self.old.core) now)).state) }
         ensures idle { OnOk result (is_drained self.old.core.life.state ≡ false → has_come self.new.core.timers.idle now ≡ false) }
         ensures close { OnOk result (is_drained self.old.core.life.state ≡ false → has_come self.new.core.timers.close now ≡ false) }
+        ensures paced { OnOk result (is_drained self.old.core.life.state ≡ false → has_come self.new.core.timers.pacing now ≡ false) }
         ensures held { OnOk result (is_drained self.old.core.life.state ≡ false → has_come self.new.core.timers.max_ack_delay now ≡ false) }
         ensures alive { OnOk result (self.new.failed ≡ false) }
         ensures failed { self.old.failed ≡ true → (result ≡ Err Fault.Failed) × (self.new ≡ self.old) }

@@ -133,6 +133,7 @@ pub(crate) fn core_timeout<U: Suite>(
     ensures leads { OnOk result ((ideal U.Random.stream core.new) ≡ (timeout_after (meaning U.Session.Session U.Session.HeaderKey.HeaderMask U.Session.PacketKey.PacketKey U.Control.Controller.Controller) now (began (ideal U.Random.stream core.old) now)).state) }
     ensures idle { OnOk result (is_drained core.old.life.state ≡ false → has_come core.new.timers.idle now ≡ false) }
     ensures close { OnOk result (is_drained core.old.life.state ≡ false → has_come core.new.timers.close now ≡ false) }
+    ensures paced { OnOk result (is_drained core.old.life.state ≡ false → has_come core.new.timers.pacing now ≡ false) }
     ensures held { OnOk result (is_drained core.old.life.state ≡ false → has_come core.new.timers.max_ack_delay now ≡ false) }
 {
     let mut did = Dids::new(alloc);

@@ -208,6 +208,7 @@ pub(crate) fn made<U: Suite>(
             loss_detection: None,
             idle: None,
             close: None,
+            pacing: None,
             max_ack_delay: None,
             sets_idle: true,
             greatest: now,

@@ -12,7 +12,7 @@ ghost use Rattle.qc_frame.specs.FrameSpelling.{elicits};
 ghost use Rattle.qc_frame.specs.declared.frames.FrameOf.TheVariants as frames;
 ghost use Rattle.std.specs.List.{list_any};
 ghost use Rattle.qc_state.specs.Flight.{flown_packet};
-ghost use Rattle.qc_state.specs.Moves.{Clock, Ask, Take, Forget, Expect, Enter, Fail, Accept, Fix, Hear, Ack, Fire, Arm, Begin, Come, Ready, Release, Skip, Token, Learn, Want, Confirm, Establish, Tell, Drain, Leave, Owe, Shut, Raise, Give, Say, ReportReady, ReportConnected, ReportLost, ReportToken, ReportWanted, ReportDrained, move_to, state_move, tells_congestion};
+ghost use Rattle.qc_state.specs.Moves.{Clock, Ask, Take, Forget, Expect, Enter, Fail, Accept, Fix, Hear, Ack, Fire, Arm, Begin, Come, Pace, Ready, Release, Skip, Token, Learn, Want, Confirm, Establish, Tell, Drain, Leave, Owe, Shut, Raise, Give, Say, ReportReady, ReportConnected, ReportLost, ReportToken, ReportWanted, ReportDrained, move_to, state_move, tells_congestion};
 ghost use Rattle.qc_base.specs.declared.side.SpaceId.TheVariants.{«Data»};
 ghost use Rattle.qc_state.specs.Numbers.{is_skipped};
 ghost use Rattle.qc_state.specs.Recovering.{fired_by, probe_timeout_now, settled_by};
@@ -275,6 +275,13 @@ impl<U: Suite> Core<U> {
         let around = self.around(blocked, false);
         let fired = self.lower.fire(now, &around)?;
         self.waiting.fire(fired)
+    }
+
+    /// The datagram that the pacer held back may go.
+    pub(crate) fn do_pace(&mut self)
+        ensures { (ideal U.Random.stream self.new) ≡ state_move Pace (ideal U.Random.stream self.old) }
+    {
+        self.timers.pace();
     }
 
     /// The ACK that was held back is owed.

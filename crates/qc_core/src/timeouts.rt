@@ -2,7 +2,7 @@
 
 ghost use Rattle.std.specs.Prelude.{◌≡◌, false, OnOk};
 ghost use Rattle.qc_state.specs.Life.{is_drained};
-ghost use Rattle.qc_state.specs.Timeouts.{loss_expired, idle_expired, close_expired, ack_expired, timeout_after};
+ghost use Rattle.qc_state.specs.Timeouts.{loss_expired, idle_expired, close_expired, pacing_expired, ack_expired, timeout_after};
 ghost use Rattle.qc_state.specs.Timers.{has_come};
 ghost use Rattle.qc_state.specs.Types.{meaning};
 ghost use Rattle.qc_state.specs.View.{held};
@@ -49,6 +49,16 @@ impl<U: Suite> Core<U> {
         Ok(())
     }
 
+    /// The pacer held a datagram back for long enough: it may go, by a transmit.
+    #[tactic(auto, unfolding(qc_state::specs::Timeouts::pacing_expired, qc_state::specs::Moves::move_to, qc_state::specs::Moves::deeds_move))]
+    fn expire_pacing(&mut self, now: Instant, did: &Dids)
+        ensures { (held U.Random.stream self.new did.now) ≡ pacing_expired now (held U.Random.stream self.old did.now) }
+    {
+        if has_come(self.timers.pacing, now) {
+            self.do_pace();
+        }
+    }
+
     /// An ACK was held back for as long as it may be: it is owed.
     #[tactic(auto, unfolding(qc_state::specs::Timeouts::ack_expired, qc_state::specs::Moves::move_to, qc_state::specs::Moves::deeds_move))]
     fn expire_ack(&mut self, now: Instant, did: &Dids)
@@ -61,8 +71,9 @@ impl<U: Suite> Core<U> {
 
     /// Timers may have come by `now`: each that has, to that time or an earlier one, does what it is for, in this order. The loss
     /// timer: packets are lost, or probes are due, and it is set anew, perhaps to a time that has come. The idle timer: the
-    /// connection ends for `TimedOut`. The close timer: the connection, which closed before, ends. The timer of an ACK that was held
-    /// back: it is owed. Afterwards none of these three is left that has come. In a connection that has ended nothing happens.
+    /// connection ends for `TimedOut`. The close timer: the connection, which closed before, ends. The pacing timer: a datagram that
+    /// was held back may go, by a transmit. The timer of an ACK that was held back: it is owed. Afterwards none of these four is left
+    /// that has come. In a connection that has ended nothing happens.
     ///
     /// # Errors
     ///
@@ -72,6 +83,7 @@ impl<U: Suite> Core<U> {
         ensures leads { OnOk result ((held U.Random.stream self.new did.new) ≡ timeout_after (meaning U.Session.Session U.Session.HeaderKey.HeaderMask U.Session.PacketKey.PacketKey U.Control.Controller.Controller) now (held U.Random.stream self.old did.old)) }
         ensures idle { OnOk result (is_drained self.old.life.state ≡ false → has_come self.new.timers.idle now ≡ false) }
         ensures close { OnOk result (is_drained self.old.life.state ≡ false → has_come self.new.timers.close now ≡ false) }
+        ensures paced { OnOk result (is_drained self.old.life.state ≡ false → has_come self.new.timers.pacing now ≡ false) }
         ensures ack { OnOk result (is_drained self.old.life.state ≡ false → has_come self.new.timers.max_ack_delay now ≡ false) }
     {
         if self.life.is_drained() {
@@ -80,6 +92,7 @@ impl<U: Suite> Core<U> {
         self.expire_loss(now, did)?;
         self.expire_idle(now, did)?;
         self.expire_close(now, did)?;
+        self.expire_pacing(now, did);
         self.expire_ack(now, did);
         Ok(())
     }
