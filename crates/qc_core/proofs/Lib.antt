@@ -19,3 +19,4 @@ mod Handed
 mod Expiring
 mod Drawing
 mod Skips
+mod Shorts

@@ -5,3 +5,4 @@ pub mod Events
 pub mod FirstPacket
 pub mod Drawing
 pub mod Told
+pub mod Short

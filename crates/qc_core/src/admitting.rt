@@ -669,6 +669,35 @@ impl<U: Suite> Core<U> {
 
     /// A packet that opened in this space. Want of memory is the only refusal.
     #[tactic(auto, unfolding(qc_state::specs::Receiving::received_after))]
+    pub(crate) fn received_in(
+        &mut self,
+        alloc: Global,
+        did: &mut Dids,
+        now: Instant,
+        space: SpaceId,
+        signs: Signs,
+        source: ConnectionId,
+        token: &[u8],
+        number: u64,
+        payload: &[u8],
+    ) -> Result<(), AllocError>
+        ensures { OnOk result ((held U.Random.stream self.new did.new) ≡ received_after (meaning U.Session.Session U.Session.HeaderKey.HeaderMask U.Session.PacketKey.PacketKey U.Control.Controller.Controller) now space signs source token.now number payload.now (held U.Random.stream self.old did.old)) }
+    {
+        match self.verdict(space, source, token, number) {
+            Verdict::Seen => { self.do_tell_piece(did, Some(space), Some(number), Verdict::Seen) }
+            Verdict::ReadForClose => self.read_for_close(did, space, number, payload),
+            Verdict::NumberOnly => self.do_enter(did, space, number, Verdict::NumberOnly),
+            Verdict::AckOnly => {
+                self.accepted(did, now, space, number, false, signs, Verdict::AckOnly)
+            }
+            Verdict::Admitted => {
+                self.admitted(alloc, did, now, space, signs, source, number, payload)
+            }
+            Verdict::Ignored | Verdict::Failure | Verdict::BadBits => Ok(()),
+        }
+    }
+
+    /// The same of a packet whose token and payload are owned.
     pub(crate) fn received(
         &mut self,
         alloc: Global,
@@ -683,26 +712,16 @@ impl<U: Suite> Core<U> {
     ) -> Result<(), AllocError>
         ensures { OnOk result ((held U.Random.stream self.new did.new) ≡ received_after (meaning U.Session.Session U.Session.HeaderKey.HeaderMask U.Session.PacketKey.PacketKey U.Control.Controller.Controller) now space signs source token number payload (held U.Random.stream self.old did.old)) }
     {
-        match self.verdict(space, source, token.as_slice(), number) {
-            Verdict::Seen => { self.do_tell_piece(did, Some(space), Some(number), Verdict::Seen) }
-            Verdict::ReadForClose => { self.read_for_close(did, space, number, payload.as_slice()) }
-            Verdict::NumberOnly => self.do_enter(did, space, number, Verdict::NumberOnly),
-            Verdict::AckOnly => {
-                self.accepted(did, now, space, number, false, signs, Verdict::AckOnly)
-            }
-            Verdict::Admitted => {
-                self.admitted(
-                    alloc,
-                    did,
-                    now,
-                    space,
-                    signs,
-                    source,
-                    number,
-                    payload.as_slice(),
-                )
-            }
-            Verdict::Ignored | Verdict::Failure | Verdict::BadBits => Ok(()),
-        }
+        self.received_in(
+            alloc,
+            did,
+            now,
+            space,
+            signs,
+            source,
+            token.as_slice(),
+            number,
+            payload.as_slice(),
+        )
     }
 }

@@ -13,6 +13,7 @@ mod receiving;
 mod recovering;
 mod sending;
 mod server;
+mod short;
 pub mod state;
 mod timeouts;
 

@@ -2,6 +2,7 @@
 
 ghost use Rattle.std.specs.Prelude.{◌≡◌, ◌<◌, ◌≤◌, ◌++◌, ◌∷◌, [], true, false, not, length, Ok, Err, Some, OnOk, IfOk, IfSome, IfNone};
 ghost use Rattle.qc_core.specs.Cutting.{Cuts, front_of, rest_of, others_of};
+ghost use Rattle.qc_core.specs.Short.{short_in};
 ghost use Rattle.qc_frame.specs.Frame.{borrowed, typed};
 ghost use Rattle.qc_frame.specs.Payload.{items_of};
 ghost use Rattle.qc_state.specs.Receiving.{is_readable, is_taken, lets_in, has_first_ids, token_in_first, counted_after, heard_after, datagram_after, failed_after, opening_after, pieces_after, piece_after};
@@ -9,6 +10,7 @@ ghost use Rattle.qc_state.specs.Types.{meaning};
 ghost use Rattle.qc_state.specs.View.{ideal, held};
 
 use crate::sending::key_limit_error;
+use crate::short::is_short;
 use crate::state::Core;
 use bytes::{Bytes, BytesMut};
 use qc_base::{ConnectionId, EcnCodepoint, Instant, SpaceId};
@@ -87,7 +89,11 @@ impl<U: Suite> Core<U> {
     /// A packet didn't open: where more of them didn't than the key of the highest space lets pass, the connection ends at once
     /// (RFC 9001, section 6.6). Want of memory is the only refusal.
     #[tactic(auto, unfolding(qc_state::specs::Receiving::failed_after, qc_state::specs::Moves::move_to, qc_state::specs::Moves::deeds_move))]
-    fn failed(&mut self, did: &mut Dids, space: Option<SpaceId>) -> Result<(), AllocError>
+    pub(crate) fn failed(
+        &mut self,
+        did: &mut Dids,
+        space: Option<SpaceId>,
+    ) -> Result<(), AllocError>
         ensures { OnOk result ((held U.Random.stream self.new did.new) ≡ failed_after space (held U.Random.stream self.old did.old)) }
     {
         self.do_fail();
@@ -214,6 +220,31 @@ impl<U: Suite> Core<U> {
         }
     }
 
+    /// A datagram came from `remote` at `now` that is one 1-RTT packet. Want of memory is the only refusal.
+    fn heard_short(
+        &mut self,
+        alloc: Global,
+        did: &mut Dids,
+        now: Instant,
+        mark: Option<EcnCodepoint>,
+        remote: SocketAddr,
+        cutting: Cutting,
+        bytes: BytesMut,
+    ) -> Result<(), AllocError>
+        requires cuts { Cuts (ideal U.Random.stream self.old) cutting }
+        requires fits { cutting.local_cid_len ≤ 20 }
+        requires front { front_of cutting bytes.items ≡ Ok (short_in cutting.local_cid_len bytes.items, []) }
+        ensures { OnOk result ((held U.Random.stream self.new did.new) ≡ heard_after (meaning U.Session.Session U.Session.HeaderKey.HeaderMask U.Session.PacketKey.PacketKey U.Control.Controller.Controller) now mark remote bytes.items (held U.Random.stream self.old did.old)) }
+    {
+        if self.lets_in(remote) {
+            let len = bytes.len() as u64;
+            let blocked = self.is_blocked();
+            self.short_piece(alloc, did, now, mark, cutting.local_cid_len, bytes)?;
+            self.counted(did, now, blocked, len);
+        }
+        Ok(())
+    }
+
     /// A datagram came from `remote` at `now` to an end that doesn't wait for its first packet. Answers whether it begins with a
     /// packet; otherwise it changes nothing. Want of memory is the only refusal.
     #[tactic(auto, unfolding(qc_state::specs::Moves::move_to, qc_state::specs::Moves::deeds_move), using(crate::proofs::Behind::readable_is, crate::proofs::Behind::unreadable_is, crate::proofs::Behind::heard_is, crate::proofs::Behind::unheard_is, crate::proofs::Behind::dropped_is))]
@@ -231,6 +262,10 @@ impl<U: Suite> Core<U> {
     {
         let len = bytes.len() as u64;
         let cutting = self.cutting();
+        if is_short(cutting.local_cid_len, bytes.as_slice()) {
+            self.heard_short(alloc, did, now, mark, remote, cutting, bytes)?;
+            return Ok(true);
+        }
         match cut(cutting, bytes)? {
             None => Ok(false),
             Some((first, behind)) => {

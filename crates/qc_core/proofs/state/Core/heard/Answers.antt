@@ -1,7 +1,21 @@
-use Rattle.std.proofs.Common.{sym, ◌∙◌}
+use Rattle.std.proofs.Common.{ℕ, List, [], length, ap, sym, ◌∙◌}
+use Rattle.std.specs.Prelude.{◌&&◌, ◌/◌, ◌==◌, nat_lt}
+use Rattle.qc_base.specs.Mask.{first_byte}
 use Rattle.qc_core.specs.Cutting.{rest_of}
+use Rattle.qc_core.specs.Short.{short_in}
 use Rattle.qc_core.proofs.Behind.{cut_some, readable_is, heard_is}
+use Rattle.qc_core.proofs.Shorts.{front_short}
 use Rattle.qc_core.proofs.state.Core.heard.Goals as goal
+
+-- a datagram that is one 1-RTT packet
+pub heard_short-requires-clause-front : goal.heard_short-requires-clause-front
+heard_short-requires-clause-front g c =
+    front_short c.cutting-cutting.result c.args.bytes.items c.is_short.result (c.is_short.ensures ∙ ap (λ (xs : List ℕ). (first_byte xs / 64 == 1) && nat_lt c.cutting-cutting.result.local_cid_len (length xs)) c.as_slice.ensures) c.if-is_short.true
+
+pub returns-then-is_short-clause-answer : goal.returns-then-is_short-clause-answer
+returns-then-is_short-clause-answer g c =
+    readable_is c.cutting-cutting.result _ c.args.bytes.items (short_in c.cutting-cutting.result.local_cid_len c.args.bytes.items) [] c.cutting-cutting.ensures.cuts
+    (front_short c.cutting-cutting.result c.args.bytes.items c.is_short.result (c.is_short.ensures ∙ ap (λ (xs : List ℕ). (first_byte xs / 64 == 1) && nat_lt c.cutting-cutting.result.local_cid_len (length xs)) c.as_slice.ensures) c.if-is_short.true)
 
 -- a datagram that counts
 pub returns-in_ok-pieces-in-Some-clause-leads : goal.returns-in_ok-pieces-in-Some-clause-leads
