@@ -1,6 +1,7 @@
 pub mod Back
 pub mod Done
 pub mod Faults
+pub mod Filings
 pub mod Fronts
 pub mod Keeping
 pub mod Keyed
@@ -9,6 +10,7 @@ pub mod Places
 pub mod Reading
 pub mod Refused
 pub mod Sending
+pub mod Sequels
 pub mod Sizes
 pub mod Views
 pub mod WaitIds

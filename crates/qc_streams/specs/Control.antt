@@ -73,6 +73,14 @@ abbrev pub or_else : Option Control → Option Control → Option Control
 or_else (Some c) other = Some c
 or_else None other = other
 
+-- the frame of a limit that is sent next
+abbrev pub next_limit : ℕ → StreamsState → Option Control
+next_limit room s =
+    or_else (if_fits room 9 (data_with (max_data_owed s)))
+    (or_else (if_fits room 17 (of_first credit_of (first_id s.waiting.credits) s))
+    (or_else (if_fits room 9 (streams_with Bi (max_streams_owed Bi s)))
+    (if_fits room 9 (streams_with Uni (max_streams_owed Uni s)))))
+
 -- the frame that is sent next: RESET_STREAM, STOP_SENDING, those of streams that have gone last, MAX_DATA, MAX_STREAM_DATA and
 -- MAX_STREAMS, in this order
 unfoldable pub next_control : ℕ → StreamsState → Option Control

@@ -4,6 +4,7 @@ pub mod Lending
 pub mod Records
 pub mod Kept
 pub mod Sends
+pub mod Sequel
 pub mod Events
 pub mod Stream
 pub mod Refusals

@@ -154,3 +154,29 @@ filed id s = placed id (mark_off id s)
 unfoldable pub all_filed : List ℕ → StreamsState → StreamsState
 all_filed [] s = s
 all_filed (id ∷ ids) s = all_filed ids (filed id s)
+
+-- the place of a stream that was looked at: the one that it has, the next one where it has none, and none where neither bytes wait
+-- nor the end
+abbrev pub turn_due : Bool → Option (ℤ × ℕ) → ℤ × ℕ → Option (ℤ × ℕ)
+turn_due true None next = Some next
+turn_due true (Some place) next = Some place
+turn_due false turn next = None
+
+-- what a stream is once it was looked at, where so many turns were given: without its mark, and at its place
+unfoldable pub file_one : ℕ → Stream → Stream
+file_one turns st = with_turn (turn_due (dues_of st).bytes st.turn (neg_ℤ st.priority, turns)) (with_mark false st)
+
+-- the place behind all others of a stream's priority, where so many turns were given
+abbrev pub place_behind : ℕ → Option Stream → ℤ × ℕ
+place_behind turns found = (neg_ℤ (priority_at found), turns)
+
+-- a stream takes the next place where it has none, and gives up the one that it has, by whether bytes wait, or the end
+abbrev pub turn_moved : Bool → Option (ℤ × ℕ) → ℤ × ℕ → ℕ → Waiting → Waiting
+turn_moved true None next id w = record w { ready = with_place next id w.ready; turns = held (w.turns + 1) }
+turn_moved true (Some place) next id w = w
+turn_moved false None next id w = w
+turn_moved false (Some place) next id w = record w { ready = without_place place w.ready }
+
+-- the oldest mark is taken off; its place goes with its stream
+abbrev pub mark_taken : Bool → Waiting → Waiting
+mark_taken known w = record w { marks = if known then unmarked w.marks else place_dropped (unmarked w.marks) }

@@ -4,15 +4,20 @@ ghost use Rattle.std.specs.Prelude.{◌≡◌, false, ◌+◌, ◌^◌, ◌<◌,
 ghost use Rattle.qc_recv.specs.Receiving.{reset_asked, stop_asked};
 ghost use Rattle.qc_send_stream.specs.Sending.{IsWriteRefusal, after_refusal, finished, part_written, was_reset};
 ghost use Rattle.qc_streams.specs.Calls.{IsReadOf, IsRefused, after_read, bars_reset, closed_to, count_taken, finish_refusal, gives, if_known, known_at, known_of, receiving_at, receiving_of, reset_of, send_room, sends, write_fault, write_refusal, write_refused, wrote};
-ghost use Rattle.qc_streams.specs.Credit.{budget};
+ghost use Rattle.std.specs.Option.{option_map};
+ghost use Rattle.qc_streams.specs.Credit.{budget, tallied};
 ghost use Rattle.qc_streams.specs.Kept.{kept_in};
 ghost use Rattle.qc_streams.specs.Records.{changed, record_of};
-ghost use Rattle.qc_streams.specs.Stream.{with_receiving, with_sending};
+ghost use Rattle.qc_streams.specs.Sequel.{sequel_at, settling};
+ghost use Rattle.qc_streams.specs.Stream.{totals_at, totals_if, with_receiving, with_sending};
 
+use crate::credit::Incoming;
 use crate::fault::{ClosedStream, ReadFault};
 use crate::records::Records;
 use crate::sends::recounted;
+use crate::sequel::Sequel;
 use crate::state::StreamsState;
+use crate::stream::Totals;
 use bytes::Bytes;
 use qc_base::{StreamId, VarInt};
 use qc_recv::Chunk;
@@ -88,16 +93,25 @@ impl Records {
         }
     }
 
-    /// The next bytes of the stream with an id.
-    #[tactic(auto, using(crate::proofs::Keeping::same, crate::proofs::Sending::still), unfolding(crate::specs::Calls::IsReadOf))]
-    fn read(&mut self, id: u64, ordered: bool, most: usize) -> Result<Option<Chunk>, ReadFault>
-        ensures answer { IsReadOf most ordered (receiving_of (record_of id self.old)) result }
-        ensures leads { self.new ≡ changed (with_receiving (after_read ordered result)) id self.old }
+    /// The next bytes of the stream with an id: what it gives back counts for the connection's credit.
+    #[tactic(auto, using(crate::proofs::Keeping::same, crate::proofs::Sending::still), unfolding(crate::specs::Calls::IsReadOf, crate::specs::Stream::totals_at))]
+    fn read(
+        &mut self,
+        id: u64,
+        ordered: bool,
+        most: usize,
+        incoming: &mut Incoming,
+    ) -> (Result<Option<Chunk>, ReadFault>, Sequel)
+        ensures answer { IsReadOf most ordered (receiving_of (record_of id self.old)) result.0 }
+        ensures leads { self.new ≡ changed (settling (with_receiving (after_read ordered result.0))) id self.old }
+        ensures counted { incoming.new ≡ tallied (totals_at id self.old) (totals_if (option_map (with_receiving (after_read ordered result.0)) (record_of id self.old))) incoming.old }
+        ensures sequel { result.1 ≡ sequel_at (option_map (with_receiving (after_read ordered result.0)) (record_of id self.old)) }
     {
         let Some(stream) = self.streams.get_mut(id) else {
-            return Err(ReadFault::ClosedStream);
+            incoming.tally(Totals::none(), Totals::none());
+            return (Err(ReadFault::ClosedStream), Sequel::Nothing);
         };
-        stream.read(ordered, most)
+        stream.give(ordered, most, incoming)
     }
 
     /// Stops the stream with an id.
@@ -251,7 +265,7 @@ impl StreamsState {
     /// reset was told; `IllegalOrderedRead` where it is to be read in order after it was read out of
     /// order; `Reset` where the peer reset it, which is told then; `Blocked` where no byte can be
     /// read and the end isn't reached; or want of memory.
-    #[tactic(auto, unfolding(crate::specs::Calls::gives, crate::specs::Calls::receiving_at))]
+    #[tactic(auto, using(crate::proofs::Sequels::gives_so), unfolding(crate::specs::Calls::receiving_at))]
     pub(crate) fn read(
         &mut self,
         id: StreamId,
@@ -261,10 +275,9 @@ impl StreamsState {
         ensures answer { IsReadOf most ordered (receiving_at id self.old) result }
         ensures leads { self.new ≡ gives (after_read ordered result) id self.old }
     {
-        let before = self.records.totals(id.value());
-        let chunk = self.records.read(id.value(), ordered, most);
-        self.count(before, id.value());
-        self.settle(id.value());
+        let incoming = &mut self.incoming;
+        let (chunk, sequel) = self.records.read(id.value(), ordered, most, incoming);
+        self.follow(sequel, id.value());
         chunk
     }
 

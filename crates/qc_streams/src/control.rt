@@ -3,7 +3,7 @@
 ghost use Rattle.std.specs.Prelude.{◌≡◌, OnErr, OnOk, Some};
 ghost use Rattle.qc_base.specs.declared.side.Dir.TheVariants.{Bi, Uni};
 ghost use Rattle.qc_turns.specs.Ids.{first_id};
-ghost use Rattle.qc_streams.specs.Control.{control_acked, control_drawn, control_lost, control_sealed, credit_due, credit_of, data_with, gone_stop, if_fits, next_control, of_first, or_else, reset_due, reset_of, stop_again, stop_due, stop_of, streams_with};
+ghost use Rattle.qc_streams.specs.Control.{control_acked, control_drawn, control_lost, control_sealed, credit_due, credit_of, data_with, gone_stop, if_fits, next_control, next_limit, of_first, or_else, reset_due, reset_of, stop_again, stop_due, stop_of, streams_with};
 ghost use Rattle.qc_streams.specs.Owed.{max_data_owed, max_streams_owed};
 ghost use Rattle.qc_streams.specs.Records.{record_of};
 
@@ -178,22 +178,41 @@ impl StreamsState {
         }
     }
 
+    /// The frame of a limit that is sent next, where there is room for so many bytes.
+    fn next_limit(&self, room: usize) -> Option<Control>
+        ensures { result ≡ next_limit room self.now }
+    {
+        let data = if_fits(room, 9, self.next_data_limit());
+        if data.is_some() {
+            return data;
+        }
+        let credit = if_fits(room, 17, self.credit_to_send());
+        if credit.is_some() {
+            return credit;
+        }
+        let bi = if_fits(room, 9, self.next_streams_limit(Dir::Bi));
+        let uni = if_fits(room, 9, self.next_streams_limit(Dir::Uni));
+        or_else(bi, uni)
+    }
+
     /// The frame that is sent next, where there is room for so many bytes.
     #[tactic(auto, unfolding(crate::specs::Control::next_control))]
     pub fn next_control(&self, room: usize) -> Option<Control>
         ensures { result ≡ next_control room self.now }
     {
         let reset = if_fits(room, 25, self.reset_to_send());
+        if reset.is_some() {
+            return reset;
+        }
         let stop = if_fits(room, 17, self.stop_to_send());
+        if stop.is_some() {
+            return stop;
+        }
         let gone = if_fits(room, 17, self.gone_stop());
-        let data = if_fits(room, 9, self.next_data_limit());
-        let credit = if_fits(room, 17, self.credit_to_send());
-        let bi = if_fits(room, 9, self.next_streams_limit(Dir::Bi));
-        let uni = if_fits(room, 9, self.next_streams_limit(Dir::Uni));
-        let streams = or_else(bi, uni);
-        let limits = or_else(data, or_else(credit, streams));
-        let others = or_else(stop, or_else(gone, limits));
-        or_else(reset, others)
+        if gone.is_some() {
+            return gone;
+        }
+        self.next_limit(room)
     }
 
     /// A frame was sealed.

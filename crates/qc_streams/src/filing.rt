@@ -1,14 +1,101 @@
 //! Marks on streams, and how what they owe comes to where it waits.
 
-ghost use Rattle.std.specs.Prelude.{◌≡◌, OnOk, is_some};
+ghost use Rattle.std.specs.Prelude.{◌≡◌, OnOk, Some, true, is_some};
+ghost use Rattle.qc_streams.specs.Kept.{kept_of};
 ghost use Rattle.qc_streams.specs.Records.{changed, record_of};
-ghost use Rattle.qc_streams.specs.Waiting.{all_filed, dues_at, entered, filed, is_idle, left, mark_off, next_place, placed, priority_at, touched, turn_at, turn_filed, with_mark, with_turn};
+ghost use Rattle.qc_streams.specs.Sends.{sends_of};
+ghost use Rattle.qc_streams.specs.Waiting.{all_filed, dues_at, dues_of, entered, file_one, filed, is_idle, left, mark_taken, next_place, place_behind, priority_at, touched, turn_at, turn_due, turn_moved, with_mark, with_turn};
 
 use crate::records::Records;
 use crate::state::StreamsState;
-use crate::waiting::Dues;
+use crate::stream::Stream;
+use crate::waiting::{Dues, Waiting};
 use qc_turns::Place;
 use std::alloc::AllocError;
+
+/// What a stream that was looked at owes, and its place.
+#[derive(Clone, Copy, Debug)]
+struct Filed {
+    // whether there is a stream
+    known: bool,
+    dues: Dues,
+    // the place that it had
+    turn: Option<Place>,
+    // the place behind all others of its priority
+    next: Place,
+}
+
+impl Stream {
+    /// It is looked at, where so many turns were given.
+    #[tactic(auto, unfolding(crate::specs::Waiting::file_one, crate::specs::Waiting::with_mark, crate::specs::Waiting::with_turn, crate::specs::Waiting::dues_of))]
+    fn file(&mut self, turns: u64) -> Filed
+        ensures filed { self.new ≡ file_one turns self.old }
+        ensures known { result.known ≡ true }
+        ensures dues { result.dues ≡ dues_of self.old }
+        ensures turn { result.turn ≡ self.old.turn }
+        ensures next { result.next ≡ place_behind turns (Some self.old) }
+        ensures same { kept_of self.new ≡ kept_of self.old }
+        ensures still { sends_of self.new ≡ sends_of self.old }
+    {
+        let dues = self.dues();
+        let turn = self.turn;
+        let next = (-i64::from(self.priority), turns);
+        self.marked = false;
+        self.turn = turn_due(dues.bytes, turn, next);
+        Filed {
+            known: true,
+            dues,
+            turn,
+            next,
+        }
+    }
+}
+
+/// The place of a stream that was looked at.
+fn turn_due(owes: bool, turn: Option<Place>, next: Place) -> Option<Place>
+    ensures { result ≡ turn_due owes turn next }
+{
+    if !owes {
+        return None;
+    }
+    match turn {
+        Some(place) => Some(place),
+        None => Some(next),
+    }
+}
+
+impl Waiting {
+    /// The oldest mark is taken off; its place goes with its stream.
+    fn take_mark(&mut self, known: bool)
+        ensures { self.new ≡ mark_taken known self.old }
+    {
+        self.marks.unmark();
+        if !known {
+            self.marks.drop_place();
+        }
+    }
+
+    /// A stream takes the next place where it has none, and gives up the one that it has, by what it owes.
+    #[tactic(auto, unfolding(crate::specs::Counts::held))]
+    fn move_turn(&mut self, filed: Filed, id: u64) -> Result<(), AllocError>
+        ensures { OnOk result (self.new ≡ turn_moved filed.dues.bytes filed.turn filed.next id self.old) }
+    {
+        match filed.turn {
+            Some(place) => {
+                if !filed.dues.bytes {
+                    self.ready.remove(place);
+                }
+            }
+            None => {
+                if filed.dues.bytes {
+                    self.ready.insert(filed.next, id)?;
+                    self.turns = self.turns.saturating_add(1);
+                }
+            }
+        }
+        Ok(())
+    }
+}
 
 impl Records {
     /// What waits of the stream with an id.
@@ -20,6 +107,27 @@ impl Records {
         match self.streams.get_mut(id) {
             Some(stream) => stream.dues(),
             None => Dues::none(),
+        }
+    }
+
+    /// The stream with an id is looked at, where so many turns were given: it loses its mark, and has a place
+    /// exactly where bytes wait, or the end.
+    #[tactic(auto, using(crate::proofs::Keeping::same, crate::proofs::Sending::still))]
+    fn file(&mut self, id: u64, turns: u64) -> Filed
+        ensures filed { self.new ≡ changed (file_one turns) id self.old }
+        ensures known { result.known ≡ is_some (record_of id self.old) }
+        ensures dues { result.dues ≡ dues_at (record_of id self.old) }
+        ensures turn { result.turn ≡ turn_at (record_of id self.old) }
+        ensures next { result.next ≡ place_behind turns (record_of id self.old) }
+    {
+        match self.streams.get_mut(id) {
+            Some(stream) => stream.file(turns),
+            None => Filed {
+                known: false,
+                dues: Dues::none(),
+                turn: None,
+                next: (0, turns),
+            },
         }
     }
 
@@ -127,51 +235,15 @@ impl StreamsState {
         (-priority, self.waiting.turns)
     }
 
-    /// The oldest mark, which is a stream's, is taken off.
-    #[tactic(auto, unfolding(crate::specs::Waiting::mark_off))]
-    fn take_mark_off(&mut self, id: u64)
-        ensures { self.new ≡ mark_off id self.old }
-    {
-        self.waiting.marks.unmark();
-        if !self.records.has(id) {
-            self.waiting.marks.drop_place();
-        }
-        self.records.set_mark(id, false);
-    }
-
-    /// A stream takes a place, or gives it up, by what it owes.
-    fn file_turn(&mut self, owes: bool, turn: Option<Place>, id: u64) -> Result<(), AllocError>
-        ensures { OnOk result (self.new ≡ turn_filed owes turn id self.old) }
-    {
-        if !owes {
-            self.leave(id);
-            return Ok(());
-        }
-        if turn.is_some() {
-            return Ok(());
-        }
-        let place = self.next_place(id);
-        self.enter(place, id)
-    }
-
-    /// What a stream owes is put where it waits.
-    #[tactic(auto, unfolding(crate::specs::Waiting::placed))]
-    fn place(&mut self, id: u64) -> Result<(), AllocError>
-        ensures { OnOk result (self.new ≡ placed id self.old) }
-    {
-        let dues = self.records.dues(id);
-        let turn = self.records.turn(id);
-        self.waiting.file_sets(dues, id)?;
-        self.file_turn(dues.bytes, turn, id)
-    }
-
-    /// The same of the stream that was marked first.
-    #[tactic(auto, unfolding(crate::specs::Waiting::filed))]
+    /// What the stream that was marked first owes is put where it waits.
+    #[tactic(auto, using(crate::proofs::Filings::filed_so))]
     fn file(&mut self, id: u64) -> Result<(), AllocError>
         ensures { OnOk result (self.new ≡ filed id self.old) }
     {
-        self.take_mark_off(id);
-        self.place(id)
+        let filed = self.records.file(id, self.waiting.turns);
+        self.waiting.take_mark(filed.known);
+        self.waiting.file_sets(filed.dues, id)?;
+        self.waiting.move_turn(filed, id)
     }
 
     /// What streams owe since they were looked at is put where it waits: to be called before frames

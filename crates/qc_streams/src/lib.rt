@@ -27,6 +27,7 @@ mod records;
 mod recv_stream;
 mod send_stream;
 mod sends;
+mod sequel;
 mod settings;
 mod sides;
 mod state;

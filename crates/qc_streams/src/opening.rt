@@ -121,7 +121,7 @@ impl StreamsState {
 
     /// A stream leaves, with its turn and with what it owes.
     #[tactic(auto, unfolding(crate::specs::Streams::released, crate::specs::Streams::forgotten))]
-    fn release(&mut self, id: u64)
+    pub(crate) fn release(&mut self, id: u64)
         ensures { self.new ≡ released id self.old }
     {
         self.waiting.forget(id);

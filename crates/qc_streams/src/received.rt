@@ -1,15 +1,16 @@
 //! The frames that come, each by its table of refusals and its step.
 
-ghost use Rattle.std.specs.Prelude.{◌≡◌, ◌<◌, ◌^◌, IfErr, OnOk, None, Some};
+ghost use Rattle.std.specs.Prelude.{◌≡◌, ◌<◌, ◌^◌, true, IfErr, OnOk, None, Some};
 ghost use Rattle.std.specs.Option.{option_map};
 ghost use Rattle.qc_recv.specs.Receiving.{reset_refusal, reset_taken, stream_refusal, stream_taken};
 ghost use Rattle.qc_streams.specs.declared.fault.Refusal.TheVariants.{Side};
 ghost use Rattle.qc_streams.specs.declared.events.StreamEvent.TheVariants.{Readable};
+ghost use Rattle.qc_streams.specs.Calls.{gives};
 ghost use Rattle.qc_streams.specs.Credit.{room};
 ghost use Rattle.qc_streams.specs.Refusals.{IsRefusal, KeptOn, fault_of};
-ghost use Rattle.qc_streams.specs.Stream.{refusal_at, with_receiving};
+ghost use Rattle.qc_streams.specs.Stream.{reads_if, refusal_at, with_receiving};
 ghost use Rattle.qc_streams.specs.Records.{changed, record_of};
-ghost use Rattle.qc_streams.specs.Streams.{counted, dir_of, fresh_peer, met, opened_with, settled, target, told_if};
+ghost use Rattle.qc_streams.specs.Streams.{counted, dir_of, fresh_peer, is_peer_unopened, met, opened_with, settled, target, told_if};
 ghost use Rattle.qc_streams.specs.Frames.{bars_sending, reads_more, receive_bar, receive_refusal, reset_came, send_refusal, stream_came};
 
 use crate::events::StreamEvent;
@@ -108,48 +109,54 @@ impl StreamsState {
         }
     }
 
-    /// A STREAM frame on a stream that is open, or has ended.
-    #[tactic(auto, using(crate::proofs::Faults::side_refused, crate::proofs::Faults::memory_is_free), unfolding(crate::specs::Refusals::KeptOn))]
+    /// The same; what came counts for the connection's credit.
+    #[tactic(auto, unfolding(crate::specs::Frames::stream_came, crate::specs::Frames::comes, crate::specs::Frames::reads_more, crate::specs::Streams::met, crate::specs::Streams::target, crate::specs::Refusals::IsRefusal, crate::specs::Refusals::KeptOn))]
+    fn open_by_stream(
+        &mut self,
+        id: StreamId,
+        offset: u64,
+        bytes: Bytes,
+        last: bool,
+    ) -> Result<(), StreamFault>
+        requires offset { offset < 2 ^ 62 }
+        requires unopened { is_peer_unopened id self.old ≡ true }
+        ensures taken { OnOk result (self.new ≡ stream_came id offset bytes last self.old) }
+        ensures fits { OnOk result (option_map Side (refusal_at (stream_refusal offset bytes last (room self.old.incoming)) (target id self.old)) ≡ None) }
+        ensures refused { IfErr result (λ e. IsRefusal e (option_map Side (refusal_at (stream_refusal offset bytes last (room self.old.incoming)) (target id self.old)))) }
+        ensures kept { IfErr result (λ e. KeptOn e self.old self.new) }
+    {
+        let before = self.records.totals(id.value());
+        self.first_stream(id.value(), offset, bytes, last)?;
+        self.note(id, before, false)
+    }
+
+    /// A STREAM frame on a stream that is open, or has ended: one look at it.
+    #[tactic(auto, using(crate::proofs::Sequels::gives_so, crate::proofs::Faults::side_refused, crate::proofs::Faults::memory_is_free), unfolding(crate::specs::Refusals::KeptOn))]
     fn next_stream(
         &mut self,
-        id: u64,
+        id: StreamId,
         offset: u64,
         bytes: Bytes,
         last: bool,
     ) -> Result<(), StreamFault>
         requires { offset < 2 ^ 62 }
-        ensures taken { OnOk result (self.new ≡ record self.old { records = changed (with_receiving (stream_taken offset bytes last)) id self.old.records }) }
+        ensures taken { OnOk result (self.new ≡ told_if (reads_if (record_of id self.old.records)) (Readable id) (gives (stream_taken offset bytes last) id self.old)) }
         ensures fits { OnOk result (option_map Side (refusal_at (stream_refusal offset bytes last (room self.old.incoming)) (record_of id self.old.records)) ≡ None) }
         ensures refused { IfErr result (λ e. IsRefusal e (option_map Side (refusal_at (stream_refusal offset bytes last (room self.old.incoming)) (record_of id self.old.records)))) }
         ensures kept { IfErr result (λ e. KeptOn e self.old self.new) }
     {
-        let room = self.incoming.room();
-        match self.records.take_stream(id, offset, bytes, last, room) {
+        let incoming = &mut self.incoming;
+        let arrival = match self
+            .records
+            .receive(id.value(), offset, bytes, last, incoming)
+        {
+            Ok(arrival) => arrival,
+            Err(fault) => return Err(side_fault(fault)),
+        };
+        self.follow(arrival.sequel, id.value());
+        match self.tell_if(arrival.tells, StreamEvent::Readable { id }) {
             Ok(()) => Ok(()),
-            Err(fault) => Err(side_fault(fault)),
-        }
-    }
-
-    /// A STREAM frame meets its stream.
-    #[tactic(auto, unfolding(crate::specs::Streams::met, crate::specs::Streams::target))]
-    fn meet_stream(
-        &mut self,
-        id: u64,
-        offset: u64,
-        bytes: Bytes,
-        last: bool,
-    ) -> Result<(), StreamFault>
-        requires id { id < 2 ^ 62 }
-        requires offset { offset < 2 ^ 62 }
-        ensures taken { OnOk result (self.new ≡ met (with_receiving (stream_taken offset bytes last)) id self.old) }
-        ensures fits { OnOk result (option_map Side (refusal_at (stream_refusal offset bytes last (room self.old.incoming)) (target id self.old)) ≡ None) }
-        ensures refused { IfErr result (λ e. IsRefusal e (option_map Side (refusal_at (stream_refusal offset bytes last (room self.old.incoming)) (target id self.old)))) }
-        ensures kept { IfErr result (λ e. KeptOn e self.old self.new) }
-    {
-        if self.is_peer_unopened(id) {
-            self.first_stream(id, offset, bytes, last)
-        } else {
-            self.next_stream(id, offset, bytes, last)
+            Err(_) => Err(StreamFault::OutOfMemory),
         }
     }
 
@@ -226,7 +233,7 @@ impl StreamsState {
     ///
     /// A [`Refusal`], exactly by the table of the definition; nothing changes then, and no stream is
     /// opened. Or want of memory.
-    #[tactic(auto, unfolding(crate::specs::Frames::stream_came, crate::specs::Frames::comes, crate::specs::Frames::receive_refusal, crate::specs::Refusals::IsRefusal, crate::specs::Refusals::KeptOn))]
+    #[tactic(auto, unfolding(crate::specs::Frames::stream_came, crate::specs::Frames::comes, crate::specs::Frames::reads_more, crate::specs::Frames::receive_refusal, crate::specs::Calls::gives, crate::specs::Streams::met, crate::specs::Streams::target, crate::specs::Refusals::IsRefusal, crate::specs::Refusals::KeptOn))]
     pub fn received(
         &mut self,
         id: StreamId,
@@ -243,10 +250,10 @@ impl StreamsState {
         if let Some(refusal) = self.receive_bar(id.value()) {
             return Err(StreamFault::Refused(refusal));
         }
-        let tells = self.reads_more(id.value());
-        let before = self.records.totals(id.value());
-        self.meet_stream(id.value(), offset, body, fin)?;
-        self.note(id, before, tells)
+        if self.is_peer_unopened(id.value()) {
+            return self.open_by_stream(id, offset, body, fin);
+        }
+        self.next_stream(id, offset, body, fin)
     }
 
     /// Takes a RESET_STREAM frame (RFC 9000, section 19.4). A stream that the peer hasn't opened is

@@ -6,9 +6,13 @@ ghost use Rattle.qc_send_stream.specs.Sending.{kept_count, IsWriteRefusal, after
 ghost use Rattle.qc_streams.specs.Calls.{IsRead, IsReadOf, after_read, bars_reset, closed_to, count_taken, fault_of_open, fault_of_read, finish_refusal, if_known, known, reset_of, write_fault};
 ghost use Rattle.qc_streams.specs.Kept.{kept_of};
 ghost use Rattle.qc_streams.specs.Sends.{sends_of};
-ghost use Rattle.qc_streams.specs.Stream.{with_receiving, with_sending};
+ghost use Rattle.qc_streams.specs.Credit.{tallied};
+ghost use Rattle.qc_streams.specs.Sequel.{sequel_of, settling};
+ghost use Rattle.qc_streams.specs.Stream.{totals_of, with_receiving, with_sending};
 
+use crate::credit::Incoming;
 use crate::fault::{ClosedStream, ReadFault};
+use crate::sequel::Sequel;
 use crate::stream::Stream;
 use bytes::Bytes;
 use qc_base::VarInt;
@@ -167,6 +171,28 @@ impl Stream {
             Some(receiving) => read(receiving, ordered, most),
             None => Err(ReadFault::ClosedStream),
         }
+    }
+
+    /// The same; what it gives back counts for the connection's credit.
+    #[tactic(auto, unfolding(crate::specs::Sequel::settling))]
+    pub(crate) fn give(
+        &mut self,
+        ordered: bool,
+        most: usize,
+        incoming: &mut Incoming,
+    ) -> (Result<Option<Chunk>, ReadFault>, Sequel)
+        ensures answer { IsReadOf most ordered self.old.receiving result.0 }
+        ensures leads { self.new ≡ settling (with_receiving (after_read ordered result.0)) self.old }
+        ensures counted { incoming.new ≡ tallied (totals_of self.old.receiving) (totals_of (with_receiving (after_read ordered result.0) self.old).receiving) incoming.old }
+        ensures sequel { result.1 ≡ sequel_of (with_receiving (after_read ordered result.0) self.old) }
+        ensures same { kept_of self.new ≡ kept_of self.old }
+        ensures still { sends_of self.new ≡ sends_of self.old }
+    {
+        let before = self.totals();
+        let chunk = self.read(ordered, most);
+        incoming.tally(before, self.totals());
+        let sequel = self.look_at();
+        (chunk, sequel)
     }
 
     /// Stops the stream.

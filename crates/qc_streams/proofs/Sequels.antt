@@ -1,0 +1,123 @@
+-- A stream that is changed and settled by one look at it
+use Rattle.std.proofs.Common.{◌≡◌, ◌∙◌, ℕ, Bool, true, false, cond, if◌then◌else◌, not, List, [], ◌∷◌, Option, None, Some, ap, sym, subst, refl}
+use Rattle.std.specs.BTreeMap.{is_at}
+use Rattle.std.specs.Map.{lookup, set_value}
+use Rattle.std.specs.Option.{option_map}
+use Rattle.std.specs.Ordering.{nat_cmp}
+use Rattle.qc_recv.specs.declared.recv.Recv.{Recv}
+use Rattle.qc_turns.specs.Marks.{marked}
+use Rattle.qc_streams.specs.declared.credit.Incoming.{Incoming}
+use Rattle.qc_streams.specs.declared.sequel.Sequel.{Sequel}
+use Rattle.qc_streams.specs.declared.sequel.Sequel.TheVariants.{Leaves, Marks, Nothing}
+use Rattle.qc_streams.specs.declared.state.StreamsState.{StreamsState}
+use Rattle.qc_streams.specs.declared.stream.Stream.{Stream}
+use Rattle.qc_streams.specs.Calls.{gives}
+use Rattle.qc_streams.specs.Credit.{tallied}
+use Rattle.qc_streams.specs.Lending.{AllRecords}
+use Rattle.qc_streams.specs.Records.{changed, on_some, record_of, with_record}
+use Rattle.qc_streams.specs.Sequel.{followed, looked_at, sequel_at, sequel_of, settling}
+use Rattle.qc_streams.specs.Stream.{has_ended, is_over, totals_at, totals_if, with_receiving}
+use Rattle.qc_streams.specs.Streams.{counted, released, settled}
+use Rattle.qc_streams.specs.Waiting.{is_idle, touched, with_mark}
+use Rattle.qc_streams.proofs.Keyed.{set_here}
+
+-- ---- a value that is set twice
+
+taken : {X : Type 0} (b : Bool) (x y : X) → b ≡ true → cond b x y ≡ x
+taken true x y is = refl
+taken false x y is = absurd (cc)
+
+passed : {X : Type 0} (b : Bool) (x y : X) → b ≡ false → cond b x y ≡ y
+passed true x y is = absurd (cc)
+passed false x y is = refl
+
+twice_step : {X : Type 0} (b : Bool) (test : ℕ → Bool) (e : ℕ × X) (es rest : List (ℕ × X)) (v w : X) → test e.0 ≡ b
+    → set_value test rest w ≡ set_value test es w
+    → set_value test (cond b ((e.0, v) ∷ es) (e ∷ rest)) w ≡ cond b ((e.0, w) ∷ es) (e ∷ set_value test es w)
+twice_step true test e es rest v w at same = taken (test e.0) ((e.0, w) ∷ es) ((e.0, v) ∷ set_value test es w) at
+twice_step {X = X} false test e es rest v w at same =
+    passed (test e.0) ((e.0, w) ∷ rest) (e ∷ set_value test rest w) at ∙ ap (λ (l : List (ℕ × X)). e ∷ l) same
+
+pub set_twice : {X : Type 0} (test : ℕ → Bool) (es : List (ℕ × X)) (v w : X) → set_value test (set_value test es v) w ≡ set_value test es w
+set_twice test [] v w = refl
+set_twice test (e ∷ es) v w = twice_step (test e.0) test e es (set_value test es v) v w refl (set_twice test es v w)
+
+-- what a stream is after a change
+found_as : (f : Stream → Stream) (id : ℕ) (all : AllRecords) (o : Option Stream) → record_of id all ≡ o
+    → record_of id (on_some f id o all) ≡ option_map f o
+found_as f id all None is = is
+found_as f id all (Some st) is = set_here id all st (f st) is
+
+pub found_so : (f : Stream → Stream) (id : ℕ) (all : AllRecords) → record_of id (changed f id all) ≡ option_map f (record_of id all)
+found_so f id all = found_as f id all (record_of id all) refl
+
+-- ---- a stream is settled
+
+settled_at : (o : Option Stream) → ℕ → StreamsState → StreamsState
+settled_at o id s =
+    if has_ended o then released id s
+    else record s {
+      records = on_some (with_mark true) id o s.records;
+      waiting = record s.waiting { marks = if is_idle o then marked id s.waiting.marks else s.waiting.marks };
+    }
+
+settled_is : (o : Option Stream) (id : ℕ) (s : StreamsState) → record_of id s.records ≡ o → settled id s ≡ settled_at o id s
+unfolding settled settled_at touched
+settled_is o id s is = subst (λ (x : Option Stream). settled id s ≡ settled_at x id s) is refl
+
+with_all : AllRecords → StreamsState → StreamsState
+with_all all s = record s { records = all }
+
+by_flags : (over marked_before : Bool) (w : Stream) (id : ℕ) (s : StreamsState)
+    → (if over then released id (with_all (with_record id w s.records) s)
+    else record s {
+      records = with_record id (with_mark true w) s.records;
+      waiting = record s.waiting { marks = if not marked_before then marked id s.waiting.marks else s.waiting.marks };
+    })
+    ≡ followed (if over then Leaves else if marked_before then Nothing else Marks) id
+    (with_all (with_record id (if over then w else with_mark true w) s.records) s)
+unfolding with_all
+by_flags true m w id s = refl
+by_flags false true w id s = refl
+by_flags false false w id s = refl
+
+some_settled : (w st : Stream) (id : ℕ) (s : StreamsState) → record_of id s.records ≡ Some st
+    → settled id (with_all (with_record id w s.records) s) ≡ followed (sequel_of w) id (with_all (with_record id (looked_at w) s.records) s)
+unfolding with_all settled_at sequel_of looked_at
+some_settled w st id s is =
+    settled_is (Some w) id (with_all (with_record id w s.records) s) (set_here id s.records st w is)
+    ∙ ap
+    (λ (l : AllRecords). (if is_over w then released id (with_all (with_record id w s.records) s)
+    else record s {
+      records = l;
+      waiting = record s.waiting { marks = if not w.marked then marked id s.waiting.marks else s.waiting.marks };
+    })) (set_twice (is_at (nat_cmp id)) s.records w (with_mark true w))
+    ∙ by_flags (is_over w) w.marked w id s
+
+settled_as : (f : Stream → Stream) (id : ℕ) (s : StreamsState) (o : Option Stream) → record_of id s.records ≡ o
+    → settled id (with_all (on_some f id o s.records) s)
+    ≡ followed (sequel_at (option_map f o)) id (with_all (on_some (settling f) id o s.records) s)
+unfolding with_all settled_at settling
+settled_as f id s None is = settled_is None id s is
+settled_as f id s (Some st) is = some_settled (f st) st id s is
+
+-- a stream that is changed and settled is looked at once
+pub settled_so : (f : Stream → Stream) (id : ℕ) (s : StreamsState)
+    → settled id (record s { records = changed f id s.records })
+    ≡ followed (sequel_at (option_map f (record_of id s.records))) id (record s { records = changed (settling f) id s.records })
+unfolding with_all
+settled_so f id s = settled_as f id s (record_of id s.records) refl
+
+-- the same, with the connection's credit
+pub gives_so : (f : Recv → Recv) (id : ℕ) (s : StreamsState)
+    → gives f id s
+    ≡ followed (sequel_at (option_map (with_receiving f) (record_of id s.records))) id (record s {
+      records = changed (settling (with_receiving f)) id s.records;
+      incoming = tallied (totals_at id s.records) (totals_if (option_map (with_receiving f) (record_of id s.records))) s.incoming;
+    })
+unfolding gives counted totals_at
+gives_so f id s =
+    let tally : Option Stream → Incoming = (λ (o : Option Stream). tallied (totals_if (record_of id s.records)) (totals_if o) s.incoming) in
+    let at : Option Stream → StreamsState = (λ (o : Option Stream). (let t : StreamsState = record s { incoming = tally o } in t)) in
+    ap (λ (o : Option Stream). settled id (record (at o) { records = changed (with_receiving f) id s.records })) (found_so (with_receiving f) id s.records)
+    ∙ settled_so (with_receiving f) id (at (option_map (with_receiving f) (record_of id s.records)))

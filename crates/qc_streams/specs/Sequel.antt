@@ -1,0 +1,33 @@
+-- What is to be done for a stream once it was changed: the same as `settled`, of one look at it
+use Rattle.std.specs.Prelude.{ℕ, true, false, if◌then◌else◌, Option, None, Some}
+use Rattle.qc_turns.specs.Marks.{marked}
+use Rattle.qc_streams.specs.declared.sequel.Sequel.{Sequel}
+use Rattle.qc_streams.specs.declared.sequel.Sequel.TheVariants.{Leaves, Marks, Nothing}
+use Rattle.qc_streams.specs.declared.state.StreamsState.{StreamsState}
+use Rattle.qc_streams.specs.declared.stream.Stream.{Stream}
+use Rattle.qc_streams.specs.Stream.{is_over}
+use Rattle.qc_streams.specs.Streams.{released}
+use Rattle.qc_streams.specs.Waiting.{with_mark}
+
+-- a stream that was changed is marked, unless it has ended
+unfoldable pub looked_at : Stream → Stream
+looked_at st = if is_over st then st else with_mark true st
+
+-- the same, with its change
+unfoldable pub settling : (Stream → Stream) → Stream → Stream
+settling f st = looked_at (f st)
+
+-- what is to be done then: a stream that has ended leaves, and the mark of one that had none is put behind the others
+unfoldable pub sequel_of : Stream → Sequel
+sequel_of st = if is_over st then Leaves else if st.marked then Nothing else Marks
+
+-- the same, nothing where there is no stream
+abbrev pub sequel_at : Option Stream → Sequel
+sequel_at None = Nothing
+sequel_at (Some st) = sequel_of st
+
+-- that is done
+abbrev pub followed : Sequel → ℕ → StreamsState → StreamsState
+followed Leaves id s = released id s
+followed Marks id s = record s { waiting = record s.waiting { marks = marked id s.waiting.marks } }
+followed Nothing id s = s
