@@ -14,7 +14,7 @@ use Rattle.qc_streams.proofs.Keyed.{set_here}
 use Rattle.qc_streams.proofs.Sequels.{set_twice}
 
 -- the state, with these records and what waits
-with_both : AllRecords → Waiting → StreamsState → StreamsState
+unfoldable pub with_both : AllRecords → Waiting → StreamsState → StreamsState
 with_both all w s = record s { records = all; waiting = w }
 
 -- `placed` of a stream that is known
@@ -26,14 +26,14 @@ unfolding placed placed_at
 placed_is o id s is = subst (λ (x : Option Stream). placed id s ≡ placed_at x id s) is refl
 
 -- a place is taken
-entered_is : (w : Stream) (place : ℤ × ℕ) (id : ℕ) (s : StreamsState) → record_of id s.records ≡ Some w
+pub entered_is : (w : Stream) (place : ℤ × ℕ) (id : ℕ) (s : StreamsState) → record_of id s.records ≡ Some w
     → entered place id s ≡ with_both (with_record id (with_turn (Some place) w) s.records) (turn_moved true None place id s.waiting) s
 unfolding entered with_both
 entered_is w place id s is =
     ap (λ (o : Option Stream). with_both (on_some (with_turn (Some place)) id o s.records) (turn_moved true None place id s.waiting) s) is
 
 -- a place is given up
-left_is : (w : Stream) (place : ℤ × ℕ) (id : ℕ) (s : StreamsState) → record_of id s.records ≡ Some w → w.turn ≡ Some place
+pub left_is : (w : Stream) (place : ℤ × ℕ) (id : ℕ) (s : StreamsState) → record_of id s.records ≡ Some w → w.turn ≡ Some place
     → left id s ≡ with_both (with_record id (with_turn None w) s.records) (turn_moved false (Some place) place id s.waiting) s
 unfolding left with_both
 left_is w place id s is has =
@@ -42,12 +42,12 @@ left_is w place id s is has =
     ∙ ap (λ (o : Option Stream). with_both (on_some (with_turn None) id o s.records) (turn_moved false (Some place) place id s.waiting) s) is
 
 -- no place is given up
-kept_out : (w : Stream) (id : ℕ) (s : StreamsState) → record_of id s.records ≡ Some w → w.turn ≡ None → left id s ≡ s
+pub kept_out : (w : Stream) (id : ℕ) (s : StreamsState) → record_of id s.records ≡ Some w → w.turn ≡ None → left id s ≡ s
 unfolding left
 kept_out w id s is none =
     ap (λ (o : Option Stream). left_from (turn_at o) id s) is ∙ ap (λ (t : Option (ℤ × ℕ)). left_from t id s) none
 
-same_turn : (w : Stream) (turn : Option (ℤ × ℕ)) → w.turn ≡ turn → with_turn turn w ≡ w
+pub same_turn : (w : Stream) (turn : Option (ℤ × ℕ)) → w.turn ≡ turn → with_turn turn w ≡ w
 unfolding with_turn
 same_turn w turn is = ap (λ (t : Option (ℤ × ℕ)). (let x : Stream = record w { turn = t } in x)) (sym is)
 

@@ -1,5 +1,6 @@
 pub mod Back
 pub mod Done
+pub mod Draws
 pub mod Faults
 pub mod Filings
 pub mod Fronts

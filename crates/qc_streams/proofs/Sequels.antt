@@ -1,5 +1,5 @@
 -- A stream that is changed and settled by one look at it
-use Rattle.std.proofs.Common.{◌≡◌, ◌∙◌, ℕ, Bool, true, false, cond, if◌then◌else◌, not, List, [], ◌∷◌, Option, None, Some, ap, sym, subst, refl}
+use Rattle.std.proofs.Common.{◌≡◌, ◌∙◌, ℕ, Bool, true, false, cond, if◌then◌else◌, not, ◌&&◌, List, [], ◌∷◌, take, Option, None, Some, ap, sym, subst, refl}
 use Rattle.std.specs.BTreeMap.{is_at}
 use Rattle.std.specs.Map.{lookup, set_value}
 use Rattle.std.specs.Option.{option_map}
@@ -11,14 +11,19 @@ use Rattle.qc_streams.specs.declared.sequel.Sequel.{Sequel}
 use Rattle.qc_streams.specs.declared.sequel.Sequel.TheVariants.{Leaves, Marks, Nothing}
 use Rattle.qc_streams.specs.declared.state.StreamsState.{StreamsState}
 use Rattle.qc_streams.specs.declared.stream.Stream.{Stream}
-use Rattle.qc_streams.specs.Calls.{gives}
-use Rattle.qc_streams.specs.Credit.{tallied}
+use Rattle.qc_send_stream.specs.Sending.{part_acked, part_written}
+use Rattle.qc_streams.specs.declared.events.StreamEvent.TheVariants.{Finished}
+use Rattle.qc_streams.specs.Blocked.{without_blocked}
+use Rattle.qc_streams.specs.Calls.{gives, if_known, wrote}
+use Rattle.qc_streams.specs.Credit.{outgoing_written, tallied}
 use Rattle.qc_streams.specs.Lending.{AllRecords}
 use Rattle.qc_streams.specs.Records.{changed, on_some, record_of, with_record}
-use Rattle.qc_streams.specs.Sequel.{followed, looked_at, sequel_at, sequel_of, settling}
-use Rattle.qc_streams.specs.Stream.{has_ended, is_over, totals_at, totals_if, with_receiving}
-use Rattle.qc_streams.specs.Streams.{counted, released, settled}
+use Rattle.qc_streams.specs.Sequel.{followed, looked_at, marking, sequel_at, sequel_of, settling, write_followed}
+use Rattle.qc_streams.specs.Parts.{bytes_acked, bytes_taken, finished_at, finishes}
+use Rattle.qc_streams.specs.Stream.{has_ended, is_over, totals_at, totals_if, with_receiving, with_sending}
+use Rattle.qc_streams.specs.Streams.{counted, released, settled, told_if}
 use Rattle.qc_streams.specs.Waiting.{is_idle, touched, with_mark}
+use Rattle.qc_streams.specs.Writable.{credit_at, passed}
 use Rattle.qc_streams.proofs.Keyed.{set_here}
 
 -- ---- a value that is set twice
@@ -27,16 +32,16 @@ taken : {X : Type 0} (b : Bool) (x y : X) → b ≡ true → cond b x y ≡ x
 taken true x y is = refl
 taken false x y is = absurd (cc)
 
-passed : {X : Type 0} (b : Bool) (x y : X) → b ≡ false → cond b x y ≡ y
-passed true x y is = absurd (cc)
-passed false x y is = refl
+other : {X : Type 0} (b : Bool) (x y : X) → b ≡ false → cond b x y ≡ y
+other true x y is = absurd (cc)
+other false x y is = refl
 
 twice_step : {X : Type 0} (b : Bool) (test : ℕ → Bool) (e : ℕ × X) (es rest : List (ℕ × X)) (v w : X) → test e.0 ≡ b
     → set_value test rest w ≡ set_value test es w
     → set_value test (cond b ((e.0, v) ∷ es) (e ∷ rest)) w ≡ cond b ((e.0, w) ∷ es) (e ∷ set_value test es w)
 twice_step true test e es rest v w at same = taken (test e.0) ((e.0, w) ∷ es) ((e.0, v) ∷ set_value test es w) at
 twice_step {X = X} false test e es rest v w at same =
-    passed (test e.0) ((e.0, w) ∷ rest) (e ∷ set_value test rest w) at ∙ ap (λ (l : List (ℕ × X)). e ∷ l) same
+    other (test e.0) ((e.0, w) ∷ rest) (e ∷ set_value test rest w) at ∙ ap (λ (l : List (ℕ × X)). e ∷ l) same
 
 pub set_twice : {X : Type 0} (test : ℕ → Bool) (es : List (ℕ × X)) (v w : X) → set_value test (set_value test es v) w ≡ set_value test es w
 set_twice test [] v w = refl
@@ -121,3 +126,71 @@ gives_so f id s =
     let at : Option Stream → StreamsState = (λ (o : Option Stream). (let t : StreamsState = record s { incoming = tally o } in t)) in
     ap (λ (o : Option Stream). settled id (record (at o) { records = changed (with_receiving f) id s.records })) (found_so (with_receiving f) id s.records)
     ∙ settled_so (with_receiving f) id (at (option_map (with_receiving f) (record_of id s.records)))
+
+-- ---- a stream is marked
+
+touched_at : (o : Option Stream) → ℕ → StreamsState → StreamsState
+touched_at o id s = record s {
+  records = on_some (with_mark true) id o s.records;
+  waiting = record s.waiting { marks = if is_idle o then marked id s.waiting.marks else s.waiting.marks };
+}
+
+touched_is : (o : Option Stream) (id : ℕ) (s : StreamsState) → record_of id s.records ≡ o → touched id s ≡ touched_at o id s
+unfolding touched_at touched
+touched_is o id s is = subst (λ (x : Option Stream). touched id s ≡ touched_at x id s) is refl
+
+marked_with : (Stream → Stream) → ℕ → Option Stream → StreamsState → StreamsState
+marked_with f id o s = record s {
+  records = on_some (marking f) id o s.records;
+  waiting = record s.waiting { marks = if is_idle (option_map f o) then marked id s.waiting.marks else s.waiting.marks };
+}
+
+touched_as : (f : Stream → Stream) (id : ℕ) (s : StreamsState) (o : Option Stream) → record_of id s.records ≡ o
+    → touched id (with_all (on_some f id o s.records) s) ≡ marked_with f id o s
+unfolding with_all touched_at marked_with marking
+touched_as f id s None is = touched_is None id s is
+touched_as f id s (Some st) is =
+    touched_is (Some (f st)) id (with_all (with_record id (f st) s.records) s) (set_here id s.records st (f st) is)
+    ∙ ap
+    (λ (l : AllRecords). (let t : StreamsState = record s {
+      records = l;
+      waiting = record s.waiting { marks = if not (f st).marked then marked id s.waiting.marks else s.waiting.marks };
+    } in t)) (set_twice (is_at (nat_cmp id)) s.records (f st) (with_mark true (f st)))
+
+-- a stream that is changed and marked is looked at once
+touched_so : (f : Stream → Stream) (id : ℕ) (s : StreamsState)
+    → touched id (with_all (changed f id s.records) s) ≡ marked_with f id (record_of id s.records) s
+touched_so f id s = touched_as f id s (record_of id s.records) refl
+
+-- so it is written on
+pub wrote_so : (id n : ℕ) (chunk : List ℕ) (s : StreamsState)
+    → wrote id n chunk s
+    ≡ write_followed (credit_at (option_map (with_sending (if_known (part_written (take n chunk)))) (record_of id s.records)))
+    (is_idle (option_map (with_sending (if_known (part_written (take n chunk)))) (record_of id s.records))) id
+    (record s { records = changed (marking (with_sending (if_known (part_written (take n chunk))))) id s.records; outgoing = outgoing_written n s.outgoing })
+unfolding wrote passed with_all marked_with
+wrote_so id n chunk s =
+    let f : Stream → Stream = with_sending (if_known (part_written (take n chunk))) in
+    let at : Option Stream → StreamsState =
+    (λ (o : Option Stream). (let t : StreamsState = record s {
+      outgoing = outgoing_written n s.outgoing;
+      blocked = if credit_at o then s.blocked else without_blocked id s.blocked;
+    } in t)) in
+    ap (λ (o : Option Stream). touched id (with_all (changed f id s.records) (at o))) (found_so f id s.records)
+    ∙ touched_so f id (at (option_map f (record_of id s.records)))
+
+-- so it is told that bytes of it are acknowledged
+pub acked_so : (id start stop : ℕ) (last : Bool) (s : StreamsState)
+    → bytes_acked id start stop last s
+    ≡ told_if
+    (not (finished_at (record_of id s.records)) && finished_at (option_map (with_sending (part_acked start stop last)) (record_of id s.records)))
+    (Finished id)
+    (followed (sequel_at (option_map (with_sending (part_acked start stop last)) (record_of id s.records))) id
+    (record s { records = changed (settling (with_sending (part_acked start stop last))) id s.records }))
+unfolding bytes_acked bytes_taken finishes
+acked_so id start stop last s =
+    let f : Stream → Stream = with_sending (part_acked start stop last) in
+    ap (λ (o : Option Stream). told_if (not (finished_at (record_of id s.records)) && finished_at o) (Finished id) (settled id (bytes_taken id start stop last s)))
+    (found_so f id s.records)
+    ∙ ap (λ (t : StreamsState). told_if (not (finished_at (record_of id s.records)) && finished_at (option_map f (record_of id s.records))) (Finished id) t)
+    (settled_so f id s)

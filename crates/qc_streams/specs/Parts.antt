@@ -1,10 +1,12 @@
 -- Bytes of streams: which are sent next, and what becomes of them (RFC 9000, sections 2.2, 2.3, 3.1 and 19.8)
-use Rattle.std.specs.Prelude.{◌≡◌, ℕ, ℤ, negsuc, ◌+◌, ◌-◌, Bool, false, not, ◌&&◌, nat_lt, if◌then◌else◌, length, Option, None, Some, is_some}
+use Rattle.std.specs.Prelude.{◌≡◌, ℕ, ℤ, neg_ℤ, negsuc, ◌+◌, ◌-◌, Bool, true, false, not, ◌&&◌, nat_lt, if◌then◌else◌, length, Option, None, Some, is_some}
 use Rattle.std.specs.Option.{option_map}
 use Rattle.qc_send_stream.specs.declared.send.Part.{Part}
 use Rattle.qc_send_stream.specs.declared.send.SendPart.{SendPart}
 use Rattle.qc_send_stream.specs.Sending.{IsOffer, is_done, part_sealed, part_acked, part_lost}
-use Rattle.qc_turns.specs.Ready.{next_turn}
+use Rattle.qc_turns.specs.Ready.{next_turn, with_place, without_place}
+use Rattle.qc_streams.specs.declared.parts.Drawn.{Drawn}
+use Rattle.qc_streams.specs.declared.waiting.Waiting.{Waiting}
 use Rattle.qc_streams.specs.declared.parts.StreamPart.{StreamPart}
 use Rattle.qc_streams.specs.declared.stream.Stream.{Stream}
 use Rattle.qc_streams.specs.declared.events.StreamEvent.TheVariants.{Finished}
@@ -13,7 +15,7 @@ use Rattle.qc_streams.specs.Counts.{held}
 use Rattle.qc_streams.specs.Records.{record_of, changed}
 use Rattle.qc_streams.specs.Stream.{with_sending}
 use Rattle.qc_streams.specs.Streams.{settled, told_if}
-use Rattle.qc_streams.specs.Waiting.{dues_at, entered, left, next_place, touched}
+use Rattle.qc_streams.specs.Waiting.{dues_at, dues_of, entered, left, next_place, touched, with_turn}
 
 -- What a stream may give next, with at most so many bytes
 unfoldable pub IsOfferOf : ℕ → Option SendPart → Option Part → Type 0
@@ -91,3 +93,40 @@ finishes id start stop last s =
 unfoldable pub bytes_acked : ℕ → ℕ → ℕ → Bool → StreamsState → StreamsState
 bytes_acked id start stop last s =
     told_if (finishes id start stop last s) (Finished id) (settled id (bytes_taken id start stop last s))
+
+-- where a stream of a priority goes on that has more, where so many turns were given: the same as `place_again`
+abbrev pub place_after : Bool → ℕ → ℤ → ℤ × ℕ
+place_after fair turns priority = if fair then (neg_ℤ priority, turns) else (negsuc 4294967295, turns)
+
+-- a stream of which a part is sealed
+unfoldable pub seal_one : Part → Stream → Stream
+seal_one part st = with_sending (part_sealed part.offset (part_end part) part.last) st
+
+-- the same, which then has a place exactly where it has more
+unfoldable pub draw_one : Bool → ℕ → Part → Stream → Stream
+draw_one fair turns part st =
+    with_turn (if (dues_of (seal_one part st)).bytes then Some (place_after fair turns st.priority) else None) (seal_one part st)
+
+-- What was drawn of a stream, beside the part
+pub record IsTurnOf (fair : Bool) (turns : ℕ) (st : Stream) (d : Drawn) : Type 0 where
+  -- whether it has more
+  pub owes : d.owes ≡ (dues_of (seal_one d.part st)).bytes
+  -- the place that it had
+  pub turn : d.turn ≡ st.turn
+  -- and that where it goes on
+  pub next : d.next ≡ place_after fair turns st.priority
+
+-- the same of a stream, where there is one
+abbrev pub IsTurnAt : Bool → ℕ → Option Stream → Drawn → Type 0
+IsTurnAt fair turns None d = ⊥
+IsTurnAt fair turns (Some st) d = IsTurnOf fair turns st d
+
+-- a stream that has a place gives it up
+abbrev pub turn_left : Option (ℤ × ℕ) → Waiting → Waiting
+turn_left None w = w
+turn_left (Some place) w = record w { ready = without_place place w.ready }
+
+-- a stream takes a place, where it has more
+abbrev pub turn_taken : Bool → ℤ × ℕ → ℕ → Waiting → Waiting
+turn_taken false next id w = w
+turn_taken true next id w = record w { ready = with_place next id w.ready; turns = held (w.turns + 1) }

@@ -1,10 +1,11 @@
 -- What is to be done for a stream once it was changed: the same as `settled`, of one look at it
-use Rattle.std.specs.Prelude.{ℕ, true, false, if◌then◌else◌, Option, None, Some}
+use Rattle.std.specs.Prelude.{ℕ, Bool, true, if◌then◌else◌, Option, None, Some}
 use Rattle.qc_turns.specs.Marks.{marked}
 use Rattle.qc_streams.specs.declared.sequel.Sequel.{Sequel}
 use Rattle.qc_streams.specs.declared.sequel.Sequel.TheVariants.{Leaves, Marks, Nothing}
 use Rattle.qc_streams.specs.declared.state.StreamsState.{StreamsState}
 use Rattle.qc_streams.specs.declared.stream.Stream.{Stream}
+use Rattle.qc_streams.specs.Blocked.{without_blocked}
 use Rattle.qc_streams.specs.Stream.{is_over}
 use Rattle.qc_streams.specs.Streams.{released}
 use Rattle.qc_streams.specs.Waiting.{with_mark}
@@ -16,6 +17,10 @@ looked_at st = if is_over st then st else with_mark true st
 -- the same, with its change
 unfoldable pub settling : (Stream → Stream) → Stream → Stream
 settling f st = looked_at (f st)
+
+-- a stream that was changed is marked in any case
+unfoldable pub marking : (Stream → Stream) → Stream → Stream
+marking f st = with_mark true (f st)
 
 -- what is to be done then: a stream that has ended leaves, and the mark of one that had none is put behind the others
 unfoldable pub sequel_of : Stream → Sequel
@@ -31,3 +36,11 @@ abbrev pub followed : Sequel → ℕ → StreamsState → StreamsState
 followed Leaves id s = released id s
 followed Marks id s = record s { waiting = record s.waiting { marks = marked id s.waiting.marks } }
 followed Nothing id s = s
+
+-- a stream was written on and marked: without credit it doesn't wait for the connection any more, and the mark of one that had none
+-- is put behind the others
+abbrev pub write_followed : Bool → Bool → ℕ → StreamsState → StreamsState
+write_followed credit idle id s = record s {
+  blocked = if credit then s.blocked else without_blocked id s.blocked;
+  waiting = record s.waiting { marks = if idle then marked id s.waiting.marks else s.waiting.marks };
+}

@@ -8,8 +8,10 @@ ghost use Rattle.std.specs.Option.{option_map};
 ghost use Rattle.qc_streams.specs.Credit.{budget, tallied};
 ghost use Rattle.qc_streams.specs.Kept.{kept_in};
 ghost use Rattle.qc_streams.specs.Records.{changed, record_of};
-ghost use Rattle.qc_streams.specs.Sequel.{sequel_at, settling};
+ghost use Rattle.qc_streams.specs.Sequel.{marking, sequel_at, settling};
 ghost use Rattle.qc_streams.specs.Stream.{totals_at, totals_if, with_receiving, with_sending};
+ghost use Rattle.qc_streams.specs.Waiting.{is_idle};
+ghost use Rattle.qc_streams.specs.Writable.{credit_at};
 
 use crate::credit::Incoming;
 use crate::fault::{ClosedStream, ReadFault};
@@ -18,19 +20,22 @@ use crate::sends::recounted;
 use crate::sequel::Sequel;
 use crate::state::StreamsState;
 use crate::stream::Totals;
+use crate::writable::Noted;
 use bytes::Bytes;
 use qc_base::{StreamId, VarInt};
 use qc_recv::Chunk;
 use qc_send_stream::{FinishError, WriteError};
 
 impl Records {
-    /// Writes on the stream with an id.
-    #[tactic(auto, using(crate::proofs::Keeping::same, crate::proofs::Sending::still, crate::proofs::Sending::recounts), unfolding(qc_send_stream::specs::Sending::IsWriteRefusal))]
-    fn write(&mut self, id: u64, chunk: &mut Bytes, most: u64) -> Result<usize, WriteError>
+    /// Writes on the stream with an id, which is marked then.
+    #[tactic(auto, using(crate::proofs::Keeping::same, crate::proofs::Sending::still, crate::proofs::Sending::recounts), unfolding(qc_send_stream::specs::Sending::IsWriteRefusal, crate::specs::Sequel::marking))]
+    fn write(&mut self, id: u64, chunk: &mut Bytes, most: u64) -> Result<(usize, Noted), WriteError>
         requires { kept_in self.old + most < 2 ^ 64 }
-        ensures count { IfOk result (λ n. n ≡ count_taken (length chunk.old) most (known_of (record_of id self.old))) }
-        ensures written { IfOk result (λ n. self.new ≡ changed (with_sending (if_known (part_written (take n chunk.old)))) id self.old) }
-        ensures rest { IfOk result (λ n. chunk.new ≡ drop n chunk.old) }
+        ensures count { IfOk result (λ w. w.0 ≡ count_taken (length chunk.old) most (known_of (record_of id self.old))) }
+        ensures written { IfOk result (λ w. self.new ≡ changed (marking (with_sending (if_known (part_written (take w.0 chunk.old))))) id self.old) }
+        ensures credit { IfOk result (λ w. w.1.credit ≡ credit_at (option_map (with_sending (if_known (part_written (take w.0 chunk.old)))) (record_of id self.old))) }
+        ensures idle { IfOk result (λ w. w.1.idle ≡ is_idle (option_map (with_sending (if_known (part_written (take w.0 chunk.old)))) (record_of id self.old))) }
+        ensures rest { IfOk result (λ w. chunk.new ≡ drop w.0 chunk.old) }
         ensures fits { OnOk result (write_fault most (known_of (record_of id self.old)) ≡ None) }
         ensures refused { IfErr result (λ e. IsWriteRefusal e (write_fault most (known_of (record_of id self.old)))) }
         ensures err { IfErr result (λ e. self.new ≡ changed (with_sending (if_known (after_refusal e))) id self.old) }
@@ -40,11 +45,12 @@ impl Records {
             Some(stream) => {
                 let before = stream.sends();
                 let count = stream.write(chunk, most)?;
+                let noted = stream.note_write();
                 let after = stream.sends();
                 let _count = self.streams.len();
                 self.kept += count as u64;
                 self.sending = recounted(self.sending, before, after);
-                Ok(count)
+                Ok((count, noted))
             }
             None => Err(WriteError::ClosedStream),
         }
@@ -153,7 +159,7 @@ impl StreamsState {
     }
 
     /// Writes where the connection has credit, and the send window room.
-    #[tactic(auto, using(crate::proofs::Refused::refused_so, crate::proofs::Refused::refusal_so), unfolding(crate::specs::Calls::wrote, crate::specs::Calls::known_at))]
+    #[tactic(auto, using(crate::proofs::Refused::refused_so, crate::proofs::Refused::refusal_so, crate::proofs::Sequels::wrote_so), unfolding(crate::specs::Calls::known_at))]
     fn write_some(
         &mut self,
         id: StreamId,
@@ -172,10 +178,9 @@ impl StreamsState {
         ensures kept { OnErr result (chunk.new ≡ chunk.old) }
     {
         match self.records.write(id.value(), chunk, most) {
-            Ok(count) => {
+            Ok((count, noted)) => {
                 self.outgoing.write(count as u64);
-                self.pass(id.value());
-                self.touch(id.value());
+                self.follow_write(noted, id.value());
                 Ok(count)
             }
             Err(refusal) => {

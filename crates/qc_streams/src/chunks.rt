@@ -2,6 +2,7 @@
 
 ghost use Rattle.std.specs.Prelude.{◌≡◌, ◌+◌, ◌<◌, ◌≤◌, ◌^◌, false, min, length, take, IfErr, IfOk, OnErr, OnOk, None, Some};
 ghost use Rattle.std.specs.List.{concat};
+ghost use Rattle.std.specs.Option.{option_map};
 ghost use Rattle.qc_send_stream.specs.Buffer.{bytes_written};
 ghost use Rattle.qc_send_stream.specs.Sending.{IsWriteRefusal, after_refusal, is_done, kept_count, part_written, write_refusal as part_refusal};
 ghost use Rattle.qc_streams.specs.Calls.{IsRefused, count_taken, if_known, known, known_at, known_of, send_room, write_fault, write_refusal, write_refused, wrote};
@@ -10,12 +11,16 @@ ghost use Rattle.qc_streams.specs.Credit.{budget};
 ghost use Rattle.qc_streams.specs.Kept.{kept_in, kept_of};
 ghost use Rattle.qc_streams.specs.Records.{changed, record_of};
 ghost use Rattle.qc_streams.specs.Sends.{sends_of};
+ghost use Rattle.qc_streams.specs.Sequel.{marking};
 ghost use Rattle.qc_streams.specs.Stream.{with_sending};
+ghost use Rattle.qc_streams.specs.Waiting.{is_idle};
+ghost use Rattle.qc_streams.specs.Writable.{credit_at};
 
 use crate::records::Records;
 use crate::sends::recounted;
 use crate::state::StreamsState;
 use crate::stream::Stream;
+use crate::writable::Noted;
 use bytes::Bytes;
 use qc_base::StreamId;
 use qc_send_stream::{SendBuffer, SendPart, WriteError};
@@ -140,19 +145,21 @@ impl Stream {
 }
 
 impl Records {
-    /// Writes the front of chunks on the stream with an id.
-    #[tactic(auto, using(crate::proofs::Keeping::same, crate::proofs::Sending::still, crate::proofs::Sending::recounts), unfolding(qc_send_stream::specs::Sending::IsWriteRefusal))]
+    /// Writes the front of chunks on the stream with an id, which is marked then.
+    #[tactic(auto, using(crate::proofs::Keeping::same, crate::proofs::Sending::still, crate::proofs::Sending::recounts), unfolding(qc_send_stream::specs::Sending::IsWriteRefusal, crate::specs::Sequel::marking))]
     fn write_chunks(
         &mut self,
         id: u64,
         chunks: &mut [Bytes],
         most: u64,
-    ) -> Result<Taken, WriteError>
+    ) -> Result<(Taken, Noted), WriteError>
         requires { kept_in self.old + most < 2 ^ 64 }
-        ensures count { IfOk result (λ t. t.lacked ≡ false → t.bytes ≡ count_taken (length (concat chunks.old)) most (known_of (record_of id self.old))) }
-        ensures whole { IfOk result (λ t. t.lacked ≡ false → t.chunks ≡ whole_in t.bytes chunks.old) }
-        ensures written { IfOk result (λ t. self.new ≡ changed (with_sending (if_known (part_written (take t.bytes (concat chunks.old))))) id self.old) }
-        ensures rest { IfOk result (λ t. chunks.new ≡ cut_front t.bytes chunks.old) }
+        ensures count { IfOk result (λ t. t.0.lacked ≡ false → t.0.bytes ≡ count_taken (length (concat chunks.old)) most (known_of (record_of id self.old))) }
+        ensures whole { IfOk result (λ t. t.0.lacked ≡ false → t.0.chunks ≡ whole_in t.0.bytes chunks.old) }
+        ensures written { IfOk result (λ t. self.new ≡ changed (marking (with_sending (if_known (part_written (take t.0.bytes (concat chunks.old)))))) id self.old) }
+        ensures credit { IfOk result (λ t. t.1.credit ≡ credit_at (option_map (with_sending (if_known (part_written (take t.0.bytes (concat chunks.old))))) (record_of id self.old))) }
+        ensures idle { IfOk result (λ t. t.1.idle ≡ is_idle (option_map (with_sending (if_known (part_written (take t.0.bytes (concat chunks.old))))) (record_of id self.old))) }
+        ensures rest { IfOk result (λ t. chunks.new ≡ cut_front t.0.bytes chunks.old) }
         ensures fits { OnOk result (write_fault most (known_of (record_of id self.old)) ≡ None) }
         ensures refused { IfErr result (λ e. IsWriteRefusal e (write_fault most (known_of (record_of id self.old)))) }
         ensures err { IfErr result (λ e. self.new ≡ changed (with_sending (if_known (after_refusal e))) id self.old) }
@@ -162,11 +169,12 @@ impl Records {
             Some(stream) => {
                 let before = stream.sends();
                 let taken = stream.write_chunks(chunks, most)?;
+                let noted = stream.note_write();
                 let after = stream.sends();
                 let _count = self.streams.len();
                 self.kept += taken.bytes as u64;
                 self.sending = recounted(self.sending, before, after);
-                Ok(taken)
+                Ok((taken, noted))
             }
             None => Err(WriteError::ClosedStream),
         }
@@ -175,7 +183,7 @@ impl Records {
 
 impl StreamsState {
     /// Writes the front of chunks where the connection has credit, and the send window room.
-    #[tactic(auto, using(crate::proofs::Refused::refused_so, crate::proofs::Refused::refusal_so), unfolding(crate::specs::Calls::wrote, crate::specs::Calls::known_at))]
+    #[tactic(auto, using(crate::proofs::Refused::refused_so, crate::proofs::Refused::refusal_so, crate::proofs::Sequels::wrote_so), unfolding(crate::specs::Calls::known_at))]
     fn write_some_chunks(
         &mut self,
         id: StreamId,
@@ -195,10 +203,9 @@ impl StreamsState {
         ensures kept { OnErr result (chunks.new ≡ chunks.old) }
     {
         match self.records.write_chunks(id.value(), chunks, most) {
-            Ok(taken) => {
+            Ok((taken, noted)) => {
                 self.outgoing.write(taken.bytes as u64);
-                self.pass(id.value());
-                self.touch(id.value());
+                self.follow_write(noted, id.value());
                 Ok(taken)
             }
             Err(refusal) => {

@@ -1,18 +1,22 @@
 //! Bytes of streams: which are sent next, and what becomes of them.
 
-ghost use Rattle.std.specs.Prelude.{◌≡◌, ◌+◌, IfOk, OnErr, OnOk, length};
+ghost use Rattle.std.specs.Prelude.{◌≡◌, ◌+◌, ◌&&◌, not, IfNone, IfOk, IfSome, OnErr, OnOk, length};
+ghost use Rattle.std.specs.Option.{option_map};
 ghost use Rattle.qc_send_stream.specs.Sending.{IsOffer, part_acked, part_lost, part_sealed};
 ghost use Rattle.qc_streams.specs.Kept.{kept_of};
 ghost use Rattle.qc_streams.specs.Sends.{sends_of};
-ghost use Rattle.qc_streams.specs.Parts.{IsDrawn, IsOfferAt, IsOfferOf, bytes_acked, bytes_lost, bytes_taken, finished_at, finishes, is_finished, part_drawn, part_end, place_again, sealed_part, turned};
+ghost use Rattle.qc_streams.specs.Parts.{IsDrawn, IsOfferAt, IsOfferOf, IsTurnAt, IsTurnOf, bytes_acked, bytes_lost, draw_one, finished_at, is_finished, part_drawn, part_end, place_after, turn_left, turn_taken};
 ghost use Rattle.qc_streams.specs.Records.{changed, record_of};
+ghost use Rattle.qc_streams.specs.Sequel.{sequel_at, sequel_of, settling};
 ghost use Rattle.qc_streams.specs.Stream.{with_sending};
 
 use crate::events::StreamEvent;
 use crate::records::Records;
 use crate::sends::recounted;
+use crate::sequel::Sequel;
 use crate::state::StreamsState;
 use crate::stream::Stream;
+use crate::waiting::Waiting;
 use qc_base::StreamId;
 use qc_send_stream::{Part, SendPart};
 use qc_turns::Place;
@@ -31,6 +35,28 @@ pub struct StreamPart {
     pub id: u64,
     /// The part.
     pub part: Part,
+}
+
+/// What was drawn of a stream.
+#[derive(Drop)]
+struct Drawn {
+    part: Part,
+    // whether the stream has more
+    owes: bool,
+    // the place that it had
+    turn: Option<Place>,
+    // the place where it goes on
+    next: Place,
+}
+
+/// Where a stream of a priority goes on that has more, where so many turns were given.
+fn place_again(fair: bool, priority: i32, turns: u64) -> Place
+    ensures { result ≡ place_after fair turns priority }
+{
+    if fair {
+        return (-i64::from(priority), turns);
+    }
+    (FIRST_RANK, turns)
 }
 
 /// Where a part ends.
@@ -80,6 +106,32 @@ impl Stream {
         }
     }
 
+    /// Draws what it gives next, with at most so many bytes, where so many turns were given.
+    #[tactic(auto, unfolding(crate::specs::Parts::draw_one, crate::specs::Parts::seal_one, crate::specs::Waiting::with_turn))]
+    fn draw(&mut self, most: usize, fair: bool, turns: u64) -> Result<Option<Drawn>, AllocError>
+        ensures next { IfOk result (λ d. IsOfferOf most self.old.sending (option_map (λ d. d.part) d)) }
+        ensures drawn { IfOk result (λ d. IfSome d (λ d. self.new ≡ draw_one fair turns d.part self.old)) }
+        ensures turn { IfOk result (λ d. IfSome d (λ d. IsTurnOf fair turns self.old d)) }
+        ensures none { IfOk result (λ d. IfNone d (self.new ≡ self.old)) }
+        ensures same { kept_of self.new ≡ kept_of self.old }
+        ensures still { sends_of self.new ≡ sends_of self.old }
+    {
+        let turn = self.turn;
+        let next = place_again(fair, self.priority, turns);
+        let Some(part) = self.offer(most)? else {
+            return Ok(None);
+        };
+        self.seal(part.offset, part_end(&part), part.last)?;
+        let owes = self.dues().bytes;
+        self.turn = if owes { Some(next) } else { None };
+        Ok(Some(Drawn {
+            part,
+            owes,
+            turn,
+            next,
+        }))
+    }
+
     /// Bytes of it are lost.
     #[tactic(auto, using(crate::proofs::Sizes::lost_same, crate::proofs::Done::lost_still), unfolding(crate::specs::Stream::with_sending))]
     fn lose(&mut self, start: u64, end: u64, last: bool) -> Result<(), AllocError>
@@ -111,28 +163,61 @@ impl Stream {
     }
 }
 
-impl Records {
-    /// What the stream with an id may give next, with at most so many bytes.
-    #[tactic(auto, using(crate::proofs::Back::record_back, crate::proofs::Keeping::same, crate::proofs::Sending::still), unfolding(crate::specs::Parts::IsOfferAt))]
-    fn offer(&mut self, id: u64, most: usize) -> Result<Option<Part>, AllocError>
-        ensures next { IfOk result (λ p. IsOfferAt most (record_of id self.old) p) }
-        ensures same { self.new ≡ self.old }
-    {
-        match self.streams.get_mut(id) {
-            Some(stream) => stream.offer(most),
-            None => Ok(None),
-        }
-    }
+/// What bytes that are acknowledged left to be done.
+#[derive(Clone, Copy, Debug)]
+struct Acked {
+    // how many bytes are kept no more
+    count: u64,
+    // whether with them all bytes and the end are acknowledged
+    finishes: bool,
+    sequel: Sequel,
+}
 
-    /// Bytes of the stream with an id are sealed.
-    #[tactic(auto, using(crate::proofs::Keeping::same, crate::proofs::Sending::still))]
-    fn seal(&mut self, id: u64, start: u64, end: u64, last: bool) -> Result<(), AllocError>
-        ensures { OnOk result (self.new ≡ changed (with_sending (part_sealed start end last)) id self.old) }
+impl Stream {
+    /// Bytes of it are acknowledged; answers what is to be done.
+    #[tactic(auto, unfolding(crate::specs::Sequel::settling))]
+    fn take_acked(&mut self, start: u64, end: u64, last: bool) -> Result<Acked, AllocError>
+        ensures acked { OnOk result (self.new ≡ settling (with_sending (part_acked start end last)) self.old) }
+        ensures finishes { IfOk result (λ a. a.finishes ≡ (not (is_finished self.old.sending) && is_finished (with_sending (part_acked start end last) self.old).sending)) }
+        ensures sequel { IfOk result (λ a. a.sequel ≡ sequel_of (with_sending (part_acked start end last) self.old)) }
+        ensures count { IfOk result (λ a. a.count + kept_of self.new ≡ kept_of self.old) }
+        ensures same { OnErr result (kept_of self.new ≡ kept_of self.old) }
+        ensures still { OnErr result (sends_of self.new ≡ sends_of self.old) }
     {
-        match self.streams.get_mut(id) {
-            Some(stream) => stream.seal(start, end, last),
-            None => Ok(()),
-        }
+        let before = is_finished(&self.sending);
+        let count = self.acknowledge(start, end, last)?;
+        let after = is_finished(&self.sending);
+        let sequel = self.look_at();
+        Ok(Acked {
+            count,
+            finishes: !before && after,
+            sequel,
+        })
+    }
+}
+
+impl Records {
+    /// Draws what the stream with an id gives next, with at most so many bytes, where so many turns were given.
+    #[tactic(auto, using(crate::proofs::Back::record_back, crate::proofs::Draws::turn_so, crate::proofs::Keeping::same, crate::proofs::Sending::still), unfolding(crate::specs::Parts::IsOfferAt))]
+    fn draw(
+        &mut self,
+        id: u64,
+        most: usize,
+        fair: bool,
+        turns: u64,
+    ) -> Result<Option<Drawn>, AllocError>
+        ensures next { IfOk result (λ d. IsOfferAt most (record_of id self.old) (option_map (λ d. d.part) d)) }
+        ensures drawn { IfOk result (λ d. IfSome d (λ d. self.new ≡ changed (draw_one fair turns d.part) id self.old)) }
+        ensures turn { IfOk result (λ d. IfSome d (λ d. IsTurnAt fair turns (record_of id self.old) d)) }
+        ensures none { IfOk result (λ d. IfNone d (self.new ≡ self.old)) }
+    {
+        let Some(stream) = self.streams.get_mut(id) else {
+            return Ok(None);
+        };
+        let Some(drawn) = stream.draw(most, fair, turns)? else {
+            return Ok(None);
+        };
+        Ok(Some(drawn))
     }
 
     /// Bytes of the stream with an id are lost.
@@ -146,92 +231,58 @@ impl Records {
         }
     }
 
-    /// Bytes of the stream with an id are acknowledged.
+    /// Bytes of the stream with an id are acknowledged, of which one look tells what is to be done.
     #[tactic(auto, using(crate::proofs::Keeping::same, crate::proofs::Keeping::less, crate::proofs::Sending::still, crate::proofs::Sending::recounts))]
-    fn acknowledge(&mut self, id: u64, start: u64, end: u64, last: bool) -> Result<(), AllocError>
-        ensures { OnOk result (self.new ≡ changed (with_sending (part_acked start end last)) id self.old) }
+    fn acknowledge(
+        &mut self,
+        id: u64,
+        start: u64,
+        end: u64,
+        last: bool,
+    ) -> Result<(bool, Sequel), AllocError>
+        ensures acked { OnOk result (self.new ≡ changed (settling (with_sending (part_acked start end last))) id self.old) }
+        ensures finishes { IfOk result (λ a. a.0 ≡ (not (finished_at (record_of id self.old)) && finished_at (option_map (with_sending (part_acked start end last)) (record_of id self.old)))) }
+        ensures sequel { IfOk result (λ a. a.1 ≡ sequel_at (option_map (with_sending (part_acked start end last)) (record_of id self.old))) }
     {
         match self.streams.get_mut(id) {
             Some(stream) => {
                 let before = stream.sends();
-                let count = stream.acknowledge(start, end, last)?;
+                let acked = stream.take_acked(start, end, last)?;
                 let after = stream.sends();
                 let _count = self.streams.len();
-                self.kept -= count;
+                self.kept -= acked.count;
                 self.sending = recounted(self.sending, before, after);
-                Ok(())
+                Ok((acked.finishes, acked.sequel))
             }
-            None => Ok(()),
-        }
-    }
-
-    /// Whether all bytes and the end of the stream with an id are acknowledged.
-    fn is_finished(&self, id: u64) -> bool
-        ensures { result ≡ finished_at (record_of id self.now) }
-    {
-        match self.streams.get(id) {
-            Some(stream) => is_finished(&stream.sending),
-            None => false,
+            None => Ok((false, Sequel::Nothing)),
         }
     }
 }
 
+impl Waiting {
+    /// A stream that had a turn gives its place up, and takes the next one where it has more.
+    #[tactic(auto, unfolding(crate::specs::Counts::held))]
+    fn pass_turn(
+        &mut self,
+        turn: Option<Place>,
+        owes: bool,
+        next: Place,
+        id: u64,
+    ) -> Result<(), AllocError>
+        ensures { OnOk result (self.new ≡ turn_taken owes next id (turn_left turn self.old)) }
+    {
+        if let Some(place) = turn {
+            self.ready.remove(place);
+        }
+        if owes {
+            self.ready.insert(next, id)?;
+            self.turns = self.turns.saturating_add(1);
+        }
+        Ok(())
+    }
+}
+
 impl StreamsState {
-    /// Where a stream goes on that has more.
-    #[tactic(auto, unfolding(crate::specs::Parts::place_again))]
-    fn place_again(&self, id: u64) -> Place
-        ensures { result ≡ place_again id self.now }
-    {
-        if self.fair {
-            return self.next_place(id);
-        }
-        (FIRST_RANK, self.waiting.turns)
-    }
-
-    /// A stream had its turn: it takes another one where it has more.
-    #[tactic(auto, unfolding(crate::specs::Parts::turned))]
-    fn turn(&mut self, id: u64) -> Result<(), AllocError>
-        ensures { OnOk result (self.new ≡ turned id self.old) }
-    {
-        let dues = self.records.dues(id);
-        self.leave(id);
-        if !dues.bytes {
-            return Ok(());
-        }
-        let place = self.place_again(id);
-        self.enter(place, id)
-    }
-
-    /// A part is sealed.
-    #[tactic(auto, unfolding(crate::specs::Parts::sealed_part))]
-    fn seal_part(&mut self, drawn: &StreamPart) -> Result<(), AllocError>
-        ensures { OnOk result (self.new ≡ sealed_part drawn.now self.old) }
-    {
-        let part = &drawn.part;
-        let end = part_end(part);
-        self.records.seal(drawn.id, part.offset, end, part.last)?;
-        self.turn(drawn.id)
-    }
-
-    /// What the stream may give whose turn it is.
-    #[tactic(auto, unfolding(crate::specs::Parts::IsDrawn, crate::specs::Parts::IsTurn))]
-    fn next_part(&mut self, room: usize) -> Result<Option<StreamPart>, AllocError>
-        ensures next { IfOk result (λ d. IsDrawn room self.old d) }
-        ensures same { self.new ≡ self.old }
-    {
-        if room <= HEAD {
-            return Ok(None);
-        }
-        let Some(id) = self.waiting.ready.first() else {
-            return Ok(None);
-        };
-        let part = self.records.offer(id, room - HEAD)?;
-        match part {
-            Some(part) => Ok(Some(StreamPart { id, part })),
-            None => Ok(None),
-        }
-    }
-
     /// Draws bytes of the stream whose turn it is, or its end, where there is room for so many bytes
     /// with the head of a STREAM frame: lost ones before fresh ones. They count as sealed, and the
     /// stream takes another turn where it has more.
@@ -239,15 +290,27 @@ impl StreamsState {
     /// # Errors
     ///
     /// Want of memory.
+    #[tactic(auto, unfolding(crate::specs::Parts::IsDrawn, crate::specs::Parts::IsTurn))]
     pub fn draw_part(&mut self, room: usize) -> Result<Option<StreamPart>, AllocError>
         ensures next { IfOk result (λ d. IsDrawn room self.old d) }
         ensures drawn { IfOk result (λ d. self.new ≡ part_drawn d self.old) }
     {
-        let Some(drawn) = self.next_part(room)? else {
+        if room <= HEAD {
+            return Ok(None);
+        }
+        let Some(id) = self.waiting.ready.first() else {
             return Ok(None);
         };
-        self.seal_part(&drawn)?;
-        Ok(Some(drawn))
+        let turns = self.waiting.turns;
+        let Some(drawn) = self.records.draw(id, room - HEAD, self.fair, turns)? else {
+            return Ok(None);
+        };
+        self.waiting
+            .pass_turn(drawn.turn, drawn.owes, drawn.next, id)?;
+        Ok(Some(StreamPart {
+            id,
+            part: drawn.part,
+        }))
     }
 
     /// A STREAM frame with the bytes from `start` up to `end`, and with the stream's end where it is
@@ -271,25 +334,13 @@ impl StreamsState {
         Ok(())
     }
 
-    /// Bytes of a stream are acknowledged; answers whether with them all bytes and the end are.
-    #[tactic(auto, unfolding(crate::specs::Parts::bytes_taken, crate::specs::Parts::finishes))]
-    fn take_acked(&mut self, id: u64, start: u64, end: u64, last: bool) -> Result<bool, AllocError>
-        ensures finishes { IfOk result (λ done. done ≡ finishes id start end last self.old) }
-        ensures taken { OnOk result (self.new ≡ bytes_taken id start end last self.old) }
-    {
-        let before = self.records.is_finished(id);
-        self.records.acknowledge(id, start, end, last)?;
-        let after = self.records.is_finished(id);
-        Ok(!before && after)
-    }
-
     /// Such a frame was acknowledged: its bytes are kept no more. Where with them all bytes and the
     /// end are, that is told; a stream that has ended leaves.
     ///
     /// # Errors
     ///
     /// Want of memory.
-    #[tactic(auto, unfolding(crate::specs::Parts::bytes_acked))]
+    #[tactic(auto, using(crate::proofs::Sequels::acked_so))]
     pub fn bytes_acked(
         &mut self,
         id: StreamId,
@@ -299,8 +350,8 @@ impl StreamsState {
     ) -> Result<(), AllocError>
         ensures { OnOk result (self.new ≡ bytes_acked id start end last self.old) }
     {
-        let finished = self.take_acked(id.value(), start, end, last)?;
-        self.settle(id.value());
-        self.tell_if(finished, StreamEvent::Finished { id })
+        let (finishes, sequel) = self.records.acknowledge(id.value(), start, end, last)?;
+        self.follow(sequel, id.value());
+        self.tell_if(finishes, StreamEvent::Finished { id })
     }
 }

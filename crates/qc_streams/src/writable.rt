@@ -1,6 +1,6 @@
 //! Streams on which a write was blocked, and which can be written on again.
 
-ghost use Rattle.std.specs.Prelude.{◌≡◌, OnOk, false};
+ghost use Rattle.std.specs.Prelude.{◌≡◌, OnOk, true, false, not};
 ghost use Rattle.std.specs.Option.{option_map};
 ghost use Rattle.qc_send_stream.specs.Sending.{is_done, kept_count, unblocked, was_blocked};
 ghost use Rattle.qc_streams.specs.declared.events.StreamEvent.TheVariants.{Writable};
@@ -9,7 +9,9 @@ ghost use Rattle.qc_streams.specs.Kept.{kept_of};
 ghost use Rattle.qc_streams.specs.Owed.{writable, writable_told};
 ghost use Rattle.qc_streams.specs.Records.{changed, record_of};
 ghost use Rattle.qc_streams.specs.Sends.{sends_of};
+ghost use Rattle.qc_streams.specs.Sequel.{write_followed};
 ghost use Rattle.qc_streams.specs.Stream.{with_sending};
+ghost use Rattle.qc_streams.specs.Waiting.{with_mark};
 ghost use Rattle.qc_streams.specs.Writable.{awaits, awaits_at, credit_at, credit_of, has_credit, passed, watched};
 
 use crate::events::StreamEvent;
@@ -76,6 +78,32 @@ impl Stream {
         if let Some(sending) = &mut self.sending {
             sending.blocked = false;
         }
+    }
+}
+
+/// What a write left to be done.
+#[derive(Clone, Copy, Debug)]
+pub(crate) struct Noted {
+    // whether its stream may be written on again, as far as it goes by itself
+    credit: bool,
+    // whether it wasn't marked
+    idle: bool,
+}
+
+impl Stream {
+    /// It was written on: it is marked. Answers what is to be done.
+    #[tactic(auto, unfolding(crate::specs::Waiting::with_mark))]
+    pub(crate) fn note_write(&mut self) -> Noted
+        ensures credit { result.credit ≡ credit_of self.old.sending }
+        ensures idle { result.idle ≡ not self.old.marked }
+        ensures marked { self.new ≡ with_mark true self.old }
+        ensures same { kept_of self.new ≡ kept_of self.old }
+        ensures still { sends_of self.new ≡ sends_of self.old }
+    {
+        let credit = has_credit(&self.sending);
+        let idle = !self.marked;
+        self.marked = true;
+        Noted { credit, idle }
     }
 }
 
@@ -151,6 +179,18 @@ impl StreamsState {
         }
     }
 
+    /// What a write on a stream left to be done is done.
+    pub(crate) fn follow_write(&mut self, noted: Noted, id: u64)
+        ensures { self.new ≡ write_followed noted.credit noted.idle id self.old }
+    {
+        if !noted.credit {
+            self.blocked.remove(id);
+        }
+        if noted.idle {
+            self.waiting.marks.mark(id);
+        }
+    }
+
     /// A stream that was given credit waits for the connection, where a write was blocked on it.
     #[tactic(auto, unfolding(crate::specs::Writable::watched))]
     pub(crate) fn watch(&mut self, id: StreamId) -> Result<(), AllocError>
@@ -167,10 +207,13 @@ impl StreamsState {
     fn writable(&self) -> Option<StreamId>
         ensures { result ≡ writable self.now }
     {
+        let Some(id) = self.blocked.first() else {
+            return None;
+        };
         if self.closed || self.outgoing.budget(self.send_room()) == 0 {
             return None;
         }
-        self.blocked.first()
+        Some(id)
     }
 
     /// That a stream can be written on again is told.
