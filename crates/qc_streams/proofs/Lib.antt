@@ -7,6 +7,7 @@ pub mod Fronts
 pub mod Keeping
 pub mod Keyed
 pub mod MarksOff
+pub mod Owing
 pub mod Places
 pub mod Reading
 pub mod Refused

@@ -4,7 +4,7 @@ ghost use Rattle.std.specs.Prelude.{◌≡◌, OnOk, Some, true, is_some};
 ghost use Rattle.qc_streams.specs.Kept.{kept_of};
 ghost use Rattle.qc_streams.specs.Records.{changed, record_of};
 ghost use Rattle.qc_streams.specs.Sends.{sends_of};
-ghost use Rattle.qc_streams.specs.Waiting.{all_filed, dues_at, dues_of, entered, file_one, filed, is_idle, left, mark_taken, next_place, place_behind, priority_at, touched, turn_at, turn_due, turn_moved, with_mark, with_turn};
+ghost use Rattle.qc_streams.specs.Waiting.{all_filed, dues_at, dues_of, file_one, filed, is_idle, left, mark_taken, place_behind, priority_at, touched, turn_at, turn_due, turn_moved, with_mark, with_turn};
 
 use crate::records::Records;
 use crate::state::StreamsState;
@@ -98,18 +98,6 @@ impl Waiting {
 }
 
 impl Records {
-    /// What waits of the stream with an id.
-    #[tactic(auto, using(crate::proofs::Back::record_back, crate::proofs::Keeping::same, crate::proofs::Sending::still))]
-    pub(crate) fn dues(&mut self, id: u64) -> Dues
-        ensures dues { result ≡ dues_at (record_of id self.old) }
-        ensures same { self.new ≡ self.old }
-    {
-        match self.streams.get_mut(id) {
-            Some(stream) => stream.dues(),
-            None => Dues::none(),
-        }
-    }
-
     /// The stream with an id is looked at, where so many turns were given: it loses its mark, and has a place
     /// exactly where bytes wait, or the end.
     #[tactic(auto, using(crate::proofs::Keeping::same, crate::proofs::Sending::still))]
@@ -213,26 +201,6 @@ impl StreamsState {
             self.waiting.ready.remove(place);
             self.records.set_turn(id, None);
         }
-    }
-
-    /// A stream takes a place.
-    #[tactic(auto, unfolding(crate::specs::Waiting::entered, crate::specs::Counts::held))]
-    pub(crate) fn enter(&mut self, place: Place, id: u64) -> Result<(), AllocError>
-        ensures { OnOk result (self.new ≡ entered place id self.old) }
-    {
-        self.waiting.ready.insert(place, id)?;
-        self.waiting.turns = self.waiting.turns.saturating_add(1);
-        self.records.set_turn(id, Some(place));
-        Ok(())
-    }
-
-    /// The place behind all others of a stream's priority.
-    #[tactic(auto, unfolding(crate::specs::Waiting::next_place))]
-    pub(crate) fn next_place(&self, id: u64) -> Place
-        ensures { result ≡ next_place id self.now }
-    {
-        let priority = i64::from(self.records.priority(id));
-        (-priority, self.waiting.turns)
     }
 
     /// What the stream that was marked first owes is put where it waits.

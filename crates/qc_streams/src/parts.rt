@@ -16,7 +16,7 @@ use crate::sends::recounted;
 use crate::sequel::Sequel;
 use crate::state::StreamsState;
 use crate::stream::Stream;
-use crate::waiting::Waiting;
+use crate::waiting::{Waiting, owes_data};
 use qc_base::StreamId;
 use qc_send_stream::{Part, SendPart};
 use qc_turns::Place;
@@ -107,7 +107,7 @@ impl Stream {
     }
 
     /// Draws what it gives next, with at most so many bytes, where so many turns were given.
-    #[tactic(auto, unfolding(crate::specs::Parts::draw_one, crate::specs::Parts::seal_one, crate::specs::Waiting::with_turn))]
+    #[tactic(auto, unfolding(crate::specs::Parts::draw_one, crate::specs::Parts::seal_one, crate::specs::Waiting::dues_of, crate::specs::Waiting::with_turn))]
     fn draw(&mut self, most: usize, fair: bool, turns: u64) -> Result<Option<Drawn>, AllocError>
         ensures next { IfOk result (λ d. IsOfferOf most self.old.sending (option_map (λ d. d.part) d)) }
         ensures drawn { IfOk result (λ d. IfSome d (λ d. self.new ≡ draw_one fair turns d.part self.old)) }
@@ -122,7 +122,7 @@ impl Stream {
             return Ok(None);
         };
         self.seal(part.offset, part_end(&part), part.last)?;
-        let owes = self.dues().bytes;
+        let owes = owes_data(&mut self.sending);
         self.turn = if owes { Some(next) } else { None };
         Ok(Some(Drawn {
             part,

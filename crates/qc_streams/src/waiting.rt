@@ -1,6 +1,7 @@
 //! What waits to be sent for single streams.
 
 ghost use Rattle.std.specs.Prelude.{◌≡◌, None, OnOk};
+ghost use Rattle.qc_send_stream.specs.Sending.{has_more};
 ghost use Rattle.qc_streams.specs.Kept.{kept_of};
 ghost use Rattle.qc_streams.specs.Sends.{sends_of};
 ghost use Rattle.qc_streams.specs.Waiting.{dues_at, dues_of, new_waiting, owes_credit, owes_data, owes_reset, owes_stop, put_if, sets_filed, with_mark, with_turn};
@@ -54,13 +55,25 @@ fn owes_reset(sending: &Option<SendPart>) -> bool
     }
 }
 
+/// Whether bytes of a sending side wait, or its end: none do where it keeps none and has no end.
+#[tactic(auto, using(crate::proofs::Owing::nothing_more))]
+fn has_more(sending: &mut SendPart) -> bool
+    ensures more { result ≡ has_more sending.old }
+    ensures same { sending.new ≡ sending.old }
+{
+    if sending.kept() == 0 && sending.end.is_none() {
+        return false;
+    }
+    sending.has_more()
+}
+
 /// Whether bytes wait, or the end.
-fn owes_data(sending: &mut Option<SendPart>) -> bool
+pub(crate) fn owes_data(sending: &mut Option<SendPart>) -> bool
     ensures owes { result ≡ owes_data sending.old }
     ensures same { sending.new ≡ sending.old }
 {
     match sending {
-        Some(sending) => sending.has_more(),
+        Some(sending) => has_more(sending),
         None => false,
     }
 }
@@ -86,13 +99,16 @@ fn owes_credit(receiving: &Option<Recv>) -> bool
 }
 
 /// A stream is in a set exactly where it owes.
+#[tactic(auto, using(crate::proofs::Owing::none_leaves))]
 fn put_if(ids: &mut Ids, owes: bool, id: u64) -> Result<(), AllocError>
     ensures { OnOk result (ids.new ≡ put_if owes id ids.old) }
 {
     if owes {
         return ids.insert(id);
     }
-    ids.remove(id);
+    if ids.first().is_some() {
+        ids.remove(id);
+    }
     Ok(())
 }
 
