@@ -1,10 +1,10 @@
 -- What waits to be sent for single streams, and whose turn it is
-use Rattle.std.specs.Prelude.{ℕ, ℤ, neg_ℤ, zero, suc, pos, ◌+◌, Bool, true, false, not, if◌then◌else◌, List, [], ◌∷◌, Option, None, Some, is_some}
+use Rattle.std.specs.Prelude.{ℕ, ℤ, neg_ℤ, zero, suc, pos, ◌+◌, Bool, true, false, not, ◌||◌, if◌then◌else◌, List, [], ◌∷◌, Option, None, Some, is_some}
 use Rattle.qc_recv.specs.declared.recv.Recv.{Recv}
 use Rattle.qc_send_stream.specs.declared.send.SendPart.{SendPart}
 use Rattle.qc_send_stream.specs.Sending.{has_more, reset_owed}
 use Rattle.qc_turns.specs.Marks.{no_marks, place_added, place_dropped, marked, unmarked}
-use Rattle.qc_turns.specs.Ids.{with_id, without_id}
+use Rattle.qc_turns.specs.Ids.{first_id, with_id, without_id}
 use Rattle.qc_turns.specs.Ready.{with_place, without_place}
 use Rattle.qc_streams.specs.declared.stream.Stream.{Stream}
 use Rattle.qc_streams.specs.declared.waiting.Dues.{Dues}
@@ -130,6 +130,14 @@ put_if owes id ids = if owes then with_id id ids else without_id id ids
 -- a stream is in each set exactly where it owes
 unfoldable pub sets_filed : Dues → ℕ → Waiting → Waiting
 sets_filed d id w = record w { resets = put_if d.reset id w.resets; stops = put_if d.stop id w.stops; credits = put_if d.credit id w.credits }
+
+-- whether a frame without bytes waits of a stream
+abbrev pub owes_frames : Dues → Bool
+owes_frames d = d.reset || (d.stop || d.credit)
+
+-- whether a stream is in one of the sets
+abbrev pub has_some : Waiting → Bool
+has_some w = is_some (first_id w.resets) || (is_some (first_id w.stops) || is_some (first_id w.credits))
 
 -- the oldest mark, which is a stream's, is taken off
 unfoldable pub mark_off : ℕ → StreamsState → StreamsState

@@ -4,7 +4,7 @@ ghost use Rattle.std.specs.Prelude.{◌≡◌, None, OnOk};
 ghost use Rattle.qc_send_stream.specs.Sending.{has_more};
 ghost use Rattle.qc_streams.specs.Kept.{kept_of};
 ghost use Rattle.qc_streams.specs.Sends.{sends_of};
-ghost use Rattle.qc_streams.specs.Waiting.{dues_at, dues_of, new_waiting, owes_credit, owes_data, owes_reset, owes_stop, put_if, sets_filed, with_mark, with_turn};
+ghost use Rattle.qc_streams.specs.Waiting.{dues_at, dues_of, has_some, new_waiting, owes_credit, owes_data, owes_frames, owes_reset, owes_stop, put_if, sets_filed, with_mark, with_turn};
 
 use crate::stops::Stops;
 use crate::stream::Stream;
@@ -99,16 +99,13 @@ fn owes_credit(receiving: &Option<Recv>) -> bool
 }
 
 /// A stream is in a set exactly where it owes.
-#[tactic(auto, using(crate::proofs::Owing::none_leaves))]
 fn put_if(ids: &mut Ids, owes: bool, id: u64) -> Result<(), AllocError>
     ensures { OnOk result (ids.new ≡ put_if owes id ids.old) }
 {
     if owes {
         return ids.insert(id);
     }
-    if ids.first().is_some() {
-        ids.remove(id);
-    }
+    ids.remove(id);
     Ok(())
 }
 
@@ -149,6 +146,13 @@ impl Stream {
 }
 
 impl Dues {
+    /// Whether a frame without bytes waits.
+    fn owes_frames(self) -> bool
+        ensures { result ≡ owes_frames self }
+    {
+        self.reset || (self.stop || self.credit)
+    }
+
     /// Nothing waits.
     pub(crate) fn none() -> Dues
         ensures { result ≡ dues_at None }
@@ -179,9 +183,28 @@ impl Waiting {
         }
     }
 
+    /// Whether a stream is in one of the sets.
+    fn has_some(&self) -> bool
+        ensures { result ≡ has_some self.now }
+    {
+        self.resets.first().is_some()
+            || (self.stops.first().is_some() || self.credits.first().is_some())
+    }
+
     /// A stream is in each set exactly where it owes.
-    #[tactic(auto, unfolding(crate::specs::Waiting::sets_filed))]
+    #[tactic(auto, using(crate::proofs::Owing::none_filed))]
     pub(crate) fn file_sets(&mut self, dues: Dues, id: u64) -> Result<(), AllocError>
+        ensures { OnOk result (self.new ≡ sets_filed dues id self.old) }
+    {
+        if !dues.owes_frames() && !self.has_some() {
+            return Ok(());
+        }
+        self.put_into_sets(dues, id)
+    }
+
+    /// The same, of any sets.
+    #[tactic(auto, unfolding(crate::specs::Waiting::sets_filed))]
+    fn put_into_sets(&mut self, dues: Dues, id: u64) -> Result<(), AllocError>
         ensures { OnOk result (self.new ≡ sets_filed dues id self.old) }
     {
         put_if(&mut self.resets, dues.reset, id)?;
