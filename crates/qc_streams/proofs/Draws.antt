@@ -2,7 +2,6 @@
 use Rattle.std.proofs.Common.{◌≡◌, ◌∙◌, ℕ, Bool, true, false, if◌then◌else◌, Option, None, Some, ap, sym, subst, refl}
 use Rattle.std.specs.Prelude.{ℤ, neg_ℤ, negsuc}
 use Rattle.std.specs.BTreeMap.{is_at}
-use Rattle.std.specs.Option.{option_map}
 use Rattle.std.specs.Ordering.{nat_cmp}
 use Rattle.qc_send_stream.specs.declared.send.Part.{Part}
 use Rattle.qc_streams.specs.declared.parts.Drawn.{Drawn}
@@ -13,7 +12,7 @@ use Rattle.qc_streams.specs.Lending.{AllRecords}
 use Rattle.qc_streams.specs.Parts.{IsTurnAt, IsTurnOf, draw_one, place_after, place_again, seal_one, sealed_part, turn_left, turn_taken, turned}
 use Rattle.qc_streams.specs.Records.{changed, on_some, record_of, with_record}
 use Rattle.qc_streams.specs.Stream.{with_sending}
-use Rattle.qc_streams.specs.Waiting.{dues_at, dues_of, entered, left, left_from, next_place, priority_at, turn_at, with_turn}
+use Rattle.qc_streams.specs.Waiting.{dues_at, dues_of, entered, left, next_place, priority_at, with_turn}
 use Rattle.qc_streams.proofs.Filings.{entered_is, kept_out, left_is, same_turn, with_both}
 use Rattle.qc_streams.proofs.Keyed.{set_here}
 use Rattle.qc_streams.proofs.Sequels.{set_twice}

@@ -1,5 +1,5 @@
 -- Where nothing waits
-use Rattle.std.proofs.Common.{◌≡◌, ◌∙◌, ℕ, Bool, true, false, if◌then◌else◌, not, ◌&&◌, ◌||◌, List, [], ◌∷◌, length, Option, None, Some, is_some, ap, sym, refl}
+use Rattle.std.proofs.Common.{◌≡◌, ◌∙◌, ℕ, Bool, true, false, if◌then◌else◌, not, ◌&&◌, ◌||◌, List, [], ◌∷◌, length, Option, None, is_some, ap, refl}
 use Rattle.qc_send_stream.specs.declared.send.SendPart.{SendPart}
 use Rattle.qc_send_stream.specs.declared.send.Standing.{Standing}
 use Rattle.qc_send_stream.specs.Buffer.{Kept, from_lost, from_offset, has_bytes, waiting}

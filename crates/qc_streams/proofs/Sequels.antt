@@ -1,17 +1,16 @@
 -- A stream that is changed and settled by one look at it
-use Rattle.std.proofs.Common.{◌≡◌, ◌∙◌, ℕ, Bool, true, false, cond, if◌then◌else◌, not, ◌&&◌, List, [], ◌∷◌, take, Option, None, Some, ap, sym, subst, refl}
+use Rattle.std.proofs.Common.{◌≡◌, ◌∙◌, ℕ, Bool, true, false, cond, if◌then◌else◌, not, ◌&&◌, List, [], ◌∷◌, take, Option, None, Some, ap, subst, refl}
 use Rattle.std.specs.BTreeMap.{is_at}
-use Rattle.std.specs.Map.{lookup, set_value}
+use Rattle.std.specs.Map.{set_value}
 use Rattle.std.specs.Option.{option_map}
 use Rattle.std.specs.Ordering.{nat_cmp}
 use Rattle.qc_recv.specs.declared.recv.Recv.{Recv}
 use Rattle.qc_turns.specs.Marks.{marked}
 use Rattle.qc_streams.specs.declared.credit.Incoming.{Incoming}
-use Rattle.qc_streams.specs.declared.sequel.Sequel.{Sequel}
 use Rattle.qc_streams.specs.declared.sequel.Sequel.TheVariants.{Leaves, Marks, Nothing}
 use Rattle.qc_streams.specs.declared.state.StreamsState.{StreamsState}
 use Rattle.qc_streams.specs.declared.stream.Stream.{Stream}
-use Rattle.qc_send_stream.specs.Sending.{part_acked, part_written}
+use Rattle.qc_send_stream.specs.Sending.{part_acked, part_lost, part_written}
 use Rattle.qc_streams.specs.declared.events.StreamEvent.TheVariants.{Finished}
 use Rattle.qc_streams.specs.Blocked.{without_blocked}
 use Rattle.qc_streams.specs.Calls.{gives, if_known, wrote}
@@ -19,7 +18,7 @@ use Rattle.qc_streams.specs.Credit.{outgoing_written, tallied}
 use Rattle.qc_streams.specs.Lending.{AllRecords}
 use Rattle.qc_streams.specs.Records.{changed, on_some, record_of, with_record}
 use Rattle.qc_streams.specs.Sequel.{followed, looked_at, marking, sequel_at, sequel_of, settling, write_followed}
-use Rattle.qc_streams.specs.Parts.{bytes_acked, bytes_taken, finished_at, finishes}
+use Rattle.qc_streams.specs.Parts.{bytes_acked, bytes_lost, bytes_taken, finished_at, finishes}
 use Rattle.qc_streams.specs.Stream.{has_ended, is_over, totals_at, totals_if, with_receiving, with_sending}
 use Rattle.qc_streams.specs.Streams.{counted, released, settled, told_if}
 use Rattle.qc_streams.specs.Waiting.{is_idle, touched, with_mark}
@@ -178,6 +177,18 @@ wrote_so id n chunk s =
     } in t)) in
     ap (λ (o : Option Stream). touched id (with_all (changed f id s.records) (at o))) (found_so f id s.records)
     ∙ touched_so f id (at (option_map f (record_of id s.records)))
+
+-- so bytes of it are lost
+pub lost_so : (id start stop : ℕ) (last : Bool) (s : StreamsState)
+    → bytes_lost id start stop last s
+    ≡ record s {
+      records = changed (marking (with_sending (part_lost start stop last))) id s.records;
+      waiting = record s.waiting {
+        marks = if is_idle (option_map (with_sending (part_lost start stop last)) (record_of id s.records)) then marked id s.waiting.marks else s.waiting.marks;
+      };
+    }
+unfolding bytes_lost with_all marked_with
+lost_so id start stop last s = touched_so (with_sending (part_lost start stop last)) id s
 
 -- so it is told that bytes of it are acknowledged
 pub acked_so : (id start stop : ℕ) (last : Bool) (s : StreamsState)

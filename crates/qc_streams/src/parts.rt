@@ -7,8 +7,9 @@ ghost use Rattle.qc_streams.specs.Kept.{kept_of};
 ghost use Rattle.qc_streams.specs.Sends.{sends_of};
 ghost use Rattle.qc_streams.specs.Parts.{IsDrawn, IsOfferAt, IsOfferOf, IsTurnAt, IsTurnOf, bytes_acked, bytes_lost, draw_one, finished_at, is_finished, part_drawn, part_end, place_after, turn_left, turn_taken};
 ghost use Rattle.qc_streams.specs.Records.{changed, record_of};
-ghost use Rattle.qc_streams.specs.Sequel.{sequel_at, sequel_of, settling};
+ghost use Rattle.qc_streams.specs.Sequel.{marking, sequel_at, sequel_of, settling};
 ghost use Rattle.qc_streams.specs.Stream.{with_sending};
+ghost use Rattle.qc_streams.specs.Waiting.{is_idle};
 
 use crate::events::StreamEvent;
 use crate::records::Records;
@@ -220,15 +221,17 @@ impl Records {
         Ok(Some(drawn))
     }
 
-    /// Bytes of the stream with an id are lost.
-    #[tactic(auto, using(crate::proofs::Keeping::same, crate::proofs::Sending::still))]
-    fn lose(&mut self, id: u64, start: u64, end: u64, last: bool) -> Result<(), AllocError>
-        ensures { OnOk result (self.new ≡ changed (with_sending (part_lost start end last)) id self.old) }
+    /// Bytes of the stream with an id are lost, which is marked then; answers whether it wasn't before.
+    #[tactic(auto, using(crate::proofs::Keeping::same, crate::proofs::Sending::still), unfolding(crate::specs::Sequel::marking))]
+    fn lose(&mut self, id: u64, start: u64, end: u64, last: bool) -> Result<bool, AllocError>
+        ensures lost { OnOk result (self.new ≡ changed (marking (with_sending (part_lost start end last))) id self.old) }
+        ensures idle { IfOk result (λ idle. idle ≡ is_idle (option_map (with_sending (part_lost start end last)) (record_of id self.old))) }
     {
-        match self.streams.get_mut(id) {
-            Some(stream) => stream.lose(start, end, last),
-            None => Ok(()),
-        }
+        let Some(stream) = self.streams.get_mut(id) else {
+            return Ok(false);
+        };
+        stream.lose(start, end, last)?;
+        Ok(stream.mark())
     }
 
     /// Bytes of the stream with an id are acknowledged, of which one look tells what is to be done.
@@ -319,7 +322,7 @@ impl StreamsState {
     /// # Errors
     ///
     /// Want of memory.
-    #[tactic(auto, unfolding(crate::specs::Parts::bytes_lost))]
+    #[tactic(auto, using(crate::proofs::Sequels::lost_so))]
     pub fn bytes_lost(
         &mut self,
         id: StreamId,
@@ -329,8 +332,9 @@ impl StreamsState {
     ) -> Result<(), AllocError>
         ensures { OnOk result (self.new ≡ bytes_lost id start end last self.old) }
     {
-        self.records.lose(id.value(), start, end, last)?;
-        self.touch(id.value());
+        if self.records.lose(id.value(), start, end, last)? {
+            self.waiting.marks.mark(id.value());
+        }
         Ok(())
     }
 

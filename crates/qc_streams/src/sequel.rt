@@ -1,9 +1,10 @@
 //! What is to be done for a stream once it was changed.
 
-ghost use Rattle.std.specs.Prelude.{◌≡◌};
+ghost use Rattle.std.specs.Prelude.{◌≡◌, true, not};
 ghost use Rattle.qc_streams.specs.Kept.{kept_of};
 ghost use Rattle.qc_streams.specs.Sends.{sends_of};
 ghost use Rattle.qc_streams.specs.Sequel.{followed, looked_at, sequel_of};
+ghost use Rattle.qc_streams.specs.Waiting.{with_mark};
 
 use crate::state::StreamsState;
 use crate::stream::Stream;
@@ -38,6 +39,21 @@ impl Stream {
         } else {
             Sequel::Marks
         }
+    }
+}
+
+impl Stream {
+    /// It is marked; answers whether it wasn't before.
+    #[tactic(auto, unfolding(crate::specs::Waiting::with_mark))]
+    pub(crate) fn mark(&mut self) -> bool
+        ensures idle { result ≡ not self.old.marked }
+        ensures marked { self.new ≡ with_mark true self.old }
+        ensures same { kept_of self.new ≡ kept_of self.old }
+        ensures still { sends_of self.new ≡ sends_of self.old }
+    {
+        let marked = self.marked;
+        self.marked = true;
+        !marked
     }
 }
 

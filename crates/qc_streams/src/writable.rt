@@ -92,7 +92,6 @@ pub(crate) struct Noted {
 
 impl Stream {
     /// It was written on: it is marked. Answers what is to be done.
-    #[tactic(auto, unfolding(crate::specs::Waiting::with_mark))]
     pub(crate) fn note_write(&mut self) -> Noted
         ensures credit { result.credit ≡ credit_of self.old.sending }
         ensures idle { result.idle ≡ not self.old.marked }
@@ -101,8 +100,7 @@ impl Stream {
         ensures still { sends_of self.new ≡ sends_of self.old }
     {
         let credit = has_credit(&self.sending);
-        let idle = !self.marked;
-        self.marked = true;
+        let idle = self.mark();
         Noted { credit, idle }
     }
 }
