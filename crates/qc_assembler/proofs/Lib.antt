@@ -8,3 +8,4 @@ pub mod ReadFront
 pub mod ReadLaw
 pub mod Unread
 pub mod Noting
+pub mod FrontPart

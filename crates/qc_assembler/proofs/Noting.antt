@@ -118,7 +118,7 @@ absent_below k lo (e ∷ es) ranges low =
     let full : e.1 < e.0 = ranges.1 in
     rw (lt-ltb k e.0 (omega arith)) (absent_below k e.0 es ranges.2 (omega arith))
 
-find_here : (k : ℕ) (x : ℕ × ℕ) (xs : List (ℕ × ℕ)) → k ≡ x.0 → lookup (is_at (nat_cmp k)) (x ∷ xs) ≡ Some x.1
+find_here : {X : Type 0} (k : ℕ) (x : ℕ × X) (xs : List (ℕ × X)) → k ≡ x.0 → lookup (is_at (nat_cmp k)) (x ∷ xs) ≡ Some x.1
 find_here k x xs e = rw (le-ltb k x.0 (omega arith), eq-eqb k x.0 e) refl
 
 find_later : (k : ℕ) (x : ℕ × ℕ) (xs : List (ℕ × ℕ)) → x.0 < k → lookup (is_at (nat_cmp k)) (x ∷ xs) ≡ lookup (is_at (nat_cmp k)) xs
@@ -188,16 +188,16 @@ join lo k end start (x ∷ xs) ranges there found = elim (cases_order k x.0) [
     none : (s : ℕ) → (let p : Option ℕ = Some s in p) ≡ None → ⊥
     none s q = cc
 
-pub set_absent : (k v : ℕ) (es : List (ℕ × ℕ)) → None ≡ lookup (is_at (nat_cmp k)) es → es ≡ set_value (is_at (nat_cmp k)) es v
+pub set_absent : {X : Type 0} (k : ℕ) (v : X) (es : List (ℕ × X)) → None ≡ lookup (is_at (nat_cmp k)) es → es ≡ set_value (is_at (nat_cmp k)) es v
 set_absent k v [] absent = refl
 set_absent k v (x ∷ xs) absent = elim (cases_eq k x.0) [
   | inl e ↦ absurd (none x.1 (absent ∙ find_here k x xs e))
   | inr other ↦
       let test : is_at (nat_cmp k) x.0 ≡ false = is_other k x.0 other in
-      rw test (ap (λ (l : List (ℕ × ℕ)). x ∷ l) (set_absent k v xs (absent ∙ (rw test refl))))
+      rw test (ap (λ l. x ∷ l) (set_absent k v xs (absent ∙ (rw test refl))))
 ]
   where
-    none : (s : ℕ) → (let p : Option ℕ = None in p) ≡ Some s → ⊥
+    none : {X : Type 0} (s : X) → (let p : Option X = None in p) ≡ Some s → ⊥
     none s q = cc
 
     is_other : (a b : ℕ) → (a ≡ b → ⊥) → is_at (nat_cmp a) b ≡ false

@@ -2,3 +2,4 @@ pub mod Assembly
 pub mod Parts
 pub mod Ahead
 pub mod Reads
+pub mod Waiting

@@ -6,6 +6,7 @@ use crate::ahead::note_range;
 use crate::front::{begins_at, discard_front, peek_front, take_front};
 use crate::insert::{InsertError, insert_or_undo};
 use crate::parts::part_count;
+use crate::waiting::{is_next, settle, take_waiting};
 use bytes::Bytes;
 use std::alloc::{AllocError, Global};
 use std::collections::BTreeMap;
@@ -20,6 +21,8 @@ pub struct Assembler {
     ahead: BTreeMap<u64, u64>,
     // what came and wasn't read, each part under its end
     parts: BTreeMap<u64, Bytes>,
+    // a part that begins at the offset read so far, while no other waits
+    front: Option<Bytes>,
     // how many parts begin where the one before ends
     joined: u64,
     // the ends of the parts that the last insertion placed
@@ -31,11 +34,12 @@ impl Model for Assembler {
 
     ghost Value = { Assembly };
 
-    ghost use Rattle.qc_assembler.specs.Ahead.{IsSound, assembled};
+    ghost use Rattle.qc_assembler.specs.Ahead.{assembled};
+    ghost use Rattle.qc_assembler.specs.Waiting.{IsWhole, entries_with};
 
-    ghost view = { λ a. assembled a.read a.ahead.entries a.parts.entries };
+    ghost view = { λ a. assembled a.read a.ahead.entries (entries_with a.read a.front a.parts.entries) };
 
-    ghost invariant = { λ a. IsSound a.read a.ahead.entries a.parts.entries a.joined };
+    ghost invariant = { λ a. IsWhole a.read a.ahead.entries a.front a.parts.entries a.joined };
 }
 
 impl Assembler {
@@ -47,6 +51,7 @@ impl Assembler {
             read: 0,
             ahead: BTreeMap::new(alloc),
             parts: BTreeMap::new(alloc),
+            front: None,
             joined: 0,
             placed: Vec::new(alloc),
         }
@@ -67,6 +72,20 @@ impl Assembler {
         ensures many { result ≡ Err InsertError.TooManyParts → 1024 < part_count (inserted offset bytes self.old).came }
         ensures err { OnErr result (self.new ≡ self.old) }
     {
+        if is_next(
+            self.read,
+            &self.ahead,
+            &self.front,
+            &self.parts,
+            offset,
+            &bytes,
+        ) {
+            self.front = Some(bytes);
+            return Ok(());
+        }
+        if settle(self.read, &mut self.front, &mut self.parts).is_err() {
+            return Err(InsertError::OutOfMemory);
+        }
         insert_or_undo(
             self.read,
             &self.ahead,
@@ -82,7 +101,10 @@ impl Assembler {
     pub fn parts(&self) -> u64
         ensures { result ≡ part_count self.now.came }
     {
-        part_count(&self.parts, self.joined)
+        match &self.front {
+            Some(_) => 1,
+            None => part_count(&self.parts, self.joined),
+        }
     }
 }
 
@@ -98,6 +120,10 @@ impl Assembler {
         ensures after { IfOk result (λ chunk. self.new ≡ advanced (length (bytes_of chunk)) self.old) }
         ensures err { OnErr result (self.new ≡ self.old) }
     {
+        if let Some(part) = take_waiting(&mut self.front, most)? {
+            self.read += part.len() as u64;
+            return Ok(Some(part));
+        }
         if !begins_at(&self.parts, self.read) {
             return Ok(None);
         }
@@ -119,6 +145,7 @@ impl Assembler {
         ensures after { IfOk result (λ chunk. self.new ≡ taken (chunk_offset chunk) (length (chunk_bytes chunk)) self.old) }
         ensures err { OnErr result (self.new ≡ self.old) }
     {
+        settle(self.read, &mut self.front, &mut self.parts)?;
         let Some((offset, chunk)) = peek_front(&self.parts, most)? else {
             return Ok(None);
         };
@@ -135,6 +162,7 @@ impl Assembler {
     pub fn clear(&mut self)
         ensures { self.new ≡ discarded self.old }
     {
+        self.front = None;
         self.parts.clear();
         self.joined = 0;
     }

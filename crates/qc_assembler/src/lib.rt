@@ -7,6 +7,7 @@ mod front;
 mod insert;
 mod laws;
 mod parts;
+mod waiting;
 
 pub use assembler::Assembler;
 pub use insert::{InsertError, MAX_PARTS};

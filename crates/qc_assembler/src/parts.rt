@@ -65,7 +65,11 @@ fn place(
 }
 
 /// Keeps a part under its end.
-fn keep(parts: &mut BTreeMap<u64, Bytes>, end: u64, part: Bytes) -> Result<(), AllocError>
+pub(crate) fn keep(
+    parts: &mut BTreeMap<u64, Bytes>,
+    end: u64,
+    part: Bytes,
+) -> Result<(), AllocError>
     ensures kept { OnOk result (parts.new.entries ≡ insert_entry nat_cmp parts.old.entries end part) }
     ensures err { OnErr result (parts.new.entries ≡ parts.old.entries) }
 {

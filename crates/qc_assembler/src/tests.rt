@@ -102,3 +102,35 @@ fn unordered_reads_give_each_byte_once(rt: HostRuntime) -> Result<(), Fail> {
     assert_eq!(rt; assembler.parts(), 2);
     Ok(())
 }
+
+// Bytes that come in order are read before others, and others come while they wait: in each step
+// bytes come, and then one read gives what it may.
+#[test]
+fn bytes_in_order_wait_beside_others(rt: HostRuntime) -> Result<(), Fail> {
+    // what comes, how many parts there are then, and what one read of at most 3 bytes gives
+    const STEPS: [(u32, &[u8], u64, Option<&[u8]>); 9] = [
+        (0, b"abcde", 1, Some(b"abc")),
+        (0, b"ABCDE", 1, Some(b"de")),
+        (5, b"f", 1, Some(b"f")),
+        (6, b"", 0, None),
+        (6, b"ghijk", 1, Some(b"ghi")),
+        (10, b"Kl", 1, Some(b"jk")),
+        (14, b"op", 2, Some(b"l")),
+        (12, b"mnO", 1, Some(b"mn")),
+        (6, b"", 1, Some(b"op")),
+    ];
+    let mut assembler = Assembler::new(rt.alloc());
+    for (offset, bytes, parts, given) in STEPS {
+        let bytes = Bytes::copy_from_slice(rt.alloc(), bytes)?;
+        assert!(rt; assembler.insert(u64::from(offset), bytes).is_ok());
+        assert_eq!(rt; assembler.parts(), parts);
+        match (assembler.read(3)?, given) {
+            (Some(chunk), Some(bytes)) => assert_eq!(rt; &chunk[..], bytes),
+            (None, None) => {}
+            _ => assert!(rt; false),
+        }
+    }
+    assert_eq!(rt; assembler.bytes_read(), 16);
+    assert_eq!(rt; assembler.parts(), 0);
+    Ok(())
+}
