@@ -35,7 +35,7 @@ mark_off_ids : (id : ℕ) (s : StreamsState) → (mark_off id s).waiting.marks.i
 unfolding mark_off
 mark_off_ids id s = off_ids (is_some (record_of id s.records)) s.waiting.marks
 
-filed_ids : (id : ℕ) (s : StreamsState) → (filed id s).waiting.marks.ids ≡ drop 1 s.waiting.marks.ids
+pub filed_ids : (id : ℕ) (s : StreamsState) → (filed id s).waiting.marks.ids ≡ drop 1 s.waiting.marks.ids
 unfolding filed
 filed_ids id s = ap (λ (m : MarkList). m.ids) (placed_marks id (mark_off id s)) ∙ mark_off_ids id s
 

@@ -281,10 +281,10 @@ acked_ok (MaxStreams dir limit) s h = h
 none_known : (opened : ℕ → Bool) (j : ℕ) → (let no : Bool = false in no) ≡ true → opened j ≡ true
 none_known opened j is = absurd (cc)
 
-nothing : (opened : ℕ → Bool) → Sound opened [] []
+pub nothing : (opened : ℕ → Bool) → Sound opened [] []
 nothing opened = record { waits = λ j. refl; set = tt; order = tt; known = λ j is. none_known opened j is }
 
-step_ok : (x : Step) (s : StreamsState) → IsPossible x → Holds s → Holds (after_step x s)
+pub step_ok : (x : Step) (s : StreamsState) → IsPossible x → Holds s → Holds (after_step x s)
 unfolding after_step IsPossible reading_begun limits_set early_refused send_window_set receive_window_set max_concurrent_set stream_came reset_came stop_came streams_limit_came limit_came bytes_lost bytes_acked bytes_taken
 step_ok (LimitsKnown p) s can h =
     own_ok (record { bi = own_raised p.bidi_streams s.own.bi; uni = own_raised p.uni_streams s.own.uni }) s (limits_same p.bidi_streams p.uni_streams s.own) h
@@ -322,7 +322,7 @@ step_ok (PartSealed d) s can h = part_ok d s h
 step_ok (BytesLost id start stop last) s can h = touched_ok id _ (same_ok _ (side_alike _ (lost_alike start stop last)) id s h)
 step_ok (BytesAcked id start stop last) s can h = told_if_ok _ _ _ (settled_ok id _ (same_ok _ (side_alike _ (acked_alike start stop last)) id s h))
 
-after_ok : (xs : List Step) (s : StreamsState) → ArePossible xs → Holds s → Holds (after xs s)
+pub after_ok : (xs : List Step) (s : StreamsState) → ArePossible xs → Holds s → Holds (after xs s)
 unfolding after ArePossible
 after_ok [] s can h = h
 after_ok (x ∷ xs) s can h = after_ok xs (after_step x s) can.1 (step_ok x s can.0 h)

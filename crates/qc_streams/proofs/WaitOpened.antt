@@ -58,14 +58,14 @@ at-peer : (b : Bool) (x y : Bool) → b ≡ false → cond b x y ≡ y
 at-peer true x y is = absurd (cc)
 at-peer false x y is = refl
 
-own-count : (side : Side) (dir : Dir) (own : ByDir OwnStreams) (peer : ByDir PeerStreams) (n : ℕ)
+pub own-count : (side : Side) (dir : Dir) (own : ByDir OwnStreams) (peer : ByDir PeerStreams) (n : ℕ)
     → was_opened side own peer (stream_id side dir n) ≡ nat_lt n (by_dir dir own).opened
 own-count side dir own peer n =
     at-own (is_own side (stream_id side dir n)) _ _ (own_id side dir n)
     ∙ ap (λ (i : ℕ). nat_lt i (by_dir (dir_of (stream_id side dir n)) own).opened) (own_index side dir n)
     ∙ ap (λ (d : Dir). nat_lt n (by_dir d own).opened) (own_kind side dir n)
 
-not-less : (n : ℕ) → nat_lt n n ≡ false
+pub not-less : (n : ℕ) → nat_lt n n ≡ false
 not-less n = grind (arith, nat_tests)
 
 one-more : (dir : Dir) (own : ByDir OwnStreams) → nat_lt (by_dir dir own).opened (by_dir dir (dir_put dir (own_opened (by_dir dir own)) own)).opened ≡ true
@@ -87,7 +87,7 @@ opened_own_ok dir s h =
 
 -- ---- the peer opens some
 
-made_absent : (id from k : ℕ) (st : Stream) (all : AllRecords) (j : ℕ) → record_of j all ≡ None → ((i : ℕ) → i < k → (nth id (from + i) == j) ≡ false)
+pub made_absent : (id from k : ℕ) (st : Stream) (all : AllRecords) (j : ℕ) → record_of j all ≡ None → ((i : ℕ) → i < k → (nth id (from + i) == j) ≡ false)
     → record_of j (made id from k st all) ≡ None
 unfolding made
 made_absent id from zero st all j gone apart = gone
@@ -110,7 +110,7 @@ put-at : (e : Dir) (x : PeerStreams) (peer : ByDir PeerStreams) → by_dir e (di
 put-at Bi x peer = refl
 put-at Uni x peer = refl
 
-peer-count : (side : Side) (own : ByDir OwnStreams) (peer : ByDir PeerStreams) (id index : ℕ) → is_own side id ≡ false
+pub peer-count : (side : Side) (own : ByDir OwnStreams) (peer : ByDir PeerStreams) (id index : ℕ) → is_own side id ≡ false
     → was_opened side own peer (nth id index) ≡ nat_lt index (by_dir (dir_of id) peer).opened
 peer-count side own peer id index other =
     at-peer (is_own side (nth id index)) _ _ (nth_own side id index ∙ other)
@@ -142,18 +142,18 @@ up-to side own peer id index n other less fits =
     ∙ ap (λ (k : PeerStreams). nat_lt n k.opened) (put-at (dir_of id) (peer_opened index (by_dir (dir_of id) peer)) peer)
     ∙ there
 
-past : (n m : ℕ) → m ≤ n → nat_lt n m ≡ false
+pub past : (n m : ℕ) → m ≤ n → nat_lt n m ≡ false
 past n m up = grind (arith, nat_tests)
 
-not-own : (b c : Bool) → (not b && c) ≡ true → b ≡ false
+pub not-own : (b c : Bool) → (not b && c) ≡ true → b ≡ false
 not-own true c is = absurd (cc)
 not-own false c is = refl
 
-and-then : (b c : Bool) → (b && c) ≡ true → c ≡ true
+pub and-then : (b c : Bool) → (b && c) ≡ true → c ≡ true
 and-then true c is = is
 and-then false c is = absurd (cc)
 
-reaches : (n m : ℕ) → nat_le n m ≡ true → n ≤ m
+pub reaches : (n m : ℕ) → nat_le n m ≡ true → n ≤ m
 reaches n m is = grind (arith, nat_tests)
 
 pub opened_with_ok : (id : ℕ) (st : Stream) (s : StreamsState) → is_peer_unopened id s ≡ true → id < 2 ^ 62 → awaits st.sending ≡ false → Holds s

@@ -24,3 +24,6 @@ pub mod Settings
 pub mod Early
 pub mod Views
 pub mod Waits
+pub mod Filed
+pub mod Within
+pub mod Carried

@@ -12,7 +12,7 @@ use thiserror::Error;
 /// Why a frame is refused.
 #[derive(Clone, Copy, Debug, PartialEq, Eq)]
 pub enum Refusal {
-    /// The stream has no such side, or this end hasn't opened it (RFC 9000, sections 19.4 to 19.13).
+    /// The stream has no such side or this end hasn't opened it (RFC 9000, sections 19.4 to 19.13).
     State,
     /// The peer may not open the stream (RFC 9000, section 4.6).
     Limit,
@@ -52,11 +52,11 @@ pub struct ClosedStream;
 /// Why a read gives no chunk and no end.
 #[derive(Clone, Copy, Debug, PartialEq, Eq)]
 pub enum ReadFault {
-    /// The stream is unknown, stopped, or its end or its reset was told.
+    /// The stream is unknown or stopped or its end or its reset was told.
     ClosedStream,
     /// The stream was read out of order before.
     IllegalOrderedRead,
-    /// The peer reset the stream, with this code.
+    /// The peer reset the stream with this code.
     Reset(VarInt),
     /// No byte that can be read has come.
     Blocked,
@@ -67,17 +67,17 @@ pub enum ReadFault {
 /// Why a write takes no bytes.
 #[derive(Clone, Copy, Debug, PartialEq, Eq, Error)]
 pub enum WriteError {
-    /// The connection is closed, its credit, the send window or the stream's credit is used up
-    /// (RFC 9000, section 4.1).
+    /// The connection is closed or nothing is left of its credit or of the send window or of the
+    /// stream's credit (RFC 9000, section 4.1).
     #[error("blocked")]
     Blocked,
-    /// The stream is unknown, finished or reset.
+    /// The stream is unknown or it is finished or reset.
     #[error("closed stream")]
     ClosedStream,
-    /// The peer stopped the stream, with this code (RFC 9000, section 3.5).
+    /// The peer stopped the stream with this code (RFC 9000, section 3.5).
     #[error("stopped")]
     Stopped(VarInt),
-    /// Memory ran out in this call; the connection has failed.
+    /// Memory ran out in this call and the connection has failed.
     #[error("out of memory")]
     OutOfMemory,
     /// The connection had failed before this call.
@@ -88,10 +88,10 @@ pub enum WriteError {
 /// Why a stream can't be finished.
 #[derive(Clone, Copy, Debug, PartialEq, Eq, Error)]
 pub enum FinishError {
-    /// The stream is unknown, finished or reset.
+    /// The stream is unknown or it is finished or reset.
     #[error("closed stream")]
     ClosedStream,
-    /// The peer stopped the stream, with this code (RFC 9000, section 3.5).
+    /// The peer stopped the stream with this code (RFC 9000, section 3.5).
     #[error("stopped")]
     Stopped(VarInt),
 }
@@ -99,11 +99,11 @@ pub enum FinishError {
 /// Why a read gives no chunk and no end.
 #[derive(Clone, Copy, Debug, PartialEq, Eq)]
 pub enum ReadError {
-    /// The peer reset the stream, with this code (RFC 9000, section 3.2).
+    /// The peer reset the stream with this code (RFC 9000, section 3.2).
     Reset(VarInt),
     /// No byte that can be read has come.
     Blocked,
-    /// Memory ran out in this call; the connection has failed.
+    /// Memory ran out in this call and the connection has failed.
     OutOfMemory,
     /// The connection had failed before this call.
     Failed,

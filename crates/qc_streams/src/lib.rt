@@ -44,7 +44,10 @@ pub use counts::{ByDir, OwnStreams, PeerStreams, StreamLimit};
 pub use credit::{Incoming, Outgoing};
 pub use events::{Events, StreamEvent};
 pub use fault::{ClosedStream, FinishError, ReadError, Refusal, StreamFault, WriteError};
-pub use laws::streams_wait_where_blocked;
+pub use laws::{
+    credit_is_kept, filed_is_what_is_owed, sends_what_was_written, streams_wait_where_blocked,
+    turns_stand, unmarked_streams_have_places, what_is_owed_is_filed,
+};
 pub use parts::StreamPart;
 pub use qc_recv::{Chunk, ReadableError};
 pub use records::Records;

@@ -1,0 +1,287 @@
+-- What a change of one stream, and what follows on it, makes of the stream with an id
+use Rattle.std.proofs.Common.{◌≡◌, ◌∙◌, ℕ, ◌==◌, Bool, true, false, cond, List, [], ◌∷◌, Option, None, Some, is_some, ap, sym, subst, arith, refl}
+use Rattle.std.proofs.lemmas.Bool.{false≢true}
+use Rattle.std.proofs.lemmas.Bool.Decides.{nat_tests}
+use Rattle.std.specs.Prelude.{ℤ}
+use Rattle.std.specs.Option.{option_map}
+use Rattle.qc_recv.specs.declared.recv.Recv.{Recv}
+use Rattle.qc_send_stream.specs.declared.send.SendPart.{SendPart}
+use Rattle.qc_streams.specs.declared.state.StreamsState.{StreamsState}
+use Rattle.qc_streams.specs.declared.stream.Stream.{Stream}
+use Rattle.qc_streams.specs.Lending.{AllRecords}
+use Rattle.qc_streams.specs.Parts.{place_again, turned}
+use Rattle.qc_streams.specs.Records.{changed, on_some, record_of, without}
+use Rattle.qc_streams.specs.Stream.{has_ended, with_receiving, with_sending}
+use Rattle.qc_streams.specs.Streams.{forgotten, released, removed, settled}
+use Rattle.qc_streams.specs.Waiting.{all_filed, dues_at, entered, filed, left, left_from, mark_off, placed, sets_filed, touched, turn_at, turn_filed, with_mark, with_turn}
+use Rattle.qc_streams.specs.Waits.{Step, after_step}
+use Rattle.qc_streams.proofs.Keyed.{Ascends, ascends_gone, ascends_set, gone_here, gone_other, set_other}
+use Rattle.qc_streams.proofs.StepAt.{AlikeIf, ComesFrom, Gone, IsStepped, SendsAlike, SteppedAt, Stood, There, came_to, sent_to}
+use Rattle.qc_streams.proofs.Waits.{here}
+
+-- ---- a stream of which the sides stay, or that goes
+
+pub data Later (o p : Option Stream) : Type 0 where
+  Left : p ≡ None → Later o p
+  Kept : (st now : Stream) → o ≡ Some st → p ≡ Some now → now.receiving ≡ st.receiving → now.sending ≡ st.sending → Later o p
+
+pub later_at : (o : Option Stream) → Later o o
+later_at None = Left refl
+later_at (Some st) = Kept st st refl refl refl refl
+
+pub later_same : (o p : Option Stream) → p ≡ o → Later o p
+later_same o p is = subst (λ (x : Option Stream). Later o x) (sym is) (later_at o)
+
+some_is : (st now : Stream) → (let o : Option Stream = Some st in o) ≡ Some now → st ≡ now
+some_is st now is = cc
+
+none_some : {X : Type 0} (st : Stream) (o : Option Stream) → o ≡ None → o ≡ Some st → X
+none_some st o none some = absurd (false≢true (ap (λ (x : Option Stream). is_some x) (sym none ∙ some)))
+
+pub later_then : (o p q : Option Stream) → Later o p → Later p q → Later o q
+later_then o p q (Left is) (Left none) = Left none
+later_then o p q (Left is) (Kept st now from to receiving sending) = none_some st p is from
+later_then o p q (Kept st now from to receiving sending) (Left none) = Left none
+later_then o p q (Kept st now from to receiving sending) (Kept st' now' from' to' receiving' sending') =
+    let same : now ≡ st' = some_is now st' (sym to ∙ from') in
+    Kept st now' from to' (receiving' ∙ ap (λ (x : Stream). x.receiving) (sym same) ∙ receiving) (sending' ∙ ap (λ (x : Stream). x.sending) (sym same) ∙ sending)
+
+-- ---- the map of streams
+
+same_id : (id j : ℕ) → (j == id) ≡ true → j ≡ id
+same_id id j is = grind (arith, nat_tests)
+
+other-in : (f : Stream → Stream) (id j : ℕ) (all : AllRecords) (o : Option Stream) → (j == id) ≡ false → record_of id (on_some f j o all) ≡ record_of id all
+other-in f id j all None apart = refl
+other-in f id j all (Some st) apart = set_other j id all (f st) apart
+
+pub changed_other : (f : Stream → Stream) (id j : ℕ) (all : AllRecords) → (j == id) ≡ false → record_of id (changed f j all) ≡ record_of id all
+changed_other f id j all apart = other-in f id j all (record_of j all) apart
+
+pub changed_here : (f : Stream → Stream) (id j : ℕ) (all : AllRecords) → (j == id) ≡ true → record_of id (changed f j all) ≡ option_map f (record_of id all)
+changed_here f id j all is =
+    subst (λ (k : ℕ). record_of id (changed f k all) ≡ option_map f (record_of id all)) (sym (same_id id j is)) (here f id all)
+
+ascends-in : (f : Stream → Stream) (j : ℕ) (all : AllRecords) (o : Option Stream) → Ascends all → Ascends (on_some f j o all)
+ascends-in f j all None order = order
+ascends-in f j all (Some st) order = ascends_set j all (f st) order
+
+pub ascends_changed : (f : Stream → Stream) (j : ℕ) (all : AllRecords) → Ascends all → Ascends (changed f j all)
+ascends_changed f j all order = ascends-in f j all (record_of j all) order
+
+mapped : (f : Stream → Stream) → ((st : Stream) → (f st).receiving ≡ st.receiving) → ((st : Stream) → (f st).sending ≡ st.sending) → (o : Option Stream)
+    → Later o (option_map f o)
+mapped f receiving sending None = Left refl
+mapped f receiving sending (Some st) = Kept st (f st) refl refl (receiving st) (sending st)
+
+-- a stream changes, but for its sides
+pub later_changed : (f : Stream → Stream) → ((st : Stream) → (f st).receiving ≡ st.receiving) → ((st : Stream) → (f st).sending ≡ st.sending) → (id j : ℕ)
+    (all : AllRecords) → Later (record_of id all) (record_of id (changed f j all))
+later_changed f receiving sending id j all = by (j == id) refl
+  where
+    by : (b : Bool) → (j == id) ≡ b → Later (record_of id all) (record_of id (changed f j all))
+    by true is = subst (λ (o : Option Stream). Later (record_of id all) o) (sym (changed_here f id j all is)) (mapped f receiving sending (record_of id all))
+    by false is = later_same (record_of id all) (record_of id (changed f j all)) (changed_other f id j all is)
+
+later_gone : (id j : ℕ) (all : AllRecords) → Ascends all → Later (record_of id all) (record_of id (without j all))
+later_gone id j all order = by (j == id) refl
+  where
+    by : (b : Bool) → (j == id) ≡ b → Later (record_of id all) (record_of id (without j all))
+    by true is = Left (subst (λ (k : ℕ). record_of id (without k all) ≡ None) (sym (same_id id j is)) (gone_here id all order))
+    by false is = later_same (record_of id all) (record_of id (without j all)) (gone_other j id all is)
+
+-- ---- marks, turns, and streams that leave
+
+-- the streams of a state, and of another that comes from it by such changes
+pub record Follows (s t : StreamsState) : Type 0 where
+  pub order : Ascends s.records → Ascends t.records
+  pub later : Ascends s.records → (id : ℕ) → Later (record_of id s.records) (record_of id t.records)
+
+pub follows_same : (s t : StreamsState) → t.records ≡ s.records → Follows s t
+follows_same s t is = record {
+  order = λ o. subst (λ (all : AllRecords). Ascends all) (sym is) o;
+  later = λ o id. later_same (record_of id s.records) (record_of id t.records) (ap (λ (all : AllRecords). record_of id all) is);
+}
+
+pub follows_then : (s t u : StreamsState) → Follows s t → Follows t u → Follows s u
+follows_then s t u f g = record {
+  order = λ o. g.order (f.order o);
+  later = λ o id. later_then (record_of id s.records) (record_of id t.records) (record_of id u.records) (f.later o id) (g.later (f.order o) id);
+}
+
+marks-receiving : (b : Bool) (st : Stream) → (with_mark b st).receiving ≡ st.receiving
+unfolding with_mark
+marks-receiving b st = refl
+
+marks-sending : (b : Bool) (st : Stream) → (with_mark b st).sending ≡ st.sending
+unfolding with_mark
+marks-sending b st = refl
+
+turn-receiving : (turn : Option (ℤ × ℕ)) (st : Stream) → (with_turn turn st).receiving ≡ st.receiving
+unfolding with_turn
+turn-receiving turn st = refl
+
+turn-sending : (turn : Option (ℤ × ℕ)) (st : Stream) → (with_turn turn st).sending ≡ st.sending
+unfolding with_turn
+turn-sending turn st = refl
+
+mark_follows : (b : Bool) (id : ℕ) (s : StreamsState) → Follows s (record s { records = changed (with_mark b) id s.records })
+mark_follows b id s = record {
+  order = λ o. ascends_changed (with_mark b) id s.records o;
+  later = λ o j. later_changed (with_mark b) (marks-receiving b) (marks-sending b) j id s.records;
+}
+
+turn_follows : (turn : Option (ℤ × ℕ)) (id : ℕ) (s : StreamsState) → Follows s (record s { records = changed (with_turn turn) id s.records })
+turn_follows turn id s = record {
+  order = λ o. ascends_changed (with_turn turn) id s.records o;
+  later = λ o j. later_changed (with_turn turn) (turn-receiving turn) (turn-sending turn) j id s.records;
+}
+
+-- what follows on the same streams follows on any state with them
+of_records : (s t u : StreamsState) → u.records ≡ t.records → Follows s t → Follows s u
+of_records s t u is f = follows_then s t u f (follows_same t u is)
+
+pub touched_follows : (id : ℕ) (s : StreamsState) → Follows s (touched id s)
+unfolding touched
+touched_follows id s = of_records s (record s { records = changed (with_mark true) id s.records }) _ refl (mark_follows true id s)
+
+left_from_follows : (turn : Option (ℤ × ℕ)) (id : ℕ) (s : StreamsState) → Follows s (left_from turn id s)
+left_from_follows None id s = follows_same s s refl
+left_from_follows (Some place) id s = of_records s (record s { records = changed (with_turn None) id s.records }) _ refl (turn_follows None id s)
+
+left_follows : (id : ℕ) (s : StreamsState) → Follows s (left id s)
+unfolding left
+left_follows id s = left_from_follows (turn_at (record_of id s.records)) id s
+
+entered_follows : (place : ℤ × ℕ) (id : ℕ) (s : StreamsState) → Follows s (entered place id s)
+unfolding entered
+entered_follows place id s = of_records s (record s { records = changed (with_turn (Some place)) id s.records }) _ refl (turn_follows (Some place) id s)
+
+removed_follows : (id : ℕ) (s : StreamsState) → Follows s (removed id s)
+unfolding removed
+removed_follows id s = record { order = λ o. ascends_gone id s.records o; later = λ o j. later_gone j id s.records o }
+
+released_follows : (id : ℕ) (s : StreamsState) → Follows s (released id s)
+unfolding released forgotten
+released_follows id s =
+    follows_then s (left id (forgotten id s)) (removed id (left id (forgotten id s)))
+    (follows_then s (forgotten id s) (left id (forgotten id s)) (follows_same s (forgotten id s) refl) (left_follows id (forgotten id s)))
+    (removed_follows id (left id (forgotten id s)))
+
+pub settled_follows : (id : ℕ) (s : StreamsState) → Follows s (settled id s)
+unfolding settled
+settled_follows id s = by (has_ended (record_of id s.records))
+  where
+    by : (b : Bool) → Follows s (cond b (released id s) (touched id s))
+    by true = released_follows id s
+    by false = touched_follows id s
+
+turn_filed_follows : (owes : Bool) (turn : Option (ℤ × ℕ)) (id : ℕ) (s : StreamsState) → Follows s (turn_filed owes turn id s)
+turn_filed_follows true None id s = entered_follows _ id s
+turn_filed_follows true (Some place) id s = follows_same s s refl
+turn_filed_follows false turn id s = left_follows id s
+
+placed_follows : (id : ℕ) (s : StreamsState) → Follows s (placed id s)
+unfolding placed
+placed_follows id s =
+    let t : StreamsState = record s { waiting = sets_filed (dues_at (record_of id s.records)) id s.waiting } in
+    follows_then s t (placed id s) (follows_same s t refl)
+    (turn_filed_follows (dues_at (record_of id s.records)).bytes (turn_at (record_of id s.records)) id t)
+
+mark_off_follows : (id : ℕ) (s : StreamsState) → Follows s (mark_off id s)
+unfolding mark_off
+mark_off_follows id s = of_records s (record s { records = changed (with_mark false) id s.records }) _ refl (mark_follows false id s)
+
+filed_follows : (id : ℕ) (s : StreamsState) → Follows s (filed id s)
+unfolding filed
+filed_follows id s = follows_then s (mark_off id s) (placed id (mark_off id s)) (mark_off_follows id s) (placed_follows id (mark_off id s))
+
+pub all_filed_follows : (ids : List ℕ) (s : StreamsState) → Follows s (all_filed ids s)
+unfolding all_filed
+all_filed_follows [] s = follows_same s s refl
+all_filed_follows (id ∷ ids) s = follows_then s (filed id s) (all_filed ids (filed id s)) (filed_follows id s) (all_filed_follows ids (filed id s))
+
+pub turned_follows : (id : ℕ) (s : StreamsState) → Follows s (turned id s)
+unfolding turned
+turned_follows id s = by (dues_at (record_of id s.records)).bytes
+  where
+    by : (b : Bool) → Follows s (cond b (entered (place_again id (left id s)) id (left id s)) (left id s))
+    by true = follows_then s (left id s) _ (left_follows id s) (entered_follows _ id (left id s))
+    by false = left_follows id s
+
+-- ---- a step that changes a stream
+
+pointwise : {X : Type 0} (g h : X → X) → ((x : X) → h x ≡ g x) → (o : Option X) → option_map g o ≡ option_map h o
+pointwise g h same None = refl
+pointwise g h same (Some x) = ap (λ (y : _). Some y) (sym (same x))
+
+alike_of : (f g : SendPart → SendPart) → ((p : SendPart) → SendsAlike (f p) (g p)) → (o : Option SendPart) → AlikeIf (option_map f o) (option_map g o)
+alike_of f g alike None = tt
+alike_of f g alike (Some p) = alike p
+
+alike_still : (f : SendPart → SendPart) → ((p : SendPart) → SendsAlike (f p) p) → (o : Option SendPart) → AlikeIf (option_map f o) o
+alike_still f alike None = tt
+alike_still f alike (Some p) = alike p
+
+still_option : {X : Type 0} (h : X → X) → ((x : X) → h x ≡ x) → (o : Option X) → o ≡ option_map h o
+still_option h same None = refl
+still_option h same (Some x) = ap (λ (y : _). Some y) (sym (same x))
+
+-- a receiving side changes
+pub recv_step : (id : ℕ) (x : Step) (g : Recv → Recv) → ((r : Recv) → came_to id x r ≡ g r) → ((p : SendPart) → SendsAlike (sent_to id x p) p) → (st : Stream)
+    → IsStepped id x st (with_receiving g st)
+unfolding with_receiving
+recv_step id x g came sent st = record { receiving = pointwise g (came_to id x) came st.receiving; sending = alike_still (sent_to id x) sent st.sending }
+
+-- a sending side does
+pub send_step : (id : ℕ) (x : Step) (g : SendPart → SendPart) → ((r : Recv) → came_to id x r ≡ r) → ((p : SendPart) → SendsAlike (sent_to id x p) (g p))
+    → (st : Stream) → IsStepped id x st (with_sending g st)
+unfolding with_sending
+send_step id x g came sent st = record { receiving = still_option (came_to id x) came st.receiving; sending = alike_of (sent_to id x) g sent st.sending }
+
+-- neither does
+pub rest_step : (id : ℕ) (x : Step) → ((r : Recv) → came_to id x r ≡ r) → ((p : SendPart) → SendsAlike (sent_to id x p) p) → (st : Stream) → IsStepped id x st st
+rest_step id x came sent st = record { receiving = still_option (came_to id x) came st.receiving; sending = alike_still (sent_to id x) sent st.sending }
+
+-- what follows leaves the sides
+stepped_then : (id : ℕ) (x : Step) (st mid now : Stream) → now.receiving ≡ mid.receiving → now.sending ≡ mid.sending → IsStepped id x st mid → IsStepped id x st now
+stepped_then id x st mid now receiving sending h = record {
+  receiving = receiving ∙ h.receiving;
+  sending = subst (λ (o : Option SendPart). AlikeIf (option_map (sent_to id x) st.sending) o) (sym sending) h.sending;
+}
+
+-- a stream of which it is known where it comes from, and what the step made of it
+pub stepped_from : (id : ℕ) (x : Step) (s : StreamsState) (st mid : Stream) (o : Option Stream) → ComesFrom id s st → IsStepped id x st mid → o ≡ Some mid
+    → Later o (record_of id (after_step x s).records) → SteppedAt id x s
+stepped_from id x s st mid o from made is (Left none) = Gone none
+stepped_from id x s st mid o from made is (Kept old now was be receiving sending) =
+    let same : mid ≡ old = some_is mid old (sym is ∙ was) in
+    There st now from
+    (stepped_then id x st mid now (receiving ∙ ap (λ (y : Stream). y.receiving) (sym same)) (sending ∙ ap (λ (y : Stream). y.sending) (sym same)) made) be
+
+-- where there was none there is none
+pub stepped_none : (id : ℕ) (x : Step) (s : StreamsState) (o : Option Stream) → o ≡ None → Later o (record_of id (after_step x s).records) → SteppedAt id x s
+stepped_none id x s o is (Left none) = Gone none
+stepped_none id x s o is (Kept old now was be receiving sending) = none_some old o is was
+
+-- the stream with an id changes, and more follows
+pub stepped_changed : (id j : ℕ) (x : Step) (s : StreamsState) (f : Stream → Stream) → ((j == id) ≡ true → (st : Stream) → IsStepped id x st (f st))
+    → ((j == id) ≡ false → (st : Stream) → IsStepped id x st st) → Later (record_of id (changed f j s.records)) (record_of id (after_step x s).records)
+    → SteppedAt id x s
+stepped_changed id j x s f makes rests later = by (j == id) refl (record_of id s.records) refl
+  where
+    by : (b : Bool) → (j == id) ≡ b → (o : Option Stream) → record_of id s.records ≡ o → SteppedAt id x s
+    by true is None none = stepped_none id x s _ (changed_here f id j s.records is ∙ ap (λ (o : Option Stream). option_map f o) none) later
+    by true is (Some st) some =
+        stepped_from id x s st (f st) _ (Stood some) (makes is st) (changed_here f id j s.records is ∙ ap (λ (o : Option Stream). option_map f o) some) later
+    by false is None none = stepped_none id x s _ (changed_other f id j s.records is ∙ none) later
+    by false is (Some st) some = stepped_from id x s st st _ (Stood some) (rests is st) (changed_other f id j s.records is ∙ some) later
+
+-- no stream changes
+pub stepped_still : (id : ℕ) (x : Step) (s : StreamsState) → ((st : Stream) → IsStepped id x st st)
+    → Later (record_of id s.records) (record_of id (after_step x s).records) → SteppedAt id x s
+stepped_still id x s rests later = by (record_of id s.records) refl
+  where
+    by : (o : Option Stream) → record_of id s.records ≡ o → SteppedAt id x s
+    by None none = stepped_none id x s _ none later
+    by (Some st) some = stepped_from id x s st st _ (Stood some) (rests st) some later
