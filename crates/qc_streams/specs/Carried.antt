@@ -23,6 +23,7 @@ with_written id (Wrote j n chunk) bs = if j == id then bs ++ take n chunk else b
 with_written id EarlyRefused bs = []
 with_written id x bs = bs
 
+-- the same over steps, behind those that were written before
 unfoldable pub written_on : ℕ → List Step → List ℕ → List ℕ
 written_on id [] bs = bs
 written_on id (x ∷ xs) bs = written_on id xs (with_written id x bs)
@@ -46,6 +47,7 @@ with_came id (StreamCame j o bs last) came = if j == id then add o bs came else 
 with_came id EarlyRefused came = []
 with_came id x came = came
 
+-- the same over steps, beside those that came before
 unfoldable pub came_on : ℕ → List Step → List (ℕ × ℕ) → List (ℕ × ℕ)
 came_on id [] came = came
 came_on id (x ∷ xs) came = came_on id xs (with_came id x came)
@@ -56,6 +58,7 @@ with_read id (Read ordered (Ok (Some c)) j) bs = if j == id then bs ++ c.bytes e
 with_read id EarlyRefused bs = []
 with_read id x bs = bs
 
+-- the same over steps, behind those that were read before
 unfoldable pub read_on : ℕ → List Step → List ℕ → List ℕ
 read_on id [] bs = bs
 read_on id (x ∷ xs) bs = read_on id xs (with_read id x bs)
@@ -87,6 +90,7 @@ pub record ReadsCame (id : ℕ) (s : StreamsState) (xs : List Step) : Type 0 whe
   pub bytes : take (length (read_on id xs [])) (came_on id xs []) ≡ run 0 (read_on id xs [])
   pub end : (most : ℕ) → IsReadOf most true (receiving_at id (after xs s)) (Ok None) → size_of (receiving_at id (after xs s)) ≡ Some (length (read_on id xs []))
 
+-- That holds of every stream that isn't read out of order
 unfoldable pub ReadsWhatCame : StreamsState → List Step → Type 0
 ReadsWhatCame s xs =
     ArePossible xs → AreTaken xs s → AreAnswered xs s → (id : ℕ) → list_all (λ x. keeps_order id x) xs ≡ true → ReadsCame id s xs
@@ -97,6 +101,7 @@ with_given id (Read ordered (Ok (Some c)) j) given = if j == id then given ++ ru
 with_given id EarlyRefused given = []
 with_given id x given = given
 
+-- the same over steps, behind those that were given before
 unfoldable pub given_on : ℕ → List Step → List (ℕ × ℕ) → List (ℕ × ℕ)
 given_on id [] given = given
 given_on id (x ∷ xs) given = given_on id xs (with_given id x given)
@@ -111,6 +116,7 @@ pub record GivesOnce (id : ℕ) (xs : List Step) : Type 0 where
   pub once : (o : ℕ) → times o (given_on id xs []) ≤ 1
   pub came : All (λ e. lookup (λ k. k == e.0) (came_on id xs []) ≡ Some e.1) (given_on id xs [])
 
+-- That holds of every stream
 unfoldable pub GivesEachOnce : StreamsState → List Step → Type 0
 GivesEachOnce s xs = ArePossible xs → AreTaken xs s → AreAnswered xs s → (id : ℕ) → GivesOnce id xs
 
