@@ -12,6 +12,9 @@
 
 ghost use Rattle.std.specs.Prelude.{◌+◌, ◌^◌, ◌≤◌};
 
+#[cfg(test)]
+mod answers_tests;
+
 use bytes::Bytes;
 use qc_base::{Dir, Side, StreamId, VarInt};
 use qc_streams::{PeerLimits, StreamsState};
