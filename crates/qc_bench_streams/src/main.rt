@@ -10,7 +10,7 @@
 //! there were.
 #![tactic(auto)]
 
-ghost use Rattle.std.specs.Prelude.{◌+◌, ◌^◌, ◌≤◌};
+ghost use Rattle.std.specs.Prelude.{◌≡◌, ◌+◌, ◌-◌, ◌*◌, ◌^◌, ◌≤◌, min};
 
 #[cfg(test)]
 mod answers_tests;
@@ -109,8 +109,9 @@ impl Sums {
     }
 }
 
-/// Where the frame with a number begins.
+/// Where the frame with a number begins: behind those before it, as far as a stream reaches.
 fn offset_of(number: u64) -> u64
+    ensures offset { result ≡ min (number * 1100) (2 ^ 62 - 1100) }
     ensures fits { result + 1100 ≤ 2 ^ 62 }
 {
     number.saturating_mul(FRAME).min((1 << 62) - FRAME)
