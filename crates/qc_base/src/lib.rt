@@ -33,6 +33,3 @@ pub use time::{Duration, Instant, SystemTime};
 pub use transport_error::{TransportError, TransportErrorCode};
 pub use varint::{VarInt, VarIntBoundsExceeded, put_varint, varint_size};
 pub use writing::or_cut_back;
-
-#[cfg(test)]
-mod tests;
