@@ -28,6 +28,3 @@ pub use size::{
     fit_close_reason, greatest_sizes,
 };
 pub use write::{put_frame, put_last_frame};
-
-#[cfg(test)]
-mod tests;

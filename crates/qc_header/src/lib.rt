@@ -17,10 +17,3 @@ pub use header::{Header, InitialHeader};
 pub use partial_decode::PartialDecode;
 pub use protected::{PacketDecodeError, ProtectedHeader};
 pub use round_trip::{header_comes_back, header_is_read};
-
-#[cfg(test)]
-mod boundary_tests;
-#[cfg(test)]
-mod prefix_tests;
-#[cfg(test)]
-mod tests;

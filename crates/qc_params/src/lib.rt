@@ -18,6 +18,3 @@ mod write;
 pub use error::ParamError;
 pub use laws::{entries_are_read, parameters_written_are_read};
 pub use params::{PreferredAddress, TransportParameters};
-
-#[cfg(test)]
-mod tests;

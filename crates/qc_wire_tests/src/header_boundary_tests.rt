@@ -2,9 +2,9 @@
 
 ghost use Rattle.std.specs.Prelude.{◌<◌, ◌^◌};
 
-use crate::{PacketDecodeError, PartialDecode, ProtectedHeader};
 use bytes::BytesMut;
 use qc_base::ConnectionId;
+use qc_header::{PacketDecodeError, PartialDecode, ProtectedHeader};
 use std::alloc::{AllocError, Global};
 use std::test::Fail;
 

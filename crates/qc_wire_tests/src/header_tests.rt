@@ -2,9 +2,9 @@
 
 ghost use Rattle.std.specs.Prelude.{ℕ, List};
 
-use crate::{Header, InitialHeader, InitialPacket, PacketDecodeError, PartialDecode};
 use bytes::{Bytes, BytesMut};
 use qc_base::{ConnectionId, HeaderMask, LongType, PacketNumber, SpaceId};
+use qc_header::{Header, InitialHeader, InitialPacket, PacketDecodeError, PartialDecode};
 use std::test::Fail;
 
 pub(crate) struct FixedMask(pub(crate) [u8; 5]);

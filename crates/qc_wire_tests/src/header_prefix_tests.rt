@@ -4,10 +4,10 @@
 
 ghost use Rattle.std.specs.Prelude.{◌≤◌, ◌+◌, length};
 
-use crate::tests::FixedMask;
-use crate::{Header, InitialHeader, Packet, PacketDecodeError, PartialDecode, ProtectedHeader};
+use crate::header_tests::FixedMask;
 use bytes::{Bytes, BytesMut};
 use qc_base::{ConnectionId, LongType, PacketNumber};
+use qc_header::{Header, InitialHeader, Packet, PacketDecodeError, PartialDecode, ProtectedHeader};
 use std::alloc::{AllocError, Global};
 use std::test::Fail;
 

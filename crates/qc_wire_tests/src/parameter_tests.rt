@@ -1,8 +1,8 @@
-use crate::{
+use qc_base::{ConnectionId, ResetToken, Side, TransportError, VarInt};
+use qc_params::{
     ParamError, PreferredAddress, TransportParameters, entries_are_read,
     parameters_written_are_read,
 };
-use qc_base::{ConnectionId, ResetToken, Side, TransportError, VarInt};
 use std::alloc::{AllocError, Global};
 use std::net::{Ipv4Addr, Ipv6Addr};
 use std::test::Fail;

@@ -1,8 +1,8 @@
-use crate::{
+use qc_base::{ArrayRangeSet, NumberRange, TransportErrorCode, VarInt};
+use qc_frame::{
     FrameFault, FrameList, FrameOf, InvalidFrame, Iter, OwnedAck, OwnedFrame, first_frame,
     fit_application_reason, fit_close_reason, put_frame, put_frames, put_last_frame,
 };
-use qc_base::{ArrayRangeSet, NumberRange, TransportErrorCode, VarInt};
 use std::alloc::{AllocError, Global};
 use std::process::Abort;
 use std::test::Fail;
