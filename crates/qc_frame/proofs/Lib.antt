@@ -1,6 +1,7 @@
 pub mod BeforePadding
 pub mod Padded
 pub mod Numbers
+pub mod Shortest
 pub mod Ranges
 pub mod EachKind
 pub mod AllKinds

@@ -8,6 +8,7 @@ mod frames;
 mod iter;
 mod laws;
 mod list;
+mod measure;
 mod names;
 mod read;
 mod size;

@@ -121,6 +121,18 @@ impl FrameList {
         (self.frames.as_slice(), self.padding)
     }
 
+    /// The same frames again, with memory of their own. Want of memory is the only refusal.
+    pub fn copy(&self, alloc: Global) -> Result<FrameList, AllocError>
+        ensures { IfOk result (λ copy. copy ≡ self.now) }
+    {
+        let mut frames = Vec::new(alloc);
+        copy_each(&mut frames, alloc, self.frames.as_slice())?;
+        Ok(FrameList {
+            frames,
+            padding: self.padding,
+        })
+    }
+
     /// Appends the frames' spelling. After want of memory `out` is as before.
     pub fn put(&self, out: &mut Vec<u8>) -> Result<(), AllocError>
         ensures ok { OnOk result (out.new.items ≡ out.old.items ++ frames_spelling self.now) }
@@ -164,6 +176,20 @@ fn push_each(frames: &mut Vec<OwnedFrame>, padding: u64) -> Result<(), AllocErro
 {
     for i in 0..padding {
         frames.push(FrameOf::Padding)?;
+    }
+    Ok(())
+}
+
+// Appends copies of the frames.
+fn copy_each(
+    copies: &mut Vec<OwnedFrame>,
+    alloc: Global,
+    frames: &[OwnedFrame],
+) -> Result<(), AllocError>
+    ensures { OnOk result (map owned copies.new.items ≡ map owned copies.old.items ++ map owned frames.now) }
+{
+    for frame in frames {
+        copies.push(frame.as_frame().to_owned(alloc)?)?;
     }
     Ok(())
 }

@@ -318,7 +318,7 @@ fn put_ecn(out: &mut Vec<u8>, ecn: Option<EcnCounts>) -> Result<(), AllocError>
 
 // How many numbers the bytes spell.
 #[tactic(auto, unfolding(crate::specs::FrameSpelling::numbers_of), using(crate::proofs::Numbers::number_next, crate::proofs::Numbers::number_none, crate::proofs::Numbers::numbers_done))]
-fn count_numbers(bytes: &[u8]) -> u64
+pub(crate) fn count_numbers(bytes: &[u8]) -> u64
     ensures { result ≡ length (numbers_of bytes.now) }
 {
     let mut count = 0;
