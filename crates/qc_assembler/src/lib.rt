@@ -12,6 +12,3 @@ mod waiting;
 pub use assembler::Assembler;
 pub use insert::{InsertError, MAX_PARTS};
 pub use laws::reads_what_came;
-
-#[cfg(test)]
-mod tests;

@@ -6,6 +6,3 @@ mod queue;
 
 pub use datagrams::{DatagramFault, Datagrams, SendRefusal};
 pub use queue::DatagramQueue;
-
-#[cfg(test)]
-mod tests;

@@ -8,6 +8,3 @@ mod recv;
 
 pub use fault::{ClosedStream, FrameFault, ReadError, ReadableError, Refusal};
 pub use recv::{Chunk, Recv};
-
-#[cfg(test)]
-mod tests;

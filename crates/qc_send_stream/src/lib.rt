@@ -14,6 +14,3 @@ pub use buffer::SendBuffer;
 pub use fault::{ClosedStream, FinishError, WriteError};
 pub use laws::sends_what_was_written;
 pub use send::{Part, Reset, SendPart, Standing};
-
-#[cfg(test)]
-mod tests;

@@ -8,6 +8,3 @@ mod ready;
 pub use ids::Ids;
 pub use marks::Marks;
 pub use ready::{Place, Ready};
-
-#[cfg(test)]
-mod tests;

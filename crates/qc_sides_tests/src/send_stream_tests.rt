@@ -1,10 +1,10 @@
 //! Ranges in several orders, limits at their edges, an end that is lost, and what a reset leaves.
 
-use crate::{
-    ClosedStream, FinishError, Part, SendBuffer, SendPart, WriteError, sends_what_was_written,
-};
 use bytes::Bytes;
 use qc_base::VarInt;
+use qc_send_stream::{
+    ClosedStream, FinishError, SendBuffer, SendPart, WriteError, sends_what_was_written,
+};
 use std::alloc::Global;
 use std::test::Fail;
 
@@ -16,9 +16,9 @@ enum Deed {
 }
 
 /// Writes a few bytes.
-fn keep(buffer: &mut SendBuffer, bytes: Bytes) -> Result<(), Fail> {
+fn keep(buffer: &mut SendBuffer, alloc: Global, bytes: &[u8]) -> Result<(), Fail> {
     if buffer.written() < 100 && bytes.len() < 100 {
-        buffer.write(bytes)?;
+        buffer.write(Bytes::copy_from_slice(alloc, bytes)?)?;
     }
     Ok(())
 }
@@ -32,6 +32,25 @@ fn apply(buffer: &mut SendBuffer, deed: &Deed) -> Result<(), Fail> {
         Deed::Lose(start, end) => buffer.lose(u64::from(*start), u64::from(*end))?,
     }
     Ok(())
+}
+
+/// Whether these are offered, where at most 4 bytes are asked for.
+fn offers(buffer: &mut SendBuffer, offered: &Option<(u64, &[u8])>) -> Result<bool, Fail> {
+    match (buffer.offer(4)?, offered) {
+        (Some((at, bytes)), Some((offset, expected))) => {
+            Ok(at == *offset && &bytes[..] == *expected)
+        }
+        (None, None) => Ok(true),
+        _ => Ok(false),
+    }
+}
+
+/// The offset of what is offered.
+fn offered_at(buffer: &mut SendBuffer) -> Result<Option<u64>, Fail> {
+    match buffer.offer(10)? {
+        Some((at, _)) => Ok(Some(at)),
+        None => Ok(None),
+    }
 }
 
 // Ten bytes, abcdefghij, and after each step what is offered where 4 bytes are asked for.
@@ -55,21 +74,11 @@ const RANGES: [(Deed, Option<(u64, &[u8])>); 12] = [
 #[test]
 fn ranges_wait_leave_and_come_back(rt: HostRuntime) -> Result<(), Fail> {
     let mut buffer = SendBuffer::new(rt.alloc());
-    keep(
-        &mut buffer,
-        Bytes::copy_from_slice(rt.alloc(), b"abcdefghij")?,
-    )?;
+    keep(&mut buffer, rt.alloc(), b"abcdefghij")?;
     for (deed, offered) in &RANGES {
         assert!(rt; !buffer.is_empty());
         apply(&mut buffer, deed)?;
-        match (buffer.offer(4)?, offered) {
-            (Some((at, bytes)), Some((offset, expected))) => {
-                assert_eq!(rt; at, *offset);
-                assert_eq!(rt; &bytes[..], *expected);
-            }
-            (None, None) => {}
-            _ => assert!(rt; false),
-        }
+        assert!(rt; offers(&mut buffer, offered)?);
     }
     assert!(rt; buffer.is_empty());
     assert_eq!(rt; buffer.written(), 10);
@@ -92,16 +101,15 @@ fn fresh_bytes_come_in_order(rt: HostRuntime) -> Result<(), Fail> {
         (Deed::Lose(0, 9), 5, 0),
     ];
     let mut buffer = SendBuffer::new(rt.alloc());
-    keep(&mut buffer, Bytes::copy_from_slice(rt.alloc(), b"abc")?)?;
-    keep(&mut buffer, Bytes::copy_from_slice(rt.alloc(), b"def")?)?;
+    keep(&mut buffer, rt.alloc(), b"abc")?;
+    keep(&mut buffer, rt.alloc(), b"def")?;
     for (deed, sent, offset) in &STEPS {
         apply(&mut buffer, deed)?;
         assert_eq!(rt; buffer.sent(), *sent);
-        let (at, _) = buffer.offer(10)?.ok_or("nothing is offered")?;
-        assert_eq!(rt; at, *offset);
+        assert!(rt; offered_at(&mut buffer)? == Some(*offset));
     }
     buffer.discard();
-    assert!(rt; buffer.offer(10)?.is_none());
+    assert!(rt; offered_at(&mut buffer)?.is_none());
     Ok(())
 }
 
@@ -129,9 +137,16 @@ fn writes_end_at_the_limit(rt: HostRuntime) -> Result<(), Fail> {
         assert!(rt; !stream.take_blocked());
     }
     assert!(rt; chunk.is_empty());
-    let part = stream.offer(100)?.ok_or("nothing is offered")?;
-    assert_eq!(rt; &part.bytes[..], b"abcde".as_slice());
+    assert!(rt; offers_bytes(&mut stream, b"abcde")?);
     Ok(())
+}
+
+/// Whether a stream offers these bytes.
+fn offers_bytes(stream: &mut SendPart, bytes: &[u8]) -> Result<bool, Fail> {
+    match stream.offer(100)? {
+        Some(part) => Ok(&part.bytes[..] == bytes),
+        None => Ok(false),
+    }
 }
 
 /// A stream of two bytes that is finished.
@@ -143,34 +158,44 @@ fn finished(alloc: Global) -> Result<SendPart, Fail> {
     Ok(stream)
 }
 
-/// Whether a part has this offset, so many bytes, and the end.
-fn is_part(part: &Option<Part>, offset: u64, count: usize, last: bool) -> bool {
-    match part {
-        Some(part) => part.offset == offset && part.bytes.len() == count && part.last == last,
-        None => false,
+/// The offset of the part that a stream offers, how many bytes it has, and whether it has the end.
+fn offered(stream: &mut SendPart, most: usize) -> Result<Option<(u64, usize, bool)>, Fail> {
+    match stream.offer(most)? {
+        Some(part) => Ok(Some((part.offset, part.bytes.len(), part.last))),
+        None => Ok(None),
     }
+}
+
+/// What a write of one byte answers.
+fn write_byte(
+    stream: &mut SendPart,
+    alloc: Global,
+    budget: u64,
+) -> Result<Result<usize, WriteError>, Fail> {
+    let mut chunk = Bytes::copy_from_slice(alloc, b"c")?;
+    Ok(stream.write(&mut chunk, budget))
 }
 
 #[test]
 fn an_end_that_is_lost_waits_again(rt: HostRuntime) -> Result<(), Fail> {
     let mut stream = finished(rt.alloc())?;
-    assert!(rt; is_part(&stream.offer(1)?, 0, 1, false));
-    assert!(rt; is_part(&stream.offer(10)?, 0, 2, true));
+    assert!(rt; offered(&mut stream, 1)? == Some((0, 1, false)));
+    assert!(rt; offered(&mut stream, 10)? == Some((0, 2, true)));
     stream.seal(0, 2, true)?;
-    assert!(rt; stream.offer(10)?.is_none());
+    assert!(rt; offered(&mut stream, 10)?.is_none());
     stream.lose(0, 2, true)?;
-    assert!(rt; is_part(&stream.offer(10)?, 0, 2, true));
+    assert!(rt; offered(&mut stream, 10)? == Some((0, 2, true)));
     stream.seal(0, 2, true)?;
     assert_eq!(rt; stream.acknowledge(0, 2, false)?, 2);
     assert!(rt; !stream.is_done());
     stream.lose(0, 2, true)?;
-    assert!(rt; is_part(&stream.offer(10)?, 2, 0, true));
+    assert!(rt; offered(&mut stream, 10)? == Some((2, 0, true)));
     stream.seal(2, 2, true)?;
     assert!(rt; !stream.is_done());
     assert_eq!(rt; stream.acknowledge(2, 2, true)?, 0);
     assert!(rt; stream.is_done());
     stream.lose(0, 2, true)?;
-    assert!(rt; stream.offer(10)?.is_none());
+    assert!(rt; offered(&mut stream, 10)?.is_none());
     assert!(rt; stream.is_done());
     assert!(rt; stream.finish() == Err(FinishError::ClosedStream));
     Ok(())
@@ -182,7 +207,7 @@ fn a_reset_leaves_only_itself(rt: HostRuntime) -> Result<(), Fail> {
     assert!(rt; stream.reset_owed().is_none());
     assert!(rt; stream.reset(VarInt::from_u32(7)).is_ok());
     assert!(rt; stream.reset(VarInt::from_u32(8)) == Err(ClosedStream));
-    assert!(rt; stream.offer(10)?.is_none());
+    assert!(rt; offered(&mut stream, 10)?.is_none());
     assert!(rt; stream.reset_owed() == Some((VarInt::from_u32(7), 2)));
     stream.reset_sealed();
     assert!(rt; stream.reset_owed().is_none());
@@ -194,8 +219,7 @@ fn a_reset_leaves_only_itself(rt: HostRuntime) -> Result<(), Fail> {
     assert!(rt; !stream.is_done());
     stream.reset_acknowledged();
     assert!(rt; stream.is_done());
-    let mut chunk = Bytes::copy_from_slice(rt.alloc(), b"c")?;
-    assert!(rt; stream.write(&mut chunk, 1) == Err(WriteError::ClosedStream));
+    assert!(rt; write_byte(&mut stream, rt.alloc(), 1)? == Err(WriteError::ClosedStream));
     assert!(rt; stream.is_closed());
     Ok(())
 }
@@ -205,10 +229,9 @@ fn a_stopped_stream_takes_no_bytes(rt: HostRuntime) -> Result<(), Fail> {
     let mut stream = SendPart::new(rt.alloc(), VarInt::from_u32(0));
     assert!(rt; stream.stop(VarInt::from_u32(9)));
     assert!(rt; !stream.stop(VarInt::from_u32(8)));
-    let mut chunk = Bytes::copy_from_slice(rt.alloc(), b"c")?;
     let stopped = VarInt::from_u32(9);
-    assert!(rt; stream.write(&mut chunk, 0) == Err(WriteError::Blocked));
-    assert!(rt; stream.write(&mut chunk, 1) == Err(WriteError::Stopped(stopped)));
+    assert!(rt; write_byte(&mut stream, rt.alloc(), 0)? == Err(WriteError::Blocked));
+    assert!(rt; write_byte(&mut stream, rt.alloc(), 1)? == Err(WriteError::Stopped(stopped)));
     assert!(rt; stream.finish() == Err(FinishError::Stopped(stopped)));
     Ok(())
 }

@@ -1,13 +1,28 @@
 //! Room in a buffer, and each refusal at its edge.
 
-use crate::{DatagramFault, Datagrams, SendRefusal};
 use bytes::Bytes;
+use qc_datagrams::{DatagramFault, Datagrams, SendRefusal};
 use std::alloc::Global;
 use std::test::Fail;
 
 fn of_length(alloc: Global, len: usize) -> Result<Bytes, Fail> {
     let zeros = [0u8; 120];
     Ok(Bytes::copy_from_slice(alloc, zeros.get(..len).ok_or("too long")?)?)
+}
+
+/// Takes a frame of so many bytes: whether none had waited.
+fn take(
+    datagrams: &mut Datagrams,
+    alloc: Global,
+    len: usize,
+) -> Result<Result<bool, DatagramFault>, Fail> {
+    Ok(datagrams.take_frame(of_length(alloc, len)?))
+}
+
+/// How long the oldest is of those that came.
+fn oldest(datagrams: &mut Datagrams) -> Option<usize> {
+    let datagram = datagrams.incoming.pop()?;
+    Some(datagram.len())
 }
 
 #[test]
@@ -23,19 +38,36 @@ fn oldest_make_room_for_those_that_come(rt: HostRuntime) -> Result<(), Fail> {
     ];
     let mut datagrams = Datagrams::new(rt.alloc(), Some(100), 100);
     for (len, first, space) in FRAMES {
-        let given = datagrams.take_frame(of_length(rt.alloc(), len)?);
-        assert!(rt; given == Ok(first));
+        assert!(rt; take(&mut datagrams, rt.alloc(), len)? == Ok(first));
         assert_eq!(rt; datagrams.incoming.space(100), space);
     }
-    let given = datagrams.take_frame(of_length(rt.alloc(), 101)?);
-    assert!(rt; given == Err(DatagramFault::Refused));
-    let oldest = datagrams.incoming.pop().ok_or("none waits")?;
-    assert_eq!(rt; oldest.len(), 0);
-    assert!(rt; datagrams.incoming.pop().is_none());
-    let mut disabled = Datagrams::new(rt.alloc(), None, 100);
-    let given = disabled.take_frame(of_length(rt.alloc(), 0)?);
-    assert!(rt; given == Err(DatagramFault::Refused));
+    assert!(rt; take(&mut datagrams, rt.alloc(), 101)? == Err(DatagramFault::Refused));
+    assert!(rt; oldest(&mut datagrams) == Some(0));
+    assert!(rt; oldest(&mut datagrams).is_none());
     Ok(())
+}
+
+#[test]
+fn none_come_without_a_buffer(rt: HostRuntime) -> Result<(), Fail> {
+    let mut disabled = Datagrams::new(rt.alloc(), None, 100);
+    assert!(rt; take(&mut disabled, rt.alloc(), 0)? == Err(DatagramFault::Refused));
+    Ok(())
+}
+
+/// Why a datagram of so many bytes isn't queued, which is noted.
+fn refused(
+    datagrams: &mut Datagrams,
+    alloc: Global,
+    most: Option<u64>,
+    drops: bool,
+    len: usize,
+) -> Result<Option<SendRefusal>, Fail> {
+    let datagram = of_length(alloc, len)?;
+    let refusal = datagrams.send_refusal(most, drops, &datagram);
+    if let Some(refusal) = refusal {
+        datagrams.refused(refusal);
+    }
+    Ok(refusal)
 }
 
 #[test]
@@ -55,12 +87,8 @@ fn sends_are_refused_in_order(rt: HostRuntime) -> Result<(), Fail> {
         let buffer = if enabled { Some(100) } else { None };
         let mut datagrams = Datagrams::new(rt.alloc(), buffer, 100);
         datagrams.send(of_length(rt.alloc(), 10)?)?;
-        let datagram = of_length(rt.alloc(), len)?;
-        assert!(rt; datagrams.send_refusal(most, drops, &datagram) == refusal);
-        if let Some(refusal) = refusal {
-            datagrams.refused(refusal);
-            assert_eq!(rt; datagrams.blocked, refusal == SendRefusal::Blocked);
-        }
+        assert!(rt; refused(&mut datagrams, rt.alloc(), most, drops, len)? == refusal);
+        assert_eq!(rt; datagrams.blocked, refusal == Some(SendRefusal::Blocked));
     }
     Ok(())
 }

@@ -1,8 +1,49 @@
 //! Parts in every order, reads in pieces, and the greatest number of parts.
 
-use crate::{Assembler, InsertError, MAX_PARTS, reads_what_came};
 use bytes::Bytes;
+use qc_assembler::{Assembler, InsertError, MAX_PARTS, reads_what_came};
+use std::alloc::Global;
 use std::test::Fail;
+
+/// Bytes come: whether they are kept, and in an error why not.
+fn come(
+    assembler: &mut Assembler,
+    alloc: Global,
+    offset: u32,
+    bytes: &[u8],
+) -> Result<Result<(), InsertError>, Fail> {
+    let bytes = Bytes::copy_from_slice(alloc, bytes)?;
+    Ok(assembler.insert(u64::from(offset), bytes))
+}
+
+/// Whether a read of at most so many bytes gives these.
+fn gives(assembler: &mut Assembler, most: usize, bytes: Option<&[u8]>) -> Result<bool, Fail> {
+    match (assembler.read(most)?, bytes) {
+        (Some(chunk), Some(bytes)) => Ok(&chunk[..] == bytes),
+        (None, None) => Ok(true),
+        _ => Ok(false),
+    }
+}
+
+/// Whether a read out of order of at most 3 bytes gives these, with that offset.
+fn gives_unordered(assembler: &mut Assembler, given: Option<(u64, &[u8])>) -> Result<bool, Fail> {
+    match (assembler.read_unordered(3)?, given) {
+        (Some((at, chunk)), Some((offset, bytes))) => Ok(at == offset && &chunk[..] == bytes),
+        (None, None) => Ok(true),
+        _ => Ok(false),
+    }
+}
+
+/// Reads at most so many bytes, behind those that were read before.
+fn read_more(assembler: &mut Assembler, most: usize, got: &mut Vec<u8>) -> Result<bool, Fail> {
+    match assembler.read(most)? {
+        Some(chunk) => {
+            got.extend_from_slice(&chunk)?;
+            Ok(chunk.len() <= most)
+        }
+        None => Ok(true),
+    }
+}
 
 // Three parts that overlap and differ where they do, and what stays of them in each order.
 const PARTS: [(u32, &[u8]); 3] = [(0, b"abc"), (2, b"CdE"), (4, b"efg")];
@@ -22,19 +63,15 @@ fn first_bytes_stay_in_every_order(rt: HostRuntime) -> Result<(), Fail> {
         let mut assembler = Assembler::new(rt.alloc());
         for at in order {
             let (offset, part) = PARTS.get(at).ok_or("no such part")?;
-            let part = Bytes::copy_from_slice(rt.alloc(), part)?;
-            assert!(rt; assembler.insert(u64::from(*offset), part).is_ok());
+            assert!(rt; come(&mut assembler, rt.alloc(), *offset, part)? == Ok(()));
         }
         assert_eq!(rt; assembler.parts(), 1);
         let mut got = Vec::new(rt.alloc());
         for most in [0, 2, 100, 100, 100, 100] {
-            if let Some(chunk) = assembler.read(most)? {
-                assert!(rt; chunk.len() <= most);
-                got.extend_from_slice(&chunk)?;
-            }
+            assert!(rt; read_more(&mut assembler, most, &mut got)?);
         }
         assert_eq!(rt; got.as_slice(), left);
-        assert!(rt; assembler.read(100)?.is_none());
+        assert!(rt; gives(&mut assembler, 100, None)?);
         assert_eq!(rt; assembler.parts(), 0);
     }
     reads_what_came();
@@ -44,9 +81,9 @@ fn first_bytes_stay_in_every_order(rt: HostRuntime) -> Result<(), Fail> {
 #[test]
 fn parts_are_counted_before_reading(rt: HostRuntime) -> Result<(), Fail> {
     let mut assembler = Assembler::new(rt.alloc());
-    for at in 1..MAX_PARTS + 1 {
-        let came = assembler.insert(2 * at, Bytes::copy_from_slice(rt.alloc(), b"x")?);
-        assert!(rt; came.is_ok());
+    assert_eq!(rt; MAX_PARTS, 1024);
+    for at in 1..1025 {
+        assert!(rt; come(&mut assembler, rt.alloc(), 2 * at, b"x")? == Ok(()));
     }
     // an offset, whether a byte that comes there is kept, and how many parts there are then
     const STEPS: [(u32, bool, u64); 7] = [
@@ -59,12 +96,14 @@ fn parts_are_counted_before_reading(rt: HostRuntime) -> Result<(), Fail> {
         (5000, true, 1024),
     ];
     for (offset, kept, parts) in STEPS {
-        let byte = Bytes::copy_from_slice(rt.alloc(), b"y")?;
-        let came = assembler.insert(u64::from(offset), byte);
-        assert_eq!(rt; came.is_ok(), kept);
-        if let Err(error) = came {
-            assert!(rt; error == InsertError::TooManyParts);
-        }
+        let came = come(&mut assembler, rt.alloc(), offset, b"y")?;
+        assert!(rt;
+            came == if kept {
+                Ok(())
+            } else {
+                Err(InsertError::TooManyParts)
+            }
+        );
         assert_eq!(rt; assembler.parts(), parts);
     }
     Ok(())
@@ -87,16 +126,8 @@ fn unordered_reads_give_each_byte_once(rt: HostRuntime) -> Result<(), Fail> {
     ];
     let mut assembler = Assembler::new(rt.alloc());
     for (offset, bytes, given) in STEPS {
-        let bytes = Bytes::copy_from_slice(rt.alloc(), bytes)?;
-        assert!(rt; assembler.insert(u64::from(offset), bytes).is_ok());
-        match (assembler.read_unordered(3)?, given) {
-            (Some((at, chunk)), Some((offset, bytes))) => {
-                assert_eq!(rt; at, offset);
-                assert_eq!(rt; &chunk[..], bytes);
-            }
-            (None, None) => {}
-            _ => assert!(rt; false),
-        }
+        assert!(rt; come(&mut assembler, rt.alloc(), offset, bytes)? == Ok(()));
+        assert!(rt; gives_unordered(&mut assembler, given)?);
     }
     // hi and p are left
     assert_eq!(rt; assembler.parts(), 2);
@@ -121,14 +152,9 @@ fn bytes_in_order_wait_beside_others(rt: HostRuntime) -> Result<(), Fail> {
     ];
     let mut assembler = Assembler::new(rt.alloc());
     for (offset, bytes, parts, given) in STEPS {
-        let bytes = Bytes::copy_from_slice(rt.alloc(), bytes)?;
-        assert!(rt; assembler.insert(u64::from(offset), bytes).is_ok());
+        assert!(rt; come(&mut assembler, rt.alloc(), offset, bytes)? == Ok(()));
         assert_eq!(rt; assembler.parts(), parts);
-        match (assembler.read(3)?, given) {
-            (Some(chunk), Some(bytes)) => assert_eq!(rt; &chunk[..], bytes),
-            (None, None) => {}
-            _ => assert!(rt; false),
-        }
+        assert!(rt; gives(&mut assembler, 3, given)?);
     }
     assert_eq!(rt; assembler.bytes_read(), 16);
     assert_eq!(rt; assembler.parts(), 0);

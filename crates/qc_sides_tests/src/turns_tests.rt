@@ -1,6 +1,6 @@
 //! Marks in their order, sets, and turns by rank and number.
 
-use crate::{Ids, Marks, Ready};
+use qc_turns::{Ids, Marks, Ready};
 use std::test::Fail;
 
 #[test]
@@ -37,6 +37,11 @@ fn the_least_is_first(rt: HostRuntime) -> Result<(), Fail> {
     assert!(rt; ids.first() == Some(4));
     ids.remove(4);
     assert!(rt; ids.first() == Some(8));
+    Ok(())
+}
+
+#[test]
+fn the_highest_priority_is_first(rt: HostRuntime) -> Result<(), Fail> {
     // the higher priority, which is the lower rank, comes first; then the earlier turn
     let mut ready = Ready::new(rt.alloc());
     ready.insert((0, 1), 4)?;

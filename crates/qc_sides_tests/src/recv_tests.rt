@@ -1,8 +1,8 @@
 //! Refusals at their edges, credit at its eighth, and what a stop and a reset leave.
 
-use crate::{FrameFault, ReadError, ReadableError, Recv, Refusal};
 use bytes::Bytes;
 use qc_base::VarInt;
+use qc_recv::{FrameFault, ReadError, ReadableError, Recv, Refusal};
 use std::alloc::Global;
 use std::test::Fail;
 
@@ -12,6 +12,31 @@ fn begun(alloc: Global) -> Result<Recv, Fail> {
     let bytes = Bytes::copy_from_slice(alloc, b"cdef")?;
     let _ = stream.take_stream(2, bytes, false, 100);
     Ok(stream)
+}
+
+/// Takes a frame with so many bytes: why it is refused.
+fn take(
+    stream: &mut Recv,
+    alloc: Global,
+    offset: u32,
+    len: usize,
+    last: bool,
+    room: u64,
+) -> Result<Option<Refusal>, Fail> {
+    let bytes = Bytes::copy_from_slice(alloc, b"xxxxxxxxxxxx".get(..len).ok_or("short")?)?;
+    match stream.take_stream(u64::from(offset), bytes, last, room) {
+        Ok(()) => Ok(None),
+        Err(FrameFault::Refused(refusal)) => Ok(Some(refusal)),
+        Err(FrameFault::OutOfMemory) => Err("out of memory")?,
+    }
+}
+
+/// What a read of at most so many bytes answers: how many bytes it gives, None at the end.
+fn next(stream: &mut Recv, most: usize) -> Result<Option<usize>, ReadError> {
+    match stream.next(most)? {
+        Some(chunk) => Ok(Some(chunk.bytes.len())),
+        None => Ok(None),
+    }
 }
 
 // Offset, length, whether it is the last, and the room of the connection; what it is answered. The
@@ -33,25 +58,22 @@ const FRAMES: [(u32, usize, bool, u64, Option<Refusal>); 9] = [
 fn frames_are_refused_at_their_edges(rt: HostRuntime) -> Result<(), Fail> {
     for (offset, len, last, room, refusal) in FRAMES {
         let mut stream = begun(rt.alloc())?;
-        let bytes = Bytes::copy_from_slice(rt.alloc(), b"xxxxxxxxxxxx".get(..len).ok_or("short")?)?;
-        match (
-            stream.take_stream(u64::from(offset), bytes, last, room),
-            refusal,
-        ) {
-            (Ok(()), None) => {}
-            (Err(FrameFault::Refused(given)), Some(refusal)) => assert!(rt; given == refusal),
-            _ => assert!(rt; false),
-        }
+        assert!(rt; take(&mut stream, rt.alloc(), offset, len, last, room)? == refusal);
     }
-    // once the size is known, only frames that agree are taken
+    Ok(())
+}
+
+// Once the size is known, only frames that agree are taken.
+#[test]
+fn frames_agree_with_the_size(rt: HostRuntime) -> Result<(), Fail> {
     let mut stream = begun(rt.alloc())?;
-    assert!(rt; stream.take_stream(8, Bytes::new(), true, 100).is_ok());
-    assert!(rt; stream.take_stream(8, Bytes::new(), true, 100).is_ok());
-    assert!(rt; stream.take_stream(9, Bytes::new(), false, 100).is_err());
-    assert!(rt; stream.take_stream(7, Bytes::new(), true, 100).is_err());
+    assert!(rt; take(&mut stream, rt.alloc(), 8, 0, true, 100)?.is_none());
+    assert!(rt; take(&mut stream, rt.alloc(), 8, 0, true, 100)?.is_none());
+    assert!(rt; take(&mut stream, rt.alloc(), 9, 0, false, 100)? == Some(Refusal::FinalSize));
+    assert!(rt; take(&mut stream, rt.alloc(), 7, 0, true, 100)? == Some(Refusal::FinalSize));
     assert!(rt; stream.take_reset(VarInt::from_u32(3), 9, 100) == Err(Refusal::FinalSize));
     assert!(rt; stream.take_reset(VarInt::from_u32(3), 8, 100).is_ok());
-    assert!(rt; matches!(&stream.next(10), Err(ReadError::Reset(_))));
+    assert!(rt; next(&mut stream, 10) == Err(ReadError::Reset(VarInt::from_u32(3))));
     assert!(rt; stream.is_ended());
     Ok(())
 }
@@ -60,16 +82,12 @@ fn frames_are_refused_at_their_edges(rt: HostRuntime) -> Result<(), Fail> {
 fn credit_is_owed_from_an_eighth_on(rt: HostRuntime) -> Result<(), Fail> {
     let mut stream = begun(rt.alloc())?;
     assert!(rt; stream.open(true).is_ok());
-    assert!(rt; matches!(&stream.next(10), Err(ReadError::Blocked)));
-    assert!(rt;
-        stream
-            .take_stream(0, Bytes::copy_from_slice(rt.alloc(), b"ab")?, false, 0)
-            .is_ok()
-    );
+    assert!(rt; next(&mut stream, 10) == Err(ReadError::Blocked));
+    assert!(rt; take(&mut stream, rt.alloc(), 0, 2, false, 0)?.is_none());
     // an eighth of 16 bytes is 2: one byte read owes nothing, the second owes
-    assert!(rt; stream.next(1).is_ok());
+    assert!(rt; next(&mut stream, 1) == Ok(Some(1)));
     assert!(rt; !stream.credit_waits);
-    assert!(rt; stream.next(1).is_ok());
+    assert!(rt; next(&mut stream, 1) == Ok(Some(1)));
     assert!(rt; stream.credit_waits);
     assert_eq!(rt; stream.credit_value(), 18);
     stream.credit_sealed();
@@ -82,7 +100,7 @@ fn credit_is_owed_from_an_eighth_on(rt: HostRuntime) -> Result<(), Fail> {
     assert!(rt; stream.stop(VarInt::from_u32(7)).is_err());
     assert!(rt; stream.open(false) == Err(ReadableError::ClosedStream));
     assert!(rt; !stream.is_ended());
-    assert!(rt; stream.take_stream(6, Bytes::new(), true, 0).is_ok());
+    assert!(rt; take(&mut stream, rt.alloc(), 6, 0, true, 0)?.is_none());
     assert!(rt; stream.is_ended());
     Ok(())
 }
