@@ -1,11 +1,11 @@
 -- How many bytes are kept
-use Rattle.std.proofs.Common.{◌≡◌, ◌∙◌, ap, sym, ℕ, ◌+◌, ◌<◌, ◌≤◌, suc, List, [], ◌∷◌, ◌++◌, Bool, true, false, cond, length, arith, refl, subst, Option, None, Some, length-append, take}
+use Rattle.std.proofs.Common.{◌≡◌, ◌∙◌, ap, sym, ℕ, ◌+◌, ◌<◌, ◌≤◌, suc, List, [], ◌∷◌, ◌++◌, Bool, true, false, cond, length, arith, refl, subst, None, Some, length-append, take}
 use Rattle.std.proofs.lemmas.List.{length-take-le}
 use Rattle.std.specs.Map.{lookup, remove_entry}
 use Rattle.std.specs.BTreeMap.{is_at, insert_entry}
 use Rattle.std.specs.Ordering.{nat_cmp}
 use Rattle.qc_send_stream.specs.declared.segments.Segment.{Segment}
-use Rattle.qc_send_stream.specs.Buffer.{Kept, Buffer, row, lies_in, marked, bytes_written}
+use Rattle.qc_send_stream.specs.Buffer.{Kept, Buffer, row, marked, bytes_written}
 use Rattle.qc_send_stream.specs.Segments.{begin, flat, Apart, CutAt, stood, IsSound}
 use Rattle.qc_send_stream.proofs.Cutting.{same_segment}
 use Rattle.qc_send_stream.proofs.Ranges.{stood_flat}

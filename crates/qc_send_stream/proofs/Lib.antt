@@ -7,3 +7,4 @@ pub mod Outcomes
 pub mod Buffering
 pub mod Counting
 pub mod WrittenLaw
+pub mod FateLaw

@@ -2,3 +2,4 @@ pub mod Buffer
 pub mod Segments
 pub mod Sending
 pub mod Written
+pub mod Fates

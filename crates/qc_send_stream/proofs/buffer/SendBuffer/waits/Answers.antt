@@ -1,4 +1,4 @@
-use Rattle.std.proofs.Common.{◌∙◌, sym, ap, is_some}
+use Rattle.std.proofs.Common.{◌∙◌, sym, ap}
 use Rattle.qc_send_stream.specs.Buffer.{Buffer, has_bytes, waiting}
 use Rattle.qc_send_stream.proofs.Next.{lost_waits, fresh_waits}
 use Rattle.qc_send_stream.proofs.buffer.SendBuffer.waits.Goals as goal
