@@ -22,6 +22,3 @@ pub use pacer::{Pacer, PathRate};
 pub use path_responses::{PathResponse, PathResponses};
 pub use pending_acks::{Arrival, PendingAcks, next_bundled_ack_time, numbers_are_kept};
 pub use rtt::{RttEstimator, estimate_is_bounded};
-
-#[cfg(test)]
-mod tests;

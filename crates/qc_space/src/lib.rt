@@ -2,8 +2,6 @@
 #![tactic(auto)]
 
 mod space;
-#[cfg(test)]
-mod tests;
 mod timers;
 
 pub use space::{PacketSpace, with_mark};

@@ -1,0 +1,50 @@
+//! Packets spread over a round trip.
+
+use crate::times::at;
+use qc_base::{Duration, Instant};
+use qc_path::{Pacer, PathRate, RttEstimator};
+use std::test::Fail;
+
+/// A pace of datagrams of 1200 bytes, at a round trip time of 100 ms.
+fn pace(window: u64) -> PathRate {
+    PathRate {
+        window,
+        rtt: Duration::from_millis(100),
+        mtu: 1200,
+    }
+}
+
+#[test]
+fn times_stop_at_the_end_of_the_clock(rt: HostRuntime) -> Result<(), Fail> {
+    let longest = Duration::from_nanos(u64::MAX);
+    let mut rtt = RttEstimator::new(longest);
+    rtt.update(longest, longest);
+    rtt.update(longest, longest);
+    assert_eq!(rt; rtt.pto_base(), longest);
+    let rate = PathRate {
+        window: u64::MAX,
+        rtt: longest,
+        mtu: 1200,
+    };
+    let end = Instant::from_nanos(u64::MAX);
+    let mut pacer = Pacer::new(end, &rate);
+    pacer.sent(end, &rate, u64::MAX);
+    assert_eq!(rt; pacer.delay(end, &rate, 1200), Some(end));
+    Ok(())
+}
+
+// A window of 12,000 bytes in 100 ms: ten datagrams at once, then 150 bytes a millisecond.
+#[test]
+fn packets_are_paced(rt: HostRuntime) -> Result<(), Fail> {
+    let rate = pace(12_000);
+    let mut pacer = Pacer::new(at(0), &rate);
+    assert_eq!(rt; pacer.delay(at(0), &rate, 12_000), None);
+    pacer.sent(at(0), &rate, 12_000);
+    assert_eq!(rt; pacer.delay(at(0), &rate, 1200), Some(at(8)));
+    assert_eq!(rt; pacer.delay(at(10), &rate, 1200), None);
+    pacer.sent(at(10), &rate, 1200);
+    assert_eq!(rt; pacer.delay(at(10), &rate, 1200), Some(at(16)));
+    let still = pace(0);
+    assert_eq!(rt; pacer.delay(at(10), &still, 1200), None);
+    Ok(())
+}
