@@ -1,4 +1,5 @@
 pub mod Arrivals
 pub mod Estimates
+pub mod Paces
 pub mod RangesWith
 pub mod Windows

@@ -1,6 +1,7 @@
 -- Packets spread over a round trip (RFC 9002, section 7.7), by a bucket of tokens: one token is a byte.
--- Products stop at 2^64 - 1 before they are divided; what is left of a division is dropped.
+-- Products stop at 2^64 - 1 before they are divided. What is left of a division is dropped, but for a delay, which is rounded up.
 use Rattle.std.specs.Prelude.{ℕ, Bool, ◌-◌, ◌*◌, ◌/◌, ◌==◌, ◌||◌, nat_le, if◌then◌else◌, Option, Some, None, min, max}
+use Rattle.std.specs.Int.{div_ceil}
 use Rattle.qc_base.specs.Time.{plus, times}
 use Rattle.qc_path.specs.declared.pacer.PathRate.{PathRate}
 
@@ -33,9 +34,9 @@ refilled now rate bucket = record { tokens = min (plus bucket.tokens (grown rate
 unfoldable pub packet_paced : ℕ → PathRate → ℕ → Bucket → Bucket
 packet_paced now rate size bucket = record (refilled now rate bucket) { tokens = (refilled now rate bucket).tokens - size }
 
--- when so many tokens will have come as are missing
+-- when so many tokens will have come as are missing: the first moment at which they have, so rounded up
 unfoldable pub wait_for : ℕ → PathRate → ℕ → ℕ
-wait_for now rate missing = plus now (times (times rate.rtt missing) 4 / times rate.window 5)
+wait_for now rate missing = plus now (div_ceil (times (times rate.rtt missing) 4) (times rate.window 5))
 
 -- how long these bytes have to wait, if they have to
 unfoldable pub pacing_delay : PathRate → ℕ → Bucket → Option ℕ

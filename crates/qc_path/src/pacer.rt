@@ -1,7 +1,8 @@
 //! Packets spread over a round trip (RFC 9002, section 7.7).
 
-ghost use Rattle.std.specs.Prelude.{◌≡◌, ◌≢◌, ◌-◌};
-ghost use Rattle.qc_path.specs.Pacing.{capacity, full_bucket, grown, is_still, pacing_delay, packet_paced, refilled, wait_for};
+ghost use Rattle.std.specs.Prelude.{◌≡◌, ◌≢◌, ℕ, ◌-◌, ◌*◌, ◌<◌, ◌≤◌, ◌^◌, IsSome};
+ghost use Rattle.qc_path.specs.declared.pacer.PathRate.{PathRate};
+ghost use Rattle.qc_path.specs.Pacing.{Bucket, capacity, full_bucket, grown, is_still, pacing_delay, packet_paced, refilled, wait_for};
 
 use qc_base::{Duration, Instant};
 use std::marker::Model;
@@ -73,7 +74,7 @@ fn wait(now: Instant, rate: &PathRate, missing: u64) -> Instant
     if pace == 0 {
         return now;
     }
-    now.plus(Duration::from_nanos(wanted / pace))
+    now.plus(Duration::from_nanos(wanted.div_ceil(pace)))
 }
 
 impl Pacer {
@@ -123,3 +124,13 @@ impl Pacer {
         Some(wait(self.at, rate, wanted - self.tokens))
     }
 }
+
+/// A law, which runs no code. Bytes that have to wait until a time needn't wait at that time or later,
+/// and have to before it, where nothing was sent in between and the path's rate is the same: a delay
+/// is long enough, and no longer. So a driver that asks again at the delay's end sends. It holds
+/// where the round trip time times the bytes is below 2^62 (for 1200 bytes that is a round trip time
+/// of 44 days), and where the delay ends before the clock does.
+pub fn delay_is_exact()
+    ensures enough { (rate : PathRate) (bytes end now : ℕ) (bucket : Bucket) → rate.rtt * bytes < 2 ^ 62 → end < 2 ^ 64 - 1 → pacing_delay rate bytes bucket ≡ Some end → end ≤ now → pacing_delay rate bytes (refilled now rate bucket) ≡ None }
+    ensures needed { (rate : PathRate) (bytes end now : ℕ) (bucket : Bucket) → rate.rtt * bytes < 2 ^ 62 → pacing_delay rate bytes bucket ≡ Some end → bucket.at ≤ now → now < end → IsSome (pacing_delay rate bytes (refilled now rate bucket)) }
+{}

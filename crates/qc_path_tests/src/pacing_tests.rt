@@ -48,3 +48,18 @@ fn packets_are_paced(rt: HostRuntime) -> Result<(), Fail> {
     assert_eq!(rt; pacer.delay(at(10), &still, 1200), None);
     Ok(())
 }
+
+// A window of 13,200 bytes in 100 ms: a bucket that was emptied has 1200 bytes after 1200 * 400 / (13,200 * 5) =
+// 7.272727.. ms, so not at 7,272,727 ns, but at 7,272,728.
+#[test]
+fn bytes_go_at_the_end_of_their_delay(rt: HostRuntime) -> Result<(), Fail> {
+    let rate = pace(13_200);
+    let mut pacer = Pacer::new(at(0), &rate);
+    pacer.sent(at(0), &rate, 12_000);
+    let end = Instant::from_nanos(7_272_728);
+    assert_eq!(rt; pacer.delay(at(0), &rate, 1200), Some(end));
+    let sooner = Instant::from_nanos(7_272_727);
+    assert!(rt; pacer.delay(sooner, &rate, 1200).is_some());
+    assert!(rt; pacer.delay(end, &rate, 1200).is_none());
+    Ok(())
+}
