@@ -17,6 +17,3 @@ pub use laws::packets_leave_once;
 pub use list::PacketList;
 pub use room::Room;
 pub use sent::SentPacket;
-
-#[cfg(test)]
-mod tests;

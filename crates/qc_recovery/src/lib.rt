@@ -25,8 +25,3 @@ pub use mtu_config::MtuDiscoveryConfig;
 pub use path::{PathData, first_mtu};
 pub use recovery::Recovery;
 pub use transport_config::TransportConfig;
-
-#[cfg(test)]
-mod loss_tests;
-#[cfg(test)]
-mod tests;

@@ -1,4 +1,4 @@
-use crate::{IdleTimeout, MtuDiscoveryConfig, TransportConfig};
+use qc_recovery::{IdleTimeout, MtuDiscoveryConfig, TransportConfig};
 use qc_base::{Duration, VarInt};
 use std::test::Fail;
 
