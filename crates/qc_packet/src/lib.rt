@@ -18,6 +18,3 @@ pub use qc_rings::{
 pub use seal::{NUMBER_LIMIT, seal_padded};
 pub use slot::{BuildError, Kill, Slot};
 pub use unprotect::{UnprotectHeaderResult, unprotect_header};
-
-#[cfg(test)]
-mod tests;

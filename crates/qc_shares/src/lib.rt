@@ -6,6 +6,3 @@
 mod session;
 
 pub use session::SharesSession;
-
-#[cfg(test)]
-mod tests;

@@ -15,7 +15,8 @@ pub struct ToyHeaderKey {
 }
 
 impl ToyHeaderKey {
-    pub(crate) fn new(secret: [u8; 5], level: Level, from: Side) -> ToyHeaderKey
+    /// The header key of packets of this level that `from` sends.
+    pub fn new(secret: [u8; 5], level: Level, from: Side) -> ToyHeaderKey
         ensures { result ≡ header_key secret level from }
     {
         ToyHeaderKey {

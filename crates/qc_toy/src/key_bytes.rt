@@ -103,7 +103,7 @@ fn fifths(id: &[u8], i: usize) -> u8
 
 /// The secret of the Initial keys for this destination id.
 #[tactic(auto, unfolding(crate::specs::KeyBytes::initial_secret))]
-pub(crate) fn secret_of_id(id: &[u8]) -> [u8; 5]
+pub fn secret_of_id(id: &[u8]) -> [u8; 5]
     ensures { result ≡ initial_secret id.now }
 {
     [

@@ -19,15 +19,10 @@ mod zero_random;
 
 pub use config::{ToyClient, ToyServer};
 pub use header_key::ToyHeaderKey;
-pub use key_bytes::Level;
+pub use key_bytes::{Level, secret_of_id};
 pub use packet_key::ToyPacketKey;
 pub use session::ToySession;
 pub use settings::ToySettings;
 pub use token_keys::{ToyAeadKey, ToyHmacKey, ToyTokenKey};
 pub use toy_keys::ToyKeys;
 pub use zero_random::ZeroRandom;
-
-#[cfg(test)]
-mod handshake_tests;
-#[cfg(test)]
-mod tests;

@@ -1,10 +1,12 @@
-use crate::{ToyClient, ToyHeaderKey, ToyPacketKey, ToyServer, ToySession, ToySettings};
+//! Handshakes of two toy sessions.
+
 use bytes::BytesMut;
 use qc_base::{ConnectionId, Side, TransportErrorCode, VarInt};
 use qc_crypto::{
     ClientConfig, ConnectError, HeaderKey, Keys, PacketKey, ServerConfig, Session, SessionError,
 };
 use qc_params::TransportParameters;
+use qc_toy::{ToyClient, ToyHeaderKey, ToyPacketKey, ToyServer, ToySession, ToySettings};
 use std::alloc::Global;
 use std::default::Default;
 use std::test::Fail;

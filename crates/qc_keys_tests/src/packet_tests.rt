@@ -1,14 +1,14 @@
 //! Packets built and opened with toy keys.
 
-use crate::{
-    BuildError, DecryptPacketResult, KeyRing, Kill, OpenError, OpenKeys, PacketBuilder, Slot,
-    decrypt_packet_body, seal_padded, unprotect_header,
-};
 use bytes::{Bytes, BytesMut};
 use qc_base::{ConnectionId, PacketNumber, ResetToken, Side, SpaceId};
 use qc_crypto::{HeaderKey, KeySource, PacketKey, ServerConfig};
 use qc_frame::{FrameList, FrameOf};
 use qc_header::{Header, InitialHeader, Packet, PartialDecode};
+use qc_packet::{
+    BuildError, DecryptPacketResult, KeyRing, Kill, OpenError, OpenKeys, PacketBuilder, Slot,
+    decrypt_packet_body, seal_padded, unprotect_header,
+};
 use qc_toy::{ToyHeaderKey, ToyKeys, ToyPacketKey, ToyServer, ToySettings};
 use std::alloc::{AllocError, Global};
 use std::default::Default;
@@ -121,7 +121,7 @@ fn short_header() -> Header {
 }
 
 // A PING in a packet of at most 1200 bytes, sealed in one call, and the frames and bytes that there are then.
-#[tactic(auto, using(crate::proofs::Full::room_enough))]
+#[tactic(auto, using(qc_packet::proofs::Full::room_enough))]
 fn seal_ping(
     alloc: Global,
     slot: &Slot,

@@ -1,7 +1,9 @@
-use crate::SharesSession;
+//! Sessions whose keys come of both ends' shares.
+
 use bytes::BytesMut;
 use qc_base::Side;
 use qc_crypto::{HeaderKey, Keys, PacketKey, Session};
+use qc_shares::SharesSession;
 use qc_toy::{ToyHeaderKey, ToyPacketKey};
 use std::alloc::Global;
 use std::test::Fail;

@@ -1,11 +1,11 @@
-use crate::header_key::ToyHeaderKey;
-use crate::key_bytes::{Level, secret_of_id};
-use crate::{ToyHmacKey, ToyKeys, ToyTokenKey, ZeroRandom};
+//! The toy's keys and random words.
+
 use bytes::BytesMut;
 use qc_base::Side;
 use qc_crypto::{
     AeadKey, CryptoError, HandshakeTokenKey, HeaderKey, HmacKey, KeySource, PacketKey,
 };
+use qc_toy::{Level, ToyHeaderKey, ToyHmacKey, ToyKeys, ToyTokenKey, ZeroRandom, secret_of_id};
 use rand_core::Rng;
 use std::test::Fail;
 

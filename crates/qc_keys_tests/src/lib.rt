@@ -1,0 +1,11 @@
+//! Tests of the sessions and keys, and of packets that are sealed and opened with them. There is nothing here but tests.
+#![tactic(auto)]
+
+#[cfg(test)]
+mod handshake_tests;
+#[cfg(test)]
+mod packet_tests;
+#[cfg(test)]
+mod shares_tests;
+#[cfg(test)]
+mod toy_tests;
