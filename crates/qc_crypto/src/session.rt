@@ -297,6 +297,9 @@ pub trait Session: Drop {
 
     ghost write_early: { (s : Self) → is_sound s → early (after_write s) ≡ early s };
 
+    // The early keys that a client was given stay, whatever it reads.
+    ghost early_read: { (s : Self) (bytes : List ℕ) (keys : Self.HeaderKey × Self.PacketKey) → is_sound s → side_of s ≡ Side.Client → early s ≡ Some keys → early (after_read s bytes) ≡ Some keys };
+
     ghost next_parameters: { (s : Self) → is_sound s → parameters (after_next s) ≡ parameters s };
 
     ghost next_early: { (s : Self) → is_sound s → early (after_next s) ≡ early s };

@@ -1,6 +1,6 @@
 //! Keys for what a server hands out and takes back: tokens and stateless resets.
 
-ghost use Rattle.std.specs.Prelude.{◌≡◌, ◌≢◌, ℕ, ◌≤◌, List, Option, Some, None, length, take, OnOk, OnErr, IfOk};
+ghost use Rattle.std.specs.Prelude.{◌≡◌, ◌≢◌, ℕ, ◌+◌, ◌≤◌, List, Option, Some, None, length, take, OnOk, OnErr, IfOk};
 
 use crate::CryptoError;
 use std::alloc::AllocError;
@@ -54,7 +54,7 @@ pub trait AeadKey: Drop {
 
     ghost opened: { Self → List ℕ → List ℕ → Option (List ℕ) };
 
-    /// Seals `body`, which grows by its tag. `additional` is authenticated with it.
+    /// Seals `body`, which grows by its tag of 16 bytes. `additional` is authenticated with it.
     ///
     /// # Errors
     ///
@@ -91,6 +91,9 @@ pub trait AeadKey: Drop {
         let len = self.open_in_place(body, additional)?;
         Ok(&mut body[..len])
     }
+
+    // What is sealed is its body and a tag of 16 bytes (RFC 5116, section 5; RFC 8439, section 2.8).
+    ghost sealed_length: { (key : Self) (additional plain : List ℕ) → length (sealed key additional plain) ≡ length plain + 16 };
 
     // What was sealed opens to itself, and nothing else opens.
     ghost opens_sealed: { (key : Self) (additional plain : List ℕ) → opened key additional (sealed key additional plain) ≡ Some plain };

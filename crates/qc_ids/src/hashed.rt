@@ -1,6 +1,6 @@
 //! Connection ids that tell by a check value that they were made here.
 
-ghost use Rattle.std.specs.Prelude.{◌≡◌, None, Some, true, length};
+ghost use Rattle.std.specs.Prelude.{◌≡◌, None, Some, true, is_ok, length};
 ghost use Rattle.qc_ids.specs.HashedCid.{check_bytes, hashed_cid, is_hashed_cid, mix, nonce_number};
 
 use crate::{ConnectionIdGenerator, InvalidCid};
@@ -92,7 +92,9 @@ impl ConnectionIdGenerator for HashedConnectionIdGenerator {
     }
 
     #[tactic(auto, unfolding(crate::specs::HashedCid::is_hashed_cid))]
-    fn validate(&self, cid: &ConnectionId) -> Result<(), InvalidCid> {
+    fn validate(&self, cid: &ConnectionId) -> Result<(), InvalidCid>
+        ensures { is_ok result ≡ is_hashed_cid self.now.key cid.now }
+    {
         let [first, second, third, check @ ..] = cid.as_slice() else {
             return Err(InvalidCid);
         };

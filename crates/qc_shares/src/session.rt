@@ -313,6 +313,8 @@ impl Session for SharesSession {
 
     ghost write_early = { λ _ _. refl };
 
+    ghost early_read = { λ _ _ _ _ _ e. e };
+
     ghost next_parameters = { λ s _. shares_next_parameters s };
 
     ghost next_early = { λ _ _. refl };

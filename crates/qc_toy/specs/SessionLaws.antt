@@ -589,6 +589,11 @@ toy_next_parameters s = by_side s.side where
   by_side Client = refl
   by_side Server = refl
 
+-- a client's early keys are those of its settings, whatever it read
+pub toy_early_read : (s : ToySession) (bytes : List ℕ) (keys : ToyHeaderKey × ToyPacketKey) → s.side ≡ Client → early_keys s ≡ Some keys → early_keys (session_after_read s bytes) ≡ Some keys
+unfolding early_keys session_after_read
+toy_early_read s bytes keys c e = rw c (rw c at e)
+
 pub toy_next_early : (s : ToySession) → early_keys (session_after_next s) ≡ early_keys s
 unfolding early_keys session_after_next
 toy_next_early s = refl

@@ -487,7 +487,7 @@ impl Session for ToySession {
     ghost use Rattle.std.specs.Prelude.{refl};
     ghost use Rattle.qc_base.specs.declared.side.SpaceId.TheVariants.{Handshake, Data};
     ghost use Rattle.qc_toy.specs.Start.{fresh_changes, fresh_hello, fresh_no_keys, fresh_whole, fresh_alone, fresh_early};
-    ghost use Rattle.qc_toy.specs.SessionLaws.{toy_fresh_sound, toy_sound_read, toy_sound_write, toy_sound_next, toy_falls, toy_idle, toy_unwritten_most, toy_unwritten_write, toy_unwritten_read, toy_unwritten_next, toy_left_next, toy_changes_most, toy_changes_write, toy_changes_read, toy_changes_next, toy_over_late, toy_over_read, toy_over_write, toy_over_next, toy_over_early, toy_ready_once, toy_ready_then, toy_ready_read, toy_ready_write, toy_ready_next, toy_refusal, toy_unreadable, toy_allowed, toy_server_knows, toy_write_parameters, toy_write_early, toy_next_parameters, toy_next_early, toy_next_writes, toy_next_write_keys, toy_side_read, toy_side_write, toy_side_next, toy_initial_read, toy_initial_write, toy_initial_next, toy_given_keys, toy_space_read, toy_space_write, toy_space_next, toy_epochs_read, toy_epochs_write, toy_epochs_next, toy_given_next, toy_next_epoch, toy_epoch_read, toy_epoch_write, toy_initial_fits, toy_pair_client_read, toy_pair_client_write, toy_pair_client_next, toy_pair_server_read, toy_pair_server_write, toy_pair_server_next, toy_initial_mates, toy_space_mates, toy_early_mates, toy_epoch_mates, toy_epochs_apart, toy_same_exports};
+    ghost use Rattle.qc_toy.specs.SessionLaws.{toy_fresh_sound, toy_sound_read, toy_sound_write, toy_sound_next, toy_falls, toy_idle, toy_unwritten_most, toy_unwritten_write, toy_unwritten_read, toy_unwritten_next, toy_left_next, toy_changes_most, toy_changes_write, toy_changes_read, toy_changes_next, toy_over_late, toy_over_read, toy_over_write, toy_over_next, toy_over_early, toy_ready_once, toy_ready_then, toy_ready_read, toy_ready_write, toy_ready_next, toy_refusal, toy_unreadable, toy_allowed, toy_server_knows, toy_write_parameters, toy_write_early, toy_early_read, toy_next_parameters, toy_next_early, toy_next_writes, toy_next_write_keys, toy_side_read, toy_side_write, toy_side_next, toy_initial_read, toy_initial_write, toy_initial_next, toy_given_keys, toy_space_read, toy_space_write, toy_space_next, toy_epochs_read, toy_epochs_write, toy_epochs_next, toy_given_next, toy_next_epoch, toy_epoch_read, toy_epoch_write, toy_initial_fits, toy_pair_client_read, toy_pair_client_write, toy_pair_client_next, toy_pair_server_read, toy_pair_server_write, toy_pair_server_next, toy_initial_mates, toy_space_mates, toy_early_mates, toy_epoch_mates, toy_epochs_apart, toy_same_exports};
 
     ghost fresh_sound = { toy_fresh_sound };
 
@@ -564,6 +564,8 @@ impl Session for ToySession {
     ghost write_parameters = { λ s _. toy_write_parameters s };
 
     ghost write_early = { λ s _. toy_write_early s };
+
+    ghost early_read = { λ s bytes keys _. toy_early_read s bytes keys };
 
     ghost next_parameters = { λ s _. toy_next_parameters s };
 

@@ -107,7 +107,7 @@ pub struct ToyAeadKey {
 
 impl AeadKey for ToyAeadKey {
     ghost use Rattle.qc_toy.specs.Cipher.{toy_seal, toy_opening};
-    ghost use Rattle.qc_toy.specs.CipherLaws.{opens_sealed as toy_opens_sealed, opens_only_sealed};
+    ghost use Rattle.qc_toy.specs.CipherLaws.{length-toy_seal, opens_sealed as toy_opens_sealed, opens_only_sealed};
 
     ghost sealed = { λ key. toy_seal key.bytes 0 };
 
@@ -129,6 +129,8 @@ impl AeadKey for ToyAeadKey {
         }
         Ok(body.len() - 16)
     }
+
+    ghost sealed_length = { λ key. length-toy_seal key.bytes 0 };
 
     ghost opens_sealed = { λ key. toy_opens_sealed key.bytes 0 };
 
