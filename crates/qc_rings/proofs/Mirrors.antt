@@ -15,12 +15,11 @@ use Rattle.qc_rings.specs.declared.pair.RingEvent.TheVariants.{Seal, Update, Del
 use Rattle.qc_rings.specs.declared.pair.PairOutcome.TheVariants.{Sealed, Updated, Opened, Old, Discarded, Nothing}
 use Rattle.qc_rings.specs.Ring.{Ring, Kept, Dropped, Open, Below, is_dropped, serves, same_phase, phase_of, which_named, may_update, has_floor, with_floor, new_epoch, after_opened, after_sealed, after_acked, after_update, after_discard, is_from}
 use Rattle.qc_rings.specs.Keyed.{key_of, keyed_in, keyed_opened, keyed_sealed, keyed_acked, keyed_updated, keyed_discarded}
-use Rattle.qc_rings.specs.TwoRings.{Packet, End, World, first_end, first_world, end_seals, end_sealed, end_updated, end_discarded, end_given, end_opened, after_all_acked, is_of_epoch, opens, which_of, packet_at, happens, outcome, delivered, log_of}
+use Rattle.qc_rings.specs.TwoRings.{Packet, End, World, first_end, first_world, end_seals, end_sealed, end_updated, end_discarded, end_given, end_noted, end_opened, after_all_acked, is_of_epoch, opens, which_of, packet_at, happens, outcome, delivered, log_of}
 use Rattle.qc_rings.specs.InStep.{FitsEnds}
 use Rattle.qc_rings.specs.Party.{Party}
 use Rattle.qc_rings.specs.Parties.{first_party, next_packet, party_sealed, party_updated, updated_outcome, party_discarded, discarded_outcome, opens_with, opened_by, names, party_opens, fresh_keys, keyed_acked_by, greatest_with, party_opened, party_given, given_outcome, Parties, first_parties, bytes_at, parties_after, parties_outcome, parties_log}
 use Rattle.qc_rings.proofs.Greatest.{greatest, greatest-push, acked_by, acked_by_greatest}
-use Rattle.qc_rings.proofs.Moves.{noted}
 use Rattle.qc_rings.proofs.Steps.{all_at}
 use Rattle.qc_rings.proofs.StepLaws.{one_more}
 use Rattle.qc_rings.proofs.Runs.{InStepWithin, happens_in_step, first_within}
@@ -227,7 +226,7 @@ abbrev party_noted : {P : Type 0} → (ℕ → KeyPair P) → Party P → Which 
 party_noted keys t w q = record t { keys = keyed_opened t.keys w q.number (fresh_keys keys t.keys.ring.epoch w); greatest = Some (greatest_with t.greatest q.number) }
 
 mirrors_noted : {P : Type 0} (seal : P → Sealing) (from keys : ℕ → KeyPair P) (t : Party P) (e : End) (q : SealedPacket) (p : Packet) (w : Which) → plus e.ring.epoch 1 ≡ e.ring.epoch + 1
-    → Mirrors seal keys t e → IsImage seal from q p → Mirrors seal keys (party_noted keys t w q) (noted e w p.number)
+    → Mirrors seal keys t e → IsImage seal from q p → Mirrors seal keys (party_noted keys t w q) (end_noted e w p.number)
 unfolding keyed_opened after_opened
 mirrors_noted {P} seal from keys t e q p Current small h i =
     record {
@@ -268,12 +267,12 @@ mirrors_opened : {P : Type 0} (seal : P → Sealing) (from keys : ℕ → KeyPai
     → Mirrors seal keys t e → IsImage seal from q p → Mirrors seal keys (party_opened keys t w q) (end_opened e w p)
 unfolding party_opened end_opened
 mirrors_opened {P} seal from keys t e q p w small h i =
-    let one : Mirrors seal keys (party_noted keys t w q) (noted e w p.number) = mirrors_noted seal from keys t e q p w small h i in
-    let two : Mirrors seal keys (record (party_noted keys t w q) { keys = keyed_acked_by (party_noted keys t w q).keys q.greatest }) (record (noted e w p.number) { ring = acked_by (after_opened e.ring w p.number) q.greatest }) =
-    mirrors_acked seal keys (party_noted keys t w q) (noted e w p.number) q.greatest one in
+    let one : Mirrors seal keys (party_noted keys t w q) (end_noted e w p.number) = mirrors_noted seal from keys t e q p w small h i in
+    let two : Mirrors seal keys (record (party_noted keys t w q) { keys = keyed_acked_by (party_noted keys t w q).keys q.greatest }) (record (end_noted e w p.number) { ring = acked_by (after_opened e.ring w p.number) q.greatest }) =
+    mirrors_acked seal keys (party_noted keys t w q) (end_noted e w p.number) q.greatest one in
     let same : acked_by (after_opened e.ring w p.number) q.greatest ≡ after_all_acked (after_opened e.ring w p.number) p.carried =
     ap (λ (o : Option ℕ). acked_by (after_opened e.ring w p.number) o) i.carried ∙ sym (acked_by_greatest (after_opened e.ring w p.number) p.carried) in
-    subst (λ (r : Ring). Mirrors seal keys (party_opened keys t w q) (record (noted e w p.number) { ring = r })) same two
+    subst (λ (r : Ring). Mirrors seal keys (party_opened keys t w q) (record (end_noted e w p.number) { ring = r })) same two
 
 -- a packet that reaches an end
 mirrors_given_one : {P : Type 0} (seal : P → Sealing) (opening : P → Opening) (from to : ℕ → KeyPair P) (t : Party P) (e : End) (q : SealedPacket) (p : Packet) → AreLawful seal opening from to

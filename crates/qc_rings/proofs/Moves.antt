@@ -1,13 +1,12 @@
 -- Each move keeps two ends in step: an update, a discard, a sealing, a packet opened by current, previous
 -- or next keys, and an acknowledgement.
 use Rattle.std.specs.Prelude.{Bool, true, false, max, Option, Some, None}
-use Rattle.std.proofs.Common.{◌≡◌, ℕ, ◌+◌, ◌<◌, ◌≤◌, List, [], ◌∷◌, ◌++◌, refl, arith, All}
+use Rattle.std.proofs.Common.{◌≡◌, ℕ, ◌+◌, ◌<◌, ◌≤◌, List, [], ◌∷◌, ◌++◌, refl, sym, subst, arith, All}
 use Rattle.std.proofs.lemmas.List.Elements.{All-weaker, All-push}
 use Rattle.qc_base.specs.Time.{plus}
-use Rattle.qc_rings.specs.declared.which.Which.{Which}
 use Rattle.qc_rings.specs.declared.which.Which.TheVariants.{Current, Previous, Next}
 use Rattle.qc_rings.specs.Ring.{Kept, Dropped, Open, Below, with_floor, first_with, after_opened, after_sealed, after_update}
-use Rattle.qc_rings.specs.TwoRings.{Packet, End, bound, end_seals}
+use Rattle.qc_rings.specs.TwoRings.{Packet, End, bound, end_seals, end_noted, end_risen, end_heard}
 use Rattle.qc_rings.specs.InStep.{start_of, start, floor_bound, Fits, FitsEnds, Keeps, AreInStep}
 use Rattle.qc_rings.specs.Ring.{is_open}
 
@@ -107,9 +106,6 @@ seal a b n ns h c k =
     }
 
 -- a packet is opened by these keys
-abbrev pub noted : End → Which → ℕ → End
-noted a which n = record a { ring = after_opened a.ring which n; opened = a.opened ++ n ∷ [] }
-
 bound-push : (ns : List ℕ) (n : ℕ) → bound (ns ++ n ∷ []) ≡ max (bound ns) (n + 1)
 bound-push [] n = omega arith
 bound-push (m ∷ ns) n = omega (arith, bound-push ns n)
@@ -128,7 +124,7 @@ with_floor-bound (Below f) n = omega arith
 current_sent : (e n s : ℕ) (k l : Kept) (e' n' s' : ℕ) (p : Packet) → is_open l ≡ false → Fits e n s k e' n' s' p → Fits e n s l e' n' s' p
 current_sent e n s k l e' n' s' p o f = grind arith
 
-current_one : (a b : End) (p : Packet) → FitsEnds b a p → p.epoch ≡ a.ring.epoch → Keeps a b → Keeps b a → Keeps (noted a Current p.number) b
+current_one : (a b : End) (p : Packet) → FitsEnds b a p → p.epoch ≡ a.ring.epoch → Keeps a b → Keeps b a → Keeps (end_noted a Current p.number) b
 unfolding after_opened
 current_one a b p f e h i =
     let o = with_floor-closed a.ring.kept p.number in
@@ -136,31 +132,31 @@ current_one a b p f e h i =
     let c = bound-push a.opened p.number in
     grind arith
 
-current_two : (a b : End) (p : Packet) → FitsEnds b a p → p.epoch ≡ a.ring.epoch → Keeps a b → Keeps b a → Keeps b (noted a Current p.number)
+current_two : (a b : End) (p : Packet) → FitsEnds b a p → p.epoch ≡ a.ring.epoch → Keeps a b → Keeps b a → Keeps b (end_noted a Current p.number)
 unfolding after_opened
 current_two a b p f e h i = let o = with_floor-closed a.ring.kept p.number in grind arith
 
-pub current : (a b : End) (p : Packet) → FitsEnds b a p → p.epoch ≡ a.ring.epoch → AreInStep a b → AreInStep (noted a Current p.number) b
+pub current : (a b : End) (p : Packet) → FitsEnds b a p → p.epoch ≡ a.ring.epoch → AreInStep a b → AreInStep (end_noted a Current p.number) b
 unfolding after_opened
 current a b p f e h =
     let o = with_floor-closed a.ring.kept p.number in
     record {
-      sent_one = All-weaker (FitsEnds a b) (FitsEnds (noted a Current p.number) b) (λ q g. current_sent a.ring.epoch a.next (start a) a.ring.kept (with_floor a.ring.kept p.number) b.ring.epoch b.next (start b) q o g) a.sent h.sent_one;
+      sent_one = All-weaker (FitsEnds a b) (FitsEnds (end_noted a Current p.number) b) (λ q g. current_sent a.ring.epoch a.next (start a) a.ring.kept (with_floor a.ring.kept p.number) b.ring.epoch b.next (start b) q o g) a.sent h.sent_one;
       sent_two = h.sent_two;
       one = current_one a b p f e h.one h.two;
       two = current_two a b p f e h.one h.two;
     }
 
 -- by the previous ones
-previous_one : (a b : End) (p : Packet) → FitsEnds b a p → p.epoch + 1 ≡ a.ring.epoch → Keeps a b → Keeps b a → Keeps (noted a Previous p.number) b
+previous_one : (a b : End) (p : Packet) → FitsEnds b a p → p.epoch + 1 ≡ a.ring.epoch → Keeps a b → Keeps b a → Keeps (end_noted a Previous p.number) b
 unfolding after_opened
 previous_one a b p f e h i = let c = bound-push a.opened p.number in grind arith
 
-previous_two : (a b : End) (p : Packet) → FitsEnds b a p → p.epoch + 1 ≡ a.ring.epoch → Keeps a b → Keeps b a → Keeps b (noted a Previous p.number)
+previous_two : (a b : End) (p : Packet) → FitsEnds b a p → p.epoch + 1 ≡ a.ring.epoch → Keeps a b → Keeps b a → Keeps b (end_noted a Previous p.number)
 unfolding after_opened
 previous_two a b p f e h i = grind arith
 
-pub previous : (a b : End) (p : Packet) → FitsEnds b a p → p.epoch + 1 ≡ a.ring.epoch → AreInStep a b → AreInStep (noted a Previous p.number) b
+pub previous : (a b : End) (p : Packet) → FitsEnds b a p → p.epoch + 1 ≡ a.ring.epoch → AreInStep a b → AreInStep (end_noted a Previous p.number) b
 unfolding after_opened
 previous a b p f e h =
     record { sent_one = h.sent_one; sent_two = h.sent_two; one = previous_one a b p f e h.one h.two; two = previous_two a b p f e h.one h.two }
@@ -169,21 +165,21 @@ previous a b p f e h =
 next_sent : (e n s : ℕ) (k l : Kept) (e' n' s' d : ℕ) (p : Packet) → d ≡ e + 1 → is_open l ≡ false → e' ≡ e + 1 → Fits e n s k e' n' s' p → Fits d n n l e' n' s' p
 next_sent e n s k l e' n' s' d p r o g f = grind arith
 
-next_one : (a b : End) (p : Packet) → plus a.ring.epoch 1 ≡ a.ring.epoch + 1 → FitsEnds b a p → p.epoch ≡ a.ring.epoch + 1 → Keeps a b → Keeps b a → Keeps (noted a Next p.number) b
+next_one : (a b : End) (p : Packet) → plus a.ring.epoch 1 ≡ a.ring.epoch + 1 → FitsEnds b a p → p.epoch ≡ a.ring.epoch + 1 → Keeps a b → Keeps b a → Keeps (end_noted a Next p.number) b
 unfolding after_opened
 next_one a b p r f e h i = let c = bound-push a.opened p.number in grind arith
 
-next_two : (a b : End) (p : Packet) → plus a.ring.epoch 1 ≡ a.ring.epoch + 1 → FitsEnds b a p → p.epoch ≡ a.ring.epoch + 1 → Keeps a b → Keeps b a → Keeps b (noted a Next p.number)
+next_two : (a b : End) (p : Packet) → plus a.ring.epoch 1 ≡ a.ring.epoch + 1 → FitsEnds b a p → p.epoch ≡ a.ring.epoch + 1 → Keeps a b → Keeps b a → Keeps b (end_noted a Next p.number)
 unfolding after_opened
 next_two a b p r f e h i = grind arith
 
-pub next : (a b : End) (p : Packet) → plus a.ring.epoch 1 ≡ a.ring.epoch + 1 → FitsEnds b a p → p.epoch ≡ a.ring.epoch + 1 → AreInStep a b → AreInStep (noted a Next p.number) b
+pub next : (a b : End) (p : Packet) → plus a.ring.epoch 1 ≡ a.ring.epoch + 1 → FitsEnds b a p → p.epoch ≡ a.ring.epoch + 1 → AreInStep a b → AreInStep (end_noted a Next p.number) b
 unfolding after_opened
 next a b p r f e h =
     let same : b.ring.epoch ≡ a.ring.epoch + 1 = omega (arith, f.past, e, h.two.near) in
     record {
-      sent_one = All-weaker (FitsEnds a b) (FitsEnds (noted a Next p.number) b) (λ q g. next_sent a.ring.epoch a.next (start a) a.ring.kept (Below p.number) b.ring.epoch b.next (start b) (plus a.ring.epoch 1) q r refl same g) a.sent h.sent_one;
-      sent_two = All-weaker (FitsEnds b a) (FitsEnds b (noted a Next p.number)) (λ q g. other_rose b.ring.epoch b.next (start b) b.ring.kept a.ring.epoch a.next (start a) (plus a.ring.epoch 1) q r g) b.sent h.sent_two;
+      sent_one = All-weaker (FitsEnds a b) (FitsEnds (end_noted a Next p.number) b) (λ q g. next_sent a.ring.epoch a.next (start a) a.ring.kept (Below p.number) b.ring.epoch b.next (start b) (plus a.ring.epoch 1) q r refl same g) a.sent h.sent_one;
+      sent_two = All-weaker (FitsEnds b a) (FitsEnds b (end_noted a Next p.number)) (λ q g. other_rose b.ring.epoch b.next (start b) b.ring.kept a.ring.epoch a.next (start a) (plus a.ring.epoch 1) q r g) b.sent h.sent_two;
       one = next_one a b p r f e h.one h.two;
       two = next_two a b p r f e h.one h.two;
     }
@@ -201,3 +197,43 @@ flag_two a b t i = grind arith
 pub flag : (a b : End) (p : Packet) (t : Bool) → FitsEnds b a p → (a.ring.acked ≡ false → t ≡ true → start a < bound p.carried) → AreInStep a b → AreInStep (flagged a t) b
 flag a b p t f w h =
     record { sent_one = h.sent_one; sent_two = h.sent_two; one = flag_one a b p t f w h.one h.two; two = flag_two a b t h.two }
+
+-- Its numbers go on from a greater one, while nothing was sealed in its epoch.
+rise_sent : (e n s : ℕ) (k : Kept) (e' n' s' m : ℕ) (p : Packet) → n ≤ m → s ≡ n → Fits e n s k e' n' s' p → Fits e m m k e' n' s' p
+rise_sent e n s k e' n' s' m p h g f = grind arith
+
+other_risen : (e n s : ℕ) (k : Kept) (e' n' s' m : ℕ) (p : Packet) → n' ≤ m → s' ≡ n' → Fits e n s k e' n' s' p → Fits e n s k e' m m p
+other_risen e n s k e' n' s' m p h g f = grind arith
+
+start_unused : (a : End) → a.ring.first ≡ None → start a ≡ a.next
+start_unused a h = rw h refl
+
+start_risen : (a : End) (n : ℕ) → a.ring.first ≡ None → start (end_risen a n) ≡ n
+start_risen a n h = rw h refl
+
+rise_one : (a b : End) (n : ℕ) → a.next ≤ n → start a ≡ a.next → start (end_risen a n) ≡ n → Keeps a b → Keeps b a → Keeps (end_risen a n) b
+rise_one a b n h s t k l = grind arith
+
+rise_two : (a b : End) (n : ℕ) → a.next ≤ n → start a ≡ a.next → start (end_risen a n) ≡ n → Keeps a b → Keeps b a → Keeps b (end_risen a n)
+rise_two a b n h s t k l = grind arith
+
+pub rise : (a b : End) (n : ℕ) → a.next ≤ n → a.ring.first ≡ None → AreInStep a b → AreInStep (end_risen a n) b
+rise a b n h none k =
+    let s = start_unused a none in
+    let t = start_risen a n none in
+    record {
+      sent_one = All-weaker (FitsEnds a b) (FitsEnds (end_risen a n) b) (λ p f. subst (λ (x : ℕ). Fits a.ring.epoch n x a.ring.kept b.ring.epoch b.next (start b) p) (sym t) (rise_sent a.ring.epoch a.next (start a) a.ring.kept b.ring.epoch b.next (start b) n p h s f)) a.sent k.sent_one;
+      sent_two = All-weaker (FitsEnds b a) (FitsEnds b (end_risen a n)) (λ p f. subst (λ (x : ℕ). Fits b.ring.epoch b.next (start b) b.ring.kept a.ring.epoch n x p) (sym t) (other_risen b.ring.epoch b.next (start b) b.ring.kept a.ring.epoch a.next (start a) n p h s f)) b.sent k.sent_two;
+      one = rise_one a b n h s t k.one k.two;
+      two = rise_two a b n h s t k.one k.two;
+    }
+
+-- It opened a packet from before the other end's epoch, by keys of no ring.
+hear_one : (a b : End) (n : ℕ) → n < start b → Keeps a b → Keeps b a → Keeps (end_heard a n) b
+hear_one a b n h k l = let c = bound-push a.opened n in grind arith
+
+hear_two : (a b : End) (n : ℕ) → Keeps b a → Keeps b (end_heard a n)
+hear_two a b n l = grind arith
+
+pub hear : (a b : End) (n : ℕ) → n < start b → AreInStep a b → AreInStep (end_heard a n) b
+hear a b n h k = record { sent_one = k.sent_one; sent_two = k.sent_two; one = hear_one a b n h k.one k.two; two = hear_two a b n k.two }

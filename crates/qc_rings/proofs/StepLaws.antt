@@ -2,9 +2,9 @@
 use Rattle.std.proofs.Common.{◌≡◌, ℕ, ◌+◌, ◌<◌, ◌^◌, arith}
 use Rattle.qc_base.specs.Time.{plus}
 use Rattle.qc_rings.specs.InStep.{FitsEnds}
-use Rattle.qc_rings.specs.PairLaws.{FirstInStep, InStepTurned, SealKeepsStep, UpdateKeepsStep, DeliverKeepsStep, DiscardKeepsStep, StepIsNear, StepUpdatesWell, StepOpensCurrent, StepFailsOld}
-use Rattle.qc_rings.proofs.Moves.{seal}
-use Rattle.qc_rings.proofs.Steps.{all_at, first_in_step, turned, end_updated_in_step, end_given_in_step, end_discarded_in_step, update_is_good, current_opens, unopened_is_old}
+use Rattle.qc_rings.specs.PairLaws.{FirstInStep, InStepTurned, SealKeepsStep, UpdateKeepsStep, DeliverKeepsStep, DiscardKeepsStep, OpenKeepsStep, AckKeepsStep, RiseKeepsStep, HearKeepsStep, StepIsNear, StepUpdatesWell, StepOpensCurrent, StepFailsOld}
+use Rattle.qc_rings.proofs.Moves.{seal, rise, hear}
+use Rattle.qc_rings.proofs.Steps.{all_at, first_in_step, turned, end_updated_in_step, end_given_in_step, end_discarded_in_step, opened_in_step, acked_in_step, update_is_good, current_opens, unopened_is_old}
 
 pub one_more : (e : ℕ) → e + 1 < 2 ^ 64 → plus e 1 ≡ e + 1
 one_more e h = omega arith
@@ -26,6 +26,18 @@ deliver_law a b index small h = end_given_in_step a b index (one_more a.ring.epo
 
 pub discard_law : DiscardKeepsStep
 discard_law = end_discarded_in_step
+
+pub open_law : OpenKeepsStep
+open_law a b which index p small at e h = opened_in_step a b which p (one_more a.ring.epoch small) e (all_at (FitsEnds b a) b.sent index p h.sent_two at) h
+
+pub ack_law : AckKeepsStep
+ack_law a b index p number at within h = acked_in_step a b p number within (all_at (FitsEnds b a) b.sent index p h.sent_two at) h
+
+pub rise_law : RiseKeepsStep
+rise_law = rise
+
+pub hear_law : HearKeepsStep
+hear_law = hear
 
 pub near_law : StepIsNear
 near_law a b h = h.one.near

@@ -7,10 +7,10 @@ use Rattle.qc_base.specs.Time.{plus}
 use Rattle.qc_rings.specs.declared.which.Which.{Which}
 use Rattle.qc_rings.specs.declared.which.Which.TheVariants.{Current, Previous, Next}
 use Rattle.qc_rings.specs.Ring.{Ring, Kept, Dropped, Open, Below, is_from, is_dropped, may_update, has_floor, after_acked, after_discard, phase_of, same_phase, serves, which_named}
-use Rattle.qc_rings.specs.TwoRings.{Packet, End, bound, first_end, end_updated, end_discarded, end_given, end_opened, after_all_acked, is_of_epoch, which_of, opens, IsGoodUpdate}
+use Rattle.qc_rings.specs.TwoRings.{Packet, End, bound, first_end, end_updated, end_discarded, end_given, end_noted, end_opened, end_acked, after_all_acked, is_of_epoch, which_of, opens, IsGoodUpdate}
 use Rattle.qc_rings.specs.InStep.{start_of, floor_bound, FitsEnds, Keeps, AreInStep}
 use Rattle.qc_rings.specs.Ring.{is_open}
-use Rattle.qc_rings.proofs.Moves.{updated, update, drop, noted, current, previous, next, flagged, flag}
+use Rattle.qc_rings.proofs.Moves.{updated, update, drop, current, previous, next, flagged, flag}
 
 -- an element of a list of which a fact holds
 pub all_at : {X : Type 0} (P : X → Type 0) (xs : List X) (k : ℕ) (x : X) → All P xs → slice_get xs k ≡ Some x → P x
@@ -32,7 +32,7 @@ first_in_step =
     keeps = grind arith
 
 -- an update
-and_true : (b c : Bool) → b && c ≡ true → (b ≡ true) × (c ≡ true)
+pub and_true : (b c : Bool) → b && c ≡ true → (b ≡ true) × (c ≡ true)
 and_true true true e = (refl, refl)
 and_true true false e = cc
 and_true false c e = cc
@@ -95,8 +95,15 @@ all_acked : (r : Ring) (m : ℕ) (ns : List ℕ) → IsNoted r (after_all_acked 
 all_acked r m [] = record { mark = refl; why = λ x y. cc }
 all_acked r m (n ∷ ns) = noted_more r (after_acked r n) (after_all_acked (after_acked r n) ns) m (n + 1) (bound ns) (one_acked r m n) (all_acked (after_acked r n) m ns)
 
+-- one number of those that a packet carries
+pub acked_in_step : (a b : End) (p : Packet) (n : ℕ) → n < bound p.carried → FitsEnds b a p → AreInStep a b → AreInStep (end_acked a n) b
+acked_in_step a b p n h f i =
+    let m : IsNoted a.ring (after_acked a.ring n) a.next (n + 1) = one_acked a.ring a.next n in
+    let j : AreInStep (flagged a (after_acked a.ring n).acked) b = flag a b p (after_acked a.ring n).acked f (λ x y. omega (arith, m.why x y)) i in
+    subst (λ (x : Ring). AreInStep (record a { ring = x }) b) (sym m.mark) j
+
 -- a packet that an end opens
-opened_in_step : (a b : End) (which : Which) (p : Packet) → plus a.ring.epoch 1 ≡ a.ring.epoch + 1 → is_of_epoch a.ring which p.epoch ≡ true → FitsEnds b a p → AreInStep a b → AreInStep (noted a which p.number) b
+pub opened_in_step : (a b : End) (which : Which) (p : Packet) → plus a.ring.epoch 1 ≡ a.ring.epoch + 1 → is_of_epoch a.ring which p.epoch ≡ true → FitsEnds b a p → AreInStep a b → AreInStep (end_noted a which p.number) b
 opened_in_step a b Current p r e f h = current a b p f (grind (arith, nat_tests)) h
 opened_in_step a b Previous p r e f h = previous a b p f (grind (arith, nat_tests)) h
 opened_in_step a b Next p r e f h = next a b p r f (grind (arith, nat_tests)) h
@@ -104,7 +111,7 @@ opened_in_step a b Next p r e f h = next a b p r f (grind (arith, nat_tests)) h
 pub end_opened_in_step : (a b : End) (which : Which) (k : ℕ) (p : Packet) → plus a.ring.epoch 1 ≡ a.ring.epoch + 1 → is_of_epoch a.ring which p.epoch ≡ true → slice_get b.sent k ≡ Some p → AreInStep a b → AreInStep (end_opened a which p) b
 unfolding end_opened
 end_opened_in_step a b which k p r e at h =
-    let c = noted a which p.number in
+    let c = end_noted a which p.number in
     let i : AreInStep c b = opened_in_step a b which p r e (all_at (FitsEnds b a) b.sent k p h.sent_two at) h in
     let n : IsNoted c.ring (after_all_acked c.ring p.carried) c.next (bound p.carried) = all_acked c.ring c.next p.carried in
     let j : AreInStep (flagged c (after_all_acked c.ring p.carried).acked) b = flag c b p (after_all_acked c.ring p.carried).acked (all_at (FitsEnds b c) b.sent k p i.sent_two at) n.why i in

@@ -69,3 +69,10 @@ pub record AreInStep (a b : End) : Type 0 where
   pub sent_two : All (FitsEnds b a) b.sent
   pub one : Keeps a b
   pub two : Keeps b a
+
+-- How an end counts: its epoch is no greater than the number at which it begins, and where a packet of the epoch was acknowledged,
+-- one was sealed in it. So each epoch but the first begins behind a packet of the one before, and epochs stay below the
+-- greatest packet number.
+pub record Counts (e : End) : Type 0 where
+  pub epochs : e.ring.epoch ≤ start e
+  pub used : e.ring.acked ≡ true → start e < e.next

@@ -1,5 +1,5 @@
 -- A key ring with its keys: each call's effect.
-use Rattle.std.specs.Prelude.{ℕ, Option, Some, None, if◌then◌else◌}
+use Rattle.std.specs.Prelude.{ℕ, ◌+◌, nat_eq, Option, Some, None, if◌then◌else◌}
 use Rattle.qc_base.specs.Time.{plus}
 use Rattle.qc_crypto.specs.declared.keys.KeyPair.{KeyPair}
 use Rattle.qc_rings.specs.declared.previous.PreviousKeys.{PreviousKeys}
@@ -44,6 +44,13 @@ abbrev pub key_of : {P : Type 0} → Keyed P → Which → Option (KeyPair P)
 key_of k Previous = k.previous
 key_of k Current = Some k.current
 key_of k Next = Some k.next
+
+-- the keys of this epoch, where the ring has them
+unfoldable pub key_of_epoch : {P : Type 0} → Keyed P → ℕ → Option (KeyPair P)
+key_of_epoch k epoch =
+    if nat_eq epoch k.ring.epoch then Some k.current
+    else (if nat_eq epoch (k.ring.epoch + 1) then Some k.next
+    else (if nat_eq (epoch + 1) k.ring.epoch then k.previous else None))
 
 -- the ring in a new epoch: what was next is current, and what was current is kept
 abbrev pub keyed_in : {P : Type 0} → Ring → Keyed P → KeyPair P → Keyed P

@@ -1,8 +1,10 @@
 -- What is proved of two ends that are in step, whatever happens to them.
-use Rattle.std.specs.Prelude.{◌≡◌, ℕ, ◌+◌, ◌<◌, ◌≤◌, ◌^◌, true, false, List, Some, slice_get}
+use Rattle.std.specs.Prelude.{◌≡◌, ℕ, ◌+◌, ◌<◌, ◌≤◌, ◌^◌, true, false, List, Some, None, slice_get}
+use Rattle.qc_rings.specs.declared.which.Which.{Which}
 use Rattle.qc_rings.specs.declared.which.Which.TheVariants.{Next}
-use Rattle.qc_rings.specs.TwoRings.{Packet, End, bound, first_end, end_seals, end_updated, end_discarded, end_given, which_of, opens, IsGoodUpdate}
-use Rattle.qc_rings.specs.InStep.{AreInStep}
+use Rattle.qc_rings.specs.Keyed.{Keyed, key_of, key_of_epoch}
+use Rattle.qc_rings.specs.TwoRings.{Packet, End, bound, first_end, end_seals, end_updated, end_discarded, end_given, end_noted, end_acked, end_risen, end_heard, is_of_epoch, which_of, opens, IsGoodUpdate}
+use Rattle.qc_rings.specs.InStep.{AreInStep, Counts, start}
 
 -- two ends that begin are in step
 abbrev pub FirstInStep : Type 0
@@ -51,3 +53,60 @@ StepOpensCurrent =
 abbrev pub StepFailsOld : Type 0
 StepFailsOld =
     (a b : End) (index : ℕ) (p : Packet) → slice_get b.sent index ≡ Some p → opens a p ≡ false → AreInStep a b → p.epoch < b.ring.epoch
+
+-- They stay so when an end opens a packet that the other end ever sealed, by keys of the packet's epoch, whichever keys it names.
+abbrev pub OpenKeepsStep : Type 0
+OpenKeepsStep =
+    (a b : End) (which : Which) (index : ℕ) (p : Packet) → a.ring.epoch + 1 < 2 ^ 64 → slice_get b.sent index ≡ Some p
+    → is_of_epoch a.ring which p.epoch ≡ true → AreInStep a b → AreInStep (end_noted a which p.number) b
+
+-- They stay so when a number is acknowledged that lies below the bound of what some packet of the other end's carries.
+abbrev pub AckKeepsStep : Type 0
+AckKeepsStep =
+    (a b : End) (index : ℕ) (p : Packet) (number : ℕ) → slice_get b.sent index ≡ Some p → number < bound p.carried → AreInStep a b
+    → AreInStep (end_acked a number) b
+
+-- They stay so when an end that sealed nothing in its epoch passes over numbers.
+abbrev pub RiseKeepsStep : Type 0
+RiseKeepsStep = (a b : End) (number : ℕ) → a.next ≤ number → a.ring.first ≡ None → AreInStep a b → AreInStep (end_risen a number) b
+
+-- They stay so when an end opens a packet, by keys of no epoch, whose number is from before the other end's epoch.
+abbrev pub HearKeepsStep : Type 0
+HearKeepsStep = (a b : End) (number : ℕ) → number < start b → AreInStep a b → AreInStep (end_heard a number) b
+
+-- An end that begins counts so that its epochs are no greater than its numbers, and goes on to with each move of its own.
+abbrev pub FirstCounts : Type 0
+FirstCounts = Counts first_end
+
+abbrev pub SealKeepsCounts : Type 0
+SealKeepsCounts = (e : End) (number : ℕ) (carried : List ℕ) → e.next ≤ number → Counts e → Counts (end_seals e number carried)
+
+abbrev pub UpdateKeepsCounts : Type 0
+UpdateKeepsCounts = (e : End) → e.ring.epoch + 1 < 2 ^ 64 → Counts e → Counts (end_updated e)
+
+abbrev pub OpenKeepsCounts : Type 0
+OpenKeepsCounts =
+    (a b : End) (which : Which) (index : ℕ) (p : Packet) → a.ring.epoch + 1 < 2 ^ 64 → slice_get b.sent index ≡ Some p
+    → is_of_epoch a.ring which p.epoch ≡ true → AreInStep a b → Counts a → Counts (end_noted a which p.number)
+
+abbrev pub AckKeepsCounts : Type 0
+AckKeepsCounts =
+    (a b : End) (index : ℕ) (p : Packet) (number : ℕ) → slice_get b.sent index ≡ Some p → number < bound p.carried → AreInStep a b
+    → Counts a → Counts (end_acked a number)
+
+abbrev pub DiscardKeepsCounts : Type 0
+DiscardKeepsCounts = (e : End) → Counts e → Counts (end_discarded e)
+
+abbrev pub RiseKeepsCounts : Type 0
+RiseKeepsCounts = (e : End) (number : ℕ) → e.next ≤ number → e.ring.first ≡ None → Counts e → Counts (end_risen e number)
+
+abbrev pub HearKeepsCounts : Type 0
+HearKeepsCounts = (e : End) (number : ℕ) → Counts e → Counts (end_heard e number)
+
+-- A packet of its sealer's current epoch has a number that is no less than the epoch: one that begins an update, above 0.
+abbrev pub NumbersReachEpochs : Type 0
+NumbersReachEpochs = (a b : End) (index : ℕ) (p : Packet) → slice_get a.sent index ≡ Some p → p.epoch ≡ a.ring.epoch → AreInStep a b → Counts a → p.epoch ≤ p.number
+
+-- The keys that are called current, previous or next are those of their epochs.
+abbrev pub NamedIsOfEpoch : (P : Type 0) → Type 0
+NamedIsOfEpoch P = (k : Keyed P) (which : Which) (epoch : ℕ) → is_of_epoch k.ring which epoch ≡ true → key_of k which ≡ key_of_epoch k epoch

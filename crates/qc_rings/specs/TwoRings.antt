@@ -97,6 +97,22 @@ abbrev pub after_all_acked : Ring → List ℕ → Ring
 after_all_acked r [] = r
 after_all_acked r (n ∷ ns) = after_all_acked (after_acked r n) ns
 
+-- an end that opened a packet of this number by these keys, and takes nothing as acknowledged yet
+abbrev pub end_noted : End → Which → ℕ → End
+end_noted e which number = record e { ring = after_opened e.ring which number; opened = e.opened ++ number ∷ [] }
+
+-- an end whose packet of this number was acknowledged
+abbrev pub end_acked : End → ℕ → End
+end_acked e number = record e { ring = after_acked e.ring number }
+
+-- an end whose next number is a greater one: 0-RTT packets have numbers of the same space, under keys of no epoch
+abbrev pub end_risen : End → ℕ → End
+end_risen e number = record e { next = number }
+
+-- an end that opened a packet of this number by keys of no epoch: a server takes 0-RTT packets
+abbrev pub end_heard : End → ℕ → End
+end_heard e number = record e { opened = e.opened ++ number ∷ [] }
+
 -- an end that opened a packet by these keys, and takes what it carries as acknowledged
 unfoldable pub end_opened : End → Which → Packet → End
 end_opened e which p =

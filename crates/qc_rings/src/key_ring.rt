@@ -2,7 +2,7 @@
 
 ghost use Rattle.std.specs.Prelude.{◌≡◌, option_copied};
 ghost use Rattle.qc_rings.specs.Ring.{which_named, may_update, has_floor, is_open, new_epoch};
-ghost use Rattle.qc_rings.specs.Keyed.{first_keyed, floor_kept, keyed_in, key_of, keyed_opened, keyed_sealed, keyed_acked, keyed_updated, keyed_discarded};
+ghost use Rattle.qc_rings.specs.Keyed.{first_keyed, floor_kept, keyed_in, key_of, key_of_epoch, keyed_opened, keyed_sealed, keyed_acked, keyed_updated, keyed_discarded};
 
 use crate::previous::PreviousKeys;
 use crate::which::Which;
@@ -87,6 +87,22 @@ impl<P: Drop> KeyRing<P> {
             },
             Which::Current => Some(&self.current),
             Which::Next => Some(&self.next),
+        }
+    }
+
+    /// The keys of this epoch; None exactly where it is none of the ring's, or there are no previous keys.
+    #[tactic(auto, unfolding(crate::specs::Keyed::key_of_epoch))]
+    pub fn key_of_epoch(&self, epoch: u64) -> Option<&KeyPair<P>>
+        ensures { option_copied result ≡ key_of_epoch self.now epoch }
+    {
+        if epoch == self.epoch {
+            Some(&self.current)
+        } else if epoch.checked_sub(1) == Some(self.epoch) {
+            Some(&self.next)
+        } else if self.epoch.checked_sub(1) == Some(epoch) {
+            self.key(Which::Previous)
+        } else {
+            None
         }
     }
 

@@ -12,6 +12,9 @@ mod which;
 
 pub use ends::{PairLog, ring_pair};
 pub use key_ring::KeyRing;
-pub use laws::{ends_in_step_agree, ends_stay_in_step};
+pub use laws::{
+    ends_in_step_agree, ends_stay_in_step, ends_stay_in_step_by_parts, epochs_stay_below_numbers,
+    keys_are_of_epochs,
+};
 pub use pair::{PairOutcome, RingEvent};
 pub use which::Which;
