@@ -11,6 +11,7 @@ use Rattle.qc_packet.specs.declared.slot.Slot.{Slot}
 use Rattle.qc_packet.specs.declared.slot.Kill.{Kill}
 use Rattle.qc_packet.specs.declared.slot.Kill.TheVariants.{KeyLimit, NumberLimit, TokenRoom}
 use Rattle.qc_packet.specs.declared.builder.PacketBuilder.{PacketBuilder}
+use Rattle.qc_packet.specs.declared.builder.PacketSizes.{PacketSizes}
 
 -- a header's destination id
 abbrev pub dst_cid_of : Header → List ℕ
@@ -63,6 +64,10 @@ kill_of slot h start capacity =
     if nat_le slot.limit slot.sealed then Some KeyLimit
     else (if nat_le 4611686018427387903 slot.number || nat_le (slot.largest_acked + 2147483648) slot.number then Some NumberLimit
     else (if is_initial h && lacks_room start h capacity then Some TokenRoom else None))
+
+-- the sizes of a packet that begins at start
+abbrev pub sizes_of : ℕ → Header → ℕ → PacketSizes
+sizes_of start h capacity = record { min_size = min_size_of start h; max_size = max_size_of start h capacity }
 
 -- what a builder knows of a packet that begins at start
 abbrev pub builder_for : SpaceId → ℕ → Header → ℕ → ℕ → ℕ → Bool → PacketBuilder

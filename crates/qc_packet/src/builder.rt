@@ -1,10 +1,10 @@
 //! Building a packet: its header, its sizes, and its sealing (RFC 9001, section 5).
 
-ghost use Rattle.std.specs.Prelude.{◌≡◌, ◌+◌, ◌-◌, ◌<◌, ◌≤◌, ◌^◌, ◌++◌, ℕ, List, Bool, [], length, replicate, nat_lt, max, OnOk, OnErr, IfOk, IfErr, IfSome, IsSome, Some, None, Err};
+ghost use Rattle.std.specs.Prelude.{◌≡◌, ◌+◌, ◌-◌, ◌<◌, ◌≤◌, ◌^◌, ◌++◌, ℕ, List, Bool, [], length, replicate, nat_lt, max, vec_capacity, OnOk, OnErr, IfOk, IfErr, IfSome, IsSome, Some, None, Err};
 ghost use Rattle.qc_base.specs.Time.{plus};
 ghost use Rattle.qc_header.specs.declared.header.Header.{Header};
 ghost use Rattle.qc_header.specs.HeaderSpelling.{header_spelling, header_number};
-ghost use Rattle.qc_packet.specs.Building.{dst_cid_of, is_initial, is_short, pn_len, min_size_of, max_size_of, lacks_room, kill_of, builder_for, IsSound, IsReady, IsOf, end_of};
+ghost use Rattle.qc_packet.specs.Building.{dst_cid_of, is_initial, is_short, pn_len, min_size_of, max_size_of, lacks_room, kill_of, sizes_of, builder_for, IsSound, IsReady, IsOf, end_of};
 ghost use Rattle.qc_base.specs.Mask.{first_byte};
 ghost use Rattle.qc_packet.specs.PacketSpelling.{len_of, header_bytes, with_flip, sealed_packet};
 ghost use Rattle.qc_base.specs.Mask.{masked};
@@ -41,6 +41,16 @@ pub struct PacketBuilder {
     start: usize,
     header_len: usize,
     pn_len: usize,
+}
+
+/// Where the payload of a packet ends in its buffer, the tag left out: at the earliest, so that padding fills it up, and at the
+/// latest.
+#[derive(Clone, Copy, Debug, PartialEq, Eq)]
+pub struct PacketSizes {
+    /// At the earliest.
+    pub min_size: usize,
+    /// At the latest.
+    pub max_size: usize,
 }
 
 /// How many bytes the destination id of a header has.
@@ -213,15 +223,16 @@ fn begin(
     })
 }
 
-/// Fills a buffer up with zeros to `end` bytes. After want of memory it is as before.
+/// Fills a buffer up with zeros to `end` bytes, for which it has room.
 #[tactic(auto, using(crate::proofs::Sealed::filled))]
-fn fill(buf: &mut Vec<u8>, end: usize) -> Result<(), AllocError>
-    requires { length buf.old.items ≤ end }
-    ensures bytes { OnOk result (buf.new.items ≡ buf.old.items ++ replicate (end - length buf.old.items) 0) }
-    ensures full { OnOk result (length buf.new.items ≡ end) }
-    ensures err { OnErr result (buf.new.items ≡ buf.old.items) }
+fn fill(buf: &mut Vec<u8>, end: usize)
+    requires longer { length buf.old.items ≤ end }
+    requires room { end ≤ vec_capacity buf.old }
+    ensures bytes { buf.new.items ≡ buf.old.items ++ replicate (end - length buf.old.items) 0 }
+    ensures full { length buf.new.items ≡ end }
+    ensures capacity { vec_capacity buf.old ≤ vec_capacity buf.new }
 {
-    buf.resize(end, 0)
+    let _ = buf.resize(end, 0);
 }
 
 /// Writes the Length field of the header that a packet begins with, where its form has one.
@@ -305,6 +316,26 @@ fn seal_behind<H: HeaderKey, P: PacketKey>(
 }
 
 impl PacketBuilder {
+    /// Why no packet with this header can be begun at `start` in a datagram that may reach `capacity`: None exactly where
+    /// [`PacketBuilder::new`] refuses it for want of memory alone. Takes no memory and writes nothing.
+    pub fn kill(slot: &Slot, header: &Header, start: usize, capacity: usize) -> Option<Kill>
+        ensures { result ≡ kill_of slot.now header.now start capacity }
+    {
+        kill(slot, header, start, capacity)
+    }
+
+    /// The sizes of a packet with this header that begins at `start` in a datagram that may reach `capacity`. Takes no memory
+    /// and writes nothing.
+    pub fn sizes(header: &Header, start: usize, capacity: usize) -> PacketSizes
+        requires { start + length (header_spelling header.now 0) < 2 ^ 63 }
+        ensures { result ≡ sizes_of start header.now capacity }
+    {
+        PacketSizes {
+            min_size: min_size(start, header),
+            max_size: max_size(start, header, capacity),
+        }
+    }
+
     /// Begins a packet at the end of a buffer: writes its header there. A datagram may fill the buffer up to
     /// `capacity`, and begins at `datagram_start`.
     ///
@@ -377,7 +408,32 @@ impl PacketBuilder {
     {
         let len = buf.len();
         let end = len.max(self.min_size) + TAG_LEN;
-        fill(buf, end)?;
+        buf.reserve(end - len)?;
+        Ok(self.finish_reserved(header_key, packet_key, buf))
+    }
+
+    /// Finishes the packet as [`PacketBuilder::finish`] does, in a buffer that has room for its padding and its tag. It refuses
+    /// nothing, and keeps the buffer's room.
+    pub fn finish_reserved<H: HeaderKey, P: PacketKey>(
+        self,
+        header_key: &H,
+        packet_key: &P,
+        buf: &mut Vec<u8>,
+    ) -> (usize, bool)
+        requires ready { IsReady self (length buf.old.items) }
+        requires room { end_of self (length buf.old.items) + 16 ≤ vec_capacity buf.old }
+        ensures packet { (before : List ℕ) (flip : Bool) (h : Header) (plain : List ℕ) → self.start ≡ length before → IsOf self h
+            → buf.old.items ≡ before ++ (with_flip flip (header_spelling h 0) ++ plain)
+            → buf.new.items ≡ before ++ sealed_packet (H.mask_of header_key.now) (P.seal packet_key.now) flip h self.exact_number
+            (plain ++ replicate (self.min_size - length buf.old.items) 0) }
+        ensures end { length buf.new.items ≡ end_of self (length buf.old.items) + 16 }
+        ensures size { result.0 + self.start ≡ length buf.new.items }
+        ensures padded { result.1 ≡ nat_lt (length buf.old.items) self.min_size }
+        ensures capacity { vec_capacity buf.old ≤ vec_capacity buf.new }
+    {
+        let len = buf.len();
+        let end = len.max(self.min_size) + TAG_LEN;
+        fill(buf, end);
         let behind = end + self.pn_len - (self.start + self.header_len);
         let length_field = behind.min(16_383) as u16;
         seal_behind(
@@ -387,6 +443,6 @@ impl PacketBuilder {
             length_field,
             buf.as_mut_slice(),
         );
-        Ok((end - self.start, len < self.min_size))
+        (end - self.start, len < self.min_size)
     }
 }

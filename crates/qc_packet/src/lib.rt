@@ -8,12 +8,12 @@ mod seal;
 mod slot;
 mod unprotect;
 
-pub use builder::PacketBuilder;
+pub use builder::{PacketBuilder, PacketSizes};
 pub use decrypt::{DecryptPacketResult, OpenError, OpenKeys, decrypt_packet_body};
 pub use laws::sealed_packet_arrives;
 pub use qc_rings::{
     KeyRing, PairLog, PairOutcome, RingEvent, Which, ends_in_step_agree, ends_stay_in_step,
-    ring_pair,
+    ends_stay_in_step_by_parts, epochs_stay_below_numbers, keys_are_of_epochs, ring_pair,
 };
 pub use seal::{NUMBER_LIMIT, seal_padded};
 pub use slot::{BuildError, Kill, Slot};
