@@ -12,9 +12,6 @@
 
 ghost use Rattle.std.specs.Prelude.{◌≡◌, ◌+◌, ◌-◌, ◌*◌, ◌^◌, ◌≤◌, min};
 
-#[cfg(test)]
-mod answers_tests;
-
 use bytes::Bytes;
 use qc_base::{Dir, Side, StreamId, VarInt};
 use qc_streams::{PeerLimits, StreamsState};

@@ -15,7 +15,7 @@ use qc_send_stream::SendPart;
 use std::alloc::AllocError;
 
 /// A frame of a stream or of a limit, without bytes of a stream; streams are named by their ids.
-#[derive(Debug, PartialEq, Eq, Drop)]
+#[derive(Clone, Copy, Debug, PartialEq, Eq, Drop)]
 pub enum Control {
     /// RESET_STREAM (RFC 9000, section 19.4).
     Reset { id: u64, code: VarInt, size: u64 },

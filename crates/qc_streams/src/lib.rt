@@ -58,18 +58,3 @@ pub use stops::Stops;
 pub use stream::{Stream, Totals};
 pub use streams::Streams;
 pub use waiting::{Dues, Waiting};
-
-#[cfg(test)]
-mod chunks_tests;
-#[cfg(test)]
-mod early_tests;
-#[cfg(test)]
-mod sending_tests;
-#[cfg(test)]
-mod tests;
-#[cfg(test)]
-mod views_tests;
-#[cfg(test)]
-mod window_tests;
-#[cfg(test)]
-mod writing_tests;
