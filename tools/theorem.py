@@ -8,7 +8,7 @@
     tools/theorem.py --text     prints the definitions themselves, in the order of the list
 
 The list is the closure of the clauses over the words of specs/ and over the declared types, with what contracts see of them
-and with those members of a trait that the definitions use. A name that a definition binds is not followed. Words of the
+(but not their invariants, which are proved of every value) and with those members of a trait that the definitions use. A name that a definition binds is not followed. Words of the
 toolchain's library are named at the end and not followed.
 """
 import glob
@@ -330,7 +330,8 @@ class World:
         ghosts = ghosts_in(where.lines[model[0] : model[1]])
         lines, found = [where.lines[model[0]]], []
         scope = impl_scope(where, *model)
-        for member in ("Value", "view", "invariant"):
+        # A representation invariant isn't among them: it is proved of every value, so nobody has to believe it.
+        for member in ("Value", "view"):
             if member in ghosts:
                 begin, after = (it + model[0] for it in ghosts[member])
                 lines += where.lines[begin:after]
@@ -478,16 +479,21 @@ def reach(root, edges):
 
 
 def table(both, parts, order, kit):
-    lines, total = [], 0
+    lines, total, headline = [], 0, 0
     for file, keys in order:
         size = sum(both[key].text.count("\n") + 1 for key in keys)
         total += size
+        headline += sum(both[key].text.count("\n") + 1 for key in keys if key in parts[0])
         needed = [function for (function, _), part in zip(ROOTS, parts) if any(key in part for key in keys)]
         of = "" if len(needed) == len(ROOTS) else f" (`{needed[0]}` alone)"
         names = ", ".join(name_of(key, both[key]) for key in keys)
         line = f"1. `{file.removeprefix('crates/')}`, about {rounded(size, 10)} lines{of}: {names}"
         lines.append(wrapped(line, "   "))
-    head = f"{len(both)} definitions in {len(order)} files, about {rounded(total, 100)} lines with their comments. Files stand below `crates/`."
+    head = wrapped(
+        f"{len(both)} definitions in {len(order)} files, about {rounded(total, 100)} lines with their comments, of which the headline, "
+        f"`{ROOTS[0][0]}`, alone needs about {rounded(headline, 100)}. Files stand below `crates/`.",
+        "",
+    )
     library = ["The words of the toolchain's library on which they stand:", ""]
     for module in sorted(kit):
         words = ", ".join(f"`{name}`" for name in sorted(kit[module]))
