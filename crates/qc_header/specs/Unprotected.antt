@@ -52,3 +52,7 @@ header_from (Short spin dst_cid) pn_offset bytes =
     open_header.Short spin (first_byte bytes / 4 % 2 == 1) dst_cid (number_from (drop pn_offset bytes))
 header_from (VersionNegotiate random src_cid dst_cid) pn_offset bytes =
     open_header.VersionNegotiate random src_cid dst_cid
+
+-- a 1-RTT packet to this id, whose number begins at pn_offset
+abbrev pub short_packet : (dst_cid : List ℕ) → (pn_offset : ℕ) → (bytes : List ℕ) → Piece
+short_packet dst_cid pn_offset bytes = record { header = Short (first_byte bytes / 32 % 2 == 1) dst_cid; pn_offset = pn_offset; bytes = bytes }

@@ -63,7 +63,7 @@ impl InitialPacket {
 }
 
 /// The number that is spelled by these 1 to 4 bytes.
-fn read_number(bytes: &[u8]) -> PacketNumber
+pub(crate) fn read_number(bytes: &[u8]) -> PacketNumber
     ensures { result ≡ number_from bytes.now }
 {
     match bytes {
@@ -78,7 +78,7 @@ fn read_number(bytes: &[u8]) -> PacketNumber
 }
 
 /// The first byte, or 0 where there is none.
-pub(crate) fn leading_byte(bytes: &[u8]) -> u8
+pub fn leading_byte(bytes: &[u8]) -> u8
     ensures { result ≡ first_byte bytes.now }
 {
     match bytes {
@@ -154,6 +154,32 @@ fn read_header(
     }
 }
 
+/// Takes header protection off a packet whose number begins at `pn_offset`, and gives where its header
+/// ends; None exactly where the packet is too short for a sample (RFC 9001, section 5.4.2), and then it
+/// is as before.
+pub(crate) fn unmask_header<H: HeaderMask>(
+    key: &H,
+    pn_offset: usize,
+    packet: &mut [u8],
+) -> Option<usize>
+    ensures cut { IsNone result ↔ (length packet.old < pn_offset + 20) }
+    ensures kept { IsNone result → packet.new ≡ packet.old }
+    ensures unmasked { IsSome result → packet.new ≡ unmasked (H.mask_of key.now) pn_offset packet.old }
+    ensures end { IfSome result (λ end. end ≡ pn_offset + number_len_in packet.new) }
+    ensures begins { IfSome result (λ end. pn_offset ≤ end) }
+    ensures fits { IfSome result (λ end. end ≤ length packet.new) }
+{
+    if packet.len() < 20 {
+        return None;
+    }
+    if packet.len() - 20 < pn_offset {
+        return None;
+    }
+    unmask_packet(key, pn_offset, packet);
+    let tag = leading_byte(packet) % 4;
+    Some(pn_offset + tag as usize + 1)
+}
+
 /// Takes header protection off a packet, if it is protected, and gives where its header ends; None exactly
 /// where a protected packet is too short for a sample.
 fn unprotect<H: HeaderMask>(
@@ -175,14 +201,7 @@ fn unprotect<H: HeaderMask>(
         return Some(pn_offset);
     }
     match key {
-        Some(key) => {
-            if bytes.len() < pn_offset + 20 {
-                return None;
-            }
-            unmask_packet(key, pn_offset, bytes.as_mut_slice());
-            let tag = leading_byte(bytes.as_slice()) % 4;
-            Some(pn_offset + tag as usize + 1)
-        }
+        Some(key) => { unmask_header(key, pn_offset, bytes.as_mut_slice()) }
         None => unreachable!(),
     }
 }

@@ -9,11 +9,13 @@ mod partial_decode;
 mod protected;
 mod read;
 mod round_trip;
+mod short;
 
 pub use datagram::datagram_is_pieces;
 pub use encode::PartialEncode;
-pub use finish::{InitialPacket, Packet};
+pub use finish::{InitialPacket, Packet, leading_byte};
 pub use header::{Header, InitialHeader};
 pub use partial_decode::PartialDecode;
 pub use protected::{PacketDecodeError, ProtectedHeader};
 pub use round_trip::{header_comes_back, header_is_read};
+pub use short::{ShortHeader, finish_short};
