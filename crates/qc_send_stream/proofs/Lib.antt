@@ -8,3 +8,4 @@ pub mod Buffering
 pub mod Counting
 pub mod WrittenLaw
 pub mod FateLaw
+pub mod StreamLaw

@@ -3,3 +3,4 @@ pub mod Segments
 pub mod Sending
 pub mod Written
 pub mod Fates
+pub mod StreamFates

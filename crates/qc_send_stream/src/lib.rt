@@ -12,5 +12,7 @@ mod send;
 
 pub use buffer::SendBuffer;
 pub use fault::{ClosedStream, FinishError, WriteError};
-pub use laws::{keeps_and_sends_until_acknowledged, sends_what_was_written};
+pub use laws::{
+    keeps_until_acknowledged, sends_what_was_written, stream_is_sent_until_acknowledged,
+};
 pub use send::{Part, Reset, SendPart, Standing};
