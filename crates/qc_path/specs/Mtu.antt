@@ -37,11 +37,12 @@ begun s m = record { lower = m.current; upper = max m.current (capped m.peer s.u
 abbrev pub goes_on : SearchSettings → Search → Bool
 goes_on s q = nat_le (max s.minimum_change 1) (q.upper - q.lower)
 
--- the size in the middle, rounded up, so that it is above the lower end
+-- the size in the middle, rounded down, and at least one above the lower end where the ends differ
 abbrev pub middle : Search → ℕ
-middle q = q.lower + (q.upper - q.lower + 1) / 2
+middle q = max (q.lower + (q.upper - q.lower) / 2) (min (q.lower + 1) q.upper)
 
--- the search of a moment: one that goes on, or one that begins
+-- the search of a moment: one that goes on, or one that begins. One that begins where its ends are close ends as it begins:
+-- it probes nothing, and neither would the next one, which begins between the same ends
 abbrev pub search_at : ℕ → SearchSettings → Mtu → Phase → Option Search
 search_at now s m Unbegun = Some (begun s m)
 search_at now s m (Searching q) = Some q
@@ -140,11 +141,11 @@ rested_after_hole now None phase = phase
 rested_after_hole now (Some s) phase = Resting (plus now s.black_hole_cooldown)
 
 -- packets were lost at once, probes aside, the smallest of them of this size: the fourth time in a row that all of them
--- are above the least size, the path has a black hole
+-- are above the least size, the path has a black hole, and its size is the least, or what the peer takes where that is less
 unfoldable pub mtu_burst : ℕ → ℕ → Mtu → Mtu
 mtu_burst now smallest m =
     if nat_le smallest m.least then m
-    else if nat_le 3 m.bursts then record m { current = m.least; bursts = 0; phase = rested_after_hole now m.settings m.phase }
+    else if nat_le 3 m.bursts then record m { current = capped m.peer m.least; bursts = 0; phase = rested_after_hole now m.settings m.phase }
     else record m { bursts = m.bursts + 1 }
 
 -- the probe in flight is forgotten

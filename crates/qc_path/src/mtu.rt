@@ -82,9 +82,9 @@ fn has_next(settings: &SearchSettings, search: &Search) -> bool
 fn middle_of(search: &Search) -> u16
     ensures { result ≡ middle search.now }
 {
-    let lower = u32::from(search.lower);
-    let apart = u32::from(search.upper.saturating_sub(search.lower));
-    (lower + (apart + 1) / 2) as u16
+    let middle = search.lower + search.upper.saturating_sub(search.lower) / 2;
+    let next = search.lower.saturating_add(1).min(search.upper);
+    middle.max(next)
 }
 
 fn rest(now: Instant, settings: Option<SearchSettings>, search: Search) -> Phase
@@ -314,7 +314,7 @@ impl MtuDiscovery {
             self.bursts += 1;
             return;
         }
-        self.current = self.least;
+        self.current = cap(self.peer, self.least);
         self.bursts = 0;
         self.phase = cool(now, self.settings, self.phase);
     }

@@ -126,10 +126,10 @@ impl Pacer {
 }
 
 /// A law, which runs no code. Bytes that have to wait until a time needn't wait at that time or later,
-/// and have to before it, where nothing was sent in between and the path's rate is the same: a delay
-/// is long enough, and no longer. So a driver that asks again at the delay's end sends. It holds
-/// where the round trip time times the bytes is below 2^62 (for 1200 bytes that is a round trip time
-/// of 44 days), and where the delay ends before the clock does.
+/// and have to before it, where the path's rate is the same and in between nothing was sent or asked
+/// (each asking rounds tokens down): a delay is long enough, and no longer. So a driver that asks again
+/// at the delay's end sends. It holds where the round trip time times the bytes is below 2^62 (for
+/// 1200 bytes that is a round trip time of 44 days), and where the delay ends before the clock does.
 pub fn delay_is_exact()
     ensures enough { (rate : PathRate) (bytes end now : ℕ) (bucket : Bucket) → rate.rtt * bytes < 2 ^ 62 → end < 2 ^ 64 - 1 → pacing_delay rate bytes bucket ≡ Some end → end ≤ now → pacing_delay rate bytes (refilled now rate bucket) ≡ None }
     ensures needed { (rate : PathRate) (bytes end now : ℕ) (bucket : Bucket) → rate.rtt * bytes < 2 ^ 62 → pacing_delay rate bytes bucket ≡ Some end → bucket.at ≤ now → now < end → IsSome (pacing_delay rate bytes (refilled now rate bucket)) }

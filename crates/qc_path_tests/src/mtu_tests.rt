@@ -14,13 +14,19 @@ fn settings() -> SearchSettings {
     }
 }
 
-// Sizes by hand: the middle of 1200 and 1452, and so on; true: the probe passes, false: it is lost
-// three times.
-#[test]
-fn a_larger_datagram_is_searched(rt: HostRuntime) -> Result<(), Fail> {
+/// A search from 1200 bytes to 1452, at which the peer takes any size.
+fn search() -> MtuDiscovery {
     let mut mtu = MtuDiscovery::new(1200, 1200, None, Some(settings()));
     mtu.peer_takes(65527);
-    let rows = [(1326, true), (1389, false), (1357, true), (1373, true)];
+    mtu
+}
+
+// Sizes by hand: the middle of 1200 and 1452 rounded down, and so on; true: the probe passes, false: it is lost three times.
+// The lower end of the last search is 1372, and half of what is left up to 1452 is 40.
+#[test]
+fn a_larger_datagram_is_searched(rt: HostRuntime) -> Result<(), Fail> {
+    let mut mtu = search();
+    let rows = [(1326, true), (1389, false), (1357, true), (1372, true)];
     let mut number = 0;
     for (size, passes) in rows {
         for _ in 0..3 {
@@ -36,9 +42,54 @@ fn a_larger_datagram_is_searched(rt: HostRuntime) -> Result<(), Fail> {
         }
         number = 1;
     }
-    assert_eq!(rt; mtu.current_mtu(), 1373);
+    assert_eq!(rt; mtu.current_mtu(), 1372);
     assert_eq!(rt; mtu.probe_due(at(599_999)), None);
-    assert_eq!(rt; mtu.probe_due(at(600_000)), Some(1413));
+    assert_eq!(rt; mtu.probe_due(at(600_000)), Some(1412));
+    Ok(())
+}
+
+// From 1200 to 1452 by halves that are rounded down: 126, 63, 31 and 16. Then 16 bytes are left, fewer than 20, and the search
+// ends with that acknowledgement, from where its interval counts.
+#[test]
+fn a_search_ends_with_an_acknowledgement(rt: HostRuntime) -> Result<(), Fail> {
+    let mut mtu = search();
+    for (millis, size) in [(0, 1326), (1, 1389), (2, 1420), (3, 1436)] {
+        assert_eq!(rt; mtu.probe_due(at(millis)), Some(size));
+        mtu.probe_sent(at(millis), millis);
+        mtu.on_acked(at(millis), millis, u64::from(size));
+        assert_eq!(rt; mtu.current_mtu(), size);
+    }
+    assert_eq!(rt; mtu.probe_due(at(600_002)), None);
+    assert_eq!(rt; mtu.probe_due(at(600_003)), None);
+    Ok(())
+}
+
+// Between 1200 and 1201 the middle, rounded down, is 1200, and the next size up is tried.
+#[test]
+fn a_probe_is_above_the_lower_end(rt: HostRuntime) -> Result<(), Fail> {
+    let each = SearchSettings {
+        interval: Duration::from_secs(600),
+        upper_bound: 1201,
+        black_hole_cooldown: Duration::from_secs(60),
+        minimum_change: 0,
+    };
+    let mut mtu = MtuDiscovery::new(1200, 1200, None, Some(each));
+    assert_eq!(rt; mtu.probe_due(at(0)), Some(1201));
+    mtu.probe_sent(at(0), 0);
+    mtu.on_acked(at(0), 0, 1201);
+    assert_eq!(rt; mtu.probe_due(at(600_000)), None);
+    Ok(())
+}
+
+// A black hole on a path whose peer takes less than the least size.
+#[test]
+fn a_black_hole_leaves_what_the_peer_takes(rt: HostRuntime) -> Result<(), Fail> {
+    let mut mtu = MtuDiscovery::new(1400, 1300, Some(1250), Some(settings()));
+    assert_eq!(rt; mtu.current_mtu(), 1250);
+    for _ in 0..4 {
+        mtu.on_burst_lost(at(0), 1350);
+    }
+    assert_eq!(rt; mtu.current_mtu(), 1250);
     Ok(())
 }
 

@@ -49,17 +49,23 @@ fn packets_are_paced(rt: HostRuntime) -> Result<(), Fail> {
     Ok(())
 }
 
-// A window of 13,200 bytes in 100 ms: a bucket that was emptied has 1200 bytes after 1200 * 400 / (13,200 * 5) =
-// 7.272727.. ms, so not at 7,272,727 ns, but at 7,272,728.
-#[test]
-fn bytes_go_at_the_end_of_their_delay(rt: HostRuntime) -> Result<(), Fail> {
+/// The end of the delay of 1200 bytes at a time, with a window of 13,200 bytes, where 12,000 were sent at 0 ms and a delay was
+/// asked then.
+fn delay_of_one_datagram(now: Instant) -> Option<Instant> {
     let rate = pace(13_200);
     let mut pacer = Pacer::new(at(0), &rate);
     pacer.sent(at(0), &rate, 12_000);
+    let _ = pacer.delay(at(0), &rate, 1200);
+    pacer.delay(now, &rate, 1200)
+}
+
+// A window of 13,200 bytes in 100 ms: a bucket that was emptied has 1200 bytes after 1200 * 400 / (13,200 * 5) =
+// 7.272727.. ms, so not at 7,272,727 ns, but at 7,272,728.
+#[test]
+fn bytes_go_at_the_end_of_their_delay(rt: HostRuntime) {
     let end = Instant::from_nanos(7_272_728);
-    assert_eq!(rt; pacer.delay(at(0), &rate, 1200), Some(end));
     let sooner = Instant::from_nanos(7_272_727);
-    assert!(rt; pacer.delay(sooner, &rate, 1200).is_some());
-    assert!(rt; pacer.delay(end, &rate, 1200).is_none());
-    Ok(())
+    assert_eq!(rt; delay_of_one_datagram(at(0)), Some(end));
+    assert!(rt; delay_of_one_datagram(sooner).is_some());
+    assert!(rt; delay_of_one_datagram(end).is_none());
 }
