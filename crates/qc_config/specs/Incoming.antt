@@ -7,7 +7,7 @@ use Rattle.qc_base.specs.Time.{plus}
 use Rattle.qc_token.specs.declared.token.Token.{Token}
 use Rattle.qc_token.specs.declared.token.TokenPayload.{TokenPayload}
 use Rattle.qc_token.specs.declared.token.TokenPayload.TheVariants as say
-use Rattle.qc_config.specs.declared.tokens.TokenReuseError.{TokenReuseError}
+use Rattle.qc_token.specs.declared.token_log.TokenReuseError.{TokenReuseError}
 use Rattle.qc_config.specs.declared.incoming.IncomingToken.{IncomingToken}
 use Rattle.qc_config.specs.declared.incoming.HeaderError.{HeaderError}
 use Rattle.qc_config.specs.declared.incoming.HeaderError.TheVariants.{Retry}

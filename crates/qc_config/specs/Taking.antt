@@ -1,6 +1,6 @@
 -- What a server's settings say to a client's token
 use Rattle.std.specs.Prelude.{ℕ, Result}
-use Rattle.qc_config.specs.declared.tokens.TokenReuseError.{TokenReuseError}
+use Rattle.qc_token.specs.declared.token_log.TokenReuseError.{TokenReuseError}
 use Rattle.qc_config.specs.ServerValues.{ServerValues}
 use Rattle.qc_config.specs.Incoming.{Taker}
 

@@ -12,8 +12,6 @@ mod incoming;
 mod server;
 mod stateless_reset;
 mod token_cache;
-mod token_store;
-mod tokens;
 mod validation_token;
 
 pub use announcement::announced;
@@ -22,12 +20,13 @@ pub use client::ClientConfig;
 pub use config_error::ConfigError;
 pub use endpoint::EndpointConfig;
 pub use incoming::{HeaderError, IncomingToken, InvalidRetryTokenError};
-pub use qc_token::{Token, TokenPayload};
+pub use qc_token::{
+    FixedTime, NoneTokenLog, NoneTokenStore, TimeSource, Token, TokenLog, TokenPayload,
+    TokenReuseError, TokenStore,
+};
 pub use server::ServerConfig;
 pub use stateless_reset::reset_token;
 pub use token_cache::TokenMemoryCache;
-pub use token_store::{NoneTokenStore, TokenStore};
-pub use tokens::{FixedTime, NoneTokenLog, TimeSource, TokenLog, TokenReuseError};
 pub use validation_token::ValidationTokenConfig;
 
 #[cfg(test)]

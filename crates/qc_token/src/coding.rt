@@ -5,6 +5,7 @@ ghost use Rattle.rand_core.specs.Stream.{fill_bytes};
 ghost use Rattle.qc_token.specs.declared.token.Token.{Token};
 ghost use Rattle.qc_token.specs.Nonce.{nonce_bytes, nonce_of};
 ghost use Rattle.qc_token.specs.TokenReading.{payload_of};
+ghost use Rattle.qc_token.specs.TokenSpelling.{token_len};
 ghost use Rattle.std.specs.Option.{option_and_then, option_map};
 ghost use Rattle.qc_token.specs.Tokens.{IsOnlySealed, IsOnlyToken, IsSealedText, IsTokenText, decoded, token_bytes};
 
@@ -97,7 +98,8 @@ impl Token {
         alloc: Global,
         key: &K,
     ) -> Result<Vec<u8>, AllocError>
-        ensures { IfOk result (λ bytes. bytes.items ≡ token_bytes K.Aead.sealed (K.derived key.now) self.now) }
+        ensures bytes { IfOk result (λ bytes. bytes.items ≡ token_bytes K.Aead.sealed (K.derived key.now) self.now) }
+        ensures size { IfOk result (λ bytes. length bytes.items ≡ token_len self.now.payload) }
     {
         let mut bytes = Vec::new(alloc);
         put_payload(&mut bytes, &self.payload)?;

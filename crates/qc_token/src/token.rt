@@ -1,5 +1,8 @@
 //! Tokens.
 
+ghost use Rattle.std.specs.Prelude.{◌≡◌};
+ghost use Rattle.qc_token.specs.TokenSpelling.{ip_len, token_len};
+
 use qc_base::{ConnectionId, SystemTime};
 use std::net::{IpAddr, SocketAddr};
 
@@ -22,6 +25,33 @@ pub enum TokenPayload {
         /// When the token was issued.
         issued: SystemTime,
     },
+}
+
+fn ip_len(ip: &IpAddr) -> usize
+    ensures { result ≡ ip_len ip.now }
+{
+    match ip {
+        IpAddr::V4(_) => 5,
+        IpAddr::V6(_) => 17,
+    }
+}
+
+impl TokenPayload {
+    /// How many bytes a token has that says this, whatever its nonce and the key that seals it
+    /// ([`Token::encode`]).
+    #[tactic(auto, unfolding(crate::specs::TokenSpelling::token_len))]
+    pub fn encoded_len(&self) -> usize
+        ensures { result ≡ token_len self.now }
+    {
+        match self {
+            TokenPayload::Retry {
+                address,
+                orig_dst_cid,
+                ..
+            } => ip_len(&address.ip()) + orig_dst_cid.len() + 44,
+            TokenPayload::Validation { ip, .. } => ip_len(ip) + 41,
+        }
+    }
 }
 
 /// A token, and the number that its key is made of.

@@ -1,7 +1,7 @@
 //! The plain bytes of a token.
 
-ghost use Rattle.std.specs.Prelude.{◌≡◌, ◌++◌, OnOk};
-ghost use Rattle.qc_token.specs.TokenSpelling.{ip_bytes, payload_bytes, time_bytes};
+ghost use Rattle.std.specs.Prelude.{◌≡◌, ◌+◌, ◌++◌, length, OnOk};
+ghost use Rattle.qc_token.specs.TokenSpelling.{ip_bytes, ip_len, payload_bytes, payload_len, time_bytes};
 
 use crate::TokenPayload;
 use qc_base::{ConnectionId, SystemTime};
@@ -10,7 +10,8 @@ use std::net::{IpAddr, SocketAddr};
 
 #[tactic(auto, unfolding(crate::specs::TokenSpelling::ip_bytes))]
 fn put_ip(out: &mut Vec<u8>, ip: &IpAddr) -> Result<(), AllocError>
-    ensures { OnOk result (out.new.items ≡ out.old.items ++ ip_bytes ip.now) }
+    ensures bytes { OnOk result (out.new.items ≡ out.old.items ++ ip_bytes ip.now) }
+    ensures size { OnOk result (length out.new.items ≡ length out.old.items + ip_len ip.now) }
 {
     match ip {
         IpAddr::V4(ip) => {
@@ -26,14 +27,16 @@ fn put_ip(out: &mut Vec<u8>, ip: &IpAddr) -> Result<(), AllocError>
 
 #[tactic(auto, unfolding(crate::specs::TokenSpelling::time_bytes))]
 fn put_time(out: &mut Vec<u8>, time: SystemTime) -> Result<(), AllocError>
-    ensures { OnOk result (out.new.items ≡ out.old.items ++ time_bytes time) }
+    ensures bytes { OnOk result (out.new.items ≡ out.old.items ++ time_bytes time) }
+    ensures size { OnOk result (length out.new.items ≡ length out.old.items + 8) }
 {
     out.extend_from_slice(&(time.nanos() / 1_000_000_000).to_be_bytes())
 }
 
 #[tactic(auto, unfolding(crate::specs::TokenSpelling::payload_bytes))]
 pub(crate) fn put_payload(out: &mut Vec<u8>, payload: &TokenPayload) -> Result<(), AllocError>
-    ensures { OnOk result (out.new.items ≡ out.old.items ++ payload_bytes payload.now) }
+    ensures bytes { OnOk result (out.new.items ≡ out.old.items ++ payload_bytes payload.now) }
+    ensures size { OnOk result (length out.new.items ≡ length out.old.items + payload_len payload.now) }
 {
     match payload {
         TokenPayload::Retry {

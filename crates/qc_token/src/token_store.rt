@@ -1,3 +1,5 @@
+//! Where a client keeps the tokens that servers gave it.
+
 ghost use Rattle.std.specs.Prelude.{◌≡◌, ℕ, List, Option, None, OnOk, OnErr, IfOk};
 
 use bytes::Bytes;

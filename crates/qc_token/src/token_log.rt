@@ -1,32 +1,10 @@
-//! Where a server's times come from, and how it sees to it that a token is used once.
+//! How a server sees to it that a token is used once.
 
 ghost use Rattle.std.specs.Prelude.{◌≡◌, ℕ, Result, OnOk, OnErr, IfOk};
-ghost use Rattle.qc_config.specs.declared.tokens.TokenReuseError.{TokenReuseError};
+ghost use Rattle.qc_token.specs.declared.token_log.TokenReuseError.{TokenReuseError};
 
 use qc_base::{Duration, SystemTime};
 use std::alloc::AllocError;
-
-/// The time of the calendar, as a server sees it.
-pub trait TimeSource: Drop {
-    // The time that it shows, in nanoseconds since the start of 1970.
-    ghost time_of: { Self → ℕ };
-
-    /// The time now.
-    fn now(&self) -> SystemTime
-        ensures { result ≡ time_of self.now };
-}
-
-/// A clock that stands still.
-#[derive(Clone, Copy, Debug, PartialEq, Eq)]
-pub struct FixedTime(pub SystemTime);
-
-impl TimeSource for FixedTime {
-    ghost time_of = { λ t. t.0 };
-
-    fn now(&self) -> SystemTime {
-        self.0
-    }
-}
 
 /// A token may have been used before.
 #[derive(Clone, Copy, Debug, PartialEq, Eq)]
