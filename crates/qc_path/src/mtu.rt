@@ -161,6 +161,27 @@ impl MtuDiscovery {
         self.phase = Phase::Unbegun;
     }
 
+    /// The same size and search, with the probe in flight, for a path that takes this one's place.
+    pub fn copy(&self) -> MtuDiscovery
+        ensures { result ≡ self.now }
+    {
+        MtuDiscovery {
+            current: self.current,
+            least: self.least,
+            peer: self.peer,
+            settings: self.settings,
+            phase: self.phase,
+            bursts: self.bursts,
+        }
+    }
+
+    /// A path that begins, with what the peer takes, the least size and the settings of this one.
+    pub fn renewed(&self, initial: u16) -> MtuDiscovery
+        ensures { result ≡ first_mtu initial self.now.least self.now.peer self.now.settings }
+    {
+        MtuDiscovery::new(initial, self.least, self.peer, self.settings)
+    }
+
     /// The size in use, in bytes of UDP payload.
     pub fn current_mtu(&self) -> u16
         ensures { result ≡ self.now.current }
@@ -223,6 +244,13 @@ impl MtuDiscovery {
                 });
             }
         }
+    }
+
+    /// The probe in flight, if there is one: its packet's number in the Data space, and its size.
+    pub fn probe(&self) -> Option<(u64, u16)>
+        ensures { result ≡ probe_of self.now.phase }
+    {
+        probe_in(self.phase)
     }
 
     /// Whether a packet of the Data space is the probe in flight.

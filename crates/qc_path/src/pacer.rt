@@ -89,6 +89,16 @@ impl Pacer {
         }
     }
 
+    /// The same bucket.
+    pub fn copy(&self) -> Pacer
+        ensures { result ≡ self.now }
+    {
+        Pacer {
+            tokens: self.tokens,
+            at: self.at,
+        }
+    }
+
     #[tactic(auto, unfolding(crate::specs::Pacing::refilled))]
     fn refill(&mut self, now: Instant, rate: &PathRate)
         ensures { self.new ≡ refilled now rate.now self.old }

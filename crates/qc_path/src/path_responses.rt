@@ -128,6 +128,31 @@ impl PathResponses {
         }
     }
 
+    /// The answer at a place, if there is a place.
+    fn at(&self, place: Option<usize>) -> Option<PathResponse>
+        requires { IsWithin place self.now }
+        ensures { result ≡ taken_at place self.now }
+    {
+        match place {
+            None => None,
+            Some(place) => Some(self.waiting[place]),
+        }
+    }
+
+    /// A look at the answer to the path's address, which stays, if one waits.
+    pub fn peek_on_path(&self, remote: &SocketAddr) -> Option<PathResponse>
+        ensures { result ≡ taken_at (position (is_for ⟦<SocketAddr as PartialEq>⟧.eq remote.now) self.now) self.now }
+    {
+        self.at(self.place_for(remote))
+    }
+
+    /// A look at the first answer to another address than the path's, which stays, if one waits.
+    pub fn peek_off_path(&self, remote: &SocketAddr) -> Option<PathResponse>
+        ensures { result ≡ taken_at (position (is_for_other ⟦<SocketAddr as PartialEq>⟧.eq remote.now) self.now) self.now }
+    {
+        self.at(self.place_for_other(remote))
+    }
+
     /// Takes the answer to the path's address, if one waits.
     pub fn pop_on_path(&mut self, remote: &SocketAddr) -> Option<PathResponse>
         ensures taken { result ≡ taken_at (position (is_for ⟦<SocketAddr as PartialEq>⟧.eq remote.now) self.old) self.old }

@@ -114,3 +114,23 @@ fn four_bursts_in_a_row_show_a_black_hole(rt: HostRuntime) -> Result<(), Fail> {
     mtu.forget_probe();
     Ok(())
 }
+
+/// The probe of a path that takes another one's place.
+fn probe_of_copy(mtu: &MtuDiscovery) -> Option<(u64, u16)> {
+    mtu.copy().probe()
+}
+
+/// The size of a path that begins anew, and its probe.
+fn begun_anew(mtu: &MtuDiscovery, initial: u16) -> (u16, Option<(u64, u16)>) {
+    let renewed = mtu.renewed(initial);
+    (renewed.current_mtu(), renewed.probe())
+}
+
+// A path that takes another one's place has its probe; one that begins anew has none, and its size is 1300 bytes.
+#[test]
+fn a_path_goes_on_or_begins_anew(rt: HostRuntime) {
+    let mut mtu = search();
+    mtu.probe_sent(at(0), 7);
+    assert_eq!(rt; probe_of_copy(&mtu), Some((7, 1326)));
+    assert_eq!(rt; begun_anew(&mtu, 1300), (1300, None));
+}

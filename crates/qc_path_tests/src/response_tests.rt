@@ -54,3 +54,22 @@ fn a_seventeenth_address_is_not_kept(rt: HostRuntime) -> Result<(), Fail> {
     assert!(rt; waiting.pop_on_path(&from_port(17)).is_some());
     Ok(())
 }
+
+// A look at an answer takes nothing: on the path's address, and the first one off it.
+#[test]
+fn a_look_takes_nothing(rt: HostRuntime) -> Result<(), Fail> {
+    let mut waiting = PathResponses::new();
+    waiting.push(response(1, 10, 1));
+    waiting.push(response(2, 20, 2));
+    for (port, on, off) in [
+        (1, Some(10), Some(20)),
+        (2, Some(20), Some(10)),
+        (3, None, Some(10)),
+    ] {
+        let here = waiting.peek_on_path(&from_port(port));
+        assert_eq!(rt; here.map(|response| response.word), on);
+        let elsewhere = waiting.peek_off_path(&from_port(port));
+        assert_eq!(rt; elsewhere.map(|response| response.word), off);
+    }
+    Ok(())
+}
