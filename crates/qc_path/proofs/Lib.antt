@@ -1,3 +1,4 @@
+pub mod AcksDue
 pub mod Arrivals
 pub mod Estimates
 pub mod Paces

@@ -1,3 +1,4 @@
+pub mod AckCalls
 pub mod AckRanges
 pub mod Acks
 pub mod Arrived

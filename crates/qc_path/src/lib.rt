@@ -20,5 +20,7 @@ pub use mtu::{MtuDiscovery, SearchSettings};
 pub use new_reno::{NewReno, NewRenoConfig, window_keeps_room};
 pub use pacer::{Pacer, PathRate, delay_is_exact};
 pub use path_responses::{PathResponse, PathResponses};
-pub use pending_acks::{Arrival, PendingAcks, next_bundled_ack_time, numbers_are_kept};
+pub use pending_acks::{
+    Arrival, PendingAcks, acks_are_due, next_bundled_ack_time, numbers_are_kept,
+};
 pub use rtt::{RttEstimator, estimate_is_bounded};

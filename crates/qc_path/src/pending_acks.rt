@@ -1,11 +1,13 @@
 //! Packets to acknowledge (RFC 9000, section 13.2).
 
-ghost use Rattle.std.specs.Prelude.{◌≡◌, ℕ, ◌==◌, ◌||◌, List, [], length};
-ghost use Rattle.qc_path.specs.Arrived.{exceeds, greatest_with};
+ghost use Rattle.std.specs.Prelude.{◌≡◌, ℕ, ◌==◌, Bool, false, ◌||◌, List, [], length};
+ghost use Rattle.qc_path.specs.Arrived.{Window, exceeds, greatest_with};
 ghost use Rattle.qc_base.specs.RangeSet.{KeepsFrom, Normal, latest};
 ghost use Rattle.qc_base.specs.declared.range_set.NumberRange.{NumberRange};
+ghost use Rattle.qc_path.specs.AckCalls.{AckCall, IsAckDue, all_called, no_calls};
 ghost use Rattle.qc_path.specs.AckRanges.{from_number, with_number};
-ghost use Rattle.qc_path.specs.Acks.{TakesIn, ack_delay, acks_confirmed, acks_received, counted_in, gives_ack, greatest_noted, has_come_by, is_due, joins_ack, makes_owed, marks_expired, marks_received, marks_sent, next_bundle, no_marks, out_of_order, owed_with, owes_ack, sets_delay};
+ghost use Rattle.qc_path.specs.declared.pending_acks.Arrival.{Arrival};
+ghost use Rattle.qc_path.specs.Acks.{PendingValues, TakesIn, ack_delay, acks_confirmed, acks_received, counted_in, gives_ack, greatest_noted, has_come_by, is_clear, is_due, joins_ack, makes_owed, marks_expired, marks_received, marks_sent, next_bundle, no_marks, out_of_order, owed_with, owes_ack, sets_delay};
 
 use crate::Dedup;
 use crate::ack_set::AckSet;
@@ -288,4 +290,14 @@ pub fn next_bundled_ack_time(now: Instant, rtt: Duration, peer_delay: Duration) 
 pub fn numbers_are_kept()
     ensures more { (n : ℕ) (old : List NumberRange) → Normal old → TakesIn n old (latest (with_number n old)) }
     ensures fewer { (n : ℕ) (old : List NumberRange) → Normal old → KeepsFrom n old (from_number n old) }
+{}
+
+/// A law, which runs no code. In the Data space, whatever calls are made: behind a packet that elicits
+/// an ACK one is owed, or a call answered since the last ACK went that its timer is to be set; and
+/// behind the second such packet since then an ACK is owed (RFC 9000, sections 13.2.1 and 13.2.2).
+/// Where nothing is left to acknowledge, nothing is owed; once a packet came, something is left.
+#[tactic(auto, using(crate::proofs::AcksDue::all_due, crate::proofs::AcksDue::arrival_left))]
+pub fn acks_are_due()
+    ensures due { (calls : List AckCall) → IsAckDue (all_called calls no_calls) }
+    ensures left { (in_data : Bool) (seen : Window) (packet : Arrival) (pending : PendingValues) → is_clear (acks_received in_data seen packet pending) ≡ false }
 {}
