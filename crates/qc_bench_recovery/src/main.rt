@@ -27,7 +27,10 @@ struct Bench {
     alloc: Global,
     recovery: Recovery,
     path: PathData<NewReno>,
+    /// How many packets were acknowledged or lost.
     settled: u64,
+    /// How often the loss timer stood after an ACK.
+    armed: u64,
 }
 
 fn at(number: u64) -> Instant {
@@ -55,6 +58,7 @@ fn packet(alloc: Global, number: u64) -> SentPacket {
         counted: true,
         ack_eliciting: true,
         frames: FrameList::new(alloc),
+        new_token: None,
     }
 }
 
@@ -89,9 +93,12 @@ fn acknowledge(bench: &mut Bench, next: u64, first: u64, last: u64) -> Result<()
             )?;
             let count = (settled.acked.len() as u64).saturating_add(settled.lost.len() as u64);
             bench.settled = bench.settled.saturating_add(count);
-            let due = bench.recovery.arm(at(next), &around(), &bench.path);
-            if due.is_some() {
-                bench.settled = bench.settled.saturating_add(0);
+            if bench
+                .recovery
+                .arm(at(next), &around(), &bench.path)
+                .is_some()
+            {
+                bench.armed = bench.armed.saturating_add(1);
             }
             Ok(())
         }
@@ -145,7 +152,7 @@ fn turn(bench: &mut Bench, job: Job, next: u64, window: u64) -> Result<(), Alloc
     }
 }
 
-fn run(alloc: Global, job: Job, count: u32, window: u32) -> Result<u64, AllocError> {
+fn run(alloc: Global, job: Job, count: u32, window: u32) -> Result<(u64, u64), AllocError> {
     let config = TransportConfig::default();
     let congestion = NewRenoConfig::default().build(at(0), first_mtu(&config, None));
     let mut bench = Bench {
@@ -153,11 +160,12 @@ fn run(alloc: Global, job: Job, count: u32, window: u32) -> Result<u64, AllocErr
         recovery: Recovery::new(alloc, &config),
         path: PathData::new(at(0), &config, congestion, false, None),
         settled: 0,
+        armed: 0,
     };
     for i in 0..count {
         turn(&mut bench, job, u64::from(i) * 2, u64::from(window))?;
     }
-    Ok(bench.settled)
+    Ok((bench.settled, bench.armed))
 }
 
 fn number(word: Option<String>) -> u32 {
@@ -185,7 +193,7 @@ fn main(rt: HostRuntime) -> io::Result<()> {
     let count = number(args.next());
     let window = number(args.next());
     match run(rt.alloc(), job, count, window) {
-        Ok(settled) => println!(rt; "settled {settled}"),
+        Ok(counts) => println!(rt; "settled {}\narmed {}", counts.0, counts.1),
         Err(_) => println!(rt; "no memory"),
     }
 }

@@ -1,6 +1,6 @@
 -- Packets that are taken out, and those that stay
-use Rattle.std.proofs.Common.{◌≡◌, ℕ, ◌<◌, Bool, true, false, not, ◌||◌, ◌&&◌, List, [], ◌∷◌, refl, sym, ◌∙◌, ap, arith}
-use Rattle.std.specs.Prelude.{◌==◌, cond}
+use Rattle.std.proofs.Common.{◌≡◌, ℕ, ◌<◌, Bool, true, false, ◌||◌, List, [], ◌∷◌, refl, sym, ◌∙◌, ap, arith}
+use Rattle.std.specs.Prelude.{◌==◌}
 use Rattle.std.proofs.lemmas.Bool.Decides.{nat_tests}
 use Rattle.qc_flight.specs.Packets.{AllAbove, Ascending, Entry, has_number, others, those}
 use Rattle.qc_flight.proofs.Sifting.{those_yes, those_no, those_none, others_yes, others_no, others_none}

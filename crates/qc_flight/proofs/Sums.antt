@@ -1,11 +1,10 @@
 -- Sums over packets
 use Rattle.std.proofs.Common.{◌≡◌, ℕ, zero, suc, ◌+◌, ◌-◌, ◌*◌, ◌<◌, ◌≤◌, ◌^◌, Bool, true, false, not, List, [], ◌∷◌, ◌++◌, length, drop, get_or, refl, sym, ◌∙◌, ap, subst, add-one, arith}
-use Rattle.std.specs.Prelude.{cond, sum_by, ◌↔◌}
-use Rattle.std.proofs.lemmas.List.Sums.{sum_by-cons, sum_by-append, sum_by_push}
+use Rattle.std.specs.Prelude.{cond, ◌↔◌}
+use Rattle.std.proofs.lemmas.List.Sums.{sum_by-cons, sum_by_push}
 use Rattle.std.proofs.lemmas.List.Filters.{sum_by-filter_both}
 use Rattle.qc_flight.specs.Packets.{Entry, AllAbove, AllBelow, AllFit, Ascending, IsCounted, bytes_of, counted_bytes, counted_of, counted_one, counts_less, counts_minus, counts_of, counts_with, eliciting_of, eliciting_one, others, those}
 use Rattle.qc_flight.specs.declared.counts.Counts.{Counts}
-use Rattle.qc_flight.specs.declared.sent.SentPacket.{SentPacket}
 
 abbrev record_of : ℕ → ℕ → ℕ → Counts
 record_of a b c = record { bytes = a; eliciting = b; counted = c }

@@ -1,5 +1,5 @@
 -- Packets in flight, as a list of numbers and packets in ascending order of number
-use Rattle.std.specs.Prelude.{◌≡◌, ℕ, suc, ◌+◌, ◌-◌, ◌<◌, ◌≤◌, ◌==◌, Bool, true, false, not, ◌&&◌, ◌||◌, nat_lt, nat_le, if◌then◌else◌, cond, List, [], ◌∷◌, ◌++◌, length, filter, sum_by, Option, Some, None, min, max}
+use Rattle.std.specs.Prelude.{◌≡◌, ℕ, suc, ◌+◌, ◌-◌, ◌<◌, ◌≤◌, ◌==◌, Bool, false, not, ◌&&◌, ◌||◌, nat_lt, nat_le, if◌then◌else◌, cond, List, [], ◌∷◌, filter, sum_by, Option, Some, None, min}
 use Rattle.std.specs.List.{list_any}
 use Rattle.qc_base.specs.RangeSet.{Normal}
 use Rattle.qc_base.specs.declared.range_set.NumberRange.{NumberRange}
@@ -25,11 +25,11 @@ abbrev pub Ascending : List Entry → Type 0
 Ascending [] = Unit {0}
 Ascending (e ∷ es) = AllAbove e.0 es × Ascending es
 
--- a number of the range
+-- A range of an ACK names the numbers from its smallest to its largest, both included (RFC 9000, section 19.3.1).
 abbrev pub is_within : ℕ → NumberRange → Bool
 is_within n range = nat_le range.first n && nat_le n range.last
 
--- a number of one of the ranges
+-- An ACK acknowledges the numbers of each of its ranges, and no others (RFC 9000, section 19.3).
 unfoldable pub is_in : List NumberRange → ℕ → Bool
 is_in ranges n = list_any (is_within n) ranges
 
@@ -37,8 +37,8 @@ is_in ranges n = list_any (is_within n) ranges
 abbrev pub is_acked : List NumberRange → Entry → Bool
 is_acked ranges e = is_in ranges e.0
 
--- Lost (RFC 9002, section 6.1): below the greatest number acknowledged, and a threshold of packets below it, or sent a
--- delay ago or longer
+-- A packet is lost if it was sent before a packet that is acknowledged, so that its number is below the greatest one
+-- acknowledged, and is a threshold of packets below that one, or was sent a delay ago or longer (RFC 9002, section 6.1).
 unfoldable pub is_lost : ℕ → ℕ → ℕ → ℕ → Entry → Bool
 is_lost largest threshold now delay e = nat_lt e.0 largest && (nat_le (e.0 + threshold) largest || nat_le delay (now - e.1.at))
 
@@ -50,11 +50,13 @@ those p es = filter p es
 unfoldable pub others : (Entry → Bool) → List Entry → List Entry
 others p es = filter (λ e. not (p e)) es
 
--- the bytes of a packet that counts as in flight
+-- Bytes in flight are those of the packets that elicit an acknowledgement or hold PADDING, and are neither acknowledged nor
+-- lost (RFC 9002, section 2 and appendix B.2). Here: the bytes of a packet that counts so.
 abbrev pub counted_bytes : Entry → ℕ
 counted_bytes e = cond e.1.counted e.1.size 0
 
--- one for a packet that asks for an acknowledgement
+-- one for a packet that asks for an acknowledgement: one with a frame besides ACK, PADDING and CONNECTION_CLOSE (RFC 9002,
+-- section 2)
 abbrev pub eliciting_one : Entry → ℕ
 eliciting_one e = cond e.1.ack_eliciting 1 0
 

@@ -7,10 +7,10 @@ ghost use Rattle.qc_flight.specs.Packets.{AllBelow, PassesUpTo, bytes_of, counte
 
 use crate::counts::{Counts, minus, with};
 use crate::list::PacketList;
+use crate::loss_rules::{Acked, Lost};
 use crate::room::Room;
 use crate::sent::SentPacket;
 use crate::sift::{front_len, take_passing};
-use crate::tests_of::{Acked, Lost};
 use qc_base::{Duration, Instant, NumberRange};
 use std::alloc::{AllocError, Global};
 use std::collections::VecDeque;

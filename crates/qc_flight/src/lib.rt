@@ -6,10 +6,10 @@ mod counts;
 mod flight;
 mod laws;
 mod list;
+mod loss_rules;
 mod room;
 mod sent;
 mod sift;
-mod tests_of;
 
 pub use counts::Counts;
 pub use flight::Flight;

@@ -1,5 +1,6 @@
 use qc_base::Instant;
 use qc_frame::FrameList;
+use std::net::SocketAddr;
 
 /// A packet that was sent (RFC 9002, appendix A.1.1).
 #[derive(Debug, Drop)]
@@ -14,4 +15,7 @@ pub struct SentPacket {
     pub ack_eliciting: bool,
     /// Its frames, which are sent again where it is lost.
     pub frames: FrameList,
+    /// The address that a NEW_TOKEN in it was made for (RFC 9000, section 8.1.3), if it held one. Where
+    /// the packet is lost, a new token for this address is owed; the lost one isn't sent again.
+    pub new_token: Option<SocketAddr>,
 }

@@ -361,6 +361,20 @@ impl MtuDiscovery {
             });
         }
     }
+
+    /// The same sizes, and the same search.
+    pub fn copy(&self) -> MtuDiscovery
+        ensures { result ≡ self.now }
+    {
+        MtuDiscovery {
+            current: self.current,
+            least: self.least,
+            peer: self.peer,
+            settings: self.settings,
+            phase: self.phase,
+            bursts: self.bursts,
+        }
+    }
 }
 
 fn due(settings: &SearchSettings, search: Option<Search>) -> Option<u16>

@@ -1,4 +1,5 @@
 pub mod AckedRanges
+pub mod Bursts
 pub mod Places
 pub mod Powers
 pub mod Settling

@@ -54,11 +54,15 @@ module _ {C : Type 0} where
   either_parts true es x y h k = h refl
   either_parts false es x y h k = k
 
+  marked_parts : (m : Control C) (o : Occasion) (a : AckValues) (raises : Bool) (es : List Entry) (s : SpaceRecovery) (p : PathData C) → IsPermutation es s.flight → IsPermutation es (all_of (marks_read m o a raises [] [] s p))
+  unfolding marks_read
+  marked_parts m o a raises es s p h = h
+
   pub ack_settles : (m : Control C) (l : Limits) (o : Occasion) (a : AckValues) (ranges : List NumberRange) (around : Around) (s : SpaceRecovery) (p : PathData C) → IsPermutation s.flight (all_of (space_after m l o a ranges around s p))
   unfolding space_after
   ack_settles m l o a ranges around s p =
       either_parts (length (acked_of ranges s) == 0) s.flight _ _
-      (λ none. subst (λ (es : List Entry). IsPermutation s.flight (es ++ (space_acked a.largest ranges s).flight)) (length_none (acked_of ranges s) none) (acked_parts a.largest ranges s))
+      (λ none. marked_parts m o a _ s.flight (space_acked a.largest ranges s) p (subst (λ (es : List Entry). IsPermutation s.flight (es ++ (space_acked a.largest ranges s).flight)) (length_none (acked_of ranges s) none) (acked_parts a.largest ranges s)))
       (found_parts m l o a around _ _ (acked_of ranges s) s.flight (space_acked a.largest ranges s) _ (acked_parts a.largest ranges s))
 
   pub timer_settles : (m : Control C) (l : Limits) (now : ℕ) (id : SpaceId) (s : SpaceRecovery) (p : PathData C) → IsPermutation s.flight (all_of (space_timed m l now id s p))

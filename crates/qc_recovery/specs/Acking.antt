@@ -9,12 +9,13 @@ use Rattle.qc_path.specs.Arrived.{exceeds}
 use Rattle.qc_path.specs.Mtu.{is_probe, mtu_acked, mtu_burst, mtu_probe_lost}
 use Rattle.qc_path.specs.RoundTrips.{sampled}
 use Rattle.qc_path.specs.declared.controller.Controller.{Ghosts as Control}
-use Rattle.qc_recovery.specs.Losses.{congestion_span, is_data, marks_span, persists, start_after}
+use Rattle.qc_recovery.specs.Losses.{burst_ended, burst_with, congestion_span, is_data, is_in_burst, marks_span, persists, report_of, start_after}
 use Rattle.qc_recovery.specs.declared.burst.Burst.{Burst}
 use Rattle.qc_recovery.specs.declared.calls.Around.{Around}
 use Rattle.qc_recovery.specs.declared.ecn.EcnVerdict.{EcnVerdict}
 use Rattle.qc_recovery.specs.declared.ecn.EcnVerdict.TheVariants as ecn
 use Rattle.qc_recovery.specs.declared.limits.Limits.{Limits}
+use Rattle.qc_recovery.specs.declared.losses.LossReport.{LossReport}
 use Rattle.qc_recovery.specs.declared.path.PathData.{PathData}
 use Rattle.qc_recovery.specs.declared.space.SpaceRecovery.{SpaceRecovery}
 
@@ -76,23 +77,26 @@ first_noted (Some sample) space next = Some sample
 
 -- ---- ECN
 
--- counts that can't be: one falls, or that of ECT(1) rises, or the two others rise by less than what was acknowledged
+-- Counts that can't be: one falls, or that of ECT(1), a mark that is never sent, rises, or the two others together rise by
+-- less than the packets that are newly acknowledged (RFC 9000, section 13.4.2.1).
 unfoldable pub are_bad : EcnCounts → EcnCounts → ℕ → Bool
 are_bad old new acked =
     nat_lt new.ect0 old.ect0 || not (new.ect1 == old.ect1) || nat_lt new.ce old.ce || nat_lt ((new.ect0 - old.ect0) + (new.ce - old.ce)) acked
 
--- what the counts of an ACK show, which newly acknowledges packets: one without counts ends marking; counts are looked
--- at where it raises the greatest number acknowledged
+-- What the counts of an ACK show. They are looked at where it raises the greatest number acknowledged: ACKs may come out of
+-- order, and such a one never ends marking (RFC 9000, section 13.4.2.1). Counts that can't be, of an ACK that newly
+-- acknowledges packets, end it; a rise of the count of CE is congestion (RFC 9002, section 7.1).
 abbrev pub counts_show : Bool → EcnCounts → EcnCounts → ℕ → EcnVerdict
 counts_show raises old new acked =
     if not raises then ecn.Unread
-    else if are_bad old new acked then ecn.Bad
+    else if not (acked == 0) && are_bad old new acked then ecn.Bad
     else if nat_lt old.ce new.ce then ecn.Congested
     else ecn.Good
 
--- the same for counts that may be missing
+-- The same for counts that may be missing: an ACK that newly acknowledges packets, all of which were marked, and has none
+-- ends marking (RFC 9000, section 13.4.2.1).
 abbrev pub counts_or_none_show : Bool → EcnCounts → Option EcnCounts → ℕ → EcnVerdict
-counts_or_none_show raises old None acked = ecn.Missing
+counts_or_none_show raises old None acked = if acked == 0 then ecn.Unread else ecn.Missing
 counts_or_none_show raises old (Some new) acked = counts_show raises old new acked
 
 -- what an ACK shows on a path whose packets carry a mark, or no longer do
@@ -141,27 +145,39 @@ module _ {C : Type 0} where
 
   -- ---- lost packets
 
-  -- the search is told the smallest size that was lost; where that shows a black hole, the controller is told the size
-  -- that is left
-  unfoldable pub hole_told : Control C → ℕ → Option ℕ → PathData C → PathData C
+  -- the search is told of a burst, by its smallest size; where that shows a black hole, the controller is told the size that
+  -- is left
+  unfoldable pub hole_told : Control C → ℕ → Option Burst → PathData C → PathData C
   hole_told m now None p = p
-  hole_told m now (Some size) p = record p {
-    mtud = mtu_burst now size p.mtud;
-    congestion = if nat_lt (mtu_burst now size p.mtud).current p.mtud.current then m.after_resize p.congestion (mtu_burst now size p.mtud).current else p.congestion;
+  hole_told m now (Some b) p = record p {
+    mtud = mtu_burst now b.smallest p.mtud;
+    congestion = if nat_lt (mtu_burst now b.smallest p.mtud).current p.mtud.current then m.after_resize p.congestion (mtu_burst now b.smallest p.mtud).current else p.congestion;
   }
 
-  -- the controller is told of the packets lost at once, where one of them counted as in flight
-  unfoldable pub event_told : Control C → ℕ → Bool → Burst → PathData C → PathData C
-  event_told m now persistent b p =
-      if b.counted then record p { congestion = m.after_congestion p.congestion now b.at persistent b.bytes } else p
+  -- the search is told of the bursts of these lost packets, one after the other; `burst` is the one that goes on
+  abbrev pub bursts_from : Control C → ℕ → Option Burst → List Entry → PathData C → PathData C
+  bursts_from m now burst [] p = hole_told m now burst p
+  bursts_from m now burst (e ∷ es) p = bursts_from m now (Some (burst_with burst e.0 e.1.size)) es (hole_told m now (burst_ended burst e.0) p)
 
-  -- the search is told that its probe is lost
-  unfoldable pub probe_told : ℕ → Burst → PathData C → PathData C
-  probe_told now b p = if b.probe then record p { mtud = mtu_probe_lost now p.mtud } else p
+  -- the search is told of the bursts of packets lost at once
+  unfoldable pub bursts_told : Control C → ℕ → SpaceId → List Entry → PathData C → PathData C
+  bursts_told m now space lost p = bursts_from m now None (those (is_in_burst space p.mtud) lost) p
 
-  -- all this is told of packets lost at once
-  unfoldable pub burst_told : Control C → ℕ → Bool → Burst → PathData C → PathData C
-  burst_told m now persistent b p = probe_told now b (event_told m now persistent b (hole_told m now b.smallest p))
+  -- The controller is told of the packets lost at once, where one of them counted as in flight: losing packets that count
+  -- is a sign of congestion (RFC 9002, sections 7 and 7.3.2).
+  unfoldable pub event_told : Control C → ℕ → Bool → LossReport → PathData C → PathData C
+  event_told m now persistent r p =
+      if r.counted then record p { congestion = m.after_congestion p.congestion now r.at persistent r.bytes } else p
+
+  -- The search is told that its probe is lost. Such a loss is no sign of congestion (RFC 9000, section 14.4).
+  unfoldable pub probe_told : ℕ → LossReport → PathData C → PathData C
+  probe_told now r p = if r.probe then record p { mtud = mtu_probe_lost now p.mtud } else p
+
+  -- all this is told of packets lost at once: the bursts, the controller's event, and the probe
+  unfoldable pub losses_told : Control C → ℕ → SpaceId → Bool → List Entry → PathData C → PathData C
+  losses_told m now space persistent lost p =
+      let report : LossReport = report_of space p.mtud lost in
+      probe_told now report (event_told m now persistent report (bursts_told m now space lost p))
 
   -- an ACK shows a persistent congestion by the packets that it shows to be lost
   unfoldable pub is_persistent_in : Limits → SpaceId → ℕ → List Entry → PathData C → Bool

@@ -1,5 +1,5 @@
 -- Packets lost at once: what the controller and the search for a larger datagram are told of them, and persistent
--- congestion (RFC 9002, sections 6.1 and 7.6)
+-- congestion (RFC 9002, sections 6.1 and 7.6; RFC 8899, section 4.3)
 use Rattle.std.specs.Prelude.{ℕ, ◌+◌, ◌-◌, ◌/◌, ◌==◌, Bool, true, false, not, ◌&&◌, ◌||◌, nat_lt, nat_le, if◌then◌else◌, List, [], ◌∷◌, Option, Some, None, min, max}
 use Rattle.qc_base.specs.Time.{plus, times}
 use Rattle.qc_base.specs.declared.side.SpaceId.{SpaceId}
@@ -8,6 +8,7 @@ use Rattle.qc_flight.specs.Packets.{Entry}
 use Rattle.qc_path.specs.Mtu.{Mtu, is_probe}
 use Rattle.qc_path.specs.RoundTrips.{Rtt, cautious, probe_base}
 use Rattle.qc_recovery.specs.declared.burst.Burst.{Burst}
+use Rattle.qc_recovery.specs.declared.losses.LossReport.{LossReport}
 use Rattle.qc_recovery.specs.declared.limits.Limits.{Limits}
 
 -- the space of 0-RTT and 1-RTT packets
@@ -29,30 +30,45 @@ loss_delay l rtt = max (times (cautious rtt) l.time_numerator / max l.time_denom
 abbrev pub is_probe_in : SpaceId → Mtu → Entry → Bool
 is_probe_in space m e = is_data space && is_probe e.0 m
 
--- the smallest size with one more
-abbrev pub smaller : Option ℕ → ℕ → Option ℕ
-smaller None size = Some size
-smaller (Some least) size = Some (min least size)
-
 -- one more packet is lost: a probe is noted alone
-unfoldable pub burst_with : SpaceId → Mtu → Entry → Burst → Burst
-burst_with space m e b =
-    if is_probe_in space m e then record b { probe = true }
-    else record b { bytes = plus b.bytes e.1.size; counted = b.counted || e.1.counted; smallest = smaller b.smallest e.1.size; at = e.1.at }
+unfoldable pub report_with : SpaceId → Mtu → Entry → LossReport → LossReport
+report_with space m e r =
+    if is_probe_in space m e then record r { probe = true }
+    else record r { bytes = plus r.bytes e.1.size; counted = r.counted || e.1.counted; at = e.1.at }
 
 -- these packets are lost too, one after the other
-abbrev pub burst_from : SpaceId → Mtu → Burst → List Entry → Burst
-burst_from space m b [] = b
-burst_from space m b (e ∷ es) = burst_from space m (burst_with space m e b) es
+abbrev pub report_from : SpaceId → Mtu → LossReport → List Entry → LossReport
+report_from space m r [] = r
+report_from space m r (e ∷ es) = report_from space m (report_with space m e r) es
 
 -- no packet is lost
-unfoldable pub no_burst : Burst
-no_burst = record { bytes = 0; counted = false; smallest = None; at = 0; probe = false }
+unfoldable pub no_report : LossReport
+no_report = record { bytes = 0; counted = false; at = 0; probe = false }
 
--- of packets lost at once, probes aside: their bytes, whether one counted as in flight, the smallest size, and when the
--- greatest one was sent
-unfoldable pub burst_of : SpaceId → Mtu → List Entry → Burst
-burst_of space m es = burst_from space m no_burst es
+-- of packets lost at once, probes aside: their bytes, whether one counted as in flight, and when the greatest one was sent
+unfoldable pub report_of : SpaceId → Mtu → List Entry → LossReport
+report_of space m es = report_from space m no_report es
+
+-- ---- bursts
+
+-- A burst is a run of lost packets with consecutive numbers. Packets of the Data space alone make one, and no MTU probe: a
+-- probe's loss says nothing of the size in use (RFC 8899, sections 3 and 4.3).
+abbrev pub is_in_burst : SpaceId → Mtu → Entry → Bool
+is_in_burst space m e = is_data space && not (is_probe e.0 m)
+
+-- a burst that begins with a packet of this number and size
+abbrev pub burst_begun : ℕ → ℕ → Burst
+burst_begun number size = record { smallest = size; last = number }
+
+-- the burst that ends before a lost packet, whose number isn't the next one
+abbrev pub burst_ended : Option Burst → ℕ → Option Burst
+burst_ended None number = None
+burst_ended (Some b) number = if number == b.last + 1 then None else Some b
+
+-- the burst that a lost packet goes on with, or that it begins
+abbrev pub burst_with : Option Burst → ℕ → ℕ → Burst
+burst_with None number size = burst_begun number size
+burst_with (Some b) number size = if number == b.last + 1 then record { smallest = min b.smallest size; last = number } else burst_begun number size
 
 -- ---- persistent congestion
 

@@ -11,8 +11,8 @@ use Rattle.qc_path.specs.Arrived.{exceeds}
 use Rattle.qc_path.specs.Mtu.{mtu_forgotten}
 use Rattle.qc_path.specs.RoundTrips.{Rtt, probe_base}
 use Rattle.qc_path.specs.declared.controller.Controller.{Ghosts as Control}
-use Rattle.qc_recovery.specs.Acking.{acked_of, acks_told, burst_told, counts_kept, ecn_shown, ecn_told, end_told, held, held_back, is_persistent_in, limit_with, lost_of, no_counts, sample_taken, space_acked, space_less}
-use Rattle.qc_recovery.specs.Losses.{burst_of, is_data, loss_delay}
+use Rattle.qc_recovery.specs.Acking.{acked_of, acks_told, counts_kept, ecn_shown, ecn_told, end_told, held, held_back, is_persistent_in, limit_with, losses_told, lost_of, no_counts, sample_taken, space_acked, space_less}
+use Rattle.qc_recovery.specs.Losses.{is_data, loss_delay}
 use Rattle.qc_recovery.specs.declared.calls.AckValues.{AckValues}
 use Rattle.qc_recovery.specs.declared.calls.Around.{Around}
 use Rattle.qc_recovery.specs.declared.calls.Fired.{Fired}
@@ -219,7 +219,7 @@ module _ {C : Type 0} where
 
   -- the path is told of the packets that an ACK shows to be lost
   unfoldable pub path_lost : Control C → Limits → Occasion → Around → List Entry → PathData C → PathData C
-  path_lost m l o around lost p = burst_told m o.time (is_persistent_in l o.space around.max_ack_delay lost p) (burst_of o.space p.mtud lost) p
+  path_lost m l o around lost p = losses_told m o.time o.space (is_persistent_in l o.space around.max_ack_delay lost p) lost p
 
   -- the counts of the ACK are looked at
   unfoldable pub marks_read : Control C → Occasion → AckValues → Bool → List Entry → List Entry → SpaceRecovery → PathData C → SpaceAfter C
@@ -233,10 +233,11 @@ module _ {C : Type 0} where
       marks_read m o a raises acked (lost_of l o.time (loss_delay l p.rtt) largest s) (space_less l o.time (loss_delay l p.rtt) largest s)
       (path_lost m l o around (lost_of l o.time (loss_delay l p.rtt) largest s) p)
 
-  -- an ACK that newly acknowledges nothing only raises the greatest number
+  -- An ACK that newly acknowledges nothing only raises the greatest number, and its counts are looked at. Else the packets
+  -- that it acknowledges are told, loss is looked for, and then the counts are looked at (RFC 9002, appendix A.7).
   unfoldable pub space_after : Control C → Limits → Occasion → AckValues → List NumberRange → Around → SpaceRecovery → PathData C → SpaceAfter C
   space_after m l o a ranges around s p =
-      if length (acked_of ranges s) == 0 then space_with (space_acked a.largest ranges s) p [] []
+      if length (acked_of ranges s) == 0 then marks_read m o a (exceeds s.greatest a.largest) [] [] (space_acked a.largest ranges s) p
       else losses_found m l o a around (exceeds s.greatest a.largest) (limit_with s.greatest a.largest) (acked_of ranges s) (space_acked a.largest ranges s)
       (path_acked m o a around (exceeds s.greatest a.largest) (acked_of ranges s) (space_acked a.largest ranges s) p)
 
@@ -259,7 +260,7 @@ module _ {C : Type 0} where
   unfoldable pub space_timed : Control C → Limits → ℕ → SpaceId → SpaceRecovery → PathData C → SpaceAfter C
   space_timed m l now id s p =
       space_with (space_less l now (loss_delay l p.rtt) (unwrap_or s.greatest 0) s)
-      (burst_told m now false (burst_of id p.mtud (lost_of l now (loss_delay l p.rtt) (unwrap_or s.greatest 0) s)) p)
+      (losses_told m now id false (lost_of l now (loss_delay l p.rtt) (unwrap_or s.greatest 0) s) p)
       [] (lost_of l now (loss_delay l p.rtt) (unwrap_or s.greatest 0) s)
 
   -- the timer found these packets lost

@@ -6,14 +6,14 @@ ghost use Rattle.qc_flight.specs.Packets.{Entry, PassesUpTo, is_acked, up_to};
 ghost use Rattle.qc_recovery.specs.Acking.{held_back};
 ghost use Rattle.qc_recovery.specs.Steps.{has_eliciting, losses_found, marks_read, path_acked, path_lost, sampled_if, space_after, space_timed, space_with};
 
-use crate::burst::{delay_of_loss, in_data, summed};
 use crate::calls::{AckValues, Around, Occasion, Settled};
 use crate::ecn::{kept, verdict};
 use crate::limits::Limits;
+use crate::losses::{delay_of_loss, in_data};
 use crate::path::PathData;
 use crate::power::power_of_two;
 use crate::space::{SpaceRecovery, is_raised, limit_of};
-use crate::telling::{shows_persistent, take_sample, tell_acks, tell_burst, tell_ecn, tell_end};
+use crate::telling::{shows_persistent, take_sample, tell_acks, tell_ecn, tell_end, tell_losses};
 use qc_base::{Duration, Instant, NumberRange, SpaceId};
 use qc_flight::{PacketList, Room};
 use qc_path::Controller;
@@ -110,8 +110,7 @@ fn tell_lost<C: Controller>(
     ensures { path.new ≡ path_lost C.Controller limits.now occasion.now around.now lost.now path.old }
 {
     let persistent = shows_persistent(path, limits, occasion.space, around.max_ack_delay, lost);
-    let burst = summed(occasion.space, &path.mtud, lost);
-    tell_burst(path, occasion.time, persistent, &burst);
+    tell_losses(path, occasion.time, occasion.space, persistent, lost);
 }
 
 /// The counts of an ACK are looked at.
@@ -185,6 +184,7 @@ pub(crate) fn acknowledge<C: Controller>(
     let room_for_lost = space.flight.room(largest)?;
     let acked = space.acknowledge(ack.largest, ranges, room);
     if acked.is_empty() {
+        read_marks(space, path, occasion, ack, raises, &acked);
         return Ok(Settled {
             acked,
             lost: PacketList::none(room_for_lost),
@@ -223,7 +223,6 @@ pub(crate) fn lose<C: Controller>(
     let room = space.flight.room(largest)?;
     let delay = delay_of_loss(limits, &path.rtt);
     let lost = space.take_lost(limits, now, delay, largest, room);
-    let burst = summed(id, &path.mtud, &lost);
-    tell_burst(path, now, false, &burst);
+    tell_losses(path, now, id, false, &lost);
     Ok(lost)
 }

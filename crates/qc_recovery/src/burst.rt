@@ -1,242 +1,80 @@
-//! Packets that are lost at once.
+//! Bursts of lost packets, by which a path that lost its datagram size is found (RFC 8899, section
+//! 4.3).
 
-ghost use Rattle.std.specs.Prelude.{◌≡◌, ◌+◌, ◌==◌, ◌&&◌, ◌||◌};
-ghost use Rattle.qc_recovery.specs.Losses.{burst_of, burst_with, congestion_span, earlier_start, is_data, is_far, is_probe_in, loss_delay, marks_span, may_start, no_burst, persists, rank, run_on, smaller, start_after, start_by};
+ghost use Rattle.std.specs.Prelude.{◌≡◌, ◌+◌, ◌==◌, ◌&&◌};
+ghost use Rattle.qc_recovery.specs.Losses.{burst_begun, burst_ended, burst_with, is_data, is_in_burst};
 
-use crate::limits::Limits;
-use qc_base::{Duration, Instant, SpaceId};
-use qc_flight::{PacketList, SentPacket};
-use qc_path::{MtuDiscovery, RttEstimator};
+use crate::losses::{in_data, probes};
+use qc_base::SpaceId;
+use qc_flight::SentPacket;
+use qc_path::MtuDiscovery;
 
-/// The least time in nanoseconds after which a packet counts as lost: 1 ms.
-const GRANULARITY: u64 = 1_000_000;
-
-/// What is told of packets that are lost at once. An MTU probe is told of alone.
+/// Lost packets with consecutive numbers.
 #[derive(Clone, Copy, Debug)]
 pub struct Burst {
-    /// Their bytes.
-    pub bytes: u64,
-    /// Whether one of them counted as in flight.
-    pub counted: bool,
-    /// The smallest size.
-    pub smallest: Option<u64>,
-    /// When the greatest one was sent.
-    pub at: Instant,
-    /// Whether the MTU probe is lost too.
-    pub probe: bool,
+    /// The smallest size of one.
+    pub smallest: u64,
+    /// The greatest number.
+    pub last: u64,
 }
 
-pub(crate) fn in_data(space: SpaceId) -> bool
-    ensures { result ≡ is_data space }
+/// Whether a lost packet belongs to a burst.
+pub(crate) fn is_burst_packet(
+    space: SpaceId,
+    mtud: &MtuDiscovery,
+    entry: &(u64, SentPacket),
+) -> bool
+    ensures { result ≡ is_in_burst space mtud.now entry.now }
 {
-    match space {
-        SpaceId::Data => true,
-        SpaceId::Initial | SpaceId::Handshake => false,
-    }
+    in_data(space) && !probes(space, mtud, entry)
 }
 
-pub(crate) fn rank_of(space: SpaceId) -> u8
-    ensures { result ≡ rank space }
+fn begun(packet: u64, size: u64) -> Burst
+    ensures { result ≡ burst_begun packet size }
 {
-    match space {
-        SpaceId::Initial => 0,
-        SpaceId::Handshake => 1,
-        SpaceId::Data => 2,
-    }
-}
-
-/// How long ago a packet below the greatest one acknowledged has to be sent to be lost.
-#[tactic(auto, unfolding(crate::specs::Losses::loss_delay))]
-pub(crate) fn delay_of_loss(limits: &Limits, rtt: &RttEstimator) -> Duration
-    ensures { result ≡ loss_delay limits.now rtt.now }
-{
-    let rtt = rtt.conservative().nanos();
-    let part = rtt.saturating_mul(limits.time_numerator) / limits.time_denominator.max(1);
-    Duration::from_nanos(part.max(GRANULARITY))
-}
-
-fn probes(space: SpaceId, mtud: &MtuDiscovery, entry: &(u64, SentPacket)) -> bool
-    ensures { result ≡ is_probe_in space mtud.now entry.now }
-{
-    in_data(space) && mtud.is_probe(entry.0)
-}
-
-fn smaller_of(least: Option<u64>, size: u64) -> Option<u64>
-    ensures { result ≡ smaller least size }
-{
-    match least {
-        None => Some(size),
-        Some(least) => Some(least.min(size)),
-    }
-}
-
-fn either(a: bool, b: bool) -> bool
-    ensures { result ≡ (a || b) }
-{
-    a || b
-}
-
-#[tactic(auto, unfolding(crate::specs::Losses::burst_with))]
-fn add(burst: Burst, space: SpaceId, mtud: &MtuDiscovery, entry: &(u64, SentPacket)) -> Burst
-    ensures { result ≡ burst_with space mtud.now entry.now burst }
-{
-    let packet = &entry.1;
-    if probes(space, mtud, entry) {
-        return Burst {
-            bytes: burst.bytes,
-            counted: burst.counted,
-            smallest: burst.smallest,
-            at: burst.at,
-            probe: true,
-        };
-    }
     Burst {
-        bytes: burst.bytes.saturating_add(packet.size),
-        counted: either(burst.counted, packet.counted),
-        smallest: smaller_of(burst.smallest, packet.size),
-        at: packet.at,
-        probe: burst.probe,
+        smallest: size,
+        last: packet,
     }
 }
 
-/// What is told of these packets.
-#[tactic(auto, unfolding(crate::specs::Losses::burst_of, crate::specs::Losses::no_burst))]
-pub(crate) fn summed(space: SpaceId, mtud: &MtuDiscovery, lost: &PacketList) -> Burst
-    ensures { result ≡ burst_of space mtud.now lost.now }
-{
-    let mut burst = Burst {
-        bytes: 0,
-        counted: false,
-        smallest: None,
-        at: Instant::from_nanos(0),
-        probe: false,
-    };
-    let mut place = 0;
-    while place < lost.len() {
-        let entry = lost.entry(place);
-        burst = add(burst, space, mtud, entry);
-        place += 1;
-    }
-    burst
-}
-
-fn marks(space: SpaceId, mtud: &MtuDiscovery, entry: &(u64, SentPacket)) -> bool
-    ensures { result ≡ marks_span space mtud.now entry.now }
-{
-    entry.1.ack_eliciting && !probes(space, mtud, entry)
-}
-
-fn start(before: bool, same: bool, next: u64) -> Option<u64>
-    ensures { result ≡ start_by before same next }
-{
-    if before {
-        return Some(0);
-    }
-    if same {
-        Some(next.saturating_add(1))
-    } else {
-        None
-    }
-}
-
-fn start_of(space: SpaceId, sample: Option<(SpaceId, u64)>) -> Option<u64>
-    ensures { result ≡ start_after space sample }
-{
-    match sample {
-        None => None,
-        Some(sample) => {
-            let of_sample = rank_of(sample.0);
-            let here = rank_of(space);
-            start(of_sample < here, of_sample == here, sample.1)
-        }
-    }
-}
-
-fn starts(start: Option<u64>, number: u64) -> bool
-    ensures { result ≡ may_start start number }
-{
-    match start {
-        None => false,
-        Some(least) => least <= number,
-    }
-}
-
-fn continued(next: bool, from: Option<u64>) -> Option<u64>
-    ensures { result ≡ run_on next from }
-{
-    if next { from } else { None }
-}
-
-fn with_start(starts: bool, from: Option<u64>, time: u64) -> Option<u64>
-    ensures { result ≡ earlier_start starts from time }
-{
-    if !starts {
-        return from;
-    }
-    match from {
-        None => Some(time),
-        Some(from) => Some(from.min(time)),
-    }
-}
-
-fn far(span: Duration, from: Option<u64>, time: u64) -> bool
-    ensures { result ≡ is_far span from time }
-{
-    match from {
-        None => false,
-        Some(from) => span.nanos() < time.saturating_sub(from),
-    }
-}
-
-fn follows(number: u64, before: u64) -> bool
+fn is_next(before: u64, number: u64) -> bool
     ensures { result ≡ (number == before + 1) }
 {
     before < number && number - before == 1
 }
 
-fn both(a: bool, b: bool) -> bool
-    ensures { result ≡ (a && b) }
+/// The burst that ends before a lost packet with this number, if one does.
+pub(crate) fn ended_by(burst: Option<Burst>, number: u64) -> Option<Burst>
+    ensures { result ≡ burst_ended burst number }
 {
-    a && b
-}
-
-/// Whether these packets, lost at once, show a persistent congestion (RFC 9002, section 7.6):
-/// two of them that elicit an ACK, both after the path's first sample, were sent more than `span`
-/// apart, and all numbers between them are lost too.
-#[tactic(auto, using(crate::proofs::Spans::scan_start, crate::proofs::Spans::scan_end))]
-pub(crate) fn is_persistent(
-    space: SpaceId,
-    mtud: &MtuDiscovery,
-    sample: Option<(SpaceId, u64)>,
-    span: Duration,
-    lost: &PacketList,
-) -> bool
-    ensures { result ≡ persists (marks_span space mtud.now) span (start_after space sample) lost.now }
-{
-    let least = start_of(space, sample);
-    let mut before = 0;
-    let mut from: Option<u64> = None;
-    let mut place = 0;
-    while place < lost.len() {
-        let entry = lost.entry(place);
-        let number = entry.0;
-        let time = entry.1.at.nanos();
-        let marked = marks(space, mtud, entry);
-        let run = continued(follows(number, before), from);
-        if both(marked, far(span, run, time)) {
-            return true;
+    match burst {
+        None => None,
+        Some(burst) => {
+            if is_next(burst.last, number) {
+                None
+            } else {
+                Some(burst)
+            }
         }
-        from = with_start(both(marked, starts(least, number)), run, time);
-        before = number;
-        place += 1;
     }
-    false
 }
 
-/// How far apart two lost packets have to be sent for that.
-#[tactic(auto, unfolding(crate::specs::Losses::congestion_span))]
-pub(crate) fn span_of(limits: &Limits, rtt: &RttEstimator, max_ack_delay: Duration) -> Duration
-    ensures { result ≡ congestion_span limits.now rtt.now max_ack_delay }
+/// The burst that a lost packet with this number and size goes on with, or that it begins.
+pub(crate) fn with(burst: Option<Burst>, number: u64, size: u64) -> Burst
+    ensures { result ≡ burst_with burst number size }
 {
-    rtt.pto_base().plus(max_ack_delay).times(limits.persistent)
+    match burst {
+        None => begun(number, size),
+        Some(burst) => {
+            if is_next(burst.last, number) {
+                Burst {
+                    smallest: burst.smallest.min(size),
+                    last: number,
+                }
+            } else {
+                begun(number, size)
+            }
+        }
+    }
 }

@@ -44,7 +44,7 @@ fn shown(raises: bool, old: EcnCounts, new: EcnCounts, acked: u64) -> EcnVerdict
     if !raises {
         return EcnVerdict::Unread;
     }
-    if cannot_be(old, new, acked) {
+    if acked != 0 && cannot_be(old, new, acked) {
         return EcnVerdict::Bad;
     }
     if old.ce < new.ce {
@@ -57,7 +57,13 @@ fn shown_by(raises: bool, old: EcnCounts, new: Option<EcnCounts>, acked: u64) ->
     ensures { result ≡ counts_or_none_show raises old new acked }
 {
     match new {
-        None => EcnVerdict::Missing,
+        None => {
+            if acked == 0 {
+                EcnVerdict::Unread
+            } else {
+                EcnVerdict::Missing
+            }
+        }
         Some(new) => shown(raises, old, new, acked),
     }
 }

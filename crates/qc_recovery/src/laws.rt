@@ -1,12 +1,13 @@
 //! What holds of recovery's steps.
 
-ghost use Rattle.std.specs.Prelude.{◌≡◌, ℕ, List, [], IsPermutation};
+ghost use Rattle.std.specs.Prelude.{◌≡◌, ℕ, false, List, [], None, IsPermutation};
 ghost use Rattle.qc_base.specs.declared.range_set.NumberRange.{NumberRange};
 ghost use Rattle.qc_base.specs.declared.side.SpaceId.{SpaceId};
 ghost use Rattle.qc_flight.specs.Packets.{is_acked, those};
+ghost use Rattle.qc_path.specs.Arrived.{exceeds};
 ghost use Rattle.qc_recovery.specs.Acking.{raised};
 ghost use Rattle.qc_recovery.specs.Settlement.{all_of};
-ghost use Rattle.qc_recovery.specs.Steps.{space_after, space_timed, space_with};
+ghost use Rattle.qc_recovery.specs.Steps.{marks_read, space_after, space_timed, space_with};
 ghost use Rattle.qc_recovery.specs.declared.calls.AckValues.{AckValues};
 ghost use Rattle.qc_recovery.specs.declared.calls.Around.{Around};
 ghost use Rattle.qc_recovery.specs.declared.calls.Occasion.{Occasion};
@@ -18,9 +19,12 @@ use qc_flight::packets_leave_once;
 use qc_path::Controller;
 
 /// A law, which runs no code. An ACK of numbers none of which is in flight changes nothing but the
-/// greatest number acknowledged.
+/// greatest number acknowledged, and its counts of marks are looked at; where the path's packets carry
+/// no mark, or the ACK has no counts, that changes nothing either.
 pub fn unknown_numbers_change_little<C: Controller>()
-    ensures { (l : Limits) (o : Occasion) (a : AckValues) (ranges : List NumberRange) (around : Around) (s : SpaceRecovery) (p : PathData C) → those (is_acked ranges) s.flight ≡ [] → space_after C.Controller l o a ranges around s p ≡ space_with (raised a.largest [] s) p [] [] }
+    ensures marks { (l : Limits) (o : Occasion) (a : AckValues) (ranges : List NumberRange) (around : Around) (s : SpaceRecovery) (p : PathData C) → those (is_acked ranges) s.flight ≡ [] → space_after C.Controller l o a ranges around s p ≡ marks_read C.Controller o a (exceeds s.greatest a.largest) [] [] (raised a.largest [] s) p }
+    ensures unmarked { (l : Limits) (o : Occasion) (a : AckValues) (ranges : List NumberRange) (around : Around) (s : SpaceRecovery) (p : PathData C) → those (is_acked ranges) s.flight ≡ [] → p.sending_ecn ≡ false → space_after C.Controller l o a ranges around s p ≡ space_with (raised a.largest [] s) p [] [] }
+    ensures uncounted { (l : Limits) (o : Occasion) (a : AckValues) (ranges : List NumberRange) (around : Around) (s : SpaceRecovery) (p : PathData C) → those (is_acked ranges) s.flight ≡ [] → a.ecn ≡ None → space_after C.Controller l o a ranges around s p ≡ space_with (raised a.largest [] s) p [] [] }
 {
     packets_leave_once();
 }

@@ -1,7 +1,7 @@
 //! What recovery keeps of a path.
 
 ghost use Rattle.std.specs.Prelude.{◌≡◌};
-ghost use Rattle.qc_recovery.specs.Paths.{begun_path, first_size, searched, searched_if};
+ghost use Rattle.qc_recovery.specs.Paths.{begun_path, first_size, moved_path, renewed_path, searched, searched_if};
 
 use crate::mtu_config::MtuDiscoveryConfig;
 use crate::transport_config::TransportConfig;
@@ -94,6 +94,57 @@ impl<C: Controller> PathData<C> {
             challenge: None,
             sending_ecn: true,
             first_sample: None,
+        }
+    }
+
+    /// The path after a migration to the same IPv4 address, where another port is all that changed
+    /// (RFC 9000, section 9.4): round trips, controller, size and search go on, with the probe in
+    /// flight. Its pacer is full, it isn't being validated yet, and its packets are marked.
+    #[tactic(auto, unfolding(crate::specs::Paths::moved_path))]
+    pub fn moved(&self, now: Instant) -> PathData<C>
+        ensures { result ≡ moved_path C.Controller now self.now }
+    {
+        let congestion = self.congestion.copy();
+        let mtud = self.mtud.copy();
+        let rate = PathRate {
+            window: congestion.window(),
+            rtt: self.rtt.get(),
+            mtu: mtud.current_mtu(),
+        };
+        PathData {
+            rtt: self.rtt,
+            congestion,
+            pacing: Pacer::new(now, &rate),
+            mtud,
+            challenge: None,
+            sending_ecn: true,
+            first_sample: self.first_sample,
+        }
+    }
+
+    /// The path after the application said that it changed: round trips, controller, pacer, size and
+    /// search begin anew, as in [`PathData::new`]. Whether it is being validated, whether its packets
+    /// are marked and its first round trip time stay.
+    #[tactic(auto, unfolding(crate::specs::Paths::renewed_path))]
+    pub fn renewed(
+        &self,
+        now: Instant,
+        config: &TransportConfig,
+        congestion: C,
+        allow_mtud: bool,
+        peer: Option<u16>,
+    ) -> PathData<C>
+        ensures { result ≡ renewed_path C.Controller now config.now congestion allow_mtud peer self.now }
+    {
+        let path = PathData::new(now, config, congestion, allow_mtud, peer);
+        PathData {
+            rtt: path.rtt,
+            congestion: path.congestion,
+            pacing: path.pacing,
+            mtud: path.mtud,
+            challenge: self.challenge,
+            sending_ecn: self.sending_ecn,
+            first_sample: self.first_sample,
         }
     }
 }

@@ -13,9 +13,9 @@ ghost use Rattle.qc_recovery.specs.Steps.{ack_after, after_with, all_bytes, arme
 
 use crate::ack::{ranges_up, values};
 use crate::acking::{acknowledge, lose};
-use crate::burst::in_data;
 use crate::calls::{AckValues, Around, Fired, Occasion, Settled};
 use crate::limits::Limits;
+use crate::losses::in_data;
 use crate::path::PathData;
 use crate::power::power_of_two;
 use crate::space::SpaceRecovery;

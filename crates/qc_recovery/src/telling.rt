@@ -1,16 +1,17 @@
 //! What a path is told of packets that were acknowledged and lost.
 
-ghost use Rattle.std.specs.Prelude.{◌≡◌, Option, unwrap_or};
-ghost use Rattle.qc_recovery.specs.Acking.{ack_told, acks_told, burst_told, ecn_told, end_told, event_told, first_noted, held_back, hole_told, is_persistent_in, probe_told, sample_taken, size_told};
+ghost use Rattle.std.specs.Prelude.{◌≡◌};
+ghost use Rattle.qc_recovery.specs.Acking.{ack_told, acks_told, bursts_told, ecn_told, end_told, event_told, first_noted, hole_told, is_persistent_in, losses_told, probe_told, sample_taken, size_told};
 
-use crate::burst::{Burst, in_data, is_persistent, span_of};
-use crate::calls::Around;
+use crate::burst::{Burst, ended_by, is_burst_packet, with};
 use crate::ecn::EcnVerdict;
 use crate::limits::Limits;
+use crate::losses::{LossReport, in_data, summed};
 use crate::path::PathData;
+use crate::persistent::{is_persistent, span_of};
 use qc_base::{Duration, Instant, SpaceId};
 use qc_flight::{PacketList, SentPacket};
-use qc_path::{Controller, MtuDiscovery, RttEstimator};
+use qc_path::Controller;
 
 #[tactic(auto, unfolding(crate::specs::Acking::size_told))]
 fn tell_size<C: Controller>(
@@ -108,14 +109,14 @@ pub(crate) fn take_sample<C: Controller>(
 }
 
 #[tactic(auto, unfolding(crate::specs::Acking::hole_told))]
-fn tell_hole<C: Controller>(path: &mut PathData<C>, now: Instant, smallest: Option<u64>)
-    ensures { path.new ≡ hole_told C.Controller now smallest path.old }
+fn tell_hole<C: Controller>(path: &mut PathData<C>, now: Instant, burst: Option<Burst>)
+    ensures { path.new ≡ hole_told C.Controller now burst path.old }
 {
-    match smallest {
+    match burst {
         None => {}
-        Some(size) => {
+        Some(burst) => {
             let before = path.mtud.current_mtu();
-            path.mtud.on_burst_lost(now, size);
+            path.mtud.on_burst_lost(now, burst.smallest);
             let after = path.mtud.current_mtu();
             if after < before {
                 path.congestion.on_mtu_update(after);
@@ -124,38 +125,69 @@ fn tell_hole<C: Controller>(path: &mut PathData<C>, now: Instant, smallest: Opti
     }
 }
 
-#[tactic(auto, unfolding(crate::specs::Acking::event_told))]
-fn tell_event<C: Controller>(path: &mut PathData<C>, now: Instant, persistent: bool, burst: &Burst)
-    ensures { path.new ≡ event_told C.Controller now persistent burst.now path.old }
+/// The search is told of the bursts of packets that are lost at once.
+#[tactic(auto, unfolding(crate::specs::Acking::bursts_told), using(crate::proofs::Bursts::bursts_start, crate::proofs::Bursts::burst_goes_on, crate::proofs::Bursts::burst_passes, crate::proofs::Bursts::bursts_end))]
+fn tell_bursts<C: Controller>(
+    path: &mut PathData<C>,
+    now: Instant,
+    space: SpaceId,
+    lost: &PacketList,
+)
+    ensures { path.new ≡ bursts_told C.Controller now space lost.now path.old }
 {
-    if burst.counted {
+    let search = path.mtud.copy();
+    let mut burst: Option<Burst> = None;
+    let mut place = 0;
+    while place < lost.len() {
+        let entry = lost.entry(place);
+        if is_burst_packet(space, &search, entry) {
+            tell_hole(path, now, ended_by(burst, entry.0));
+            burst = Some(with(burst, entry.0, entry.1.size));
+        }
+        place += 1;
+    }
+    tell_hole(path, now, burst);
+}
+
+#[tactic(auto, unfolding(crate::specs::Acking::event_told))]
+fn tell_event<C: Controller>(
+    path: &mut PathData<C>,
+    now: Instant,
+    persistent: bool,
+    report: &LossReport,
+)
+    ensures { path.new ≡ event_told C.Controller now persistent report.now path.old }
+{
+    if report.counted {
         path.congestion
-            .on_congestion_event(now, burst.at, persistent, burst.bytes);
+            .on_congestion_event(now, report.at, persistent, report.bytes);
     }
 }
 
 #[tactic(auto, unfolding(crate::specs::Acking::probe_told))]
-fn tell_probe<C: Controller>(path: &mut PathData<C>, now: Instant, burst: &Burst)
-    ensures { path.new ≡ probe_told now burst.now path.old }
+fn tell_probe<C: Controller>(path: &mut PathData<C>, now: Instant, report: &LossReport)
+    ensures { path.new ≡ probe_told now report.now path.old }
 {
-    if burst.probe {
+    if report.probe {
         path.mtud.on_probe_lost(now);
     }
 }
 
 /// Packets are lost at once.
-#[tactic(auto, unfolding(crate::specs::Acking::burst_told))]
-pub(crate) fn tell_burst<C: Controller>(
+#[tactic(auto, unfolding(crate::specs::Acking::losses_told))]
+pub(crate) fn tell_losses<C: Controller>(
     path: &mut PathData<C>,
     now: Instant,
+    space: SpaceId,
     persistent: bool,
-    burst: &Burst,
+    lost: &PacketList,
 )
-    ensures { path.new ≡ burst_told C.Controller now persistent burst.now path.old }
+    ensures { path.new ≡ losses_told C.Controller now space persistent lost.now path.old }
 {
-    tell_hole(path, now, burst.smallest);
-    tell_event(path, now, persistent, burst);
-    tell_probe(path, now, burst);
+    let report = summed(space, &path.mtud, lost);
+    tell_bursts(path, now, space, lost);
+    tell_event(path, now, persistent, &report);
+    tell_probe(path, now, &report);
 }
 
 /// Whether packets that are lost at once show a persistent congestion.

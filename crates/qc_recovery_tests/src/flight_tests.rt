@@ -24,6 +24,7 @@ fn packet(alloc: Global, number: u64) -> SentPacket {
         counted: number != 3,
         ack_eliciting: number != 4,
         frames: FrameList::new(alloc),
+        new_token: None,
     }
 }
 
@@ -158,7 +159,10 @@ fn first_taken(
 #[test]
 fn packets_are_handed_out_from_the_front(rt: HostRuntime) -> Result<(), Fail> {
     let mut flight = ten_packets(rt.alloc())?;
-    assert_eq!(rt; first_taken(&mut flight, &[1, 2, 5, 8, 9, 12])?, Some((1, 110, 4)));
+    assert_eq!(rt;
+        first_taken(&mut flight, &[1, 2, 5, 8, 9, 12])?,
+        Some((1, 110, 4))
+    );
     Ok(())
 }
 
@@ -207,6 +211,7 @@ fn last_packet(alloc: Global) -> SentPacket {
         counted: true,
         ack_eliciting: true,
         frames: FrameList::new(alloc),
+        new_token: None,
     }
 }
 

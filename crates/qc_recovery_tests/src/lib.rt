@@ -2,11 +2,15 @@
 #![tactic(auto)]
 
 #[cfg(test)]
+mod burst_tests;
+#[cfg(test)]
 mod counts_tests;
 #[cfg(test)]
 mod flight_tests;
 #[cfg(test)]
 mod loss_tests;
+#[cfg(test)]
+mod path_tests;
 #[cfg(test)]
 mod probe_tests;
 #[cfg(test)]

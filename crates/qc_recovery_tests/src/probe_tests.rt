@@ -14,7 +14,10 @@ fn probes_double(rt: HostRuntime) -> Result<(), Fail> {
     sender.send(alloc, 0, at(10))?;
     for due in [1034, 2058, 4106, 8202] {
         assert_eq!(rt; sender.arm(at(10), &around()), Some(at(due)));
-        assert_eq!(rt; sender.fire(at(due), &around())?, Deed::Probe(SpaceId::Data, 2));
+        assert_eq!(rt;
+            sender.fire(at(due), &around())?,
+            Deed::Probe(SpaceId::Data, 2)
+        );
     }
     let early = Around {
         handshake_over: false,
@@ -34,11 +37,19 @@ fn an_ack_ends_the_doubling(rt: HostRuntime) -> Result<(), Fail> {
     sender.send(alloc, 1, at(200))?;
     assert_eq!(rt; sender.arm(at(200), &around()), Some(at(525)));
     assert_eq!(rt;
-        sender.recovery.pto(SpaceId::Initial, &around(), &sender.path.rtt),
+        sender
+            .recovery
+            .pto(SpaceId::Initial, &around(), &sender.path.rtt),
         Duration::from_millis(300)
     );
     assert_eq!(rt; sender.recovery.oldest(SpaceId::Data).is_some(), true);
-    assert_eq!(rt; sender.recovery.discard(SpaceId::Data, &mut sender.path).len(), 1);
+    assert_eq!(rt;
+        sender
+            .recovery
+            .discard(SpaceId::Data, &mut sender.path)
+            .len(),
+        1
+    );
     assert_eq!(rt; sender.arm(at(200), &around()), None);
     Ok(())
 }
@@ -55,7 +66,10 @@ fn an_end_that_may_be_blocked_is_probed(rt: HostRuntime) -> Result<(), Fail> {
         ..around()
     };
     assert_eq!(rt; sender.arm(at(5), &client), Some(at(1004)));
-    assert_eq!(rt; sender.fire(at(1004), &client)?, Deed::Probe(SpaceId::Initial, 1));
+    assert_eq!(rt;
+        sender.fire(at(1004), &client)?,
+        Deed::Probe(SpaceId::Initial, 1)
+    );
     assert_eq!(rt; sender.arm(at(5), &client), Some(at(2003)));
     let blocked = Around {
         blocked: true,
@@ -100,7 +114,9 @@ fn the_clock_ends_and_goes_back(rt: HostRuntime) -> Result<(), Fail> {
     assert_eq!(rt; sender.recovery.in_flight(), 0);
     assert_eq!(rt; sender.path.rtt.get(), Duration::ZERO);
     assert_eq!(rt;
-        sender.recovery.pto(SpaceId::Data, &around(), &sender.path.rtt),
+        sender
+            .recovery
+            .pto(SpaceId::Data, &around(), &sender.path.rtt),
         Duration::from_millis(26)
     );
     sender.send(alloc, 1, at(0))?;

@@ -86,6 +86,7 @@ fn packet(alloc: Global, time: Instant, size: u64) -> SentPacket {
         counted: true,
         ack_eliciting: true,
         frames: FrameList::new(alloc),
+        new_token: None,
     }
 }
 

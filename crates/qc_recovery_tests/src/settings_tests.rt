@@ -1,5 +1,5 @@
-use qc_recovery::{IdleTimeout, MtuDiscoveryConfig, TransportConfig};
 use qc_base::{Duration, VarInt};
+use qc_recovery::{IdleTimeout, MtuDiscoveryConfig, TransportConfig};
 use std::test::Fail;
 
 #[test]

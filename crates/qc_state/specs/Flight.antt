@@ -34,4 +34,4 @@ counts_in_flight fs = list_any elicits fs || list_any is_padding fs
 
 -- what is kept of a packet of this size with these frames, which was sealed at this time
 unfoldable pub flown_packet : (time size : ℕ) → List FrameValue → SentPacket
-flown_packet time size fs = record { at = time; size = size; counted = counts_in_flight fs; ack_eliciting = list_any elicits fs; frames = kept_frames fs }
+flown_packet time size fs = record { at = time; size = size; counted = counts_in_flight fs; ack_eliciting = list_any elicits fs; frames = kept_frames fs; new_token = None }

@@ -106,5 +106,6 @@ pub fn flown_packet(
         counted: counts_in_flight(frames),
         ack_eliciting: frames.elicits(),
         frames: kept(alloc, frames)?,
+        new_token: None,
     })
 }

@@ -1,5 +1,4 @@
 use Rattle.std.proofs.Common.{◌≡◌, ◌-◌, ◌≤◌, drop}
-use Rattle.std.specs.VecDeque.{deque_len}
 use Rattle.qc_flight.specs.Packets.{counts_minus}
 use Rattle.qc_flight.proofs.counts.minus.Given as goal
 

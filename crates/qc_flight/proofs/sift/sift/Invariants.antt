@@ -1,4 +1,4 @@
-use Rattle.std.proofs.Common.{◌≡◌, ◌+◌, ◌≤◌, take, drop}
+use Rattle.std.proofs.Common.{◌≡◌, ◌+◌, ◌≤◌}
 use Rattle.qc_flight.proofs.Sifting.{Sifts}
 use Rattle.qc_flight.proofs.sift.sift.Given as goal
 

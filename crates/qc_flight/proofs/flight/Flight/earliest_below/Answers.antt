@@ -1,4 +1,4 @@
-use Rattle.std.proofs.Common.{◌∙◌, ◌+◌, ◌<◌, ◌≤◌, ap, sym, length, drop, List, arith}
+use Rattle.std.proofs.Common.{◌∙◌, ◌+◌, ◌<◌, ◌≤◌, ap, length, drop, List, arith}
 use Rattle.qc_flight.specs.Packets.{Entry, earliest_from, earliest_of, is_below, those}
 use Rattle.qc_flight.proofs.Earliest.{earliest_step, earliest_stop, earliest_end}
 use Rattle.qc_flight.proofs.flight.Flight.earliest_below.Goals as goal

@@ -1,6 +1,6 @@
 use Rattle.std.proofs.Common.{◌<◌, length, arith}
 use Rattle.qc_flight.proofs.Ranges.{in_first}
-use Rattle.qc_flight.proofs.tests_of.begins.Goals as goal
+use Rattle.qc_flight.proofs.loss_rules.begins.Goals as goal
 
 pub returns : goal.returns
 returns c =
