@@ -2,6 +2,7 @@ pub mod Cuts
 pub mod Datagrams
 pub mod Faults
 pub mod Finished
+pub mod FixedBits
 pub mod FrontHeader
 pub mod FrontPiece
 pub mod ReadHeaders

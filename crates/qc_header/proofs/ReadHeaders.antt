@@ -79,7 +79,7 @@ pub fixed_let : (first : ℕ) (grease : Bool) → (first / 64 % 2 ≡ 1) ⊎ (gr
 fixed_let first grease (inl fixed) = rw fixed refl
 fixed_let first grease (inr greased) = rw greased (and_right (first / 64 % 2 == 0) false refl)
 
-zero_first : (size k first : ℕ) (versions z : List ℕ) (grease : Bool) → 128 ≤ first → (first / 64 % 2 ≡ 1) ⊎ (grease ≡ true)
+pub zero_first : (size k first : ℕ) (versions z : List ℕ) (grease : Bool) → 128 ≤ first → (first / 64 % 2 ≡ 1) ⊎ (grease ≡ true)
     → header_at size k versions grease (first ∷ z) ≡ long_at size versions first z
 unfolding header_at
 zero_first size k first versions z grease high fixed =

@@ -4,6 +4,7 @@
 mod datagram;
 mod encode;
 mod finish;
+mod fixed_bit;
 mod header;
 mod partial_decode;
 mod protected;
@@ -14,6 +15,7 @@ mod short;
 pub use datagram::datagram_is_pieces;
 pub use encode::PartialEncode;
 pub use finish::{InitialPacket, Packet, leading_byte};
+pub use fixed_bit::fixed_bit_is_not_read;
 pub use header::{Header, InitialHeader};
 pub use partial_decode::PartialDecode;
 pub use protected::{PacketDecodeError, ProtectedHeader};

@@ -14,7 +14,8 @@ pub use qc_base::{
 pub use qc_frame as frame;
 pub use qc_header::{
     Header, InitialHeader, InitialPacket, Packet, PacketDecodeError, PartialDecode, PartialEncode,
-    ProtectedHeader, datagram_is_pieces, header_comes_back, header_is_read,
+    ProtectedHeader, ShortHeader, datagram_is_pieces, finish_short, fixed_bit_is_not_read,
+    header_comes_back, header_is_read, leading_byte,
 };
 pub use qc_params as params;
 pub use qc_params::{ParamError, PreferredAddress, TransportParameters};
