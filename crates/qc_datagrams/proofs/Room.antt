@@ -1,8 +1,10 @@
 -- Room for a datagram
-use Rattle.std.proofs.Common.{◌≡◌, ap, sym, ℕ, ◌+◌, ◌-◌, ◌<◌, ◌≤◌, inl, inr, List, [], ◌∷◌, ◌++◌, true, false, length, drop, arith, refl}
+use Rattle.std.proofs.Common.{◌≡◌, ◌∙◌, ap, sym, ℕ, zero, suc, ◌+◌, ◌-◌, ◌<◌, ◌≤◌, inl, inr, List, [], ◌∷◌, ◌++◌, Bool, true, false, if◌then◌else◌, length, drop, get_or, add-one, arith, refl, Option, None, Some}
 use Rattle.std.proofs.lemmas.Bool.{false≢true, cases_lt, lt-leb, le-leb}
+use Rattle.std.specs.Prelude.{IfNone, nat_le, option_to_list}
+use Rattle.std.specs.List.{filter}
 use lib.Dec.{leb}
-use Rattle.qc_datagrams.specs.Queue.{weight, total, fits, has_room, with_room}
+use Rattle.qc_datagrams.specs.Queue.{first, fits, has_room, no_longer_than, rest, total, weight, with_room}
 
 pub room_of_none : (limit : ℕ) (d : List ℕ) (ds : List (List ℕ)) → length ds ≡ 0 → has_room limit d ds ≡ true
 unfolding has_room
@@ -56,3 +58,43 @@ pub fits_without : (limit w : ℕ) (d : List ℕ) (ds : List (List ℕ)) → 0 <
 unfolding has_room fits
 fits_without limit w d [] some f past = absurd (omega arith)
 fits_without limit w d (x ∷ xs) some f past = rw (lt-leb w limit past, lt-leb (total (x ∷ xs) + weight d) limit (omega arith)) refl
+
+pub popped_first : (d : Option (List ℕ)) (ds es : List (List ℕ)) → ds ≡ option_to_list d ++ es → IfNone d (ds ≡ []) → option_to_list d ≡ first ds
+unfolding first
+popped_first (Some d) ds es is none = sym (ap first is)
+popped_first None ds es is none = sym (ap first none)
+
+pub popped_rest : (d : Option (List ℕ)) (ds es : List (List ℕ)) → ds ≡ option_to_list d ++ es → IfNone d (ds ≡ []) → es ≡ rest ds
+unfolding rest
+popped_rest (Some d) ds es is none = sym (ap rest is)
+popped_rest None ds es is none = sym is ∙ none ∙ sym (ap rest none)
+
+-- what stays counts no more
+pub total_within : (most : ℕ) (ds : List (List ℕ)) → total (no_longer_than most ds) ≤ total ds
+unfolding total no_longer_than
+total_within most [] = omega arith
+total_within most (d ∷ ds) = by (nat_le (length d) most) (total_within most ds)
+  where
+    by : (t : Bool) → total (filter (λ d. nat_le (length d) most) ds) ≤ total ds
+        → total (if t then d ∷ filter (λ d. nat_le (length d) most) ds else filter (λ d. nat_le (length d) most) ds) ≤ weight d + total ds
+    by true less = omega (arith, less)
+    by false less = omega (arith, less)
+
+total_suc : (ds : List (List ℕ)) (place : ℕ) (d : List ℕ) → d ≡ get_or ds place d → place < length ds → weight d + total (drop (suc place) ds) ≡ total (drop place ds)
+unfolding total
+total_suc [] place d is within = absurd (omega arith)
+total_suc (x ∷ ds) zero d is within = ap (λ (e : List ℕ). weight e + total ds) is
+total_suc (x ∷ ds) (suc place) d is within = total_suc ds place d is (omega arith)
+
+-- the datagram at a place, and those behind it
+pub total_next : (ds : List (List ℕ)) (place : ℕ) (d : List ℕ) → d ≡ get_or ds place d → place < length ds
+    → weight d + total (drop (place + 1) ds) ≡ total (drop place ds)
+total_next ds place d is within = rw add-one (total_suc ds place d is within)
+
+-- behind all there is none
+pub total_past : (ds : List (List ℕ)) (place : ℕ) → length ds ≤ place → total (drop place ds) ≡ 0
+unfolding total
+total_past [] zero past = refl
+total_past [] (suc place) past = refl
+total_past (x ∷ ds) zero past = absurd (omega arith)
+total_past (x ∷ ds) (suc place) past = total_past ds place (omega arith)

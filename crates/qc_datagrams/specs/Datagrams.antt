@@ -4,7 +4,7 @@ use Rattle.std.specs.Option.{unwrap_or}
 use Rattle.qc_datagrams.specs.declared.datagrams.Datagrams.{Datagrams}
 use Rattle.qc_datagrams.specs.declared.datagrams.SendRefusal.{SendRefusal}
 use Rattle.qc_datagrams.specs.declared.datagrams.SendRefusal.TheVariants.{Disabled, UnsupportedByPeer, TooLarge, Blocked}
-use Rattle.qc_datagrams.specs.Queue.{fits, queued}
+use Rattle.qc_datagrams.specs.Queue.{fits, no_longer_than, queued}
 
 -- nothing came and nothing is to be sent
 unfoldable pub new_datagrams : Option ℕ → ℕ → Datagrams
@@ -46,3 +46,7 @@ send_refused refusal s = s
 -- that there is room again was told
 unfoldable pub room_told : Datagrams → Datagrams
 room_told s = record s { blocked = false }
+
+-- datagrams to be sent that are longer than so many bytes are dropped
+unfoldable pub longer_dropped : ℕ → Datagrams → Datagrams
+longer_dropped most s = record s { outgoing = no_longer_than most s.outgoing }

@@ -1,2 +1,4 @@
 pub mod Queue
 pub mod Datagrams
+pub mod Given
+pub mod Size

@@ -1,5 +1,6 @@
 -- Datagrams that wait, the oldest first (RFC 9221)
-use Rattle.std.specs.Prelude.{ℕ, ◌+◌, ◌-◌, Bool, true, nat_le, if◌then◌else◌, List, [], ◌∷◌, ◌++◌, length}
+use Rattle.std.specs.Prelude.{ℕ, ◌+◌, ◌-◌, Bool, true, nat_le, if◌then◌else◌, List, [], ◌∷◌, ◌++◌, length, Option, None, Some}
+use Rattle.std.specs.List.{filter}
 
 -- what a datagram counts in a buffer: its length and 32 bytes
 unfoldable pub weight : List ℕ → ℕ
@@ -31,3 +32,22 @@ queued limit d ds = with_room limit d ds ++ d ∷ []
 -- how long a datagram may be that fits beside those
 unfoldable pub space : ℕ → List (List ℕ) → ℕ
 space limit ds = limit - total ds - 32
+
+-- the oldest, where there is one
+unfoldable pub first : List (List ℕ) → List (List ℕ)
+first [] = []
+first (d ∷ ds) = d ∷ []
+
+-- those behind the oldest
+unfoldable pub rest : List (List ℕ) → List (List ℕ)
+rest [] = []
+rest (d ∷ ds) = ds
+
+-- how long the oldest is
+unfoldable pub first_len : List (List ℕ) → Option ℕ
+first_len [] = None
+first_len (d ∷ ds) = Some (length d)
+
+-- those that have at most so many bytes, in their order
+unfoldable pub no_longer_than : ℕ → List (List ℕ) → List (List ℕ)
+no_longer_than most ds = filter (λ d. nat_le (length d) most) ds

@@ -1,7 +1,7 @@
 //! The datagrams of a connection: those that came, and those that are to be sent.
 
 ghost use Rattle.std.specs.Prelude.{◌≡◌, ℕ, ◌++◌, ◌==◌, true, false, length, IfOk, IfErr, OnOk, OnErr, Some, None, Err, is_err, option_to_list};
-ghost use Rattle.qc_datagrams.specs.Datagrams.{new_datagrams, is_refused, frame_taken, send_refusal, send_queued, send_refused, room_told};
+ghost use Rattle.qc_datagrams.specs.Datagrams.{new_datagrams, is_refused, frame_taken, send_refusal, send_queued, send_refused, room_told, longer_dropped};
 
 use crate::queue::DatagramQueue;
 use bytes::Bytes;
@@ -133,6 +133,16 @@ impl Datagrams {
         ensures err { OnErr result (self.new ≡ self.old) }
     {
         self.outgoing.push(self.send_buffer, datagram)
+    }
+
+    /// Drops all datagrams to be sent that are longer than so many bytes, wherever they stand, since
+    /// the path takes no longer ones any more. The others stay in their order, and so does what is
+    /// remembered of one that was refused.
+    #[tactic(auto, unfolding(crate::specs::Datagrams::longer_dropped))]
+    pub fn drop_longer(&mut self, most: u64)
+        ensures { self.new ≡ longer_dropped most self.old }
+    {
+        self.outgoing.drop_longer(most);
     }
 
     /// Remembers that a datagram was refused because the buffer was full.

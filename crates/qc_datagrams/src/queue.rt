@@ -2,7 +2,7 @@
 
 ghost use Rattle.std.specs.Prelude.{◌≡◌, ℕ, ◌+◌, ◌-◌, ◌<◌, ◌≤◌, [], ◌∷◌, ◌++◌, ◌==◌, IsTrue, drop, length, IfOk, OnOk, OnErr, IfSome, IfNone, option_to_list, ◌^◌};
 ghost use Rattle.std.specs.VecDeque.{deque_len, deque_capacity};
-ghost use Rattle.qc_datagrams.specs.Queue.{weight, total, fits, has_room, with_room, queued, space};
+ghost use Rattle.qc_datagrams.specs.Queue.{first, first_len, fits, has_room, no_longer_than, queued, rest, space, total, weight, with_room};
 
 use bytes::Bytes;
 use std::alloc::{AllocError, Global};
@@ -73,11 +73,42 @@ impl DatagramQueue {
         limit.saturating_sub(self.bytes).saturating_sub(32)
     }
 
+    /// How long the oldest datagram is; None exactly where none waits.
+    #[tactic(auto, unfolding(crate::specs::Queue::first_len))]
+    pub fn first_len(&self) -> Option<usize>
+        ensures { result ≡ first_len self.now }
+    {
+        match self.items.front() {
+            Some(datagram) => Some(datagram.len()),
+            None => None,
+        }
+    }
+
     /// The oldest datagram leaves the queue; None exactly where none waits.
+    #[tactic(auto, using(crate::proofs::Room::popped_first, crate::proofs::Room::popped_rest))]
     pub fn pop(&mut self) -> Option<Bytes>
-        ensures { self.old ≡ option_to_list result ++ self.new }
+        ensures given { option_to_list result ≡ first self.old }
+        ensures left { self.new ≡ rest self.old }
     {
         pop_front(&mut self.items, &mut self.bytes)
+    }
+
+    /// Drops all datagrams that are longer than so many bytes, wherever they stand. The others stay,
+    /// in their order.
+    #[tactic(auto, unfolding(crate::specs::Queue::no_longer_than))]
+    pub fn drop_longer(&mut self, most: u64)
+        ensures { self.new ≡ no_longer_than most self.old }
+    {
+        self.bytes = drop_longer(&mut self.items, self.bytes, most);
+    }
+
+    /// Drops all datagrams.
+    #[tactic(auto, unfolding(crate::specs::Queue::total))]
+    pub fn clear(&mut self)
+        ensures { self.new ≡ [] }
+    {
+        self.items.clear();
+        self.bytes = 0;
     }
 
     /// Queues a datagram in a buffer of so many bytes: the oldest are dropped until it fits, or
@@ -107,6 +138,37 @@ fn fits(items: &VecDeque<Bytes>, bytes: u64, limit: u64, datagram: &Bytes) -> bo
 {
     let weight = weight(datagram);
     weight <= limit && bytes <= limit - weight
+}
+
+/// Drops the datagrams that are longer than so many bytes; answers what the others count.
+fn drop_longer(items: &mut VecDeque<Bytes>, bytes: u64, most: u64) -> u64
+    requires { bytes ≡ total items.old.items }
+    ensures dropped { items.new.items ≡ no_longer_than most items.old.items }
+    ensures bytes { result ≡ total items.new.items }
+{
+    keep_within(items, most);
+    count(items, bytes)
+}
+
+/// Keeps the datagrams that have at most so many bytes.
+fn keep_within(items: &mut VecDeque<Bytes>, most: u64)
+    ensures { items.new.items ≡ no_longer_than most items.old.items }
+{
+    items.retain(|datagram| datagram.len() as u64 <= most);
+}
+
+/// What datagrams count together, which is at most so much.
+fn count(items: &VecDeque<Bytes>, most: u64) -> u64
+    requires { total items.now.items ≤ most }
+    ensures { result ≡ total items.now.items }
+{
+    let mut sum = 0;
+    let mut place = 0;
+    while place < items.len() {
+        sum += weight(&items[place]);
+        place += 1;
+    }
+    sum
 }
 
 /// Takes the oldest datagram out.

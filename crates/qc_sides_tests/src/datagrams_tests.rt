@@ -1,7 +1,7 @@
 //! Room in a buffer, and each refusal at its edge.
 
 use bytes::Bytes;
-use qc_datagrams::{DatagramFault, Datagrams, SendRefusal};
+use qc_datagrams::{DatagramFault, Datagrams, SendRefusal, gives_what_was_queued, max_size};
 use std::alloc::Global;
 use std::test::Fail;
 
@@ -91,4 +91,56 @@ fn sends_are_refused_in_order(rt: HostRuntime) -> Result<(), Fail> {
         assert_eq!(rt; datagrams.blocked, refusal == Some(SendRefusal::Blocked));
     }
     Ok(())
+}
+
+/// How long the oldest is of those that are to be sent, which leaves the queue.
+fn sent(datagrams: &mut Datagrams) -> Option<usize> {
+    let len = datagrams.outgoing.first_len();
+    let datagram = datagrams.outgoing.pop()?;
+    if len == Some(datagram.len()) {
+        len
+    } else {
+        None
+    }
+}
+
+#[test]
+fn long_ones_are_dropped_wherever_they_stand(rt: HostRuntime) -> Result<(), Fail> {
+    let mut datagrams = Datagrams::new(rt.alloc(), Some(100), 1000);
+    for len in [30, 10, 40, 20] {
+        datagrams.send(of_length(rt.alloc(), len)?)?;
+    }
+    datagrams.refused(SendRefusal::Blocked);
+    // 1000 bytes less 100 of the four, 32 of each, and 32 of another
+    assert_eq!(rt; datagrams.outgoing.space(1000), 740);
+    datagrams.drop_longer(20);
+    assert!(rt; datagrams.blocked);
+    // less 30 of the two, 32 of each, and 32 of another
+    assert_eq!(rt; datagrams.outgoing.space(1000), 874);
+    assert!(rt; sent(&mut datagrams) == Some(10));
+    datagrams.outgoing.clear();
+    assert!(rt; datagrams.outgoing.first_len().is_none());
+    assert_eq!(rt; datagrams.outgoing.space(1000), 968);
+    assert!(rt; datagrams.tell_room());
+    gives_what_was_queued();
+    Ok(())
+}
+
+#[test]
+fn the_path_and_the_peer_bound_the_size(rt: HostRuntime) {
+    // the MTU, the length of the connection id, the peer's max_datagram_frame_size, and how long a
+    // datagram may be: the MTU less the first byte, the id, 4 bytes of a number, a tag of 16 and a
+    // frame's head of 9, or the frame's size less its head
+    const SIZES: [(u64, usize, Option<u64>, Option<u64>); 7] = [
+        (1200, 8, Some(65535), Some(1162)),
+        (1200, 20, Some(65535), Some(1150)),
+        (1452, 8, Some(65535), Some(1414)),
+        (1200, 8, Some(100), Some(91)),
+        (1200, 8, Some(9), Some(0)),
+        (1200, 8, Some(5), Some(0)),
+        (1200, 8, None, None),
+    ];
+    for (mtu, cid_len, frame, size) in SIZES {
+        assert!(rt; max_size(mtu, cid_len, frame) == size);
+    }
 }
