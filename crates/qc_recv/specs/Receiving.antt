@@ -1,6 +1,5 @@
 -- The receiving side of a stream (RFC 9000, sections 2.2, 3.2, 4.1 and 4.5)
 use Rattle.std.specs.Prelude.{◌≡◌, ℕ, ◌+◌, ◌-◌, ◌/◌, ◌^◌, ◌<◌, ◌≤◌, Bool, true, false, not, ◌&&◌, ◌||◌, ◌==◌, nat_lt, nat_le, min, max, if◌then◌else◌, List, [], ◌∷◌, ◌++◌, length, drop, Option, None, Some, is_some, Result, Ok, Err}
-use Rattle.std.specs.Option.{unwrap_or}
 use Rattle.qc_base.specs.declared.varint.VarInt.{VarInt}
 use Rattle.qc_assembler.specs.Assembly.{nothing, inserted, discarded, advanced, taken, part_count, has_bytes, is_readable, run}
 use Rattle.qc_recv.specs.declared.recv.Recv.{Recv}
@@ -62,11 +61,20 @@ returned r = if is_some r.stopped || is_some r.reset then r.greatest else r.read
 unfoldable pub new_bytes : ℕ → Recv → ℕ
 new_bytes end r = end - r.greatest
 
--- whether an end contradicts what is known: it lies past a known size, or it is the last and isn't
--- the known size or lies below what came
+-- whether bytes up to an end lie past a size that is known: no byte may come at the final size or beyond (RFC 9000, section 4.5)
+abbrev pub is_past : ℕ → Option ℕ → Bool
+is_past end None = false
+is_past end (Some size) = nat_lt size end
+
+-- whether an end isn't the size that is known: once it is, the final size can't change (RFC 9000, section 4.5)
+abbrev pub is_other : ℕ → Option ℕ → Bool
+is_other end None = false
+is_other end (Some size) = not (size == end)
+
+-- whether a frame's end contradicts what is known: it lies past the known size, or it is the last and another size than the
+-- known one, or lies below bytes that came
 unfoldable pub breaks_size : ℕ → Bool → Recv → Bool
-breaks_size end last r =
-    nat_lt (unwrap_or r.size end) end || (last && (not (unwrap_or r.size end == end) || nat_lt end r.greatest))
+breaks_size end last r = is_past end r.size || (last && (is_other end r.size || nat_lt end r.greatest))
 
 -- whether an end lies above the stream's credit, or takes more than the connection has room for
 unfoldable pub above_credit : ℕ → ℕ → Recv → Bool

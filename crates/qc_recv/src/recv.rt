@@ -93,13 +93,17 @@ impl Recv {
         end.saturating_sub(self.greatest)
     }
 
-    /// Whether an end contradicts what is known of the stream's size.
+    /// Whether a frame's end contradicts what is known: it lies past the known size, or it is the
+    /// last and another size than the known one, or lies below bytes that came (RFC 9000, section
+    /// 4.5).
     #[tactic(auto, unfolding(crate::specs::Receiving::breaks_size))]
     fn breaks_size(&self, end: u64, last: bool) -> bool
         ensures { result ≡ breaks_size end last self.now }
     {
-        let size = self.size.unwrap_or(end);
-        size < end || (last && (size != end || end < self.greatest))
+        match self.size {
+            Some(size) => size < end || (last && (size != end || end < self.greatest)),
+            None => last && end < self.greatest,
+        }
     }
 
     /// Whether an end lies above the stream's or the connection's credit.
