@@ -1,12 +1,12 @@
 -- An ACK is owed behind packets that elicit one, or its timer was set.
-use Rattle.std.proofs.Common.{◌≡◌, ℕ, ◌+◌, ◌-◌, ◌≤◌, Bool, true, false, ◌⊎◌, inl, inr, not, ◌&&◌, ◌||◌, List, [], ◌∷◌, length, drop, length-drop, refl, sym, ap, subst, arith}
+use Rattle.std.proofs.Common.{◌≡◌, ℕ, ◌+◌, ◌-◌, ◌≤◌, Bool, true, false, ◌⊎◌, inl, inr, ◌||◌, List, [], ◌∷◌, length, drop, length-drop, refl, sym, ap, subst, arith}
 use Rattle.std.proofs.lemmas.Bool.Decides.{nat_tests}
 use Rattle.std.specs.Prelude.{◌==◌, if◌then◌else◌, nat_le, nat_lt}
 use Rattle.qc_base.specs.declared.range_set.NumberRange.{NumberRange}
 use Rattle.qc_base.specs.Time.{plus}
 use Rattle.qc_path.specs.AckCalls.{AckCall, AckHistory, Came, Confirmed, Expired, IsAckDue, OwesAck, Went, all_called, called, elicited_with, no_calls}
 use Rattle.qc_path.specs.AckRanges.{raised_to, with_number}
-use Rattle.qc_path.specs.Acks.{AckMarks, PendingValues, acks_confirmed, acks_received, counted_in, greatest_noted, is_clear, is_due, makes_owed, marks_expired, marks_received, marks_sent, no_marks, out_of_order, owed_with, owes_ack, sets_delay}
+use Rattle.qc_path.specs.Acks.{AckMarks, PendingValues, acks_confirmed, acks_received, counted_in, greatest_noted, is_clear, is_due, makes_owed, marks_expired, marks_received, marks_sent, no_marks, owed_with, owes_ack, sets_delay}
 use Rattle.qc_path.specs.Arrived.{Window, exceeds}
 use Rattle.qc_path.specs.declared.pending_acks.Arrival.{Arrival}
 

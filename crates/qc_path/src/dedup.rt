@@ -1,12 +1,15 @@
 //! Packet numbers that came already (RFC 9000, section 12.3).
 
-ghost use Rattle.std.specs.Prelude.{◌≡◌, ℕ, ◌+◌, ◌%◌, ◌==◌, false, not, List, [], ◌∷◌, length, slice_index, max, replicate};
-ghost use Rattle.qc_path.specs.Arrived.{Remembers, Window, arrived, exceeds, greatest_with, has_come, is_new, is_new_among, lowest, nothing_came, some_missing};
+ghost use Rattle.std.specs.Prelude.{◌≡◌, ℕ, ◌+◌, ◌-◌, ◌%◌, ◌==◌, false, not, List, [], ◌∷◌, length, slice_index, max, replicate};
+ghost use Rattle.qc_path.specs.Arrived.{Remembers, Window, arrived, exceeds, greatest_with, has_come, is_new, is_new_among, lowest, nothing_came, remembered, some_missing};
 
 use std::marker::Model;
 
-/// How many numbers are remembered: the greatest one, and 128 below it.
-const REMEMBERED: u64 = 129;
+/// How many slots there are for numbers that are remembered: for the greatest one, and 128 below it.
+const SLOTS: usize = 129;
+
+/// How many numbers are remembered.
+const REMEMBERED: u64 = SLOTS as u64;
 
 /// The numbers that came in one packet number space, as far as they are remembered.
 #[derive(Debug, Drop)]
@@ -14,7 +17,7 @@ pub struct Dedup {
     greatest: Option<u64>,
     // At each remainder the number with it that came last. No two numbers that are remembered have
     // one remainder.
-    slots: [u64; 129],
+    slots: [u64; SLOTS],
 }
 
 impl Model for Dedup {
@@ -25,7 +28,8 @@ impl Model for Dedup {
     ghost view = { λ d. record { greatest = d.greatest; slots = d.slots } };
 }
 
-fn is_above(greatest: Option<u64>, packet: u64) -> bool
+/// Whether a number exceeds the greatest one, if there is one.
+pub(crate) fn is_above(greatest: Option<u64>, packet: u64) -> bool
     ensures { result ≡ exceeds greatest packet }
 {
     match greatest {
@@ -35,7 +39,7 @@ fn is_above(greatest: Option<u64>, packet: u64) -> bool
 }
 
 fn is_near(greatest: Option<u64>, packet: u64) -> bool
-    ensures { result ≡ exceeds greatest (packet + 129) }
+    ensures { result ≡ exceeds greatest (packet + remembered) }
 {
     match greatest {
         None => true,
@@ -43,7 +47,8 @@ fn is_near(greatest: Option<u64>, packet: u64) -> bool
     }
 }
 
-fn greatest_of(greatest: Option<u64>, packet: u64) -> Option<u64>
+/// The greatest number with one more.
+pub(crate) fn greatest_of(greatest: Option<u64>, packet: u64) -> Option<u64>
     ensures { result ≡ greatest_with greatest packet }
 {
     match greatest {
@@ -54,12 +59,12 @@ fn greatest_of(greatest: Option<u64>, packet: u64) -> Option<u64>
 
 // No slot holds a number with its own remainder.
 #[tactic(auto, using(crate::proofs::Arrivals::nothing_stands))]
-fn first_slots() -> [u64; 129]
-    ensures value { result ≡ 1 ∷ replicate 128 0 }
-    ensures size { length result ≡ 129 }
-    ensures none { (n : ℕ) → (slice_index result (n % 129) == n) ≡ false }
+fn first_slots() -> [u64; SLOTS]
+    ensures value { result ≡ 1 ∷ replicate (remembered - 1) 0 }
+    ensures size { length result ≡ remembered }
+    ensures none { (n : ℕ) → (slice_index result (n % remembered) == n) ≡ false }
 {
-    let mut slots = [0; 129];
+    let mut slots = [0; SLOTS];
     slots[0] = 1;
     slots
 }
@@ -121,7 +126,7 @@ impl Dedup {
     {
         match self.greatest {
             None => low,
-            Some(greatest) => low.max(greatest.saturating_sub(128)),
+            Some(greatest) => low.max(greatest.saturating_sub(REMEMBERED - 1)),
         }
     }
 

@@ -161,20 +161,6 @@ impl MtuDiscovery {
         self.phase = Phase::Unbegun;
     }
 
-    /// The same size and search, with the probe in flight, for a path that takes this one's place.
-    pub fn copy(&self) -> MtuDiscovery
-        ensures { result ≡ self.now }
-    {
-        MtuDiscovery {
-            current: self.current,
-            least: self.least,
-            peer: self.peer,
-            settings: self.settings,
-            phase: self.phase,
-            bursts: self.bursts,
-        }
-    }
-
     /// A path that begins, with what the peer takes, the least size and the settings of this one.
     pub fn renewed(&self, initial: u16) -> MtuDiscovery
         ensures { result ≡ first_mtu initial self.now.least self.now.peer self.now.settings }

@@ -1,7 +1,7 @@
 //! Packets to acknowledge (RFC 9000, section 13.2).
 
 ghost use Rattle.std.specs.Prelude.{◌≡◌, ℕ, ◌==◌, Bool, false, ◌||◌, List, [], length};
-ghost use Rattle.qc_path.specs.Arrived.{Window, exceeds, greatest_with};
+ghost use Rattle.qc_path.specs.Arrived.{Window};
 ghost use Rattle.qc_base.specs.RangeSet.{KeepsFrom, Normal, latest};
 ghost use Rattle.qc_base.specs.declared.range_set.NumberRange.{NumberRange};
 ghost use Rattle.qc_path.specs.AckCalls.{AckCall, IsAckDue, all_called, no_calls};
@@ -11,6 +11,7 @@ ghost use Rattle.qc_path.specs.Acks.{PendingValues, TakesIn, ack_delay, acks_con
 
 use crate::Dedup;
 use crate::ack_set::AckSet;
+use crate::dedup::{greatest_of, is_above};
 use qc_base::{ArrayRangeSet, Duration, Instant};
 use std::marker::Model;
 
@@ -50,24 +51,6 @@ impl Model for Marks {
     ghost view = { λ m. record { owed = m.owed; eliciting = m.eliciting; silent = m.silent; greatest_eliciting = m.greatest_eliciting; greatest = m.greatest; came_at = m.came_at; delay_set = m.delay_set } };
 }
 
-fn above(greatest: Option<u64>, number: u64) -> bool
-    ensures { result ≡ exceeds greatest number }
-{
-    match greatest {
-        None => true,
-        Some(greatest) => greatest < number,
-    }
-}
-
-fn with(greatest: Option<u64>, number: u64) -> Option<u64>
-    ensures { result ≡ greatest_with greatest number }
-{
-    match greatest {
-        None => Some(number),
-        Some(greatest) => Some(greatest.max(number)),
-    }
-}
-
 fn is_out_of_order(seen: &Dedup, greatest: Option<u64>, number: u64) -> bool
     ensures { result ≡ out_of_order seen.now greatest number }
 {
@@ -96,7 +79,7 @@ impl Marks {
     fn note_greatest(&mut self, packet: &Arrival)
         ensures { self.new ≡ greatest_noted packet.now self.old }
     {
-        if above(self.greatest, packet.number) {
+        if is_above(self.greatest, packet.number) {
             self.greatest = Some(packet.number);
             self.came_at = packet.at;
         }
@@ -108,7 +91,7 @@ impl Marks {
     {
         if packet.ack_eliciting {
             self.eliciting = self.eliciting.saturating_add(1);
-            self.greatest_eliciting = with(self.greatest_eliciting, packet.number);
+            self.greatest_eliciting = greatest_of(self.greatest_eliciting, packet.number);
         } else {
             self.silent = self.silent.saturating_add(1);
         }

@@ -12,7 +12,8 @@ use qc_path::{Arrival, Dedup, PendingAcks};
 /// The greatest count of marks that an ACK has room for.
 const GREATEST_COUNT: u64 = 4_611_686_018_427_387_903;
 
-/// What a packet number space keeps of packets that came, and how many probes are due in it.
+/// What a packet number space keeps of packets that came, and how many probes are due in it, in one
+/// value with its own calls. A connection's spaces are made of the same parts, and not of this value.
 #[derive(Drop)]
 pub struct PacketSpace {
     /// The numbers that came.

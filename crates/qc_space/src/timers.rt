@@ -1,4 +1,4 @@
-//! The timers of a connection.
+//! A table of the timers that RFC 9000 to 9002 ask of a connection.
 
 ghost use Rattle.std.specs.Prelude.{◌≡◌, Option, Some, None};
 ghost use Rattle.qc_space.specs.Timers.{first_expired, has_expired, least_of, next_of, no_timers, time_of, with_time};
