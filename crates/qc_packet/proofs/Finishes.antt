@@ -54,7 +54,7 @@ tag_small (U16 n) = omega arith
 tag_small (U24 n) = omega arith
 tag_small (U32 n) = omega arith
 
-bit_small : (b : Bool) (n : ℕ) → bit b n ≤ n
+pub bit_small : (b : Bool) (n : ℕ) → bit b n ≤ n
 bit_small true n = omega arith
 bit_small false n = omega arith
 

@@ -1,3 +1,4 @@
+pub mod Greased
 pub mod Finishes
 pub mod Full
 pub mod Flips

@@ -10,7 +10,7 @@ mod unprotect;
 
 pub use builder::{PacketBuilder, PacketSizes};
 pub use decrypt::{DecryptPacketResult, OpenError, OpenKeys, decrypt_packet_body};
-pub use laws::sealed_packet_arrives;
+pub use laws::{coalesced_packets_arrive, sealed_packet_arrives};
 pub use qc_rings::{
     KeyRing, PairLog, PairOutcome, RingEvent, Which, ends_in_step_agree, ends_stay_in_step,
     ends_stay_in_step_by_parts, epochs_stay_below_numbers, keys_are_of_epochs, ring_pair,
