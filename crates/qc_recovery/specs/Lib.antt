@@ -3,6 +3,7 @@ pub mod Calls
 pub mod Frames
 pub mod Losses
 pub mod Paths
+pub mod Runs
 pub mod Settlement
 pub mod Steps
 pub mod TransportConfig

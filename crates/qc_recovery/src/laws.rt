@@ -6,7 +6,10 @@ ghost use Rattle.qc_base.specs.declared.side.SpaceId.{SpaceId};
 ghost use Rattle.qc_flight.specs.Packets.{is_acked, those};
 ghost use Rattle.qc_path.specs.Arrived.{exceeds};
 ghost use Rattle.qc_recovery.specs.Acking.{raised};
+ghost use Rattle.qc_recovery.specs.Calls.{begun_recovery};
+ghost use Rattle.qc_recovery.specs.Runs.{AreSettledOnce, Call, all_fates, calls_after, no_fates};
 ghost use Rattle.qc_recovery.specs.Settlement.{all_of};
+ghost use Rattle.qc_recovery.specs.TransportValues.{TransportValues};
 ghost use Rattle.qc_recovery.specs.Steps.{marks_read, space_after, space_timed, space_with};
 ghost use Rattle.qc_recovery.specs.declared.calls.AckValues.{AckValues};
 ghost use Rattle.qc_recovery.specs.declared.calls.Around.{Around};
@@ -35,4 +38,10 @@ pub fn unknown_numbers_change_little<C: Controller>()
 pub fn packets_are_settled_once<C: Controller>()
     ensures ack { (l : Limits) (o : Occasion) (a : AckValues) (ranges : List NumberRange) (around : Around) (s : SpaceRecovery) (p : PathData C) → IsPermutation s.flight (all_of (space_after C.Controller l o a ranges around s p)) }
     ensures timer { (l : Limits) (now : ℕ) (id : SpaceId) (s : SpaceRecovery) (p : PathData C) → IsPermutation s.flight (all_of (space_timed C.Controller l now id s p)) }
+{}
+
+/// A law, which runs no code. Over any calls, each with its own path, each packet that was sent in a
+/// space is acknowledged, lost, dropped with its space, or in flight, and that once.
+pub fn runs_settle_once<C: Controller>()
+    ensures { (id : SpaceId) (config : TransportValues) (calls : List (Call C)) → AreSettledOnce id (calls_after C.Controller calls (begun_recovery config)) (all_fates C.Controller id calls (begun_recovery config) no_fates) }
 {}
