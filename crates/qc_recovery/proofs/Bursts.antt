@@ -7,10 +7,10 @@ use Rattle.qc_recovery.proofs.Places.{all_left, here, nothing_left}
 pub bursts_start : (p : Entry → Bool) (es : List Entry) → those p (drop 0 es) ≡ those p es
 bursts_start p es = ap (λ xs. those p xs) (all_left es)
 
-filter_takes : (p : Entry → Bool) (e : Entry) (es : List Entry) → p e ≡ true → filter p (e ∷ es) ≡ e ∷ filter p es
+pub filter_takes : (p : Entry → Bool) (e : Entry) (es : List Entry) → p e ≡ true → filter p (e ∷ es) ≡ e ∷ filter p es
 filter_takes p e es passes = rw passes refl
 
-filter_leaves : (p : Entry → Bool) (e : Entry) (es : List Entry) → p e ≡ false → filter p (e ∷ es) ≡ filter p es
+pub filter_leaves : (p : Entry → Bool) (e : Entry) (es : List Entry) → p e ≡ false → filter p (e ∷ es) ≡ filter p es
 filter_leaves p e es fails = rw fails refl
 
 -- the packet at the place comes first, if it passes

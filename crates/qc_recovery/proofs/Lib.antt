@@ -1,5 +1,6 @@
 pub mod AckedRanges
 pub mod Bursts
+pub mod Named
 pub mod Places
 pub mod Powers
 pub mod RunsSettle

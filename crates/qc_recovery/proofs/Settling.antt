@@ -40,7 +40,7 @@ lost_parts : (l : Limits) (now delay largest : ℕ) (s : SpaceRecovery) → IsPe
 unfolding lost_of space_less
 lost_parts l now delay largest s = both_parts (is_lost largest l.packet_threshold now delay) s.flight
 
-length_none : (es : List Entry) → (length es == 0) ≡ true → es ≡ []
+pub length_none : (es : List Entry) → (length es == 0) ≡ true → es ≡ []
 length_none [] none = refl
 length_none (e ∷ es) none = let zero : length (e ∷ es) ≡ 0 = grind (arith, nat_tests) in absurd (omega arith)
 

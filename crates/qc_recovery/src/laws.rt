@@ -1,24 +1,31 @@
 //! What holds of recovery's steps.
 
-ghost use Rattle.std.specs.Prelude.{◌≡◌, ℕ, false, List, [], None, IsPermutation};
+ghost use Rattle.std.specs.Prelude.{◌≡◌, ℕ, ◌≤◌, true, false, List, [], None, IsPermutation};
 ghost use Rattle.qc_base.specs.declared.range_set.NumberRange.{NumberRange};
 ghost use Rattle.qc_base.specs.declared.side.SpaceId.{SpaceId};
-ghost use Rattle.qc_flight.specs.Packets.{is_acked, those};
+ghost use Rattle.qc_flight.specs.Packets.{has_number, is_acked, is_in, those};
+ghost use Rattle.qc_frame.specs.AckRanges.{Acknowledges};
+ghost use Rattle.qc_frame.specs.Frame.{AckValue};
+ghost use Rattle.qc_frame.specs.FrameFits.{Fits};
+ghost use Rattle.qc_frame.specs.declared.frames.FrameOf.TheVariants as frames;
 ghost use Rattle.qc_path.specs.Arrived.{exceeds};
 ghost use Rattle.qc_recovery.specs.Acking.{raised};
 ghost use Rattle.qc_recovery.specs.Calls.{begun_recovery};
+ghost use Rattle.qc_recovery.specs.Frames.{ranges_up_of, values_of};
 ghost use Rattle.qc_recovery.specs.Runs.{AreSettledOnce, Call, all_fates, calls_after, no_fates};
 ghost use Rattle.qc_recovery.specs.Settlement.{all_of};
 ghost use Rattle.qc_recovery.specs.TransportValues.{TransportValues};
-ghost use Rattle.qc_recovery.specs.Steps.{marks_read, space_after, space_timed, space_with};
+ghost use Rattle.qc_recovery.specs.Steps.{ack_after, marks_read, space_after, space_timed, space_with};
 ghost use Rattle.qc_recovery.specs.declared.calls.AckValues.{AckValues};
 ghost use Rattle.qc_recovery.specs.declared.calls.Around.{Around};
 ghost use Rattle.qc_recovery.specs.declared.calls.Occasion.{Occasion};
 ghost use Rattle.qc_recovery.specs.declared.limits.Limits.{Limits};
 ghost use Rattle.qc_recovery.specs.declared.path.PathData.{PathData};
+ghost use Rattle.qc_recovery.specs.declared.recovery.Recovery.{Recovery};
 ghost use Rattle.qc_recovery.specs.declared.space.SpaceRecovery.{SpaceRecovery};
 
 use qc_flight::packets_leave_once;
+use qc_frame::ranges_lie_apart;
 use qc_path::Controller;
 
 /// A law, which runs no code. An ACK of numbers none of which is in flight changes nothing but the
@@ -45,3 +52,13 @@ pub fn packets_are_settled_once<C: Controller>()
 pub fn runs_settle_once<C: Controller>()
     ensures { (id : SpaceId) (config : TransportValues) (calls : List (Call C)) → AreSettledOnce id (calls_after C.Controller calls (begun_recovery config)) (all_fates C.Controller id calls (begun_recovery config) no_fates) }
 {}
+
+/// A law, which runs no code. The packets that an ACK settles as acknowledged have numbers that it
+/// acknowledges, so none above its largest (RFC 9000, section 19.3).
+pub fn acked_numbers_are_acknowledged<C: Controller>()
+    ensures named { (now : ℕ) (id : SpaceId) (next began : ℕ) (a : AckValues) (ranges : List NumberRange) (around : Around) (r : Recovery) (p : PathData C) (n : ℕ) → has_number n (ack_after C.Controller now id next began a ranges around r p).acked ≡ true → is_in ranges n ≡ true }
+    ensures acknowledged { (now : ℕ) (id : SpaceId) (next began : ℕ) (ack : AckValue) (around : Around) (r : Recovery) (p : PathData C) (n : ℕ) → has_number n (ack_after C.Controller now id next began (values_of ack) (ranges_up_of ack) around r p).acked ≡ true → Acknowledges ack n }
+    ensures most { (now : ℕ) (id : SpaceId) (next began : ℕ) (ack : AckValue) (around : Around) (r : Recovery) (p : PathData C) (n : ℕ) → Fits (frames.Ack ack) → has_number n (ack_after C.Controller now id next began (values_of ack) (ranges_up_of ack) around r p).acked ≡ true → n ≤ ack.largest }
+{
+    ranges_lie_apart();
+}
