@@ -4,6 +4,7 @@ use qc_base::{
     ConnectionId, Dir, Duration, EcnCodepoint, Instant, ResetToken, Side, StreamId, SystemTime,
     TransportError, TransportErrorCode, constant_time,
 };
+use std::alloc::Global;
 use std::test::Fail;
 
 #[test]
@@ -37,6 +38,12 @@ fn secrets_are_compared(rt: HostRuntime) {
     for (a, b, same) in table {
         assert_eq!(rt; constant_time::eq(a, b), same);
     }
+}
+
+// Whether the error is shown as this text.
+fn is_shown(alloc: Global, error: TransportError, text: &str) -> Result<bool, Fail> {
+    let shown = error.to_string(alloc)?;
+    Ok(shown.as_str() == text)
 }
 
 // RFC 9000, section 20.1.
@@ -115,9 +122,10 @@ fn codes_have_names(rt: HostRuntime) -> Result<(), Fail> {
     ];
     for (code, number, name) in table {
         assert_eq!(rt; code.into_inner(), number);
-        let error = TransportError { code, frame: None };
-        let text = error.to_string(rt.alloc())?;
-        assert_eq!(rt; text.as_str(), name);
+        assert!(rt;
+            is_shown(rt.alloc(), TransportError { code, frame: None }, name)?,
+            "{name}"
+        );
     }
     let alert = TransportErrorCode::crypto(42);
     assert_eq!(rt; alert.into_inner(), 0x12a);
@@ -125,7 +133,7 @@ fn codes_have_names(rt: HostRuntime) -> Result<(), Fail> {
         code: alert,
         frame: Some(6),
     };
-    assert_eq!(rt; error.to_string(rt.alloc())?.as_str(), "298");
+    assert!(rt; is_shown(rt.alloc(), error, "298")?);
     assert_eq!(rt; TransportErrorCode::from(0x11).into_inner(), 0x11);
     Ok(())
 }

@@ -102,22 +102,45 @@ const LAST_FRAMES: [(ReadFrame, usize); 5] = [
     ((b"\x30hi", 0x30, "DATAGRAM", b"\x31\x02hi"), 1),
 ];
 
-fn check(rt: &(impl Abort + AllocGlobal), row: &ReadFrame) -> Result<(), Fail> {
+// Whether the bytes are read as this frame, and nothing is behind it.
+fn is_read(row: &ReadFrame) -> bool {
     let (wire, number, name, spelled) = *row;
-    let mut out = Vec::new(rt.alloc());
     match first_frame(wire) {
-        Ok((read, rest)) => {
-            assert!(rt; rest.is_empty());
-            assert_eq!(rt; read.ty, number);
-            assert_eq!(rt; read.frame.name(), name);
-            if let [first, ..] = spelled {
-                assert_eq!(rt; read.frame.ty(), u64::from(*first));
-            }
-            put_frame(&mut out, &read.frame)?;
-        }
-        Err(_) => assert!(rt; false),
+        Ok((read, rest)) => rest.is_empty()
+            && read.ty == number
+            && read.frame.name() == name
+            && read.frame.len() == spelled.len()
+            && first_of(spelled) == Some(read.frame.ty()),
+        Err(_) => false,
     }
-    assert_eq!(rt; out.as_slice(), spelled);
+}
+
+fn first_of(bytes: &[u8]) -> Option<u64> {
+    match bytes {
+        [first, ..] => Some(u64::from(*first)),
+        [] => None,
+    }
+}
+
+// The frame at the front of the bytes, written again.
+fn written(alloc: Global, wire: &[u8]) -> Result<Vec<u8>, AllocError> {
+    let mut out = Vec::new(alloc);
+    if let Ok((read, _)) = first_frame(wire) {
+        put_frame(&mut out, &read.frame)?;
+    }
+    Ok(out)
+}
+
+// Whether the frame is written so.
+fn is_written(alloc: Global, row: &ReadFrame) -> Result<bool, AllocError> {
+    let (wire, _, _, spelled) = *row;
+    let out = written(alloc, wire)?;
+    Ok(out.as_slice() == spelled)
+}
+
+fn check(rt: &(impl Abort + AllocGlobal), row: &ReadFrame) -> Result<(), Fail> {
+    assert!(rt; is_read(row), "{}", row.2);
+    assert!(rt; is_written(rt.alloc(), row)?, "{}", row.2);
     Ok(())
 }
 
@@ -147,36 +170,35 @@ fn walk(payload: &[u8]) -> (usize, Option<InvalidFrame>) {
     (count, fault)
 }
 
-// Adds a frame to `whole` others, a byte at a time. Before its type and its first `least` bytes are
-// there the payload ends in a fault.
+// Whether a payload of `whole` frames and the first `len` bytes of another is read so: before its type
+// and its first `least` bytes are there it ends in a fault.
+fn is_walked(payload: &[u8], whole: usize, row: &ReadFrame, len: usize, least: usize) -> bool {
+    let (wire, number, _, _) = *row;
+    let (count, fault) = walk(payload);
+    if len >= least {
+        return count == whole.wrapping_add(1) && fault.is_none();
+    }
+    let has_type = len > 1 || first_of(wire).is_some_and(|first| first < 64);
+    let ty = if has_type { Some(number) } else { None };
+    let why = FrameFault::UnexpectedEnd;
+    count == whole && fault == Some(InvalidFrame { ty, why })
+}
+
+// Adds a frame to `whole` others, a byte at a time, and gives the first length at which it isn't read
+// as it should be.
 fn grow(
-    rt: &(impl Abort + AllocGlobal),
     payload: &mut Vec<u8>,
     whole: usize,
     row: &ReadFrame,
     least: usize,
-) -> Result<(), Fail> {
-    let (wire, number, _, _) = *row;
-    for (at, byte) in wire.iter().enumerate() {
+) -> Result<Option<usize>, Fail> {
+    for (at, byte) in row.0.iter().enumerate() {
         payload.push(*byte)?;
-        let (count, fault) = walk(payload.as_slice());
-        if at + 1 < least {
-            let has_type = at > 0 || *byte < 64;
-            let ty = if has_type { Some(number) } else { None };
-            assert_eq!(rt; count, whole, "{count}");
-            assert_eq!(rt;
-                fault,
-                Some(InvalidFrame {
-                    ty,
-                    why: FrameFault::UnexpectedEnd
-                })
-            );
-        } else {
-            assert_eq!(rt; count, whole.wrapping_add(1));
-            assert_eq!(rt; fault, None);
+        if !is_walked(payload.as_slice(), whole, row, at + 1, least) {
+            return Ok(Some(at));
         }
     }
-    Ok(())
+    Ok(None)
 }
 
 // Each front of a payload that has every kind of frame.
@@ -184,11 +206,11 @@ fn grow(
 fn each_prefix_is_read(rt: HostRuntime) -> Result<(), Fail> {
     let mut payload = Vec::new(rt.alloc());
     for (whole, row) in FRAMES.iter().enumerate() {
-        grow(&rt, &mut payload, whole, row, row.0.len())?;
+        assert_eq!(rt; grow(&mut payload, whole, row, row.0.len())?, None);
     }
     let len = payload.len();
     for (row, least) in &LAST_FRAMES {
-        grow(&rt, &mut payload, FRAMES.len(), row, *least)?;
+        assert_eq!(rt; grow(&mut payload, FRAMES.len(), row, *least)?, None);
         payload.truncate(len);
     }
     Ok(())
@@ -341,15 +363,6 @@ fn numbers_of_each_length_are_read(rt: HostRuntime) {
     }
 }
 
-// The frame at the front of the bytes, written again.
-fn written(alloc: Global, wire: &[u8]) -> Result<Vec<u8>, AllocError> {
-    let mut out = Vec::new(alloc);
-    if let Ok((read, _)) = first_frame(wire) {
-        put_frame(&mut out, &read.frame)?;
-    }
-    Ok(out)
-}
-
 // CRYPTO frames with bodies at whose length the length's own form grows.
 #[test]
 fn bodies_of_each_length_are_written(rt: HostRuntime) -> Result<(), Fail> {
@@ -469,47 +482,73 @@ fn what_is_no_frame_is_refused(rt: HostRuntime) {
     }
 }
 
+// The frames of a payload, and the fault that ends it.
+fn listed(alloc: Global, payload: &[u8]) -> Result<(FrameList, Option<InvalidFrame>), Fail> {
+    let frames = Iter::new(payload).ok().ok_or("no payload")?;
+    Ok(FrameList::read_all(alloc, frames)?)
+}
+
+// Whether the list is spelled so.
+fn list_is_spelled(alloc: Global, list: &FrameList, spelled: &[u8]) -> Result<bool, AllocError> {
+    let mut out = Vec::new(alloc);
+    list.put(&mut out)?;
+    Ok(out.as_slice() == spelled && list.spelled_len() == spelled.len())
+}
+
+// Whether a copy of the list is.
+fn copy_is_spelled(alloc: Global, list: &FrameList, spelled: &[u8]) -> Result<bool, AllocError> {
+    let copy = list.copy(alloc)?;
+    list_is_spelled(alloc, &copy, spelled)
+}
+
+// Whether the frames but for PADDING at the end are spelled so, and so many PADDING frames follow.
+fn parts_are_spelled(
+    alloc: Global,
+    list: &FrameList,
+    spelled: &[u8],
+    padding: u64,
+) -> Result<bool, AllocError> {
+    let (frames, behind) = list.parts();
+    let mut out = Vec::new(alloc);
+    put_frames(&mut out, frames)?;
+    Ok(behind == padding && out.as_slice() == spelled)
+}
+
 #[test]
 fn a_payload_is_kept_in_a_list(rt: HostRuntime) -> Result<(), Fail> {
     let alloc = rt.alloc();
     assert!(rt; Iter::new(b"").is_err());
-    match Iter::new(b"\x01\x00\x00\x06\x00\x01a\x00\x00\x1f") {
-        Ok(frames) => {
-            let (mut list, fault) = FrameList::read_all(alloc, frames)?;
-            assert_eq!(rt;
-                fault.map(|invalid| invalid.why),
-                Some(FrameFault::InvalidFrameId)
-            );
-            assert!(rt; list.elicits() && !list.is_empty());
-            list.push_padding(2)?;
-            let mut out = Vec::new(alloc);
-            list.put(&mut out)?;
-            assert_eq!(rt;
-                out.as_slice(),
-                b"\x01\x00\x00\x06\x00\x01a\x00\x00\x00\x00".as_slice()
-            );
-            let (frames, padding) = list.parts();
-            assert_eq!(rt; padding, 4);
-            put_frames(&mut out, frames)?;
-            assert_eq!(rt; out.len(), 18);
-        }
-        Err(_) => assert!(rt; false),
-    }
+    let (mut list, fault) = listed(alloc, b"\x01\x00\x00\x06\x00\x01a\x00\x00\x1f")?;
+    assert_eq!(rt;
+        fault.map(|invalid| invalid.why),
+        Some(FrameFault::InvalidFrameId)
+    );
+    assert!(rt; list.elicits() && !list.is_empty());
+    list.push_padding(2)?;
+    let spelled = b"\x01\x00\x00\x06\x00\x01a\x00\x00\x00\x00";
+    assert!(rt; list_is_spelled(alloc, &list, spelled)?);
+    assert!(rt; copy_is_spelled(alloc, &list, spelled)?);
+    assert!(rt; parts_are_spelled(alloc, &list, b"\x01\x00\x00\x06\x00\x01a", 4)?);
     Ok(())
+}
+
+// Whether the frame is written so as the last one of a packet.
+fn is_written_last(alloc: Global, wire: &[u8], spelled: &[u8]) -> Result<bool, AllocError> {
+    let mut out = Vec::new(alloc);
+    match first_frame(wire) {
+        Ok((read, _)) => {
+            put_last_frame(&mut out, &read.frame)?;
+            Ok(out.as_slice() == spelled && read.frame.last_len() == spelled.len())
+        }
+        Err(_) => Ok(false),
+    }
 }
 
 #[test]
 fn the_last_frame_needs_no_length(rt: HostRuntime) -> Result<(), Fail> {
-    let mut out = Vec::new(rt.alloc());
-    match first_frame(b"\x0b\x04\x02hi") {
-        Ok((read, _)) => put_last_frame(&mut out, &read.frame)?,
-        Err(_) => assert!(rt; false),
-    }
-    match first_frame(b"\x31\x02hi") {
-        Ok((read, _)) => put_last_frame(&mut out, &read.frame)?,
-        Err(_) => assert!(rt; false),
-    }
-    assert_eq!(rt; out.as_slice(), b"\x09\x04hi\x30hi".as_slice());
+    assert!(rt; is_written_last(rt.alloc(), b"\x0b\x04\x02hi", b"\x09\x04hi")?);
+    assert!(rt; is_written_last(rt.alloc(), b"\x31\x02hi", b"\x30hi")?);
+    assert!(rt; is_written_last(rt.alloc(), b"\x06\x00\x01a", b"\x06\x00\x01a")?);
     Ok(())
 }
 
@@ -549,29 +588,44 @@ fn a_run_of_padding_is_skipped(rt: HostRuntime) {
     }
 }
 
-// The packets 0, 3, 4 and 8 to 10 in an ACK: 8 to 10, then three not there (gap 2), 3 and 4, then
-// two not there (gap 1), and 0.
-#[test]
-fn packets_are_acknowledged(rt: HostRuntime) -> Result<(), Fail> {
+// An ACK of the packets 0, 3, 4 and 8 to 10.
+fn acknowledged(alloc: Global) -> Result<Option<OwnedAck>, AllocError> {
     let mut numbers = ArrayRangeSet::new();
     for number in [8u64, 4, 0, 10, 9, 3] {
         numbers.insert_one(number);
     }
-    let Some(ack) = OwnedAck::of_numbers(rt.alloc(), &numbers, 5, None)? else {
-        return Ok(());
-    };
-    assert_eq!(rt; ack.largest, 10);
+    OwnedAck::of_numbers(alloc, &numbers, 5, None)
+}
+
+// Whether the ACK has these ranges.
+fn has_ranges(ack: &OwnedAck, wanted: &[(u64, u64)]) -> bool {
     let mut ranges = ack.ranges();
-    for (first, last) in [(8u64, 10u64), (3, 4), (0, 0)] {
-        assert_eq!(rt; ranges.next(), Some(NumberRange { first, last }));
+    for (first, last) in wanted {
+        let range = NumberRange {
+            first: *first,
+            last: *last,
+        };
+        if ranges.next() != Some(range) {
+            return false;
+        }
     }
-    assert_eq!(rt; ranges.next(), None);
+    ranges.next().is_none()
+}
+
+// Whether the ACK is spelled so.
+fn ack_is_spelled(alloc: Global, ack: OwnedAck, spelled: &[u8]) -> Result<bool, AllocError> {
     let frame = OwnedFrame::Ack(ack);
-    let mut out = Vec::new(rt.alloc());
+    let mut out = Vec::new(alloc);
     put_frame(&mut out, &frame.as_frame())?;
-    assert_eq!(rt;
-        out.as_slice(),
-        b"\x02\x0a\x05\x02\x02\x02\x01\x01\x00".as_slice()
-    );
+    Ok(out.as_slice() == spelled && frame.as_frame().len() == spelled.len())
+}
+
+// 8 to 10, then three not there (gap 2), 3 and 4, then two not there (gap 1), and 0.
+#[test]
+fn packets_are_acknowledged(rt: HostRuntime) -> Result<(), Fail> {
+    let ack = acknowledged(rt.alloc())?.ok_or("no ACK")?;
+    assert!(rt; ack.largest == 10 && has_ranges(&ack, &[(8, 10), (3, 4), (0, 0)]));
+    let spelled = b"\x02\x0a\x05\x02\x02\x02\x01\x01\x00";
+    assert!(rt; ack_is_spelled(rt.alloc(), ack, spelled)?);
     Ok(())
 }

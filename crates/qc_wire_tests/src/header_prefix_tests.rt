@@ -181,32 +181,35 @@ fn retry(rt: HostRuntime) -> Result<(), Fail> {
     Ok(())
 }
 
-// The second packet's fixed bit is unset.
+/// What is readable of a Version Negotiation packet, of whose first byte these are the low bits.
+fn negotiation(random: u8) -> ProtectedHeader {
+    ProtectedHeader::VersionNegotiate {
+        random,
+        src_cid: src_cid(),
+        dst_cid: dst_cid(),
+    }
+}
+
 #[test]
 fn version_negotiation(rt: HostRuntime) -> Result<(), Fail> {
     let packet = b"\xc5\x00\x00\x00\x00\x04\xa1\xa2\xa3\xa4\x02\xb1\xb2\x00\x00\x00\x01";
     assert!(rt; are_invalid(rt.alloc(), packet, 13)?);
-    let mut readable = ProtectedHeader::VersionNegotiate {
-        random: 0x45,
-        src_cid: src_cid(),
-        dst_cid: dst_cid(),
-    };
-    assert!(rt; are_read(rt.alloc(), packet, 13, false, &readable)?);
+    assert!(rt; are_read(rt.alloc(), packet, 13, false, &negotiation(0x45))?);
     let header = Header::VersionNegotiate {
         random: 0x45,
         src_cid: src_cid(),
         dst_cid: dst_cid(),
     };
     assert!(rt; is_packet(rt.alloc(), packet, &header, b"\x00\x00\x00\x01")?);
+    Ok(())
+}
 
+// The packet's fixed bit is unset.
+#[test]
+fn greased_version_negotiation(rt: HostRuntime) -> Result<(), Fail> {
     let greased = b"\x85\x00\x00\x00\x00\x04\xa1\xa2\xa3\xa4\x02\xb1\xb2\x00\x00\x00\x01";
     assert!(rt; are_invalid(rt.alloc(), greased, 18)?);
-    readable = ProtectedHeader::VersionNegotiate {
-        random: 0x05,
-        src_cid: src_cid(),
-        dst_cid: dst_cid(),
-    };
-    assert!(rt; are_read(rt.alloc(), greased, 13, true, &readable)?);
+    assert!(rt; are_read(rt.alloc(), greased, 13, true, &negotiation(0x05))?);
     Ok(())
 }
 

@@ -1,10 +1,14 @@
 //! Worked examples of RFC 9001, appendix A, and one call of each kind.
 
-ghost use Rattle.std.specs.Prelude.{ℕ, List};
+ghost use Rattle.std.specs.Prelude.{ℕ, ◌≤◌, List};
 
 use bytes::{Bytes, BytesMut};
 use qc_base::{ConnectionId, HeaderMask, LongType, PacketNumber, SpaceId};
-use qc_header::{Header, InitialHeader, InitialPacket, PacketDecodeError, PartialDecode};
+use qc_header::{
+    Header, InitialHeader, InitialPacket, Packet, PacketDecodeError, PartialDecode, ShortHeader,
+    finish_short,
+};
+use std::alloc::{AllocError, Global};
 use std::test::Fail;
 
 pub(crate) struct FixedMask(pub(crate) [u8; 5]);
@@ -118,80 +122,161 @@ fn no_length_set(rt: HostRuntime) -> Result<(), Fail> {
     Ok(())
 }
 
-// The packet of RFC 9001, appendix A.5.
-#[test]
-fn short_decoded(rt: HostRuntime) -> Result<(), Fail> {
-    let datagram =
-        b"\x4c\xfe\x41\x89\x65\x5e\x5c\xd5\x5c\x41\xf6\x90\x80\x57\x5d\x79\x99\xc2\x5a\x5b\xfb";
-    let bytes = BytesMut::copy_from_slice(rt.alloc(), datagram)?;
-    let (partial, rest) = PartialDecode::new(bytes, 0, &[1], false)
+/// The packet at the front of a datagram, where ids of this end have so many bytes, and how many bytes
+/// are behind it.
+fn piece(
+    alloc: Global,
+    datagram: &[u8],
+    local_cid_len: usize,
+) -> Result<(PartialDecode, usize), Fail>
+    requires { local_cid_len ≤ 20 }
+{
+    let bytes = BytesMut::copy_from_slice(alloc, datagram)?;
+    let (partial, rest) = PartialDecode::new(bytes, local_cid_len, &[1], false)
         .ok()
         .ok_or("unread")?;
-    assert!(rt; rest.is_none());
-    assert_eq!(rt; partial.space(), Some(SpaceId::Data));
-    assert_eq!(rt; partial.len(), 21);
-    assert!(rt; !partial.is_0rtt());
+    Ok((partial, rest.map_or(0, |rest| rest.len())))
+}
+
+/// The same without header protection.
+fn opened(
+    alloc: Global,
+    datagram: &[u8],
+    local_cid_len: usize,
+    key: &FixedMask,
+) -> Result<Packet, Fail>
+    requires { local_cid_len ≤ 20 }
+{
+    let (partial, _) = piece(alloc, datagram, local_cid_len)?;
+    let packet = partial.finish(Some(key)).ok().ok_or("cut")?;
+    Ok(packet)
+}
+
+// The packet of RFC 9001, appendix A.5.
+const SHORT: &[u8] =
+    b"\x4c\xfe\x41\x89\x65\x5e\x5c\xd5\x5c\x41\xf6\x90\x80\x57\x5d\x79\x99\xc2\x5a\x5b\xfb";
+
+/// Whether the packet is a 1-RTT packet of this size with nothing behind it.
+fn is_piece(
+    alloc: Global,
+    datagram: &[u8],
+    local_cid_len: usize,
+    space: SpaceId,
+    len: usize,
+    behind: usize,
+) -> Result<bool, Fail>
+    requires { local_cid_len ≤ 20 }
+{
+    let (partial, left) = piece(alloc, datagram, local_cid_len)?;
+    Ok(
+        partial.space() == Some(space)
+            && partial.len() == len
+            && left == behind
+            && !partial.is_0rtt(),
+    )
+}
+
+#[test]
+fn short_decoded(rt: HostRuntime) -> Result<(), Fail> {
+    assert!(rt; is_piece(rt.alloc(), SHORT, 0, SpaceId::Data, 21, 0)?);
     let key = FixedMask([0xae, 0xfe, 0xfe, 0x7d, 0x03]);
-    let packet = partial.finish(Some(&key)).ok().ok_or("cut")?;
+    let packet = opened(rt.alloc(), SHORT, 0, &key)?;
     let want = Header::Short {
         spin: false,
         key_phase: false,
         dst_cid: ConnectionId::new(b""),
         number: PacketNumber::U24(0xbff4),
     };
-    assert!(rt; packet.header == want);
-    assert_eq!(rt;
-        packet.header_data.as_slice(),
-        b"\x42\x00\xbf\xf4".as_slice()
-    );
-    assert_eq!(rt; packet.payload.len(), 17);
+    assert!(rt; packet.header == want && packet.payload.len() == 17);
+    assert!(rt; packet.header_data.as_slice() == b"\x42\x00\xbf\xf4".as_slice());
     Ok(())
 }
 
-// A Handshake packet of 2 bytes of number and 20 of payload, and one byte behind it.
+// The same packet where it stands. With a byte less it is as before.
 #[test]
-fn long_decoded(rt: HostRuntime) -> Result<(), Fail> {
-    let header = Header::Long {
+fn short_decoded_in_place(rt: HostRuntime) {
+    let key = FixedMask([0xae, 0xfe, 0xfe, 0x7d, 0x03]);
+    let mut packet = [0; 21];
+    packet.copy_from_slice(SHORT);
+    assert_eq!(rt; finish_short(&key, 1, &mut packet[..20]), None);
+    assert!(rt; packet.as_slice() == SHORT);
+    let want = ShortHeader {
+        spin: false,
+        reserved_bits: 0,
+        key_phase: false,
+        number: PacketNumber::U24(0xbff4),
+        len: 4,
+    };
+    assert_eq!(rt; finish_short(&key, 1, &mut packet), Some(want));
+    assert_eq!(rt; &packet[..4], b"\x42\x00\xbf\xf4".as_slice());
+    assert!(rt; packet[4..] == SHORT[4..]);
+}
+
+// A Handshake packet of 2 bytes of number and 20 of payload, and one byte behind it.
+fn handshake() -> Header {
+    Header::Long {
         ty: LongType::Handshake,
         dst_cid: ConnectionId::new(b"\xaa\xbb"),
         src_cid: ConnectionId::new(b"\xcc"),
         number: PacketNumber::U16(0x1234),
         version: 1,
-    };
-    let mut datagram = Vec::new(rt.alloc());
-    let _ = header.encode_sized(22, &mut datagram)?;
+    }
+}
+
+fn handshake_datagram(alloc: Global) -> Result<Vec<u8>, AllocError> {
+    let mut datagram = Vec::new(alloc);
+    let _ = handshake().encode_sized(22, &mut datagram)?;
     datagram.extend_from_slice(b"abcdefghijklmnopqrstZ")?;
-    let bytes = BytesMut::copy_from_slice(rt.alloc(), datagram.as_slice())?;
-    let (partial, rest) = PartialDecode::new(bytes, 8, &[1], false)
-        .ok()
-        .ok_or("unread")?;
-    assert_eq!(rt; rest.map_or(0, |r| r.len()), 1);
-    assert_eq!(rt; partial.space(), Some(SpaceId::Handshake));
-    let key = FixedMask([0; 5]);
-    let packet = partial.finish(Some(&key)).ok().ok_or("cut")?;
-    assert!(rt; packet.header == header);
-    assert_eq!(rt;
-        packet.payload.as_slice(),
-        b"abcdefghijklmnopqrst".as_slice()
+    Ok(datagram)
+}
+
+/// Whether the packet has this header and payload.
+fn has_parts(packet: &Packet, header: &Header, payload: &[u8]) -> bool {
+    packet.header == *header && packet.payload.as_slice() == payload
+}
+
+#[test]
+fn long_decoded(rt: HostRuntime) -> Result<(), Fail> {
+    let datagram = handshake_datagram(rt.alloc())?;
+    assert!(rt;
+        is_piece(
+            rt.alloc(),
+            datagram.as_slice(),
+            8,
+            SpaceId::Handshake,
+            34,
+            1
+        )?
     );
+    let packet = opened(rt.alloc(), datagram.as_slice(), 8, &FixedMask([0; 5]))?;
+    assert!(rt; has_parts(&packet, &handshake(), b"abcdefghijklmnopqrst"));
     assert!(rt; InitialPacket::from_packet(packet).is_none());
     Ok(())
+}
+
+/// Whether the packet is an Initial packet with this number, these bytes of header and this payload.
+fn is_initial(packet: Packet, number: PacketNumber, head: &[u8], payload: &[u8]) -> bool {
+    match InitialPacket::from_packet(packet) {
+        Some(initial) => initial.header.number == number
+            && initial.header_data.as_slice() == head
+            && initial.payload.as_slice() == payload,
+        None => false,
+    }
 }
 
 // The same as an Initial packet without ids and token, of 1 byte of number.
 #[test]
 fn initial_decoded(rt: HostRuntime) -> Result<(), Fail> {
     let datagram = b"\xc0\x00\x00\x00\x01\x00\x00\x00\x15\x07abcdefghijklmnopqrst";
-    let bytes = BytesMut::copy_from_slice(rt.alloc(), datagram)?;
-    let (partial, _) = PartialDecode::new(bytes, 8, &[1], false)
-        .ok()
-        .ok_or("unread")?;
-    let key = FixedMask([0; 5]);
-    let packet = partial.finish(Some(&key)).ok().ok_or("cut")?;
-    let initial = InitialPacket::from_packet(packet).ok_or("no Initial packet")?;
-    assert_eq!(rt; initial.header.number, PacketNumber::U8(7));
-    assert_eq!(rt; initial.header_data.as_slice(), &datagram[..10]);
-    assert_eq!(rt; initial.payload.as_slice(), &datagram[10..]);
+    let packet = opened(rt.alloc(), datagram, 8, &FixedMask([0; 5]))?;
+    assert!(rt;
+        is_initial(
+            packet,
+            PacketNumber::U8(7),
+            &datagram[..10],
+            &datagram[10..]
+        )
+    );
     Ok(())
 }
 

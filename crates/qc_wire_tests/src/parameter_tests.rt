@@ -86,25 +86,41 @@ fn spelled(alloc: Global, side: Side) -> Result<Vec<u8>, AllocError> {
     Ok(bytes)
 }
 
+// Whether the parameters are written so.
+fn are_written(
+    alloc: Global,
+    parameters: &TransportParameters,
+    bytes: &[u8],
+) -> Result<bool, AllocError> {
+    let mut written = Vec::new(alloc);
+    parameters.write(&mut written)?;
+    Ok(written.as_slice() == bytes)
+}
+
+// Whether they are what that side sends: written so, and read so by its peer.
+fn are_sent(
+    alloc: Global,
+    side: Side,
+    peer: Side,
+    parameters: &TransportParameters,
+) -> Result<bool, Fail> {
+    let bytes = spelled(alloc, side)?;
+    let read = TransportParameters::read(peer, bytes.as_slice());
+    Ok(
+        are_written(alloc, parameters, bytes.as_slice())?
+            && read.is_ok_and(|read| read == *parameters),
+    )
+}
+
 #[test]
 fn a_server_announces(rt: HostRuntime) -> Result<(), Fail> {
-    let bytes = spelled(rt.alloc(), Side::Server)?;
-    let mut written = Vec::new(rt.alloc());
-    all_parameters().write(&mut written)?;
-    assert_eq!(rt; written.as_slice(), bytes.as_slice());
-    let read = TransportParameters::read(Side::Client, bytes.as_slice());
-    assert_eq!(rt; read.ok().ok_or("refused")?, all_parameters());
+    assert!(rt; are_sent(rt.alloc(), Side::Server, Side::Client, &all_parameters())?);
     Ok(())
 }
 
 #[test]
 fn a_client_announces(rt: HostRuntime) -> Result<(), Fail> {
-    let bytes = spelled(rt.alloc(), Side::Client)?;
-    let mut written = Vec::new(rt.alloc());
-    client_parameters().write(&mut written)?;
-    assert_eq!(rt; written.as_slice(), bytes.as_slice());
-    let read = TransportParameters::read(Side::Server, bytes.as_slice());
-    assert_eq!(rt; read.ok().ok_or("refused")?, client_parameters());
+    assert!(rt; are_sent(rt.alloc(), Side::Client, Side::Server, &client_parameters())?);
     parameters_written_are_read();
     entries_are_read();
     Ok(())
