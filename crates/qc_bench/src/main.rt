@@ -3,19 +3,7 @@
 //! the one did more.
 #![tactic(auto)]
 
-mod frames;
-mod job;
-mod keys;
-mod outcome;
-mod packets;
-mod run;
-mod samples;
-#[cfg(test)]
-mod tests;
-mod weight;
-
-use outcome::Outcome;
-use run::run;
+use qc_bench_run::{Outcome, run};
 use std::process::ExitCode;
 use std::{env, io};
 

@@ -1,6 +1,9 @@
-//! Tests of the sessions and keys, and of packets that are sealed and opened with them. There is nothing here but tests.
+//! Tests of the sessions and keys, of packets that are sealed and opened with them, and of the counted work on these. There
+//! is nothing here but tests.
 #![tactic(auto)]
 
+#[cfg(test)]
+mod bench_tests;
 #[cfg(test)]
 mod handshake_tests;
 #[cfg(test)]
