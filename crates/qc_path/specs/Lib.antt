@@ -2,6 +2,7 @@ pub mod AckCalls
 pub mod AckRanges
 pub mod Acks
 pub mod Arrived
+pub mod BlackHole
 pub mod Filter
 pub mod Mtu
 pub mod NewReno

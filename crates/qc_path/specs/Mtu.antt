@@ -1,6 +1,8 @@
 -- The search for a larger datagram, and black holes (RFC 8899; RFC 9000, section 14.3). Sizes are bytes of UDP payload.
-use Rattle.std.specs.Prelude.{ℕ, ◌+◌, ◌-◌, ◌/◌, ◌==◌, Bool, false, not, ◌&&◌, nat_lt, nat_le, if◌then◌else◌, Option, Some, None, is_some, min, max}
+use Rattle.std.specs.Prelude.{ℕ, ◌+◌, ◌-◌, ◌/◌, ◌==◌, Bool, false, not, ◌&&◌, ◌||◌, nat_lt, nat_le, if◌then◌else◌, Option, Some, None, is_some, min, max}
 use Rattle.qc_base.specs.Time.{plus}
+use Rattle.qc_path.specs.BlackHole.{is_cleared, no_bursts, packet_passed, probe_passed, with_burst}
+use Rattle.qc_path.specs.declared.black_hole.BlackHoleDetector.{BlackHoleDetector}
 use Rattle.qc_path.specs.declared.mtu.Phase.{Phase}
 use Rattle.qc_path.specs.declared.mtu.Phase.TheVariants.{Unbegun, Searching, Resting}
 use Rattle.qc_path.specs.declared.mtu.Search.{Search}
@@ -13,7 +15,7 @@ pub record Mtu : Type 0 where
   pub peer : Option ℕ  -- the greatest size that the peer takes, once it is known
   pub settings : Option SearchSettings  -- how to search, if at all
   pub phase : Phase
-  pub bursts : ℕ  -- how often in a row only packets above the least size were lost
+  pub holes : BlackHoleDetector  -- the bursts of losses that count
 
 -- a size, and at most what the peer takes, where that is known
 abbrev pub capped : Option ℕ → ℕ → ℕ
@@ -23,7 +25,7 @@ capped (Some most) size = min size most
 -- a path's first size
 unfoldable pub first_mtu : ℕ → ℕ → Option ℕ → Option SearchSettings → Mtu
 first_mtu initial least peer settings =
-    record { current = capped peer (max initial least); least = least; peer = peer; settings = settings; phase = Unbegun; bursts = 0 }
+    record { current = capped peer (max initial least); least = least; peer = peer; settings = settings; phase = Unbegun; holes = no_bursts }
 
 -- the peer's greatest size is known, and a search begins anew
 unfoldable pub peer_known : ℕ → Mtu → Mtu
@@ -104,7 +106,7 @@ abbrev pub search_raised : ℕ → Mtu → Search → Option (ℕ × ℕ) → Mt
 search_raised now m q None = m
 search_raised now m q (Some probe) = record m {
   current = probe.1;
-  bursts = 0;
+  holes = probe_passed (record { number = probe.0; size = probe.1 }) m.holes;
   phase = rested_if_set now m.settings (record q { lower = probe.1; losses = 0; probe = None });
 }
 
@@ -113,11 +115,11 @@ abbrev pub raised_if_searching : ℕ → Phase → Mtu → Mtu
 raised_if_searching now (Searching q) m = search_raised now m q q.probe
 raised_if_searching now _ m = m
 
--- a packet is acknowledged: a probe raises the size, and each one above the least size ends a row of losses
+-- a packet is acknowledged: a probe raises the size, and each one above the least size clears bursts
 unfoldable pub mtu_acked : ℕ → ℕ → ℕ → Mtu → Mtu
 mtu_acked now number size m =
     if is_probe number m then raised_if_searching now m.phase m
-    else if nat_lt m.least size then record m { bursts = 0 } else m
+    else if nat_lt m.least size then record m { holes = packet_passed (record { number = number; size = size }) m.holes } else m
 
 -- the probe is lost: the third time at one size, what lies below it becomes the upper end
 abbrev pub search_lowered : ℕ → Mtu → Search → Option (ℕ × ℕ) → Mtu
@@ -140,13 +142,18 @@ abbrev pub rested_after_hole : ℕ → Option SearchSettings → Phase → Phase
 rested_after_hole now None phase = phase
 rested_after_hole now (Some s) phase = Resting (plus now s.black_hole_cooldown)
 
--- packets were lost at once, probes aside, the smallest of them of this size: the fourth time in a row that all of them
--- are above the least size, the path has a black hole, and its size is the least, or what the peer takes where that is less
-unfoldable pub mtu_burst : ℕ → ℕ → Mtu → Mtu
-mtu_burst now smallest m =
-    if nat_le smallest m.least then m
-    else if nat_le 3 m.bursts then record m { current = capped m.peer m.least; bursts = 0; phase = rested_after_hole now m.settings m.phase }
-    else record m { bursts = m.bursts + 1 }
+-- a path once a burst counts, or once it has a black hole: its size is the least, or what the peer takes where that is less
+abbrev pub after_burst : ℕ → Option BlackHoleDetector → Mtu → Mtu
+after_burst now (Some holes) m = record m { holes = holes }
+after_burst now None m = record m { current = capped m.peer m.least; holes = no_bursts; phase = rested_after_hole now m.settings m.phase }
+
+-- packets of consecutive numbers were lost at once, probes aside, the smallest of them of this size, and the last with this
+-- number. The burst counts where all of them are above the least size, and no packet that was sent later, and is at least as
+-- large as the smallest, is known to be acknowledged. The fourth burst that counts shows a black hole
+unfoldable pub mtu_burst : ℕ → ℕ → ℕ → Mtu → Mtu
+mtu_burst now smallest last m =
+    if nat_le smallest m.least || is_cleared m.holes.acked (record { smallest = smallest; last = last }) then m
+    else after_burst now (with_burst (record { smallest = smallest; last = last }) m.holes) m
 
 -- the probe in flight is forgotten
 abbrev pub unprobed : Phase → Phase

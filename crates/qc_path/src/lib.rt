@@ -3,6 +3,7 @@
 #![tactic(auto)]
 
 mod ack_set;
+mod black_hole;
 mod controller;
 mod dedup;
 mod filter;

@@ -3,14 +3,12 @@
 ghost use Rattle.std.specs.Prelude.{◌≡◌};
 ghost use Rattle.qc_path.specs.Mtu.{begun, capped, rested_after_hole, first_mtu, goes_on, has_number, is_probe, middle, mtu_acked, mtu_burst, mtu_forgotten, mtu_probe_lost, peer_known, probe_due, probe_of, probe_sent, raised_if_searching, rested_if_set, search_at, search_lowered, size_of_probe};
 
+use crate::black_hole::{AckedPacket, BlackHoleDetector, LossBurst};
 use qc_base::{Duration, Instant};
 use std::marker::Model;
 
 /// How often one size is tried before it counts as too large.
 const TRIES: u8 = 3;
-
-/// How many bursts of losses in a row show a black hole.
-const BLACK_HOLE_BURSTS: u8 = 4;
 
 /// How a path's search goes.
 #[derive(Clone, Copy, Debug)]
@@ -53,7 +51,7 @@ pub struct MtuDiscovery {
     peer: Option<u16>,
     settings: Option<SearchSettings>,
     phase: Phase,
-    bursts: u8,
+    holes: BlackHoleDetector,
 }
 
 impl Model for MtuDiscovery {
@@ -61,7 +59,7 @@ impl Model for MtuDiscovery {
 
     ghost Value = { Mtu };
 
-    ghost view = { λ m. record { current = m.current; least = m.least; peer = m.peer; settings = m.settings; phase = m.phase; bursts = m.bursts } };
+    ghost view = { λ m. record { current = m.current; least = m.least; peer = m.peer; settings = m.settings; phase = m.phase; holes = m.holes } };
 }
 
 fn cap(most: Option<u16>, size: u16) -> u16
@@ -147,7 +145,7 @@ impl MtuDiscovery {
             peer,
             settings,
             phase: Phase::Unbegun,
-            bursts: 0,
+            holes: BlackHoleDetector::new(),
         }
     }
 
@@ -253,7 +251,10 @@ impl MtuDiscovery {
         if let Phase::Searching(search) = self.phase {
             if let Some(probe) = search.probe {
                 self.current = probe.1;
-                self.bursts = 0;
+                self.holes = self.holes.probe_passed(AckedPacket {
+                    number: probe.0,
+                    size: u64::from(probe.1),
+                });
                 self.phase = rest(
                     now,
                     self.settings,
@@ -276,7 +277,7 @@ impl MtuDiscovery {
         if self.is_probe(number) {
             self.raise(now);
         } else if u64::from(self.least) < size {
-            self.bursts = 0;
+            self.holes = self.holes.passed(AckedPacket { number, size });
         }
     }
 
@@ -316,21 +317,26 @@ impl MtuDiscovery {
         }
     }
 
-    /// Packets were lost at once, probes aside; the smallest of them has this size.
+    /// Packets of consecutive numbers in the Data space were lost at once, probes aside: the smallest of
+    /// them has this size, and `last` is their greatest number. The fourth such burst that counts shows
+    /// a black hole. One counts where all its packets are above the least size, until a packet that was
+    /// sent later, and is at least as large as the smallest, is acknowledged, or a probe.
     #[tactic(auto, unfolding(crate::specs::Mtu::mtu_burst))]
-    pub fn on_burst_lost(&mut self, now: Instant, smallest: u64)
-        ensures { self.new ≡ mtu_burst now smallest self.old }
+    pub fn on_burst_lost(&mut self, now: Instant, smallest: u64, last: u64)
+        ensures { self.new ≡ mtu_burst now smallest last self.old }
     {
-        if smallest <= u64::from(self.least) {
+        let burst = LossBurst { smallest, last };
+        if smallest <= u64::from(self.least) || self.holes.clears(burst) {
             return;
         }
-        if self.bursts < BLACK_HOLE_BURSTS - 1 {
-            self.bursts += 1;
-            return;
+        match self.holes.with(burst) {
+            Some(holes) => self.holes = holes,
+            None => {
+                self.current = cap(self.peer, self.least);
+                self.holes = BlackHoleDetector::new();
+                self.phase = cool(now, self.settings, self.phase);
+            }
         }
-        self.current = cap(self.peer, self.least);
-        self.bursts = 0;
-        self.phase = cool(now, self.settings, self.phase);
     }
 
     /// The probe in flight left the flight, neither acknowledged nor lost.
@@ -358,7 +364,7 @@ impl MtuDiscovery {
             peer: self.peer,
             settings: self.settings,
             phase: self.phase,
-            bursts: self.bursts,
+            holes: self.holes,
         }
     }
 }

@@ -86,32 +86,70 @@ fn a_probe_is_above_the_lower_end(rt: HostRuntime) -> Result<(), Fail> {
 fn a_black_hole_leaves_what_the_peer_takes(rt: HostRuntime) -> Result<(), Fail> {
     let mut mtu = MtuDiscovery::new(1400, 1300, Some(1250), Some(settings()));
     assert_eq!(rt; mtu.current_mtu(), 1250);
-    for _ in 0..4 {
-        mtu.on_burst_lost(at(0), 1350);
+    for last in 0..4 {
+        mtu.on_burst_lost(at(0), 1350, last);
     }
     assert_eq!(rt; mtu.current_mtu(), 1250);
     Ok(())
 }
 
+/// A path with datagrams of 1400 bytes.
+fn path_of_1400() -> MtuDiscovery {
+    MtuDiscovery::new(1400, 1200, Some(1452), Some(settings()))
+}
+
+// Bursts that end with numbers 10, 20, .. and whose smallest packet has 1300 bytes. One with a packet of the least size, 1200,
+// doesn't count. Number 5 was sent before each of them, number 45 is smaller than their packets, and 15 was sent after the first
+// alone. So the ones up to 40 count but for the first, and the one up to 50 is the fourth.
 #[test]
 fn four_bursts_in_a_row_show_a_black_hole(rt: HostRuntime) -> Result<(), Fail> {
-    let mut mtu = MtuDiscovery::new(1400, 1200, Some(1452), Some(settings()));
-    for _ in 0..3 {
-        mtu.on_burst_lost(at(0), 1300);
+    let mut mtu = path_of_1400();
+    for (smallest, last) in [(1300, 10), (1300, 20), (1300, 30), (1200, 35)] {
+        mtu.on_burst_lost(at(0), smallest, last);
     }
-    mtu.on_burst_lost(at(0), 1200);
-    assert_eq!(rt; mtu.current_mtu(), 1400);
-    mtu.on_acked(at(0), 7, 1201);
-    for _ in 0..3 {
-        mtu.on_burst_lost(at(0), 1300);
+    for (number, size) in [(5, 1400), (45, 1299), (15, 1300)] {
+        mtu.on_acked(at(0), number, size);
     }
-    mtu.on_acked(at(0), 8, 1200);
+    mtu.on_burst_lost(at(0), 1300, 40);
     assert_eq!(rt; mtu.current_mtu(), 1400);
-    mtu.on_burst_lost(at(1), 1300);
+    mtu.on_burst_lost(at(1), 1300, 50);
     assert_eq!(rt; mtu.current_mtu(), 1200);
     assert_eq!(rt; mtu.probe_due(at(60_000)), None);
     assert_eq!(rt; mtu.probe_due(at(60_001)), Some(1326));
     mtu.forget_probe();
+    Ok(())
+}
+
+// Number 100 with 1350 bytes arrived: bursts of packets that are no larger and were sent before it show no black hole. Four of
+// larger packets do, and so do four behind it.
+#[test]
+fn an_acknowledgement_clears_bursts_before_it(rt: HostRuntime) -> Result<(), Fail> {
+    for (smallest, first, size) in [(1350, 10, 1400), (1351, 10, 1200), (1350, 100, 1200)] {
+        let mut mtu = path_of_1400();
+        mtu.on_acked(at(0), 100, 1350);
+        for more in 0..4 {
+            mtu.on_burst_lost(at(0), smallest, first + more);
+        }
+        assert_eq!(rt; mtu.current_mtu(), size);
+    }
+    Ok(())
+}
+
+// A probe that passes takes three bursts away; three more leave the size, and the fourth doesn't.
+#[test]
+fn a_probe_clears_all_bursts(rt: HostRuntime) -> Result<(), Fail> {
+    let mut mtu = search();
+    for _ in 0..3 {
+        mtu.on_burst_lost(at(0), 1300, 10);
+    }
+    mtu.probe_sent(at(0), 5);
+    mtu.on_acked(at(0), 5, 1326);
+    for _ in 0..3 {
+        mtu.on_burst_lost(at(0), 1300, 20);
+    }
+    assert_eq!(rt; mtu.current_mtu(), 1326);
+    mtu.on_burst_lost(at(0), 1300, 30);
+    assert_eq!(rt; mtu.current_mtu(), 1200);
     Ok(())
 }
 

@@ -150,8 +150,8 @@ module _ {C : Type 0} where
   unfoldable pub hole_told : Control C → ℕ → Option Burst → PathData C → PathData C
   hole_told m now None p = p
   hole_told m now (Some b) p = record p {
-    mtud = mtu_burst now b.smallest p.mtud;
-    congestion = if nat_lt (mtu_burst now b.smallest p.mtud).current p.mtud.current then m.after_resize p.congestion (mtu_burst now b.smallest p.mtud).current else p.congestion;
+    mtud = mtu_burst now b.smallest b.last p.mtud;
+    congestion = if nat_lt (mtu_burst now b.smallest b.last p.mtud).current p.mtud.current then m.after_resize p.congestion (mtu_burst now b.smallest b.last p.mtud).current else p.congestion;
   }
 
   -- the search is told of the bursts of these lost packets, one after the other; `burst` is the one that goes on

@@ -116,7 +116,7 @@ fn tell_hole<C: Controller>(path: &mut PathData<C>, now: Instant, burst: Option<
         None => {}
         Some(burst) => {
             let before = path.mtud.current_mtu();
-            path.mtud.on_burst_lost(now, burst.smallest);
+            path.mtud.on_burst_lost(now, burst.smallest, burst.last);
             let after = path.mtud.current_mtu();
             if after < before {
                 path.congestion.on_mtu_update(after);
