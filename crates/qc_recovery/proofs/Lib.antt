@@ -6,4 +6,5 @@ pub mod Powers
 pub mod RunsSettle
 pub mod Settling
 pub mod Spans
+pub mod Told
 pub mod Unknown

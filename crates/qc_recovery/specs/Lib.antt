@@ -6,5 +6,6 @@ pub mod Paths
 pub mod Runs
 pub mod Settlement
 pub mod Steps
+pub mod Told
 pub mod TransportConfig
 pub mod TransportValues

@@ -1,6 +1,6 @@
 //! What holds of recovery's steps.
 
-ghost use Rattle.std.specs.Prelude.{◌≡◌, ℕ, ◌≤◌, true, false, List, [], None, IsPermutation};
+ghost use Rattle.std.specs.Prelude.{◌≡◌, ℕ, ◌≤◌, ◌==◌, true, false, List, [], ◌++◌, length, None, IsPermutation};
 ghost use Rattle.qc_base.specs.declared.range_set.NumberRange.{NumberRange};
 ghost use Rattle.qc_base.specs.declared.side.SpaceId.{SpaceId};
 ghost use Rattle.qc_flight.specs.Packets.{has_number, is_acked, is_in, those};
@@ -9,13 +9,14 @@ ghost use Rattle.qc_frame.specs.Frame.{AckValue};
 ghost use Rattle.qc_frame.specs.FrameFits.{Fits};
 ghost use Rattle.qc_frame.specs.declared.frames.FrameOf.TheVariants as frames;
 ghost use Rattle.qc_path.specs.Arrived.{exceeds};
-ghost use Rattle.qc_recovery.specs.Acking.{raised};
+ghost use Rattle.qc_recovery.specs.Acking.{acked_of, raised, space_acked};
 ghost use Rattle.qc_recovery.specs.Calls.{begun_recovery};
 ghost use Rattle.qc_recovery.specs.Frames.{ranges_up_of, values_of};
 ghost use Rattle.qc_recovery.specs.Runs.{AreSettledOnce, Call, all_fates, calls_after, no_fates};
 ghost use Rattle.qc_recovery.specs.Settlement.{all_of};
+ghost use Rattle.qc_recovery.specs.Told.{CongestionEvent, acks_written, is_no_probe, loss_events, losses_of_ack, marks_told, recorder};
 ghost use Rattle.qc_recovery.specs.TransportValues.{TransportValues};
-ghost use Rattle.qc_recovery.specs.Steps.{ack_after, marks_read, space_after, space_timed, space_with};
+ghost use Rattle.qc_recovery.specs.Steps.{ack_after, marks_read, path_lost, space_after, space_timed, space_with};
 ghost use Rattle.qc_recovery.specs.declared.calls.AckValues.{AckValues};
 ghost use Rattle.qc_recovery.specs.declared.calls.Around.{Around};
 ghost use Rattle.qc_recovery.specs.declared.calls.Occasion.{Occasion};
@@ -62,3 +63,13 @@ pub fn acked_numbers_are_acknowledged<C: Controller>()
 {
     ranges_lie_apart();
 }
+
+/// A law, which runs no code. A controller is told of each loss that counts, once: the packets that an
+/// ACK or the timer shows to be lost, the MTU probe aside, are one congestion event where one of them
+/// counted as in flight, and none else (RFC 9002, section 7.3.2). An ACK tells it besides of marks
+/// alone, in which no bytes are lost. It is shown on a controller that writes down what it is told.
+pub fn losses_are_told_once()
+    ensures timer { (l : Limits) (now : ℕ) (id : SpaceId) (s : SpaceRecovery) (p : PathData (List CongestionEvent)) → (space_timed recorder l now id s p).path.congestion ≡ p.congestion ++ loss_events false (those (is_no_probe id p.mtud) (space_timed recorder l now id s p).lost) }
+    ensures ack { (l : Limits) (o : Occasion) (a : AckValues) (ranges : List NumberRange) (around : Around) (s : SpaceRecovery) (p : PathData (List CongestionEvent)) → (length (acked_of ranges s) == 0) ≡ false → (space_after recorder l o a ranges around s p).path.congestion ≡ p.congestion ++ (losses_of_ack l o around (space_after recorder l o a ranges around s p).lost (acks_written o a ranges around s p) ++ marks_told o a (exceeds s.greatest a.largest) (length (acked_of ranges s)) (space_acked a.largest ranges s) (path_lost recorder l o around (space_after recorder l o a ranges around s p).lost (acks_written o a ranges around s p))) }
+    ensures ack_of_nothing { (l : Limits) (o : Occasion) (a : AckValues) (ranges : List NumberRange) (around : Around) (s : SpaceRecovery) (p : PathData (List CongestionEvent)) → (length (acked_of ranges s) == 0) ≡ true → (space_after recorder l o a ranges around s p).path.congestion ≡ p.congestion ++ marks_told o a (exceeds s.greatest a.largest) 0 (space_acked a.largest ranges s) p }
+{}

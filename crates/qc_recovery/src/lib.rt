@@ -23,8 +23,8 @@ mod transport_config;
 pub use calls::{AckValues, Around, Fired, Settled};
 pub use idle_timeout::IdleTimeout;
 pub use laws::{
-    acked_numbers_are_acknowledged, packets_are_settled_once, runs_settle_once,
-    unknown_numbers_change_little,
+    acked_numbers_are_acknowledged, losses_are_told_once, packets_are_settled_once,
+    runs_settle_once, unknown_numbers_change_little,
 };
 pub use mtu_config::MtuDiscoveryConfig;
 pub use path::{PathData, first_mtu};

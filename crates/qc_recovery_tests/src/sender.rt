@@ -90,6 +90,26 @@ fn packet(alloc: Global, time: Instant, size: u64) -> SentPacket {
     }
 }
 
+/// The number behind the last one.
+fn next_after(numbers: &[u64]) -> u64 {
+    let mut next = 0;
+    for n in numbers {
+        next = n.saturating_add(1);
+    }
+    next
+}
+
+fn counts_of(counts: Option<(u32, u32)>) -> Option<EcnCounts> {
+    match counts {
+        None => None,
+        Some(counts) => Some(EcnCounts {
+            ect0: u64::from(counts.0),
+            ect1: 0,
+            ce: u64::from(counts.1),
+        }),
+    }
+}
+
 /// A sender.
 #[derive(Drop)]
 pub(crate) struct Sender {
@@ -136,19 +156,21 @@ impl Sender {
         self.send_sized(alloc, number, time, 1200)
     }
 
-    fn takes_ack(
+    fn settle(
         &mut self,
         alloc: Global,
         now: Instant,
-        next: u64,
-        ack: &OwnedAck,
+        numbers: &[u64],
+        ecn: Option<EcnCounts>,
     ) -> Result<Settled, Fail> {
+        let owned = OwnedAck::of_numbers(alloc, &set_of(numbers), 0, ecn)?.ok_or("no numbers")?;
         let ack = Ack {
-            largest: ack.largest,
-            delay: ack.delay,
-            additional: ack.additional.as_slice(),
-            ecn: ack.ecn,
+            largest: owned.largest,
+            delay: owned.delay,
+            additional: owned.additional.as_slice(),
+            ecn: owned.ecn,
         };
+        let next = next_after(numbers);
         let settled = self.recovery.on_ack(
             alloc,
             now,
@@ -162,8 +184,8 @@ impl Sender {
         Ok(settled)
     }
 
-    /// An ACK of these numbers in the Data space, the greatest of them the last one sent, with counts
-    /// of ECT(0) and CE if any.
+    /// An ACK of these numbers in the Data space, the last of them the greatest that was sent, with
+    /// counts of ECT(0) and CE if any.
     pub(crate) fn acknowledge(
         &mut self,
         alloc: Global,
@@ -171,17 +193,7 @@ impl Sender {
         numbers: &[u64],
         counts: Option<(u32, u32)>,
     ) -> Result<(usize, usize), Fail> {
-        let mut next = 0;
-        for n in numbers {
-            next = n.saturating_add(1);
-        }
-        let ecn = counts.map(|counts| EcnCounts {
-            ect0: u64::from(counts.0),
-            ect1: 0,
-            ce: u64::from(counts.1),
-        });
-        let owned = OwnedAck::of_numbers(alloc, &set_of(numbers), 0, ecn)?.ok_or("no numbers")?;
-        let settled = self.takes_ack(alloc, now, next, &owned)?;
+        let settled = self.settle(alloc, now, numbers, counts_of(counts))?;
         Ok(numbers_of(settled))
     }
 
