@@ -201,18 +201,34 @@ fn grow(
     Ok(None)
 }
 
+// Adds each of the frames, and gives the type of the first that isn't read as it should be.
+fn grow_all(payload: &mut Vec<u8>) -> Result<Option<u64>, Fail> {
+    for (whole, row) in FRAMES.iter().enumerate() {
+        if grow(payload, whole, row, row.0.len())?.is_some() {
+            return Ok(Some(row.1));
+        }
+    }
+    Ok(None)
+}
+
+// The same behind them of each that goes on to the payload's end.
+fn grow_last(payload: &mut Vec<u8>) -> Result<Option<u64>, Fail> {
+    let len = payload.len();
+    for (row, least) in &LAST_FRAMES {
+        if grow(payload, FRAMES.len(), row, *least)?.is_some() {
+            return Ok(Some(row.1));
+        }
+        payload.truncate(len);
+    }
+    Ok(None)
+}
+
 // Each front of a payload that has every kind of frame.
 #[test]
 fn each_prefix_is_read(rt: HostRuntime) -> Result<(), Fail> {
     let mut payload = Vec::new(rt.alloc());
-    for (whole, row) in FRAMES.iter().enumerate() {
-        assert_eq!(rt; grow(&mut payload, whole, row, row.0.len())?, None);
-    }
-    let len = payload.len();
-    for (row, least) in &LAST_FRAMES {
-        assert_eq!(rt; grow(&mut payload, FRAMES.len(), row, *least)?, None);
-        payload.truncate(len);
-    }
+    assert_eq!(rt; grow_all(&mut payload)?, None);
+    assert_eq!(rt; grow_last(&mut payload)?, None);
     Ok(())
 }
 
@@ -514,21 +530,34 @@ fn parts_are_spelled(
     Ok(behind == padding && out.as_slice() == spelled)
 }
 
+// Whether the list and its copy are spelled so, of which the PADDING at the end is counted.
+fn is_list(
+    alloc: Global,
+    list: &FrameList,
+    spelled: &[u8],
+    parts: &[u8],
+    padding: u64,
+) -> Result<bool, AllocError> {
+    Ok(
+        list_is_spelled(alloc, list, spelled)?
+            && copy_is_spelled(alloc, list, spelled)?
+            && parts_are_spelled(alloc, list, parts, padding)?,
+    )
+}
+
 #[test]
 fn a_payload_is_kept_in_a_list(rt: HostRuntime) -> Result<(), Fail> {
     let alloc = rt.alloc();
     assert!(rt; Iter::new(b"").is_err());
     let (mut list, fault) = listed(alloc, b"\x01\x00\x00\x06\x00\x01a\x00\x00\x1f")?;
+    list.push_padding(2)?;
+    let spelled = b"\x01\x00\x00\x06\x00\x01a\x00\x00\x00\x00";
+    let is_list = is_list(alloc, &list, spelled, b"\x01\x00\x00\x06\x00\x01a", 4)?;
+    assert!(rt; is_list && list.elicits() && !list.is_empty());
     assert_eq!(rt;
         fault.map(|invalid| invalid.why),
         Some(FrameFault::InvalidFrameId)
     );
-    assert!(rt; list.elicits() && !list.is_empty());
-    list.push_padding(2)?;
-    let spelled = b"\x01\x00\x00\x06\x00\x01a\x00\x00\x00\x00";
-    assert!(rt; list_is_spelled(alloc, &list, spelled)?);
-    assert!(rt; copy_is_spelled(alloc, &list, spelled)?);
-    assert!(rt; parts_are_spelled(alloc, &list, b"\x01\x00\x00\x06\x00\x01a", 4)?);
     Ok(())
 }
 

@@ -97,6 +97,14 @@ fn are_written(
     Ok(written.as_slice() == bytes)
 }
 
+// Whether the bytes are read as these parameters.
+fn are_read(side: Side, bytes: &[u8], parameters: &TransportParameters) -> bool {
+    match TransportParameters::read(side, bytes) {
+        Ok(read) => read == *parameters,
+        Err(_) => false,
+    }
+}
+
 // Whether they are what that side sends: written so, and read so by its peer.
 fn are_sent(
     alloc: Global,
@@ -105,11 +113,8 @@ fn are_sent(
     parameters: &TransportParameters,
 ) -> Result<bool, Fail> {
     let bytes = spelled(alloc, side)?;
-    let read = TransportParameters::read(peer, bytes.as_slice());
-    Ok(
-        are_written(alloc, parameters, bytes.as_slice())?
-            && read.is_ok_and(|read| read == *parameters),
-    )
+    let written = are_written(alloc, parameters, bytes.as_slice())?;
+    Ok(written && are_read(peer, bytes.as_slice(), parameters))
 }
 
 #[test]
