@@ -11,11 +11,13 @@ unfoldable pub new_datagrams : Option ℕ → ℕ → Datagrams
 new_datagrams receive_buffer send_buffer =
     record { incoming = []; outgoing = []; receive_buffer = receive_buffer; send_buffer = send_buffer; blocked = false }
 
--- whether a DATAGRAM frame is refused: none may come, or it is longer than the receive buffer
+-- whether a DATAGRAM frame is refused: none may come, or it is longer than the receive buffer. A frame of an end that
+-- announced no size, or longer than the announced one, is PROTOCOL_VIOLATION (RFC 9221, section 3)
 unfoldable pub is_refused : List ℕ → Datagrams → Bool
 is_refused d s = not (is_some s.receive_buffer) || nat_lt (unwrap_or s.receive_buffer 0) (length d)
 
--- a DATAGRAM frame is taken
+-- a DATAGRAM frame is taken: where there is no room for it, a receiver may drop datagrams (RFC 9221, section 5.3), and the
+-- oldest are
 unfoldable pub frame_taken : List ℕ → Datagrams → Datagrams
 frame_taken d s = record s { incoming = queued (unwrap_or s.receive_buffer 0) d s.incoming }
 
@@ -34,7 +36,8 @@ send_refusal most drops d s = first_row (
     ∷ (not drops && not (fits s.send_buffer d s.outgoing), Blocked)
     ∷ [])
 
--- a datagram is queued to be sent
+-- a datagram is queued to be sent: a sender may drop one in place of waiting (RFC 9221, section 5.4), and the
+-- oldest are dropped for it
 unfoldable pub send_queued : List ℕ → Datagrams → Datagrams
 send_queued d s = record s { outgoing = queued s.send_buffer d s.outgoing }
 

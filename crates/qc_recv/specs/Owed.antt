@@ -11,7 +11,7 @@ credit_value r = min (credit r) (2 ^ 62 - 1)
 unfoldable pub credit_sealed : Recv → Recv
 credit_sealed r = record r { announced = credit_value r; credit_waits = false }
 
--- a MAX_STREAM_DATA is lost: it waits again while the end isn't known
+-- a MAX_STREAM_DATA is lost: it waits again while the end isn't known (RFC 9000, section 13.3)
 unfoldable pub credit_lost : Recv → Recv
 credit_lost r = record r { credit_waits = r.credit_waits || not (is_some r.size) }
 
@@ -19,6 +19,6 @@ credit_lost r = record r { credit_waits = r.credit_waits || not (is_some r.size)
 unfoldable pub stop_sealed : Recv → Recv
 stop_sealed r = record r { stop_waits = false }
 
--- a STOP_SENDING is lost: it waits again
+-- a STOP_SENDING is lost: it waits again (RFC 9000, section 13.3)
 unfoldable pub stop_lost : Recv → Recv
 stop_lost r = record r { stop_waits = is_some r.stopped }

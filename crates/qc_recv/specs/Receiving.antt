@@ -43,17 +43,17 @@ new_receiving window = record {
   stop_waits = false;
 }
 
--- whether nothing more happens on this side: the end or the reset was told, or the stream is
--- stopped and its end is known
+-- whether nothing more happens on this side: the end or the reset was told (RFC 9000, section 3.2, "Data Read" and "Reset
+-- Read"), or the stream is stopped and its end is known
 unfoldable pub is_ended : Recv → Bool
 is_ended r = r.told || (is_some r.stopped && is_some r.size)
 
--- up to where the peer may send
+-- up to where the peer may send: what was read, and the window beyond that (RFC 9000, section 4.1)
 unfoldable pub credit : Recv → ℕ
 credit r = counted r.read r.window
 
 -- how many of its bytes give credit back to the connection: those that were read, and all once
--- the application wants none
+-- the application wants none or the peer reset the stream (RFC 9000, sections 4.1 and 4.5)
 unfoldable pub returned : Recv → ℕ
 returned r = if is_some r.stopped || is_some r.reset then r.greatest else r.read
 
@@ -76,7 +76,8 @@ is_other end (Some size) = not (size == end)
 unfoldable pub breaks_size : ℕ → Bool → Recv → Bool
 breaks_size end last r = is_past end r.size || (last && (is_other end r.size || nat_lt end r.greatest))
 
--- whether an end lies above the stream's credit, or takes more than the connection has room for
+-- whether an end lies above the stream's credit, or takes more than the connection has room for: a peer that passes a
+-- limit breaks flow control (RFC 9000, section 4.1)
 unfoldable pub above_credit : ℕ → ℕ → Recv → Bool
 above_credit end room r = nat_lt (credit r) end || nat_lt room (new_bytes end r)
 
@@ -85,7 +86,8 @@ unfoldable pub first_row : List (Bool × Refusal) → Option Refusal
 first_row [] = None
 first_row (x ∷ xs) = if x.0 then Some x.1 else first_row xs
 
--- why a frame whose bytes end there is refused, the first row that holds
+-- why a frame whose bytes end there is refused, the first row that holds. No byte of a stream lies at 2^62 or above, so
+-- that counts as flow control too (RFC 9000, section 19.8)
 unfoldable pub end_refusal : ℕ → Bool → ℕ → Recv → Option Refusal
 end_refusal end last room r = first_row (
     (nat_le (2 ^ 62) end, FlowControl)
@@ -116,11 +118,11 @@ end_taken end last r = record r {
   credit_waits = if last then false else r.credit_waits;
 }
 
--- bytes that come are kept, unless the stream is stopped or reset
+-- bytes that come are kept, unless the stream is stopped or reset (RFC 9000, sections 2.2, 3.2 and 3.5)
 unfoldable pub bytes_taken : ℕ → List ℕ → Recv → Recv
 bytes_taken o bs r = if keeps r then record r { assembler = inserted o bs r.assembler } else r
 
--- a STREAM frame is taken: passed over on a side that has ended or after a reset
+-- a STREAM frame is taken: passed over on a side that has ended or after a reset (RFC 9000, section 3.2)
 unfoldable pub stream_taken : ℕ → List ℕ → Bool → Recv → Recv
 stream_taken o bs last r =
     if is_ended r || is_some r.reset then r else end_taken (o + length bs) last (bytes_taken o bs r)
@@ -129,14 +131,16 @@ stream_taken o bs last r =
 unfoldable pub reset_refusal : ℕ → ℕ → Recv → Option Refusal
 reset_refusal size room r = if is_ended r then None else end_refusal size true room r
 
--- a RESET_STREAM frame is taken: passed over on a side that has ended or after another; what waits is let go
+-- a RESET_STREAM frame is taken: passed over on a side that has ended or after another; bytes that weren't read may be
+-- dropped, and are (RFC 9000, section 3.2)
 unfoldable pub reset_taken : VarInt → ℕ → Recv → Recv
 reset_taken code size r =
     if is_ended r || is_some r.reset then r
     else end_taken size true (record r { assembler = discarded r.assembler; reset = Some code })
 
 -- whether credit exceeds what was announced by an eighth of the window, and by more than nothing,
--- while the application reads on and the end isn't known
+-- while the application reads on and the end isn't known; when to announce more is the receiver's choice (RFC 9000,
+-- section 4.2)
 unfoldable pub owes_credit : Recv → Bool
 owes_credit r =
     nat_lt r.announced (credit r) && nat_le (r.window / 8) (credit r - r.announced) && not (is_some r.size) && not (is_some r.stopped)
@@ -165,7 +169,8 @@ match_size (Some size) n = size == n
 unfoldable pub is_at_end : Recv → Bool
 is_at_end r = match_size r.size r.read
 
--- the application wants no more: what waits is let go, and STOP_SENDING is owed but after a reset
+-- the application wants no more: what waits is let go, and STOP_SENDING is owed, but not after a reset (RFC 9000, section
+-- 3.5)
 unfoldable pub stop_asked : VarInt → Recv → Recv
 stop_asked code r = record r { assembler = discarded r.assembler; stopped = Some code; stop_waits = not (is_some r.reset) }
 

@@ -1,5 +1,5 @@
 -- Streams that take turns: those of the highest priority first, and within one priority in the order of their turns
-use Rattle.std.specs.Prelude.{ℕ, ℤ, List, [], ◌∷◌, Option, None, Some, drop}
+use Rattle.std.specs.Prelude.{ℕ, ℤ, List, [], ◌∷◌, Option, None, Some}
 use Rattle.std.specs.BTreeMap.{insert_entry, is_at}
 use Rattle.std.specs.Map.{remove_entry}
 use Rattle.std.specs.declared.cmp.Ordering.{Ordering}
