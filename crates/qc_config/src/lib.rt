@@ -28,12 +28,3 @@ pub use server::ServerConfig;
 pub use stateless_reset::reset_token;
 pub use token_cache::TokenMemoryCache;
 pub use validation_token::ValidationTokenConfig;
-
-#[cfg(test)]
-mod cache_tests;
-#[cfg(test)]
-mod setting_tests;
-#[cfg(test)]
-mod tests;
-#[cfg(test)]
-mod token_tests;

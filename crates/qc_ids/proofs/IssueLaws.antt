@@ -1,5 +1,5 @@
 -- Any calls of a `CidState`
-use Rattle.std.proofs.Common.{◌≡◌, ℕ, ◌+◌, ◌<◌, ◌≤◌, ◌==◌, ◌⊎◌, ◌||◌, ◌&&◌, true, false, not, List, [], ◌∷◌, ◌++◌, Option, length, nat_eq, nat_le, nat_lt, count_by, cond, if◌then◌else◌, arith, refl, subst, sym}
+use Rattle.std.proofs.Common.{◌≡◌, ℕ, ◌+◌, ◌<◌, ◌≤◌, ◌==◌, ◌⊎◌, inl, inr, ◌||◌, ◌&&◌, Bool, true, false, not, List, [], ◌∷◌, ◌++◌, Option, length, nat_eq, nat_le, nat_lt, count_by, cond, if◌then◌else◌, arith, refl, subst, sym}
 use Rattle.std.proofs.lemmas.Bool.Decides.{nat_tests}
 use Rattle.std.proofs.lemmas.List.Sums.{count_by-le-length, sum_by-append, sum_by-cons}
 use Rattle.std.proofs.lemmas.List.{length-map}
@@ -9,7 +9,7 @@ use Rattle.qc_ids.specs.declared.expiries.CidExpiry.{CidExpiry}
 use Rattle.qc_ids.specs.CidState.{EndsRise}
 use Rattle.qc_ids.specs.Numbers.{Rises}
 use Rattle.qc_ids.specs.LocalCids.{AreNext, LocalCids, awaits_retirement, count_between, expired, first_local_cids, issued_more, may_retire, newly_asked, retired, sequences, timed_out, without}
-use Rattle.qc_ids.specs.IssueLaws.{IssueCall, Issue, Retire, Expire, AsksInTurn, KeepsLimit, MayCall, MayRun, NeverFalls, Serves, StaysRetired, floor_run, in_force, is_active, issue_run, issued_after, rests, retires, expires}
+use Rattle.qc_ids.specs.IssueLaws.{IssueCall, Issue, Retire, Expire, AsksInTurn, KeepsLimit, MayCall, MayRun, NeverFalls, Serves, StaysRetired, floor_run, in_force, is_active, issue_run, issued_after, rests, begins, retires, expires}
 use Rattle.qc_ids.proofs.Numbers.{first_ends, first_rises, more_end, more_rise, waiting_ends, without_rises}
 
 -- what is held at each moment
@@ -235,12 +235,14 @@ timed_out_next : (s : LocalCids) (ids : List IssuedCid) → IsSound s → AreNex
 unfolding timed_out
 timed_out_next s ids h next = subst (λ n. AreNext n ids) (sym (expire_both s s.expiries h.expiries).1) next
 
-served_sound : (limit : ℕ) (s t : LocalCids) → IsSound s → Serves limit s t → IsSound t
-served_sound limit s t h (rests s') = h
-served_sound limit s t h (retires s' u n now ids before may next asked) =
-    issue_sound ids now (retired n u) (retired_next n u ids next) (retire_sound n u (served_sound limit s u h before))
-served_sound limit s t h (expires s' u now ids before next asked) =
-    let sound = served_sound limit s u h before in
+served_sound : (limit issued : ℕ) (came : Bool) (s t : LocalCids) → IsSound s → Serves limit issued came s t → IsSound t
+served_sound limit issued came s t h (rests s') = h
+served_sound limit issued came s t h (begins s' u now ids before next asked) =
+    issue_sound ids now u next (served_sound limit issued false s u h before)
+served_sound limit issued came s t h (retires s' u n now ids before may next asked) =
+    issue_sound ids now (retired n u) (retired_next n u ids next) (retire_sound n u (served_sound limit issued true s u h before))
+served_sound limit issued came s t h (expires c s' u now ids before next asked) =
+    let sound = served_sound limit issued c s u h before in
     issue_sound ids now (timed_out u) (timed_out_next u ids sound next) (expire_sound u sound)
 
 force_most : (n limit : ℕ) (s : LocalCids) → in_force s ≤ limit → in_force (retired n s) ≤ limit
@@ -251,27 +253,57 @@ force_length : (s : LocalCids) → in_force s ≤ length s.active
 unfolding in_force
 force_length s = count_by-le-length (nat_le s.retire_prior_to) s.active
 
-served_force : (limit : ℕ) (s t : LocalCids) → IsSound s → in_force s ≤ limit → Serves limit s t → in_force t ≤ limit
-served_force limit s t h l (rests s') = l
-served_force limit s t h l (retires s' u n now ids before may next asked) =
+-- how many may be in force: those of the handshake, and then as many as the limit
+abbrev most_of : (limit issued : ℕ) → Bool → ℕ
+most_of limit issued false = issued
+most_of limit issued true = limit
+
+served_force : (limit issued : ℕ) (came : Bool) (s t : LocalCids) → IsSound s → issued ≤ limit → in_force s ≤ issued → Serves limit issued came s t → in_force t ≤ most_of limit issued came
+served_force limit issued came s t h small l (rests s') = l
+served_force limit issued came s t h small l (begins s' u now ids before next asked) =
+    let more = issue_force ids now u in
+    let kept = served_force limit issued false s u h small l before in
+    omega arith
+served_force limit issued came s t h small l (retires s' u n now ids before may next asked) =
     let more = issue_force ids now (retired n u) in
     let few = force_length (retired n u) in
-    let kept = force_most n limit u (served_force limit s u h l before) in
+    let kept = force_most n limit u (served_force limit issued true s u h small l before) in
     (elim (nat_lt (length (retired n u).active) limit) as (λ b. nat_lt (length (retired n u).active) limit ≡ b → length ids ≡ (if b then 1 else 0) → in_force (issued_more ids now (retired n u)) ≤ limit) [
       | true ↦ λ e one. let room : length (retired n u).active < limit = grind (arith, nat_tests) in omega arith
       | false ↦ λ e none. omega arith
     ]) refl asked
-served_force limit s t h l (expires s' u now ids before next asked) =
+served_force limit issued came s t h small l (expires c s' u now ids before next asked) =
     let more = issue_force ids now (timed_out u) in
-    let same = expire_force u (served_sound limit s u h before) in
-    let kept = served_force limit s u h l before in
+    let same = expire_force u (served_sound limit issued c s u h before) in
+    let kept = served_force limit issued c s u h small l before in
     omega arith
+
+first_force : (cid_len : ℕ) (lifetime : Option ℕ) (now issued : ℕ) → (issued ≡ 1) ⊎ (issued ≡ 2) → in_force (first_local_cids cid_len lifetime now issued) ≤ issued
+unfolding in_force first_local_cids
+first_force cid_len lifetime now issued (inl one) = rw one (omega arith)
+first_force cid_len lifetime now issued (inr two) = rw two (omega arith)
+
+few_issued : (issued : ℕ) → (issued ≡ 1) ⊎ (issued ≡ 2) → issued ≤ 2
+few_issued issued (inl one) = omega arith
+few_issued issued (inr two) = omega arith
+
+most_within : (limit issued : ℕ) (came : Bool) → issued ≤ limit → most_of limit issued came ≤ limit
+most_within limit issued false small = small
+most_within limit issued true small = omega arith
+
+first_issued : (cid_len : ℕ) (lifetime : Option ℕ) (now issued : ℕ) → (first_local_cids cid_len lifetime now issued).issued ≡ issued
+unfolding first_local_cids
+first_issued cid_len lifetime now issued = refl
 
 pub keeps_limit : (limit cid_len : ℕ) (lifetime : Option ℕ) (now issued : ℕ) (last : LocalCids) → (issued ≡ 1) ⊎ (issued ≡ 2)
     → KeepsLimit limit (first_local_cids cid_len lifetime now issued) last
 unfolding KeepsLimit
-keeps_limit limit cid_len lifetime now issued last i =
-    served_force limit (first_local_cids cid_len lifetime now issued) last (first_sound cid_len lifetime now issued i)
+keeps_limit limit cid_len lifetime now issued last i = λ two came serves.
+    let few = few_issued issued i in
+    let same : (first_local_cids cid_len lifetime now issued).issued ≡ issued = first_issued cid_len lifetime now issued in
+    let served : Serves limit issued came (first_local_cids cid_len lifetime now issued) last = subst (λ (n : ℕ). Serves limit n came (first_local_cids cid_len lifetime now issued) last) same serves in
+    let force = served_force limit issued came (first_local_cids cid_len lifetime now issued) last (first_sound cid_len lifetime now issued i) (omega arith) (first_force cid_len lifetime now issued i) served in
+    omega (arith, most_within limit issued came (omega arith))
 
 -- ---- the last raise
 

@@ -83,7 +83,7 @@ pub record Steps (ids ids' : List KeptCid) (ns : List ℕ) : Type 0 where
   pub later : active_seq_of ids ≤ active_seq_of ids'
   pub rises : Rises (active_seq_of ids) (active_seq_of ids') ns
 
-taken_by : (new : NewConnectionId) (ids : List KeptCid) → new.retire_prior_to ≤ new.sequence → IsQueue ids → is_taken new ids ≡ true → IsTaken new ids
+pub taken_by : (new : NewConnectionId) (ids : List KeptCid) → new.retire_prior_to ≤ new.sequence → IsQueue ids → is_taken new ids ≡ true → IsTaken new ids
 taken_by new ids order q t =
     let both : (active_seq_of ids ≤ new.sequence) × (new.sequence < max (active_seq_of ids) new.retire_prior_to + 5) = grind (arith, nat_tests) in
     record { order = order; from_active = both.0; within = both.1; queue = q }
@@ -101,7 +101,7 @@ renewal_numbers old ids l =
       | Some t ↦ numbers_rise old (min (active_seq_of ids) (old + 5) - old) (active_seq_of ids) (omega arith)
     ]
 
-insert_steps : (new : NewConnectionId) (ids : List KeptCid) → new.retire_prior_to ≤ new.sequence → IsQueue ids → Steps ids (queue_after (Insert new) ids) (retires (Insert new) ids)
+pub insert_steps : (new : NewConnectionId) (ids : List KeptCid) → new.retire_prior_to ≤ new.sequence → IsQueue ids → Steps ids (queue_after (Insert new) ids) (retires (Insert new) ids)
 unfolding queue_after retires insert_answer
 insert_steps new ids order q =
     (elim (is_taken new ids) as (λ b. is_taken new ids ≡ b → Steps ids (if b then inserted new ids else ids) (if b then numbers_of (option_map (λ (answer : Range ℕ × List ℕ). answer.0) (insert_answer new ids)) else [])) [
@@ -121,7 +121,7 @@ insert_steps new ids order q =
       | false ↦ λ e. record { queue = q; later = omega arith; rises = tt }
     ]) refl
 
-next_steps : (ids : List KeptCid) → IsQueue ids → Steps ids (queue_after Next ids) (retires Next ids)
+pub next_steps : (ids : List KeptCid) → IsQueue ids → Steps ids (queue_after Next ids) (retires Next ids)
 unfolding queue_after retires
 next_steps [] q = absurd q
 next_steps (x ∷ []) q = record { queue = q; later = omega arith; rises = tt }
@@ -136,7 +136,7 @@ next_steps (x ∷ y ∷ ids) q =
       ];
     }
 
-rename_steps : (id : List ℕ) (ids : List KeptCid) → IsQueue ids → Steps ids (queue_after (Rename id) ids) (retires (Rename id) ids)
+pub rename_steps : (id : List ℕ) (ids : List KeptCid) → IsQueue ids → Steps ids (queue_after (Rename id) ids) (retires (Rename id) ids)
 unfolding queue_after retires
 rename_steps id [] q = absurd q
 rename_steps id (x ∷ ids) q = record { queue = q; later = omega arith; rises = tt }
@@ -146,7 +146,7 @@ both_steps ids ids' ids'' ns ms a b =
     let one = a.later in let two = b.later in
     record { queue = b.queue; later = omega arith; rises = rises_append (active_seq_of ids) (active_seq_of ids') (active_seq_of ids'') ns ms a.rises two one b.rises }
 
-run_steps : (calls : List QueueCall) (ids : List KeptCid) → AreFrames calls → IsQueue ids → Steps ids (queue_run calls ids) (retired_in calls ids)
+pub run_steps : (calls : List QueueCall) (ids : List KeptCid) → AreFrames calls → IsQueue ids → Steps ids (queue_run calls ids) (retired_in calls ids)
 run_steps [] ids f q = record { queue = q; later = omega arith; rises = tt }
 run_steps (Insert new ∷ calls) ids f q = let s = insert_steps new ids f.0 q in both_steps ids (queue_after (Insert new) ids) _ _ _ s (run_steps calls (queue_after (Insert new) ids) f.1 s.queue)
 run_steps (Next ∷ calls) ids f q = let s = next_steps ids q in both_steps ids (queue_after Next ids) _ _ _ s (run_steps calls (queue_after Next ids) f s.queue)
@@ -182,7 +182,7 @@ uses_given first calls =
     in_use (first ∷ given_in calls) (queue_run calls (first_cid first)) (some_run calls (first_cid first) (omega arith))
     (seen_run calls (first ∷ []) (first_cid first) ((0, omega arith, refl), tt))
 
-first_queue : (first : List ℕ) → IsQueue (first_cid first)
+pub first_queue : (first : List ℕ) → IsQueue (first_cid first)
 first_queue first = (tt, tt)
 
 pub retires_once : (first : List ℕ) (calls : List QueueCall) → AreFrames calls → RetiresOnce first calls

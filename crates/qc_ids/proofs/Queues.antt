@@ -111,7 +111,7 @@ join low s high (x ∷ xs) ys c asc l h e rest =
 
 -- ---- what is kept once a frame was taken
 
-queue_ascends : (ids : List KeptCid) → IsQueue ids → Ascends (active_seq_of ids) (active_seq_of ids + 5) ids
+pub queue_ascends : (ids : List KeptCid) → IsQueue ids → Ascends (active_seq_of ids) (active_seq_of ids + 5) ids
 queue_ascends [] q = absurd q
 queue_ascends (x ∷ ids) q = (omega arith, omega arith, q.0)
 

@@ -89,10 +89,10 @@ next_answer [] = None
 next_answer (x ∷ []) = None
 next_answer (x ∷ y ∷ ids) = option_map (λ token. (token, numbers_from x.sequence y.sequence)) y.reset_token
 
--- the active number stands for another id
+-- the active number stands for another id, which came without a token
 abbrev pub renamed : List ℕ → List KeptCid → List KeptCid
 renamed id [] = []
-renamed id (x ∷ ids) = record x { id = id } ∷ ids
+renamed id (x ∷ ids) = record { sequence = x.sequence; id = id; reset_token = None } ∷ ids
 
 -- a frame whose number can be kept: it isn't retired, and lies less than 5 above the active number and what the
 -- frame retires

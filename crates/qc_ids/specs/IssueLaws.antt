@@ -1,5 +1,5 @@
 -- What holds of the ids that this end issued, over any calls
-use Rattle.std.specs.Prelude.{◌≡◌, ℕ, ◌≤◌, ◌==◌, Bool, true, false, List, [], ◌∷◌, length, count_by, nat_lt, nat_le, if◌then◌else◌}
+use Rattle.std.specs.Prelude.{◌≡◌, ℕ, ◌-◌, ◌≤◌, ◌==◌, Bool, true, false, List, [], ◌∷◌, length, count_by, nat_lt, nat_le, if◌then◌else◌}
 use Rattle.std.specs.List.{list_any}
 use Rattle.qc_base.specs.declared.ids.IssuedCid.{IssuedCid}
 use Rattle.qc_ids.specs.LocalCids.{AreNext, LocalCids, issued_more, may_retire, newly_asked, retired, timed_out}
@@ -62,15 +62,19 @@ AsksInTurn first calls = (n : ℕ) → is_active n (issue_run calls first) ≡ t
 unfoldable pub in_force : LocalCids → ℕ
 in_force s = count_by (nat_le s.retire_prior_to) s.active
 
--- This end issues what its calls ask for, and at once: one id where a retirement leaves fewer than the limit,
--- and as many as it newly asks the other end to retire. From one state these calls lead to the other.
-pub data Serves (limit : ℕ) : LocalCids → LocalCids → Type 0 where
-  rests : (s : LocalCids) → Serves limit s s
-  retires : (s t : LocalCids) (n now : ℕ) (ids : List IssuedCid) → Serves limit s t → may_retire n t ≡ true → AreNext t.issued ids
-      → length ids ≡ (if nat_lt (length (retired n t).active) limit then 1 else 0) → Serves limit s (issued_more ids now (retired n t))
-  expires : (s t : LocalCids) (now : ℕ) (ids : List IssuedCid) → Serves limit s t → AreNext t.issued ids
-      → length ids ≡ newly_asked t → Serves limit s (issued_more ids now (timed_out t))
+-- This end issues what is asked for, and at once: as the peer's parameters come, the batch of as many ids as the limit leaves
+-- besides those of the handshake; from then on one id where a retirement leaves fewer than the limit; and at any time as many
+-- as it newly asks the other end to retire. The other end retires ids in 1-RTT packets alone (RFC 9000, section 12.4), which
+-- are read behind its parameters. From one state these calls lead to the other; the mark says whether the parameters came.
+pub data Serves (limit issued : ℕ) : Bool → LocalCids → LocalCids → Type 0 where
+  rests : (s : LocalCids) → Serves limit issued false s s
+  begins : (s t : LocalCids) (now : ℕ) (ids : List IssuedCid) → Serves limit issued false s t → AreNext t.issued ids
+      → length ids ≡ limit - issued → Serves limit issued true s (issued_more ids now t)
+  retires : (s t : LocalCids) (n now : ℕ) (ids : List IssuedCid) → Serves limit issued true s t → may_retire n t ≡ true → AreNext t.issued ids
+      → length ids ≡ (if nat_lt (length (retired n t).active) limit then 1 else 0) → Serves limit issued true s (issued_more ids now (retired n t))
+  expires : (came : Bool) (s t : LocalCids) (now : ℕ) (ids : List IssuedCid) → Serves limit issued came s t → AreNext t.issued ids
+      → length ids ≡ newly_asked t → Serves limit issued came s (issued_more ids now (timed_out t))
 
--- no more ids are in force than the limit allows
+-- no more ids are in force than the limit allows, which is 2 at least (RFC 9000, section 18.2)
 unfoldable pub KeepsLimit : ℕ → LocalCids → LocalCids → Type 0
-KeepsLimit limit first last = in_force first ≤ limit → Serves limit first last → in_force last ≤ limit
+KeepsLimit limit first last = 2 ≤ limit → (came : Bool) → Serves limit first.issued came first last → in_force last ≤ limit

@@ -1,10 +1,11 @@
 -- What holds of a queue of the other end's ids, whatever frames come
-use Rattle.std.specs.Prelude.{ℕ, ◌+◌, ◌-◌, ◌≤◌, ◌&&◌, Bool, List, [], ◌∷◌, ◌++◌, Option, Some, None, Contains, length, max, nat_lt, nat_le, if◌then◌else◌}
+use Rattle.std.specs.Prelude.{◌≡◌, ℕ, ◌+◌, ◌-◌, ◌≤◌, ◌==◌, ◌&&◌, Bool, true, false, List, [], ◌∷◌, ◌++◌, Option, Some, None, Contains, length, max, nat_lt, nat_le, if◌then◌else◌}
+use Rattle.std.specs.List.{list_any}
 use Rattle.std.specs.Option.{option_map}
 use Rattle.std.specs.declared.ops.Range.{Range}
 use Rattle.qc_frame.specs.declared.frames.NewConnectionId.{NewConnectionId}
 use Rattle.qc_ids.specs.declared.cid_queue.KeptCid.{KeptCid}
-use Rattle.qc_ids.specs.CidQueue.{active_of, active_seq_of, after_next, first_cid, insert_answer, inserted, next_answer, renamed}
+use Rattle.qc_ids.specs.CidQueue.{active_of, active_seq_of, active_token_of, after_next, first_cid, insert_answer, inserted, next_answer, renamed}
 use Rattle.qc_ids.specs.Numbers.{Rises, numbers_on}
 
 -- the calls that change a queue
@@ -69,3 +70,29 @@ RetiresOnce first calls = Rises 0 (active_seq_of (queue_run calls (first_cid fir
 -- at most five are kept
 unfoldable pub KeepsFive : List ℕ → List QueueCall → Type 0
 KeepsFive first calls = length (queue_run calls (first_cid first)) ≤ 5
+
+-- whether the id of this number is kept
+abbrev pub is_kept : ℕ → List KeptCid → Bool
+is_kept n ids = list_any (λ x. x.sequence == n) ids
+
+-- whether this number is among others
+abbrev pub is_among : ℕ → List ℕ → Bool
+is_among n ns = list_any (λ k. k == n) ns
+
+-- a number whose id was kept and isn't any more was told to be retired (RFC 9000, section 5.1.2)
+unfoldable pub TellsDropped : List ℕ → List QueueCall → List QueueCall → ℕ → Type 0
+TellsDropped first before calls n =
+    is_kept n (queue_run before (first_cid first)) ≡ true → is_kept n (queue_run calls (queue_run before (first_cid first))) ≡ false
+    → is_among n (retired_in calls (queue_run before (first_cid first))) ≡ true
+
+-- the ids that frames bring, with their reset tokens
+abbrev pub tokens_in : List QueueCall → List (List ℕ × List ℕ)
+tokens_in [] = []
+tokens_in (Insert new ∷ calls) = (new.id, new.reset_token) ∷ tokens_in calls
+tokens_in (Next ∷ calls) = tokens_in calls
+tokens_in (Rename id ∷ calls) = tokens_in calls
+
+-- the reset token of the id in use came with this id (RFC 9000, section 10.3)
+unfoldable pub UsesOwnToken : List ℕ → List QueueCall → Type 0
+UsesOwnToken first calls =
+    (token : List ℕ) → active_token_of (queue_run calls (first_cid first)) ≡ Some token → Contains (tokens_in calls) (active_of (queue_run calls (first_cid first)), token)

@@ -225,12 +225,14 @@ impl CidQueue {
         }
     }
 
-    /// Puts another id in the place of the active one, as when the other end chose one of its own.
+    /// Puts another id in the place of the active one, as when the other end chose one of its own. The reset token of
+    /// the one that it replaces goes with it.
     pub fn update_initial_cid(&mut self, cid: ConnectionId)
         ensures { self.new ≡ renamed cid self.old }
     {
         if let Some(first) = self.ids.get_mut(0) {
             first.id = cid;
+            first.reset_token = None;
         }
     }
 }

@@ -205,6 +205,13 @@ impl CidState {
         self.retire_prior_to
     }
 
+    /// How many ids were issued: the number of the next one.
+    pub fn issued(&self) -> u64
+        ensures { result ≡ self.now.issued }
+    {
+        self.issued
+    }
+
     /// How many bytes each id has.
     pub fn cid_len(&self) -> usize
         ensures { result ≡ self.now.cid_len }

@@ -15,6 +15,3 @@ pub use expiries::CidExpiry;
 pub use generator::{ConnectionIdGenerator, InvalidCid, RandomConnectionIdGenerator};
 pub use hashed::HashedConnectionIdGenerator;
 pub use laws::{issue_laws, queue_laws};
-
-#[cfg(test)]
-mod tests;

@@ -1,6 +1,8 @@
-use crate::{NoneTokenStore, TokenStore, announced};
+//! What a client announces, and a store that keeps nothing.
+
 use bytes::Bytes;
 use qc_base::{ConnectionId, VarInt};
+use qc_config::{NoneTokenStore, TokenStore, announced};
 use qc_params::TransportParameters;
 use qc_recovery::TransportConfig;
 use std::alloc::{AllocError, Global};

@@ -1,6 +1,8 @@
-use crate::{ConfigError, EndpointConfig, TokenMemoryCache, TokenStore, reset_token};
+//! The cache of tokens, and what an endpoint is set up with.
+
 use bytes::Bytes;
 use qc_base::{ConnectionId, ResetToken};
+use qc_config::{ConfigError, EndpointConfig, TokenMemoryCache, TokenStore, reset_token};
 use qc_toy::ToyHmacKey;
 use std::alloc::{AllocError, Global};
 use std::test::Fail;

@@ -1,15 +1,17 @@
-use crate::{
+//! Tokens that a server hands out and takes back.
+
+use bytes::Bytes;
+use qc_base::{ConnectionId, Duration, PacketNumber, SystemTime};
+use qc_config::{
     FixedTime, HeaderError, IncomingToken, InvalidRetryTokenError, NoneTokenLog, ServerConfig,
     Token, TokenLog, TokenPayload, TokenReuseError, ValidationTokenConfig,
 };
-use bytes::Bytes;
-use qc_base::{ConnectionId, Duration, PacketNumber, SystemTime};
 use qc_crypto::{AeadKey, HandshakeTokenKey};
 use qc_header::InitialHeader;
 use qc_toy::{ToyServer, ToySettings, ToyTokenKey, ZeroRandom};
 use std::alloc::{AllocError, Global};
 use std::default::Default;
-use std::net::{IpAddr, Ipv6Addr, SocketAddr};
+use std::net::{IpAddr, Ipv4Addr, Ipv6Addr, SocketAddr};
 use std::test::Fail;
 
 fn seconds(n: u64) -> SystemTime {
@@ -25,13 +27,42 @@ const PLAIN: [u8; 26] = [
     1, 1, 0, 0, 0, 0, 0, 0, 0, 0, 0, 0, 0, 0, 0, 0, 0, 1, 0, 0, 0, 0, 0, 0, 0, 42,
 ];
 
-const TAG: [u8; 16] = [
-    0x59, 0xb2, 0x0b, 0x64, 0xbd, 0x16, 0x6f, 0xc8, 0x21, 0x7a, 0xd3, 0x2c, 0x85, 0xde, 0x37, 0x90,
+// The same sealed under the key of a nonce of zeros: its tag, and the nonce.
+const SEALED: [u8; 58] = [
+    1, 1, 0, 0, 0, 0, 0, 0, 0, 0, 0, 0, 0, 0, 0, 0, 0, 1, 0, 0, 0, 0, 0, 0, 0, 42, 0x59, 0xb2,
+    0x0b, 0x64, 0xbd, 0x16, 0x6f, 0xc8, 0x21, 0x7a, 0xd3, 0x2c, 0x85, 0xde, 0x37, 0x90, 0, 0, 0, 0,
+    0, 0, 0, 0, 0, 0, 0, 0, 0, 0, 0, 0,
 ];
+
+fn zero_key() -> ToyTokenKey {
+    ToyTokenKey::new([0; 16])
+}
+
+fn is_written_as(alloc: Global, token: &Token, expected: &[u8]) -> Result<bool, AllocError> {
+    let bytes = token.encode(alloc, &zero_key())?;
+    Ok(bytes.as_slice() == expected)
+}
+
+fn decoded(alloc: Global, raw: &[u8]) -> Result<Option<Token>, AllocError> {
+    Token::decode(alloc, &zero_key(), raw)
+}
+
+// Plain bytes that are one longer than the token's, sealed under the key of a nonce of zeros.
+fn longer(alloc: Global) -> Result<Vec<u8>, AllocError> {
+    let mut bytes = Vec::from_slice(alloc, &PLAIN)?;
+    bytes.push(0)?;
+    zero_key().aead_from_hkdf(&[0; 16]).seal(&mut bytes, &[])?;
+    bytes.extend_from_slice(&[0; 16])?;
+    Ok(bytes)
+}
+
+fn is_longer_one_decoded(alloc: Global) -> Result<bool, AllocError> {
+    let bytes = longer(alloc)?;
+    Ok(decoded(alloc, bytes.as_slice())?.is_some())
+}
 
 #[test]
 fn a_validation_token_is_sealed(rt: HostRuntime) -> Result<(), Fail> {
-    let key = ToyTokenKey::new([0; 16]);
     let token = Token {
         payload: TokenPayload::Validation {
             ip: local(),
@@ -39,21 +70,31 @@ fn a_validation_token_is_sealed(rt: HostRuntime) -> Result<(), Fail> {
         },
         nonce: 0,
     };
-    let mut expected = Vec::from_slice(rt.alloc(), &PLAIN)?;
-    expected.extend_from_slice(&TAG)?;
-    expected.extend_from_slice(&[0; 16])?;
     assert!(rt; Token::new(token.payload, &mut ZeroRandom) == token);
-    let bytes = token.encode(rt.alloc(), &key)?;
-    assert_eq!(rt; bytes.as_slice(), expected.as_slice());
-    assert!(rt; Token::decode(rt.alloc(), &key, bytes.as_slice())? == Some(token));
-
-    let mut longer = Vec::from_slice(rt.alloc(), &PLAIN)?;
-    longer.extend_from_slice(&[0])?;
-    key.aead_from_hkdf(&[0; 16]).seal(&mut longer, &[])?;
-    longer.extend_from_slice(&[0; 16])?;
-    assert!(rt; Token::decode(rt.alloc(), &key, longer.as_slice())?.is_none());
-    assert!(rt; Token::decode(rt.alloc(), &key, &[0; 15])?.is_none());
+    assert!(rt; is_written_as(rt.alloc(), &token, &SEALED)?);
+    assert!(rt; decoded(rt.alloc(), &SEALED)? == Some(token));
+    assert!(rt; !is_longer_one_decoded(rt.alloc())?);
+    assert!(rt; decoded(rt.alloc(), &[0; 15])?.is_none());
     Ok(())
+}
+
+// With a tag of 16 bytes and a nonce of 16 a Validation token has 46 bytes for an IPv4 address and 58 for an IPv6 one.
+#[test]
+fn a_token_has_a_known_size(rt: HostRuntime) -> Result<(), Fail> {
+    for (ip, size) in [(IpAddr::V4(Ipv4Addr::new(127, 0, 0, 1)), 46), (local(), 58)] {
+        let payload = TokenPayload::Validation {
+            ip,
+            issued: seconds(42),
+        };
+        assert_eq!(rt; payload.encoded_len(), size);
+        assert_eq!(rt; written_len(rt.alloc(), payload)?, size);
+    }
+    Ok(())
+}
+
+fn written_len(alloc: Global, payload: TokenPayload) -> Result<usize, AllocError> {
+    let bytes = Token { payload, nonce: 3 }.encode(alloc, &zero_key())?;
+    Ok(bytes.len())
 }
 
 fn header(token: Bytes) -> InitialHeader {

@@ -1,11 +1,13 @@
+//! Connection ids: how they are made, kept, issued and retired.
+
 ghost use Rattle.std.specs.Prelude.{◌≡◌};
 
-use crate::{
+use qc_base::{ConnectionId, Duration, Instant, IssuedCid, ResetToken, TransportErrorCode};
+use qc_frame::NewConnectionId;
+use qc_ids::{
     CidQueue, CidState, ConnectionIdGenerator, HashedConnectionIdGenerator, InsertError,
     InvalidCid, RandomConnectionIdGenerator,
 };
-use qc_base::{ConnectionId, Duration, Instant, IssuedCid, ResetToken, TransportErrorCode};
-use qc_frame::NewConnectionId;
 use rand_core::Rng;
 use std::default::Default;
 use std::ops::Range;
@@ -139,7 +141,7 @@ fn issued(sequence: u64) -> IssuedCid
 }
 
 #[test]
-#[tactic(auto, unfolding(crate::specs::LocalCids::first_local_cids))]
+#[tactic(auto, unfolding(qc_ids::specs::LocalCids::first_local_cids))]
 fn ids_grow_old(rt: HostRuntime) -> Result<(), Fail> {
     let lifetime = Some(Duration::from_nanos(10));
     let mut state = CidState::new(rt.alloc(), 8, lifetime, Instant::from_nanos(5), 2);
