@@ -1,5 +1,5 @@
 -- What a client's token says of it
-use Rattle.std.specs.Prelude.{◌≡◌, ℕ, Bool, true, false, ◌&&◌, not, List, Option, Some, None, Result, Ok, Err, nat_lt, if◌then◌else◌}
+use Rattle.std.specs.Prelude.{◌≡◌, ℕ, ◌+◌, ◌≤◌, Bool, true, false, ◌&&◌, not, List, Option, Some, None, Result, Ok, Err, nat_lt, if◌then◌else◌}
 use Rattle.std.specs.Net.Socket.{socket_ip}
 use Rattle.std.specs.declared.net.ip_addr.IpAddr.{IpAddr}
 use Rattle.std.specs.declared.net.socket_addr.SocketAddr.{SocketAddr}
@@ -84,3 +84,14 @@ FitsAddress remote (say.Validation ip issued) = ip ≡ socket_ip remote
 unfoldable pub IsOwnToken : SocketAddr → Option Token → Type 0
 IsOwnToken remote None = ⊥
 IsOwnToken remote (Some t) = FitsAddress remote t.payload
+
+-- A payload that a server may go by at this time: its lifetime isn't over, and a Validation token's log takes it, which is there
+-- to take each once (RFC 9000, section 8.1.4).
+abbrev pub IsLivePayload : Taker → TokenPayload → ℕ → Type 0
+IsLivePayload taker (say.Retry address orig issued) nonce = taker.now ≤ issued + taker.retry_lifetime
+IsLivePayload taker (say.Validation ip issued) nonce = (taker.now ≤ issued + taker.lifetime) × (taker.takes nonce issued taker.lifetime ≡ Ok tt)
+
+-- a token with such a payload
+unfoldable pub IsLiveToken : Taker → Option Token → Type 0
+IsLiveToken taker None = ⊥
+IsLiveToken taker (Some t) = IsLivePayload taker t.payload t.nonce

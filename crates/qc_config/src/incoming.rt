@@ -1,8 +1,8 @@
 //! What a client's token says of it.
 
-ghost use Rattle.std.specs.Prelude.{◌≡◌, ◌⊎◌, ◌&&◌, not, Result, Ok, Err, if◌then◌else◌, IsTrue, IfOk, IfErr, OnOk, OnErr};
+ghost use Rattle.std.specs.Prelude.{◌≡◌, ◌≤◌, ◌+◌, ◌⊎◌, ◌&&◌, not, false, Result, Ok, Err, if◌then◌else◌, IsTrue, IfOk, IfErr, OnOk, OnErr};
 ghost use Rattle.std.specs.Net.Socket.{socket_ip};
-ghost use Rattle.qc_config.specs.Incoming.{IsOwnToken, asks_log, incoming, is_expired, log_after, retry_row, unvalidated, validation_row};
+ghost use Rattle.qc_config.specs.Incoming.{IsLiveToken, IsOwnToken, asks_log, incoming, is_expired, log_after, retry_row, unvalidated, validation_row};
 ghost use Rattle.qc_token.specs.Tokens.{decoded};
 
 use crate::{ServerConfig, TimeSource, Token, TokenLog, TokenPayload};
@@ -58,7 +58,8 @@ fn unvalidated_client(dst_cid: &ConnectionId) -> IncomingToken
 }
 
 fn has_expired(issued: SystemTime, lifetime: Duration, now: SystemTime) -> bool
-    ensures { result ≡ is_expired issued lifetime now }
+    ensures value { result ≡ is_expired issued lifetime now }
+    ensures live { result ≡ false → now ≤ issued + lifetime }
 {
     issued.plus(lifetime) < now
 }
@@ -73,6 +74,7 @@ fn check_retry(
 ) -> bool
     ensures value { result ≡ (⟦<SocketAddr as PartialEq>⟧.eq address.now remote.now && not (is_expired issued lifetime now)) }
     ensures own { IsTrue result → address.now ≡ remote.now }
+    ensures live { IsTrue result → now ≤ issued + lifetime }
 {
     address == remote && !has_expired(issued, lifetime, now)
 }
@@ -87,6 +89,7 @@ fn check_validation(
 ) -> bool
     ensures value { result ≡ (⟦<IpAddr as PartialEq>⟧.eq ip.now (socket_ip remote.now) && not (is_expired issued lifetime now)) }
     ensures own { IsTrue result → ip.now ≡ socket_ip remote.now }
+    ensures live { IsTrue result → now ≤ issued + lifetime }
 {
     *ip == remote.ip() && !has_expired(issued, lifetime, now)
 }
@@ -111,6 +114,7 @@ impl<C: qc_crypto::ServerConfig, K: HandshakeTokenKey, T: TimeSource, L: TokenLo
     ) -> Result<IncomingToken, HeaderError>
         ensures value { result ≡ retry_row ⟦<SocketAddr as PartialEq>⟧.eq (taker_of T.time_of L.takes self.now) dst_cid.now remote.now address.now orig_dst_cid.now issued }
         ensures own { OnOk result (address.now ≡ remote.now) }
+        ensures live { OnOk result (T.time_of self.now.time_source ≤ issued + self.now.retry_token_lifetime) }
     {
         let now = self.time_source.now();
         if check_retry(address, remote, issued, self.retry_token_lifetime, now) {
@@ -137,6 +141,8 @@ impl<C: qc_crypto::ServerConfig, K: HandshakeTokenKey, T: TimeSource, L: TokenLo
         ensures value { IfOk result (λ t. t ≡ validation_row ⟦<IpAddr as PartialEq>⟧.eq (taker_of T.time_of L.takes self.old) dst_cid.now remote.now ip.now issued nonce) }
         ensures after { OnOk result (self.new ≡ with_log (if asks_log ⟦<IpAddr as PartialEq>⟧.eq (taker_of T.time_of L.takes self.old) remote.now ip.now issued then L.after_token self.old.validation_token.log nonce issued self.old.validation_token.lifetime else self.old.validation_token.log) self.old) }
         ensures own { IfOk result (λ t. IsTrue t.validated → ip.now ≡ socket_ip remote.now) }
+        ensures live { IfOk result (λ t. IsTrue t.validated → T.time_of self.old.time_source ≤ issued + self.old.validation_token.lifetime) }
+        ensures fresh { IfOk result (λ t. IsTrue t.validated → L.takes self.old.validation_token.log nonce issued self.old.validation_token.lifetime ≡ Ok tt) }
         ensures err { OnErr result (self.new ≡ self.old) }
     {
         let now = self.time_source.now();
@@ -171,7 +177,7 @@ impl IncomingToken {
     ///
     /// `Retry` exactly where the token is one of a Retry packet for another address (port, flow label and scope
     /// included), or has expired. `OutOfMemory` for want of memory. The configuration is then as before.
-    #[tactic(auto, unfolding(crate::specs::Incoming::incoming, crate::specs::Incoming::log_after, crate::specs::Incoming::IsOwnToken))]
+    #[tactic(auto, unfolding(crate::specs::Incoming::incoming, crate::specs::Incoming::log_after, crate::specs::Incoming::IsOwnToken, crate::specs::Incoming::IsLiveToken))]
     pub fn from_header<
         C: qc_crypto::ServerConfig,
         K: HandshakeTokenKey,
@@ -187,6 +193,7 @@ impl IncomingToken {
         ensures error { IfErr result (λ e. (e ≡ HeaderError.OutOfMemory) ⊎ (incoming ⟦<SocketAddr as PartialEq>⟧.eq ⟦<IpAddr as PartialEq>⟧.eq (taker_of T.time_of L.takes server_config.old) header.now.dst_cid remote_address (decoded K.Aead.opened (K.derived server_config.old.token_key) header.now.token) ≡ Err e)) }
         ensures log { OnOk result (server_config.new ≡ with_log (log_after ⟦<IpAddr as PartialEq>⟧.eq (taker_of T.time_of L.takes server_config.old) L.after_token server_config.old.validation_token.log remote_address (decoded K.Aead.opened (K.derived server_config.old.token_key) header.now.token)) server_config.old) }
         ensures own { IfOk result (λ t. IsTrue t.validated → IsOwnToken remote_address (decoded K.Aead.opened (K.derived server_config.old.token_key) header.now.token)) }
+        ensures live { IfOk result (λ t. IsTrue t.validated → IsLiveToken (taker_of T.time_of L.takes server_config.old) (decoded K.Aead.opened (K.derived server_config.old.token_key) header.now.token)) }
         ensures err { OnErr result (server_config.new ≡ server_config.old) }
     {
         let Some(token) = Token::decode(alloc, &server_config.token_key, header.token.as_slice())?
