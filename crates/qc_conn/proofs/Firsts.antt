@@ -5,10 +5,10 @@ use Rattle.std.specs.declared.net.SocketAddr.{SocketAddr}
 use Rattle.bytes.specs.declared.unique.BytesMut.{BytesMut}
 use Rattle.rand_core.specs.Stream.{Stream}
 use Rattle.qc_base.specs.declared.ecn.EcnCodepoint.{EcnCodepoint}
-use Rattle.qc_core.specs.Cutting.{rest_of}
-use Rattle.qc_core.specs.Events.{handed_after, time_of_event}
-use Rattle.qc_core.specs.declared.events.ConnectionEvent.{ConnectionEvent}
-use Rattle.qc_core.specs.declared.events.ConnectionEvent.TheVariants.{Datagram}
+use Rattle.qc_receive.specs.Cutting.{rest_of}
+use Rattle.qc_receive.specs.Events.{handed_after, time_of_event}
+use Rattle.qc_receive.specs.declared.events.ConnectionEvent.{ConnectionEvent}
+use Rattle.qc_receive.specs.declared.events.ConnectionEvent.TheVariants.{Datagram}
 use Rattle.qc_header.specs.Piece.{Piece}
 use Rattle.qc_state.specs.declared.deeds.Did.{Did}
 use Rattle.qc_state.specs.Life.{is_drained}

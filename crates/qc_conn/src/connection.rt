@@ -1,12 +1,12 @@
 //! A connection and its calls.
 
-ghost use Rattle.std.specs.Prelude.{◌≡◌, ◌<◌, ◌≤◌, [], true, false, length, None, Err, OnOk, OnErr, IfOk, IfSome, unwrap_or, string_bytes};
+ghost use Rattle.std.specs.Prelude.{◌≡◌, ◌<◌, ◌≤◌, [], true, false, length, None, Err, OnOk, OnErr, IfOk, IfSome, max, unwrap_or, string_bytes};
 ghost use Rattle.qc_text.specs.OneText.{IsPlainAddress, IsPlainStart};
 ghost use Rattle.qc_conn.specs.Opened.{OnDone, lost_of};
 ghost use Rattle.qc_conn.specs.Seen.{Sends};
-ghost use Rattle.qc_core.specs.Cutting.{rest_of};
-ghost use Rattle.qc_core.specs.Events.{LeavesBytes, handed_after, time_of_event};
-ghost use Rattle.qc_core.specs.FirstPacket.{IsFirstPacket, first_reason, size_of};
+ghost use Rattle.qc_receive.specs.Cutting.{rest_of};
+ghost use Rattle.qc_receive.specs.Events.{LeavesBytes, handed_after, time_of_event};
+ghost use Rattle.qc_receive.specs.FirstPacket.{IsFirstPacket, first_reason, size_of};
 ghost use Rattle.qc_recovery.specs.Paths.{first_size};
 ghost use Rattle.qc_state.specs.Receiving.{datagram_after, first_packet_after, is_taken};
 ghost use Rattle.qc_state.specs.Setup.{is_first_awaited};
@@ -18,14 +18,16 @@ ghost use Rattle.qc_state.specs.Run.{began, time_of, close_after, IsStep};
 ghost use Rattle.qc_state.specs.Timeouts.{timeout_after};
 ghost use Rattle.qc_state.specs.Timers.{has_come, next_timeout};
 ghost use Rattle.qc_state.specs.Types.{meaning};
-ghost use Rattle.qc_state.specs.View.{at, ideal};
+ghost use Rattle.qc_state.specs.View.{ideal};
 
 use crate::steps::{core_event, core_first, core_first_packet, core_send, core_step, core_timeout};
 use bytes::{Bytes, BytesMut};
 use qc_base::{EcnCodepoint, Fault, Instant, Side, SpaceId, VarInt};
 use qc_config::TokenStore;
-use qc_core::{ClientSetup, ConnectionEvent, Core, ServerSetup};
+use qc_core::Core;
 use qc_header::InitialPacket;
+use qc_making::{ClientSetup, ServerSetup};
+use qc_receive::ConnectionEvent;
 use qc_state::{ConnectionError, EndpointEvent, Event, Input, Step, Suite, Transmit};
 use std::alloc::{AllocError, Global};
 use std::marker::Model;
@@ -91,7 +93,7 @@ impl<U: Suite> Connection<U> {
         ensures store { OnOk result (store.new ≡ G.after_take store.old (string_bytes setup.server_name)) }
     {
         let token = token_of(store, setup.server_name.as_str())?;
-        let core = Core::new_client(alloc, setup, token, now)?;
+        let core = qc_making::new_client(alloc, setup, token, now)?;
         Ok(Connection {
             core,
             failed: false,
@@ -114,7 +116,7 @@ impl<U: Suite> Connection<U> {
         ensures plain { IsPlainAddress setup.remote → IfOk result (λ c. IsPlainStart c.core.waiting c.core.paths c.core.life) }
         ensures alive { IfOk result (λ c. c.failed ≡ false) }
     {
-        let core = Core::new_server(alloc, setup, now)?;
+        let core = qc_making::new_server(alloc, setup, now)?;
         Ok(Connection {
             core,
             failed: false,
@@ -142,6 +144,7 @@ impl<U: Suite> Connection<U> {
         requires awaited { is_first_awaited self.old.core.setup ≡ true }
         ensures answer { IfOk result (λ taken. taken ≡ is_taken (meaning U.Session.Session U.Session.HeaderKey.HeaderMask U.Session.PacketKey.PacketKey U.Control.Controller.Controller) (began (ideal U.Random.stream self.old.core) now).state remote bytes.items) }
         ensures leads { OnOk result ((ideal U.Random.stream self.new.core) ≡ (datagram_after (meaning U.Session.Session U.Session.HeaderKey.HeaderMask U.Session.PacketKey.PacketKey U.Control.Controller.Controller) now ecn remote bytes.items (began (ideal U.Random.stream self.old.core) now)).state) }
+        ensures clock { OnOk result (self.new.core.timers.greatest ≡ max self.old.core.timers.greatest now) }
         ensures alive { OnOk result (self.new.failed ≡ false) }
         ensures failed { self.old.failed ≡ true → (result ≡ Err Fault.Failed) × (self.new ≡ self.old) }
         ensures cause { result ≡ Err Fault.Failed → self.old.failed ≡ true }
@@ -176,6 +179,7 @@ impl<U: Suite> Connection<U> {
         requires heard { is_first_awaited self.old.core.setup ≡ false }
         requires some { LeavesBytes event }
         ensures leads { OnOk result ((ideal U.Random.stream self.new.core) ≡ (handed_after (meaning U.Session.Session U.Session.HeaderKey.HeaderMask U.Session.PacketKey.PacketKey U.Control.Controller.Controller) event (began (ideal U.Random.stream self.old.core) (time_of_event event))).state) }
+        ensures clock { OnOk result (self.new.core.timers.greatest ≡ max self.old.core.timers.greatest (time_of_event event)) }
         ensures alive { OnOk result (self.new.failed ≡ false) }
         ensures failed { self.old.failed ≡ true → (result ≡ Err Fault.Failed) × (self.new ≡ self.old) }
         ensures cause { result ≡ Err Fault.Failed → self.old.failed ≡ true }
@@ -219,6 +223,7 @@ impl<U: Suite> Connection<U> {
         requires some { IfSome remaining (λ b. 0 < length b.items) }
         ensures answer { OnDone result (lost_of result ≡ first_reason (meaning U.Session.Session U.Session.HeaderKey.HeaderMask U.Session.PacketKey.PacketKey U.Control.Controller.Controller) now ecn packet.header.src_cid packet.header.token packet_number packet.payload.items (began (ideal U.Random.stream self.old.core) now)) }
         ensures leads { OnDone result ((ideal U.Random.stream self.new.core) ≡ (first_packet_after (meaning U.Session.Session U.Session.HeaderKey.HeaderMask U.Session.PacketKey.PacketKey U.Control.Controller.Controller) now ecn packet.header.src_cid packet.header.token packet_number packet.payload.items (rest_of remaining) (size_of packet (rest_of remaining)) (began (ideal U.Random.stream self.old.core) now)).state) }
+        ensures clock { OnDone result (self.new.core.timers.greatest ≡ max self.old.core.timers.greatest now) }
         ensures alive { OnDone result (self.new.failed ≡ false) }
         ensures failed { self.old.failed ≡ true → (result ≡ Err (FirstError.Fault Fault.Failed)) × (self.new ≡ self.old) }
         ensures cause { result ≡ Err (FirstError.Fault Fault.Failed) → self.old.failed ≡ true }
@@ -264,6 +269,7 @@ impl<U: Suite> Connection<U> {
         ensures close { OnOk result (is_drained self.old.core.life.state ≡ false → has_come self.new.core.timers.close now ≡ false) }
         ensures paced { OnOk result (is_drained self.old.core.life.state ≡ false → has_come self.new.core.timers.pacing now ≡ false) }
         ensures held { OnOk result (is_drained self.old.core.life.state ≡ false → has_come self.new.core.timers.max_ack_delay now ≡ false) }
+        ensures clock { OnOk result (self.new.core.timers.greatest ≡ max self.old.core.timers.greatest now) }
         ensures alive { OnOk result (self.new.failed ≡ false) }
         ensures failed { self.old.failed ≡ true → (result ≡ Err Fault.Failed) × (self.new ≡ self.old) }
         ensures cause { result ≡ Err Fault.Failed → self.old.failed ≡ true }
@@ -300,6 +306,7 @@ impl<U: Suite> Connection<U> {
         requires some { 1 ≤ max_datagrams }
         requires empty { buf.old.items ≡ [] }
         ensures sends { IfOk result (λ sent. Sends (meaning U.Session.Session U.Session.HeaderKey.HeaderMask U.Session.PacketKey.PacketKey U.Control.Controller.Controller) now (ideal U.Random.stream self.old.core) (ideal U.Random.stream self.new.core) sent buf.new.items) }
+        ensures clock { OnOk result (self.new.core.timers.greatest ≡ max self.old.core.timers.greatest now) }
         ensures alive { OnOk result (self.new.failed ≡ false) }
         ensures failed { self.old.failed ≡ true → (result ≡ Err Fault.Failed) × (self.new ≡ self.old) }
         ensures cause { result ≡ Err Fault.Failed → self.old.failed ≡ true }
@@ -322,11 +329,13 @@ impl<U: Suite> Connection<U> {
 
     /// The application closes the connection at `now` (RFC 9000, 10.2): from now on all that is sent is the close, which
     /// tells the peer the code and the reason once the handshake is over, and before only that this end closed. A later
-    /// close changes nothing, and takes no memory.
+    /// close changes nothing but the greatest time that was told. Neither takes memory.
     pub fn close(&mut self, now: Instant, error_code: VarInt, reason: Bytes)
-        ensures leads { (ideal U.Random.stream self.new.core) ≡ (close_after now error_code reason (at (ideal U.Random.stream self.old.core) [])).state }
+        ensures leads { (ideal U.Random.stream self.new.core) ≡ (close_after now error_code reason (began (ideal U.Random.stream self.old.core) now)).state }
+        ensures clock { self.new.core.timers.greatest ≡ max self.old.core.timers.greatest now }
         ensures mark { self.new.failed ≡ self.old.failed }
     {
+        self.core.clock(now);
         let _raised = self.core.close(now, error_code, reason);
     }
 

@@ -1,9 +1,9 @@
 //! What an endpoint read already: a datagram that it cut, and a server's first packet that it opened.
 
 ghost use Rattle.std.specs.Prelude.{◌≡◌, ◌<◌, true, length, IfSome};
-ghost use Rattle.qc_core.specs.Cutting.{rest_of};
-ghost use Rattle.qc_core.specs.Events.{LeavesBytes};
-ghost use Rattle.qc_core.specs.FirstPacket.{IsFirstPacket};
+ghost use Rattle.qc_receive.specs.Cutting.{rest_of};
+ghost use Rattle.qc_receive.specs.Events.{LeavesBytes};
+ghost use Rattle.qc_receive.specs.FirstPacket.{IsFirstPacket};
 ghost use Rattle.qc_state.specs.Life.{is_handshake};
 ghost use Rattle.qc_state.specs.Setup.{is_first_awaited};
 
@@ -12,11 +12,12 @@ use crate::tests::{Toy, client_at, fresh_client};
 use bytes::BytesMut;
 use qc_base::{ConnectionId, Instant};
 use qc_config::{NoneTokenStore, announced};
-use qc_core::{ConnectionEvent, ServerSetup};
 use qc_crypto::{ServerConfig, Session};
 use qc_header::{InitialPacket, PartialDecode};
+use qc_making::ServerSetup;
 use qc_packet::{OpenKeys, decrypt_packet_body, unprotect_header};
 use qc_path::NewRenoConfig;
+use qc_receive::ConnectionEvent;
 use qc_recovery::TransportConfig;
 use qc_state::paths::same_address;
 use qc_state::{ConnectionError, Event};

@@ -22,5 +22,6 @@ mod token_tests;
 pub use connection::{Connection, FirstError};
 pub use driving::{BadWhy, DriveError, DriveKind, drive};
 pub use laws::text_tells_run;
-pub use qc_core::{ClientSetup, ConnectionEvent, ServerSetup};
+pub use qc_making::{ClientSetup, ServerSetup};
+pub use qc_receive::ConnectionEvent;
 pub use qc_state::negotiate_max_idle_timeout;

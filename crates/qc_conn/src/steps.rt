@@ -2,9 +2,9 @@
 
 ghost use Rattle.std.specs.Prelude.{◌≡◌, ◌<◌, ◌≤◌, ◌++◌, [], true, false, length, OnOk, IfOk, IfSome, option_to_list};
 ghost use Rattle.qc_conn.specs.Seen.{Sends};
-ghost use Rattle.qc_core.specs.Cutting.{rest_of};
-ghost use Rattle.qc_core.specs.Events.{LeavesBytes, handed_after, time_of_event};
-ghost use Rattle.qc_core.specs.FirstPacket.{first_reason, size_of};
+ghost use Rattle.qc_receive.specs.Cutting.{rest_of};
+ghost use Rattle.qc_receive.specs.Events.{LeavesBytes, handed_after, time_of_event};
+ghost use Rattle.qc_receive.specs.FirstPacket.{first_reason, size_of};
 ghost use Rattle.qc_state.specs.Life.{is_drained, waiting_events, endpoint_events};
 ghost use Rattle.qc_state.specs.Moves.{ReportReady, ReportConnected, ReportLost, ReportToken, ReportWanted, ReportDrained, state_move};
 ghost use Rattle.qc_state.specs.Receiving.{datagram_after, first_packet_after, is_taken};
@@ -17,8 +17,9 @@ ghost use Rattle.qc_state.specs.View.{ideal, held};
 
 use bytes::{Bytes, BytesMut};
 use qc_base::{EcnCodepoint, Instant, VarInt};
-use qc_core::{ConnectionEvent, Core};
+use qc_core::Core;
 use qc_header::InitialPacket;
+use qc_receive::{ConnectionEvent, datagram, first_datagram, first_packet};
 use qc_send::transmit;
 use qc_state::{
     Answer, Body, ConnectionError, Dids, EndpointEvents, Event, Events, Input, Step, Suite,
@@ -74,7 +75,7 @@ pub(crate) fn core_first<U: Suite>(
 {
     let mut did = Dids::new(alloc);
     core.clock(now);
-    let taken = core.first_datagram(alloc, &mut did, now, mark, remote, bytes)?;
+    let taken = first_datagram(core, alloc, &mut did, now, mark, remote, bytes)?;
     Ok(taken)
 }
 
@@ -97,7 +98,16 @@ pub(crate) fn core_event<U: Suite>(
             remaining,
         } => {
             core.clock(now);
-            core.event(alloc, &mut did, now, ecn, remote, first_decode, remaining)?;
+            qc_receive::event(
+                core,
+                alloc,
+                &mut did,
+                now,
+                ecn,
+                remote,
+                first_decode,
+                remaining,
+            )?;
             Ok(())
         }
     }
@@ -120,7 +130,7 @@ pub(crate) fn core_first_packet<U: Suite>(
 {
     let mut did = Dids::new(alloc);
     core.clock(now);
-    let why = core.first_packet(alloc, &mut did, now, mark, number, packet, behind)?;
+    let why = first_packet(core, alloc, &mut did, now, mark, number, packet, behind)?;
     Ok(why)
 }
 
@@ -235,7 +245,7 @@ fn datagram_call<U: Suite>(
 {
     let bytes = BytesMut::copy_from_slice(alloc, bytes.as_slice())?;
     core.clock(now);
-    if core.datagram(alloc, did, now, ecn, remote, bytes)? {
+    if datagram(core, alloc, did, now, ecn, remote, bytes)? {
         return Ok(Answer::Done);
     }
     Ok(Answer::Dropped)

@@ -1,22 +1,4 @@
-mod Behind
-mod Closing
-mod Cuts
-mod Opens
-mod Padding
-mod Payloads
-mod Refusals
-mod Reasons
-mod Sessions
-mod Writes
-mod Taken
-mod Established
-mod FirstDatagrams
-mod Elicits
-mod Accepts
-mod Acknowledges
-mod Fitting
-mod Handed
-mod Expiring
-mod Drawing
-mod Skips
-mod Shorts
+pub mod Accepts
+pub mod Acknowledges
+pub mod Expiring
+pub mod Skips

@@ -2,7 +2,7 @@
 
 ghost use Rattle.std.specs.Prelude.{◌≡◌, ◌+◌, ◌<◌, ◌≤◌, ◌^◌, ◌==◌, Err, true, length, not, if◌then◌else◌, OnOk, OnErr, IfOk};
 ghost use Rattle.qc_assembler.specs.Assembly.{inserted, part_count};
-ghost use Rattle.qc_core.specs.Drawing.{sealed_drawn};
+ghost use Rattle.qc_core.specs.Sealing.{sealed_drawn};
 ghost use Rattle.qc_state.specs.Acks.{AckPart, is_ack, may_acknowledge};
 ghost use Rattle.qc_state.specs.Life.{ready_event, connected_event, lost_event, token_event, wanted_event, drained_event};
 ghost use Rattle.qc_state.specs.Lower.{packet_flown, ready_bytes, stream_of};
@@ -50,24 +50,24 @@ fn tells_congestion(mark: Option<EcnCodepoint>) -> bool
     }
 }
 
-#[tactic(auto, unfolding(qc_state::specs::Moves::move_to, qc_state::specs::Moves::state_move, qc_state::specs::Moves::numbers_move, qc_state::specs::Moves::keys_move, qc_state::specs::Moves::life_move, qc_state::specs::Moves::paths_move, qc_state::specs::Moves::timers_move, qc_state::specs::Moves::waiting_move, qc_state::specs::Moves::setup_move, qc_state::specs::Moves::lower_move, qc_state::specs::Moves::deeds_move, qc_state::specs::Setup::ideal_setup, qc_state::specs::Setup::idle_limit_now, qc_state::specs::Setup::parameters_known, qc_state::specs::Setup::token_expected, qc_state::specs::Lower::session_wrote, crate::specs::Drawing::sealed_drawn), using(qc_state::proofs::Arrivals::came_accepted))]
+#[tactic(auto, unfolding(qc_state::specs::Moves::move_to, qc_state::specs::Moves::state_move, qc_state::specs::Moves::numbers_move, qc_state::specs::Moves::keys_move, qc_state::specs::Moves::life_move, qc_state::specs::Moves::paths_move, qc_state::specs::Moves::timers_move, qc_state::specs::Moves::waiting_move, qc_state::specs::Moves::setup_move, qc_state::specs::Moves::lower_move, qc_state::specs::Moves::deeds_move, qc_state::specs::Setup::ideal_setup, qc_state::specs::Setup::idle_limit_now, qc_state::specs::Setup::parameters_known, qc_state::specs::Setup::token_expected, qc_state::specs::Lower::session_wrote, crate::specs::Sealing::sealed_drawn), using(qc_state::proofs::Arrivals::came_accepted))]
 impl<U: Suite> Core<U> {
     /// The connection is told a time.
-    pub(crate) fn do_clock(&mut self, now: Instant)
+    pub fn do_clock(&mut self, now: Instant)
         ensures { (ideal U.Random.stream self.new) ≡ state_move (Clock now) (ideal U.Random.stream self.old) }
     {
         self.timers.told(now);
     }
 
     /// A PING is asked for.
-    pub(crate) fn do_ask(&mut self, space: SpaceId)
+    pub fn do_ask(&mut self, space: SpaceId)
         ensures { (ideal U.Random.stream self.new) ≡ state_move (Ask space) (ideal U.Random.stream self.old) }
     {
         self.waiting.ask_ping(space);
     }
 
     /// Frames leave what waits, for a packet with so much room for them.
-    pub(crate) fn do_take(
+    pub fn do_take(
         &mut self,
         alloc: Global,
         now: Instant,
@@ -81,7 +81,7 @@ impl<U: Suite> Core<U> {
     }
 
     /// The ACK leaves what waits, where there is something to acknowledge and so much room for it.
-    pub(crate) fn do_take_ack(
+    pub fn do_take_ack(
         &mut self,
         alloc: Global,
         now: Instant,
@@ -126,7 +126,7 @@ impl<U: Suite> Core<U> {
     }
 
     /// A packet is sealed, for which all was drawn before.
-    pub(crate) fn do_seal(
+    pub fn do_seal(
         &mut self,
         alloc: Global,
         did: &mut Dids,
@@ -152,7 +152,7 @@ impl<U: Suite> Core<U> {
     }
 
     /// The next number of 1-RTT packets is skipped; the one that is skipped behind it is drawn.
-    pub(crate) fn do_skip(&mut self)
+    pub fn do_skip(&mut self)
         requires { is_skipped self.old.numbers Data ≡ true }
         ensures { (ideal U.Random.stream self.new) ≡ state_move Skip (ideal U.Random.stream self.old) }
     {
@@ -160,7 +160,7 @@ impl<U: Suite> Core<U> {
     }
 
     /// The keys of a space are dropped.
-    pub(crate) fn do_forget(&mut self, space: SpaceId)
+    pub fn do_forget(&mut self, space: SpaceId)
         ensures { (ideal U.Random.stream self.new) ≡ state_move (Forget space) (ideal U.Random.stream self.old) }
     {
         self.keys.forget(space);
@@ -169,14 +169,14 @@ impl<U: Suite> Core<U> {
     }
 
     /// A server's first packet came, with this token.
-    pub(crate) fn do_expect(&mut self, token: Bytes)
+    pub fn do_expect(&mut self, token: Bytes)
         ensures { (ideal U.Random.stream self.new) ≡ state_move (Expect token) (ideal U.Random.stream self.old) }
     {
         self.setup.expect(token);
     }
 
     /// A packet came whose number counts, and whose frames don't.
-    pub(crate) fn do_enter(
+    pub fn do_enter(
         &mut self,
         did: &mut Dids,
         space: SpaceId,
@@ -190,14 +190,14 @@ impl<U: Suite> Core<U> {
     }
 
     /// A packet didn't open.
-    pub(crate) fn do_fail(&mut self)
+    pub fn do_fail(&mut self)
         ensures { (ideal U.Random.stream self.new) ≡ state_move Fail (ideal U.Random.stream self.old) }
     {
         self.keys.failed();
     }
 
     /// A packet was accepted.
-    pub(crate) fn do_accept(
+    pub fn do_accept(
         &mut self,
         did: &mut Dids,
         now: Instant,
@@ -228,21 +228,21 @@ impl<U: Suite> Core<U> {
     }
 
     /// The peer has chosen its id.
-    pub(crate) fn do_fix(&mut self, cid: ConnectionId)
+    pub fn do_fix(&mut self, cid: ConnectionId)
         ensures { (ideal U.Random.stream self.new) ≡ state_move (Fix cid) (ideal U.Random.stream self.old) }
     {
         self.paths.fix(cid);
     }
 
     /// So many bytes came from the path's address.
-    pub(crate) fn do_hear(&mut self, bytes: u64)
+    pub fn do_hear(&mut self, bytes: u64)
         ensures { (ideal U.Random.stream self.new) ≡ state_move (Hear bytes) (ideal U.Random.stream self.old) }
     {
         self.paths.received(bytes);
     }
 
     /// The peer acknowledged packets. Answers whether some of them are newly acknowledged. Want of memory is the only refusal.
-    pub(crate) fn do_ack(
+    pub fn do_ack(
         &mut self,
         alloc: Global,
         now: Instant,
@@ -268,7 +268,7 @@ impl<U: Suite> Core<U> {
     }
 
     /// The loss timer fires: packets are lost, or probes are due. Want of memory is the only refusal.
-    pub(crate) fn do_fire(&mut self, now: Instant) -> Result<(), AllocError>
+    pub fn do_fire(&mut self, now: Instant) -> Result<(), AllocError>
         ensures { OnOk result ((ideal U.Random.stream self.new) ≡ state_move (Fire (fired_by (meaning U.Session.Session U.Session.HeaderKey.HeaderMask U.Session.PacketKey.PacketKey U.Control.Controller.Controller) now (ideal U.Random.stream self.old))) (ideal U.Random.stream self.old)) }
     {
         let blocked = self.is_blocked();
@@ -278,14 +278,14 @@ impl<U: Suite> Core<U> {
     }
 
     /// The datagram that the pacer held back may go.
-    pub(crate) fn do_pace(&mut self)
+    pub fn do_pace(&mut self)
         ensures { (ideal U.Random.stream self.new) ≡ state_move Pace (ideal U.Random.stream self.old) }
     {
         self.timers.pace();
     }
 
     /// The ACK that was held back is owed.
-    pub(crate) fn do_release(&mut self)
+    pub fn do_release(&mut self)
         ensures { (ideal U.Random.stream self.new) ≡ state_move Release (ideal U.Random.stream self.old) }
     {
         self.timers.release();
@@ -293,14 +293,14 @@ impl<U: Suite> Core<U> {
     }
 
     /// The loss timer is set to a time, or stopped.
-    pub(crate) fn do_arm(&mut self, at: Option<Instant>)
+    pub fn do_arm(&mut self, at: Option<Instant>)
         ensures { (ideal U.Random.stream self.new) ≡ state_move (Arm at) (ideal U.Random.stream self.old) }
     {
         self.timers.arm(at);
     }
 
     /// A datagram is begun for a space: a probe that is due there is spent. Want of memory is the only refusal.
-    pub(crate) fn do_begin(&mut self, space: SpaceId) -> Result<(), AllocError>
+    pub fn do_begin(&mut self, space: SpaceId) -> Result<(), AllocError>
         ensures { OnOk result ((ideal U.Random.stream self.new) ≡ state_move (Begin space) (ideal U.Random.stream self.old)) }
     {
         let oldest = self.lower.recovery.oldest(space);
@@ -308,12 +308,7 @@ impl<U: Suite> Core<U> {
     }
 
     /// Bytes of a CRYPTO stream came. `TooManyParts` exactly where too many separate parts would stand.
-    pub(crate) fn do_come(
-        &mut self,
-        space: SpaceId,
-        offset: u64,
-        bytes: Bytes,
-    ) -> Result<(), InsertError>
+    pub fn do_come(&mut self, space: SpaceId, offset: u64, bytes: Bytes) -> Result<(), InsertError>
         requires { offset + length bytes < 2 ^ 64 }
         ensures came { OnOk result ((ideal U.Random.stream self.new) ≡ state_move (Come space offset bytes) (ideal U.Random.stream self.old)) }
         ensures few { OnOk result (part_count (inserted offset bytes (stream_of self.old.lower space)).came ≤ 1024) }
@@ -324,42 +319,42 @@ impl<U: Suite> Core<U> {
     }
 
     /// What the handshake settles is ready.
-    pub(crate) fn do_ready(&mut self)
+    pub fn do_ready(&mut self)
         ensures { (ideal U.Random.stream self.new) ≡ state_move Ready (ideal U.Random.stream self.old) }
     {
         self.life.data_ready();
     }
 
     /// The peer's token for a stateless reset was read.
-    pub(crate) fn do_token(&mut self, token: ResetToken)
+    pub fn do_token(&mut self, token: ResetToken)
         ensures { (ideal U.Random.stream self.new) ≡ state_move (Token token) (ideal U.Random.stream self.old) }
     {
         self.life.learn_token(self.paths.remote, token);
     }
 
     /// So many identifiers are wanted.
-    pub(crate) fn do_want(&mut self, now: Instant, count: u64)
+    pub fn do_want(&mut self, now: Instant, count: u64)
         ensures { (ideal U.Random.stream self.new) ≡ state_move (Want now count) (ideal U.Random.stream self.old) }
     {
         self.life.want(now, count);
     }
 
     /// The peer's parameters were read.
-    pub(crate) fn do_learn(&mut self, parameters: TransportParameters)
+    pub fn do_learn(&mut self, parameters: TransportParameters)
         ensures { (ideal U.Random.stream self.new) ≡ state_move (Learn parameters) (ideal U.Random.stream self.old) }
     {
         self.setup.learn(parameters);
     }
 
     /// A server has confirmed the handshake: a HANDSHAKE_DONE is owed.
-    pub(crate) fn do_confirm(&mut self)
+    pub fn do_confirm(&mut self)
         ensures { (ideal U.Random.stream self.new) ≡ state_move Confirm (ideal U.Random.stream self.old) }
     {
         self.waiting.ask_done();
     }
 
     /// The handshake is over.
-    pub(crate) fn do_establish(&mut self, did: &mut Dids) -> Result<(), AllocError>
+    pub fn do_establish(&mut self, did: &mut Dids) -> Result<(), AllocError>
         ensures { OnOk result ((held U.Random.stream self.new did.new) ≡ move_to Establish (held U.Random.stream self.old did.old)) }
     {
         self.life.establish();
@@ -367,7 +362,7 @@ impl<U: Suite> Core<U> {
     }
 
     /// A packet that enters no number is told of.
-    pub(crate) fn do_tell_piece(
+    pub fn do_tell_piece(
         &self,
         did: &mut Dids,
         space: Option<SpaceId>,
@@ -380,19 +375,14 @@ impl<U: Suite> Core<U> {
     }
 
     /// A frame is given to a layer.
-    pub(crate) fn do_tell_gave(
-        &self,
-        did: &mut Dids,
-        layer: Layer,
-        body: Body,
-    ) -> Result<(), AllocError>
+    pub fn do_tell_gave(&self, did: &mut Dids, layer: Layer, body: Body) -> Result<(), AllocError>
         ensures { OnOk result ((held U.Random.stream self.now did.new) ≡ move_to (Tell (Did.Gave layer body)) (held U.Random.stream self.now did.old)) }
     {
         did.push_gave(layer, body)
     }
 
     /// The peer closed as well.
-    pub(crate) fn do_drain(&mut self, did: &mut Dids) -> Result<(), AllocError>
+    pub fn do_drain(&mut self, did: &mut Dids) -> Result<(), AllocError>
         ensures { OnOk result ((held U.Random.stream self.new did.new) ≡ move_to Drain (held U.Random.stream self.old did.old)) }
     {
         self.life.drain();
@@ -400,7 +390,7 @@ impl<U: Suite> Core<U> {
     }
 
     /// The peer closed.
-    pub(crate) fn do_leave(&mut self, did: &mut Dids, now: Instant) -> Result<(), AllocError>
+    pub fn do_leave(&mut self, did: &mut Dids, now: Instant) -> Result<(), AllocError>
         ensures { OnOk result ((held U.Random.stream self.new did.new) ≡ move_to (Leave now) (held U.Random.stream self.old did.old)) }
     {
         let probe = self.probe_timeout(self.keys.highest);
@@ -410,14 +400,14 @@ impl<U: Suite> Core<U> {
     }
 
     /// A close is owed again.
-    pub(crate) fn do_owe(&mut self)
+    pub fn do_owe(&mut self)
         ensures { (ideal U.Random.stream self.new) ≡ state_move Owe (ideal U.Random.stream self.old) }
     {
         self.waiting.owe_close();
     }
 
     /// This end closes.
-    pub(crate) fn do_shut(&mut self, now: Instant, close: Close)
+    pub fn do_shut(&mut self, now: Instant, close: Close)
         ensures { (ideal U.Random.stream self.new) ≡ state_move (Shut now close) (ideal U.Random.stream self.old) }
     {
         let probe = self.probe_timeout(self.keys.highest);
@@ -427,7 +417,7 @@ impl<U: Suite> Core<U> {
     }
 
     /// The life rises.
-    pub(crate) fn do_raise(&mut self, did: &mut Dids, to: State) -> Result<(), AllocError>
+    pub fn do_raise(&mut self, did: &mut Dids, to: State) -> Result<(), AllocError>
         ensures { OnOk result ((held U.Random.stream self.new did.new) ≡ move_to (Raise to) (held U.Random.stream self.old did.old)) }
     {
         self.life.raise(to);
@@ -436,7 +426,7 @@ impl<U: Suite> Core<U> {
     }
 
     /// A reason for the end is given.
-    pub(crate) fn do_give(&mut self, did: &mut Dids, why: ConnectionError) -> Result<(), AllocError>
+    pub fn do_give(&mut self, did: &mut Dids, why: ConnectionError) -> Result<(), AllocError>
         ensures { OnOk result ((held U.Random.stream self.new did.new) ≡ move_to (Give why) (held U.Random.stream self.old did.old)) }
     {
         let told = why.copy()?;
@@ -446,7 +436,7 @@ impl<U: Suite> Core<U> {
     }
 
     /// A transmit sends nothing, for this cause.
-    pub(crate) fn do_say(&mut self, did: &mut Dids, quiet: Quiet) -> Result<(), AllocError>
+    pub fn do_say(&mut self, did: &mut Dids, quiet: Quiet) -> Result<(), AllocError>
         ensures { OnOk result ((held U.Random.stream self.new did.new) ≡ move_to (Say quiet) (held U.Random.stream self.old did.old)) }
     {
         self.paths.idle();
@@ -454,7 +444,7 @@ impl<U: Suite> Core<U> {
     }
 
     /// That the handshake's data is ready is reported, where it waits.
-    pub(crate) fn do_report_ready(&mut self) -> Option<Event>
+    pub fn do_report_ready(&mut self) -> Option<Event>
         ensures event { result ≡ ready_event self.old.life }
         ensures leads { (ideal U.Random.stream self.new) ≡ state_move ReportReady (ideal U.Random.stream self.old) }
     {
@@ -462,7 +452,7 @@ impl<U: Suite> Core<U> {
     }
 
     /// That the handshake is over is reported, where it waits.
-    pub(crate) fn do_report_connected(&mut self) -> Option<Event>
+    pub fn do_report_connected(&mut self) -> Option<Event>
         ensures event { result ≡ connected_event self.old.life }
         ensures leads { (ideal U.Random.stream self.new) ≡ state_move ReportConnected (ideal U.Random.stream self.old) }
     {
@@ -470,7 +460,7 @@ impl<U: Suite> Core<U> {
     }
 
     /// The reason of the end is reported, where it waits.
-    pub(crate) fn do_report_lost(&mut self) -> Option<Event>
+    pub fn do_report_lost(&mut self) -> Option<Event>
         ensures event { result ≡ lost_event self.old.life }
         ensures leads { (ideal U.Random.stream self.new) ≡ state_move ReportLost (ideal U.Random.stream self.old) }
     {
@@ -478,7 +468,7 @@ impl<U: Suite> Core<U> {
     }
 
     /// The peer's token is reported, where it waits.
-    pub(crate) fn do_report_token(&mut self) -> Option<EndpointEvent>
+    pub fn do_report_token(&mut self) -> Option<EndpointEvent>
         ensures event { result ≡ token_event self.old.life }
         ensures leads { (ideal U.Random.stream self.new) ≡ state_move ReportToken (ideal U.Random.stream self.old) }
     {
@@ -486,7 +476,7 @@ impl<U: Suite> Core<U> {
     }
 
     /// How many identifiers are wanted is reported, where it waits.
-    pub(crate) fn do_report_wanted(&mut self) -> Option<EndpointEvent>
+    pub fn do_report_wanted(&mut self) -> Option<EndpointEvent>
         ensures event { result ≡ wanted_event self.old.life }
         ensures leads { (ideal U.Random.stream self.new) ≡ state_move ReportWanted (ideal U.Random.stream self.old) }
     {
@@ -494,7 +484,7 @@ impl<U: Suite> Core<U> {
     }
 
     /// The end is reported, where it waits.
-    pub(crate) fn do_report_drained(&mut self) -> Option<EndpointEvent>
+    pub fn do_report_drained(&mut self) -> Option<EndpointEvent>
         ensures event { result ≡ drained_event self.old.life }
         ensures leads { (ideal U.Random.stream self.new) ≡ state_move ReportDrained (ideal U.Random.stream self.old) }
     {

@@ -38,7 +38,7 @@ pub(crate) fn shows_validated(space: SpaceId) -> bool
 
 impl<U: Suite> Core<U> {
     /// Whether no datagram may be begun.
-    pub(crate) fn is_blocked(&self) -> bool
+    pub fn is_blocked(&self) -> bool
         ensures { result ≡ is_blocked self.now.paths }
     {
         self.paths.is_blocked()
@@ -63,7 +63,7 @@ impl<U: Suite> Core<U> {
     /// What loss recovery is told of the connection. `blocked` says that no datagram may be begun, and `handled` that an ACK is
     /// being handled which shows that the peer has validated this end's address.
     #[tactic(auto, unfolding(qc_state::specs::Recovering::around_of, qc_state::specs::Setup::ideal_setup))]
-    pub(crate) fn around(&self, blocked: bool, handled: bool) -> Around
+    pub fn around(&self, blocked: bool, handled: bool) -> Around
         ensures { result ≡ around_of (ideal U.Random.stream self.now) blocked handled }
     {
         Around {
@@ -81,7 +81,7 @@ impl<U: Suite> Core<U> {
 
     /// The probe timeout of a space (RFC 9002, section 6.2.1).
     #[tactic(auto, unfolding(qc_state::specs::Recovering::probe_timeout_now))]
-    pub(crate) fn probe_timeout(&self, space: SpaceId) -> Duration
+    pub fn probe_timeout(&self, space: SpaceId) -> Duration
         ensures { result ≡ probe_timeout_now (ideal U.Random.stream self.now) space }
     {
         let around = self.around(false, false);
@@ -105,7 +105,7 @@ impl<U: Suite> Core<U> {
 
     /// The loss timer is set anew. `blocked` says that no datagram may be begun.
     #[tactic(auto, unfolding(qc_state::specs::Moves::armed_with, qc_state::specs::Moves::move_to, qc_state::specs::Moves::deeds_move))]
-    pub(crate) fn arm_with(&mut self, did: &Dids, blocked: bool, now: Instant)
+    pub fn arm_with(&mut self, did: &Dids, blocked: bool, now: Instant)
         ensures { (held U.Random.stream self.new did.now) ≡ armed_with blocked now (held U.Random.stream self.old did.now) }
     {
         let at = self.loss_time(blocked, now);
@@ -114,7 +114,7 @@ impl<U: Suite> Core<U> {
 
     /// The loss timer is set anew, as the path stands.
     #[tactic(auto, unfolding(qc_state::specs::Moves::armed_after))]
-    pub(crate) fn arm(&mut self, did: &Dids, now: Instant)
+    pub fn arm(&mut self, did: &Dids, now: Instant)
         ensures { (held U.Random.stream self.new did.now) ≡ armed_after now (held U.Random.stream self.old did.now) }
     {
         let blocked = self.is_blocked();

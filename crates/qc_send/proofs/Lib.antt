@@ -1,2 +1,4 @@
 mod Sized
 mod Wide
+pub mod ClosingFrames
+pub mod Drawing

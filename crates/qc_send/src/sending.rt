@@ -5,6 +5,8 @@ ghost use Rattle.qc_state.specs.Sending.{may_be_quiet, SealsOne, Transmits};
 ghost use Rattle.qc_state.specs.Types.{meaning};
 ghost use Rattle.qc_state.specs.View.{ideal, held};
 
+use crate::owing::{is_key_nearly_used_up, may_be_quiet, quiet, sending_space};
+use crate::sealing::{begin_datagram, seal, spare, take, transmit_to};
 use qc_base::{Instant, Side};
 use qc_core::Core;
 use qc_state::{Dids, Suite, Transmit};
@@ -23,14 +25,14 @@ fn seal_one<U: Suite>(
     requires empty { buf.old.items ≡ [] }
     ensures { OnOk result (SealsOne (meaning U.Session.Session U.Session.HeaderKey.HeaderMask U.Session.PacketKey.PacketKey U.Control.Controller.Controller) now (held U.Random.stream core.old did.old) (held U.Random.stream core.new did.new) buf.new.items) }
 {
-    let space = core.sending_space();
-    let nearly = core.is_key_nearly_used_up();
-    core.begin_datagram(space, did)?;
-    let frames = core.take(alloc, now, space)?;
-    let counts = core.seal(alloc, did, now, space, frames, buf)?;
+    let space = sending_space(core);
+    let nearly = is_key_nearly_used_up(core);
+    begin_datagram(core, space, did)?;
+    let frames = take(core, alloc, now, space)?;
+    let counts = seal(core, alloc, did, now, space, frames, buf)?;
     core.fly_after(did, now, counts);
     core.leave_initial(Side::Client, false, now, space, did);
-    core.spare(did, now, nearly)?;
+    spare(core, did, now, nearly)?;
     Ok(())
 }
 
@@ -47,11 +49,11 @@ pub fn transmit<U: Suite>(
     requires { buf.old.items ≡ [] }
     ensures { IfOk result (λ sent. Transmits (meaning U.Session.Session U.Session.HeaderKey.HeaderMask U.Session.PacketKey.PacketKey U.Control.Controller.Controller) now (held U.Random.stream core.old did.old) (held U.Random.stream core.new did.new) sent buf.new.items) }
 {
-    if core.may_be_quiet() {
-        core.quiet(did)?;
+    if may_be_quiet(core) {
+        quiet(core, did)?;
         return Ok(None);
     }
-    let mut to = core.transmit_to(0);
+    let mut to = transmit_to(core, 0);
     seal_one(core, did, alloc, now, buf)?;
     to.size = buf.len();
     Ok(Some(to))

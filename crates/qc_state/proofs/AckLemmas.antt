@@ -28,13 +28,9 @@ pub small_delay : (delay time came : ℕ) → time < 18446744073709551616 → de
 small_delay delay time came in_range is_delay = omega (arith, is_delay)
 
 -- the counts of marks have room in their fields as an ACK tells them
-told_fit_by : (c : EcnCounts) (b : Bool) → CountsFit (if b then None else Some (record { ect0 = told_count c.ect0; ect1 = told_count c.ect1; ce = told_count c.ce }))
-told_fit_by c true = tt
-told_fit_by c false = (omega arith, omega arith, omega arith)
-
-pub told_fit : (c : EcnCounts) → CountsFit (told_counts c)
-unfolding told_counts
-told_fit c = told_fit_by c ((c.ect0 == 0) && ((c.ect1 == 0) && (c.ce == 0)))
+pub told_fit : (counts : Option EcnCounts) → CountsFit (told_counts counts)
+told_fit None = tt
+told_fit (Some c) = (omega arith, omega arith, omega arith)
 
 -- what the maker of an ACK says is what an ACK of these numbers at this time says
 pub says : (time delay : ℕ) (w : SpaceWaiting) (ack : AckValue) → ranges_of ack ≡ reverse w.acks.ranges → delay ≡ ack_delay time w.acks.marks → ack.delay ≡ delay → ack.ecn ≡ told_counts w.marks → Fits (frames.Ack ack) → ack.additional ≡ flat_map varint (numbers_of ack.additional) → SaysAck time w ack

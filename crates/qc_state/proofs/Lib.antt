@@ -7,6 +7,7 @@ pub mod AcksAccepted
 pub mod AcksBefore
 mod AcksKnown
 pub mod Begun
+pub mod Clocks
 pub mod DatagramLaws
 pub mod Expansions
 pub mod Expired

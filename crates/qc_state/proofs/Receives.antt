@@ -391,19 +391,19 @@ module _ {t : Types} (R : At t → At t → Type 0) (here : (a : At t) → R a a
   holds_crypto m time space offset body None others a h = holds_kept m time space offset body others a h
 
   -- a frame that stops nothing by its kind
-  holds_taken : (m : Meaning t) (time : ℕ) (space : SpaceId) (read : TypedValue) (f : FrameValue) (others : At t → At t) (a : At t) → ((b : At t) → R b (others b)) → R a (taken_and m time space read f others a)
-  holds_taken m time space read (frames.Crypto offset body) others a h = holds_crypto m time space offset body (crypto_stop a.state space read.ty offset body) others a h
-  holds_taken m time space read f others a h = next a (applied_after m time space f a) _ (holds_applied m time space f a) (h (applied_after m time space f a))
+  holds_taken : (m : Meaning t) (time : ℕ) (space : SpaceId) (f : FrameValue) (others : At t → At t) (a : At t) → ((b : At t) → R b (others b)) → R a (taken_and m time space f others a)
+  holds_taken m time space (frames.Crypto offset body) others a h = holds_crypto m time space offset body (crypto_stop a.state space offset body) others a h
+  holds_taken m time space f others a h = next a (applied_after m time space f a) _ (holds_applied m time space f a) (h (applied_after m time space f a))
 
   -- a frame that isn't a close
-  holds_frame : (m : Meaning t) (time : ℕ) (space : SpaceId) (read : TypedValue) (stop : Option TransportError) (others : At t → At t) (a : At t) → ((b : At t) → R b (others b)) → R a (frame_and m time space read stop others a)
-  holds_frame m time space read (Some error) others a h = holds_stopped time error a
-  holds_frame m time space read None others a h = holds_taken m time space read read.frame others a h
+  holds_frame : (m : Meaning t) (time : ℕ) (space : SpaceId) (f : FrameValue) (stop : Option TransportError) (others : At t → At t) (a : At t) → ((b : At t) → R b (others b)) → R a (frame_and m time space f stop others a)
+  holds_frame m time space f (Some error) others a h = holds_stopped time error a
+  holds_frame m time space f None others a h = holds_taken m time space f others a h
 
   -- a close or another frame
   holds_read : (m : Meaning t) (time : ℕ) (space : SpaceId) (read : TypedValue) (why close : Option ConnectionError) (others : Option ConnectionError → At t → At t) (a : At t) → ((c : Option ConnectionError) (b : At t) → R b (others c b)) → R a (read_and m time space read why close others a)
   holds_read m time space read (Some why) close others a h = holds_close time space read.frame why others a h
-  holds_read m time space read None close others a h = holds_frame m time space read _ (others close) a (h close)
+  holds_read m time space read None close others a h = holds_frame m time space read.frame _ (others close) a (h close)
 
   -- behind the last frame
   holds_end : (m : Meaning t) (time : ℕ) (space : SpaceId) (close : Option ConnectionError) (a : At t) → R a (end_after m time space close a)
@@ -480,7 +480,7 @@ module _ {t : Types} (R : At t → At t → Type 0) (here : (a : At t) → R a a
   verdict_by m time space signs source number payload verdict.AckOnly a new closed = holds_accepted time space number false signs verdict.AckOnly a (new refl) refl refl
   verdict_by m time space signs source number payload verdict.Admitted a new closed = holds_admitted m time space signs source number payload a (new refl)
 
-  holds_received : (m : Meaning t) (time : ℕ) (space : SpaceId) (signs : Signs) (source token : List ℕ) (number : ℕ) (payload : List ℕ) (a : At t) → R a (received_after m time space signs source token number payload a)
+  pub holds_received : (m : Meaning t) (time : ℕ) (space : SpaceId) (signs : Signs) (source token : List ℕ) (number : ℕ) (payload : List ℕ) (a : At t) → R a (received_after m time space signs source token number payload a)
   unfolding received_after verdict_of
   holds_received m time space signs source token number payload a =
       verdict_by m time space signs source number payload (verdict_of a.state space source token number) a
@@ -512,7 +512,7 @@ module _ {t : Types} (R : At t → At t → Type 0) (here : (a : At t) → R a a
   holds_opening m time mark (Some space) (Opened source token spin number payload) a h = holds_received m time space (record { mark = mark; spin = spin }) source token number payload a
   holds_opening m time mark None (Opened source token spin number payload) a h = move (Tell (did.Piece None None verdict.Ignored)) tt a refl
 
-  piece_by : (m : Meaning t) (time : ℕ) (mark : Option EcnCodepoint) (p : Piece) (a : At t) (b : Bool) → is_over a.state.life.state ≡ b → R a (if b then piece_told (space_of p.header) None verdict.Ignored a else opening_after m time mark (space_of p.header) (opening_of m a.state p) a)
+  pub piece_by : (m : Meaning t) (time : ℕ) (mark : Option EcnCodepoint) (p : Piece) (a : At t) (b : Bool) → is_over a.state.life.state ≡ b → R a (if b then piece_told (space_of p.header) None verdict.Ignored a else opening_after m time mark (space_of p.header) (opening_of m a.state p) a)
   unfolding MayMove
   piece_by m time mark p a true h = move (Tell (did.Piece (space_of p.header) None verdict.Ignored)) tt a refl
   piece_by m time mark p a false h = holds_opening m time mark (space_of p.header) (opening_of m a.state p) a h

@@ -316,7 +316,7 @@ module _ {t : Types} where
   move_tells id ReportDrained s h = behind_here _
 
   -- no move but the first of a call sets the clock
-  clock_kept : (x : Move t) (s : View t) → MayMove x s → (state_move x s).timers.greatest ≡ s.timers.greatest
+  pub clock_kept : (x : Move t) (s : View t) → MayMove x s → (state_move x s).timers.greatest ≡ s.timers.greatest
   unfolding MayMove state_move timers_move timers_accepted timers_armed timers_stopped timers_closing timers_paced timers_released
   clock_kept (Clock time) s h = absurd h
   clock_kept (Ask space) s h = refl

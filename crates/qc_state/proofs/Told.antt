@@ -1,6 +1,6 @@
 -- The deeds of a run come where they may, and what follows from that.
 use Rattle.std.proofs.Common.{◌≡◌, ℕ, ◌+◌, ◌≤◌, List, [], ◌∷◌, ◌++◌, length, replicate, take, refl, ap, sym, ◌∙◌, subst, Bool, true, false, Option, Some, None, if◌then◌else◌, arith}
-use Rattle.std.specs.Prelude.{option_to_list, ◌||◌, ◌&&◌, not}
+use Rattle.std.specs.Prelude.{option_to_list, ◌||◌, ◌&&◌, not, max}
 use Rattle.std.specs.List.{list_any}
 use Rattle.std.proofs.lemmas.List.Folds.{list_any-append}
 use Rattle.qc_base.specs.declared.side.Side.TheVariants.{Client}
@@ -36,6 +36,10 @@ use Rattle.qc_state.proofs.Telling.{behind_here, tells_append, rises, reasons, l
 use Rattle.qc_state.proofs.Expired.{holds_timeout}
 use Rattle.qc_state.proofs.Receives.{holds_armed, holds_initial, holds_stopped}
 use Rattle.qc_state.proofs.ToldReceiving.{told_datagram}
+
+-- the greater of two times, of which the other isn't less
+later_max : (a b : ℕ) → a ≤ b → max a b ≡ b
+later_max a b h = omega (arith, h)
 
 -- a connection that isn't silent has not ended, and it owes a close once it has closed
 pub loud_alive : (s : State) (o : Bool) → (is_drained s || (not (is_open s) && not o)) ≡ false → is_drained s ≡ false
@@ -145,7 +149,7 @@ module _ {t : Types} where
       told_next id a b _ (holds_begun (Told id) (told_here id) (told_next id) space a (λ c. told_move id (Begin space) c tt) (λ c may_skip. told_move id Skip c may_skip))
       (told_next id b c _ (told_sealed id space time fs b closes_now) (told_spared id time (is_key_nearly_used_up a.state) c))
 
-  told_transmit : (id : SpaceId) (time : ℕ) (ps : List (List FrameValue)) (a : At t) → MayTransmit time a.state ps → Told id a (transmit_after time ps a)
+  pub told_transmit : (id : SpaceId) (time : ℕ) (ps : List (List FrameValue)) (a : At t) → MayTransmit time a.state ps → Told id a (transmit_after time ps a)
   unfolding MayTransmit transmit_after quiet_after owed_quiet_after
   told_transmit id time [] a may = quiet_by id (limit_met a.state) a (is_silent a.state) (owes a.state) (is_blocked a.state.paths) refl
   told_transmit id time (fs ∷ []) a may = told_packet id time fs a may
@@ -180,7 +184,8 @@ module _ {t : Types} where
   -- the clock stands at the input's time after a step
   pub step_time : (m : Meaning t) (k : ℕ) (s : View t) (i : Input) (x : Step) (s' : View t) → IsStep m k s i x s' → s'.timers.greatest ≡ time_of i
   unfolding called began step_after reported state_move timers_move clock_set
-  step_time m k s i x s' h = ap (λ v. v.greatest) h.timers ∙ (told_input Initial m i x.did (began s (time_of i)) h.allowed).clock
+  step_time m k s i x s' h =
+      ap (λ v. v.greatest) h.timers ∙ (told_input Initial m i x.did (began s (time_of i)) h.allowed).clock ∙ later_max s.timers.greatest (time_of i) h.forward
 
   run_tells : (id : SpaceId) (m : Meaning t) (k : ℕ) (s : View t) (is : List Input) (xs : List Step) (s' : View t) → Run m k s is xs s' → Tells id (kernel id s) (deeds_of xs) (kernel id s')
   unfolding Run Tells

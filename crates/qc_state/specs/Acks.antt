@@ -40,13 +40,14 @@ is_ack_last time bundled p = not (owes_ack p || joins_ack p) && (has_come_by bun
 abbrev pub told_count : ℕ → ℕ
 told_count count = min count (2 ^ 62 - 1)
 
--- the counts of marks as an ACK tells them: none before the first packet that came with a mark (RFC 9000, section 13.4.1)
-unfoldable pub told_counts : EcnCounts → Option EcnCounts
-told_counts c = if (c.ect0 == 0) && ((c.ect1 == 0) && (c.ce == 0)) then None else Some (record { ect0 = told_count c.ect0; ect1 = told_count c.ect1; ce = told_count c.ce })
+-- the counts of marks as an ACK tells them: none before a packet of the connection came with a mark (RFC 9000, section 13.4.1)
+abbrev pub told_counts : Option EcnCounts → Option EcnCounts
+told_counts None = None
+told_counts (Some c) = Some (record { ect0 = told_count c.ect0; ect1 = told_count c.ect1; ce = told_count c.ce })
 
 -- The ACK that this end gives at a time of a space: it acknowledges exactly the numbers that are kept to be acknowledged, says
--- for how long the greatest of them has waited, in units of 8 microseconds, and tells how many packets came with each mark of
--- ECN, once one did. It fits its fields, and its numbers are in their shortest form.
+-- for how long the greatest of them has waited, in units of 8 microseconds, and tells how many packets of the space came with each
+-- mark of ECN, once one of the connection did. It fits its fields, and its numbers are in their shortest form.
 pub record SaysAck (time : ℕ) (w : SpaceWaiting) (ack : AckValue) : Type 0 where
   pub ranges : ranges_of ack ≡ reverse w.acks.ranges
   pub delay : ack.delay ≡ ack_delay time w.acks.marks

@@ -43,7 +43,7 @@ fixed_of side version local_cid first_cid local_ip transport grease_quic_bit wor
 
 -- a space in which nothing waits but these CRYPTO bytes
 abbrev pub nothing_waits : List ℕ → SpaceWaiting
-nothing_waits crypto = record { done = false; ping = false; crypto = bytes_written crypto nothing_written; acks = record { ranges = []; marks = no_marks }; marks = record { ect0 = 0; ect1 = 0; ce = 0 }; probes = 0; told = false }
+nothing_waits crypto = record { done = false; ping = false; crypto = bytes_written crypto nothing_written; acks = record { ranges = []; marks = no_marks }; marks = None; probes = 0; told = false }
 
 -- what loss recovery keeps of a path that begins at a time, with this controller; no larger datagrams are looked for so far
 abbrev pub first_path : {C : Type 0} → Control C → TransportValues → C → (time : ℕ) → PathData C

@@ -45,7 +45,7 @@ use Rattle.qc_state.specs.Progress.{progress_after}
 use Rattle.qc_state.specs.Recovering.{settled_by}
 use Rattle.qc_state.specs.Sending.{initial_left}
 use Rattle.qc_state.specs.Setup.{is_first_awaited}
-use Rattle.qc_state.specs.Stopping.{buffer_error_at, encoding_error_at, given_after, internal_error_at, key_limit_error, killed_after, stopped_after, violation_at}
+use Rattle.qc_state.specs.Stopping.{buffer_error, encoding_error_at, given_after, internal_error_at, key_limit_error, killed_after, stopped_after, violation_at}
 use Rattle.qc_state.specs.Types.{Types, Meaning}
 use Rattle.qc_state.specs.Verdicts.{verdict_of}
 use Rattle.qc_state.specs.View.{View, At}
@@ -63,9 +63,9 @@ frame_stop next type (frames.ApplicationClose code reason) = None
 frame_stop next type _ = Some (violation_at (Some type))
 
 -- a HANDSHAKE_DONE stops nothing at a client, and its packet at a server, which doesn't expect one (RFC 9000, section 19.20)
-abbrev pub done_stop : Side → (type : ℕ) → Option TransportError
-done_stop Client type = None
-done_stop Server type = Some (violation_at (Some type))
+abbrev pub done_stop : Side → Option TransportError
+done_stop Client = None
+done_stop Server = Some (violation_at None)
 
 -- The same in a 1-RTT packet that an end of this side receives, which skipped the number `skipped` last: an ACK of that number
 -- stops it too (RFC 9000, section 21.4), and frames of kinds that aren't taken so far stop it with INTERNAL_ERROR.
@@ -76,7 +76,7 @@ data_stop side next skipped type (frames.Ack ack) = if nat_le next ack.largest |
 data_stop side next skipped type (frames.Crypto offset body) = None
 data_stop side next skipped type (frames.ConnectionClose code frame_type reason) = None
 data_stop side next skipped type (frames.ApplicationClose code reason) = None
-data_stop side next skipped type frames.HandshakeDone = done_stop side type
+data_stop side next skipped type frames.HandshakeDone = done_stop side
 data_stop side next skipped type _ = Some (internal_error_at (Some type))
 
 -- by the space of the packet
@@ -186,17 +186,18 @@ module _ {t : Types} where
   unfoldable pub expected_space : View t → SpaceId
   expected_space s = if is_established s.life.state then «Data» else expected_below s.keys.highest
 
-  -- The error with which a CRYPTO frame of this type, whose bytes end at `end`, stops its packet, if it does: new bytes of a
-  -- space that is over; bytes too far ahead of those that the session was given, or past the end of any stream; too many parts
-  -- kept, once these bytes are (RFC 9000, sections 7.5 and 19.6; RFC 9001, section 4.1.3).
-  unfoldable pub crypto_stop : View t → SpaceId → (type offset : ℕ) → (body : List ℕ) → Option TransportError
-  crypto_stop s id type offset body =
+  -- The error with which a CRYPTO frame, whose bytes end at `end`, stops its packet, if it does: new bytes of a space that is
+  -- over; bytes too far ahead of those that the session was given, or past the end of any stream; too many parts kept, once
+  -- these bytes are (RFC 9000, sections 7.5 and 19.6; RFC 9001, section 4.1.3). Its fields are right where they stand, so the
+  -- error names no type of frame.
+  unfoldable pub crypto_stop : View t → SpaceId → (offset : ℕ) → (body : List ℕ) → Option TransportError
+  crypto_stop s id offset body =
       let stream : Assembly = stream_of s.lower id in
       let end : ℕ = offset + length body in
       first_stop
-      ((nat_lt stream.read end && is_below id (expected_space s), violation_at (Some type))
-      ∷ (nat_le (2 ^ 62) end || nat_lt s.setup.fixed.crypto_buffer_size (end - stream.read), buffer_error_at (Some type))
-      ∷ (nat_lt 1024 (part_count (inserted offset body stream).came), internal_error_at (Some type))
+      ((nat_lt stream.read end && is_below id (expected_space s), violation_at None)
+      ∷ (nat_le (2 ^ 62) end || nat_lt s.setup.fixed.crypto_buffer_size (end - stream.read), buffer_error)
+      ∷ (nat_lt 1024 (part_count (inserted offset body stream).came), internal_error_at None)
       ∷ [])
 
   -- the session answered a read: where it refused the bytes, this end closes for its error; else `others` comes behind, once
@@ -225,19 +226,19 @@ module _ {t : Types} where
   crypto_and m time id offset body None others a = kept_and m time id offset body others a
 
   -- a frame that stops nothing by its kind, and behind it what `others` makes of the frames that are left
-  abbrev pub taken_and : Meaning t → (time : ℕ) → SpaceId → TypedValue → FrameValue → (At t → At t) → At t → At t
-  taken_and m time id read (frames.Crypto offset body) others a = crypto_and m time id offset body (crypto_stop a.state id read.ty offset body) others a
-  taken_and m time id read frame others a = others (applied_after m time id frame a)
+  abbrev pub taken_and : Meaning t → (time : ℕ) → SpaceId → FrameValue → (At t → At t) → At t → At t
+  taken_and m time id (frames.Crypto offset body) others a = crypto_and m time id offset body (crypto_stop a.state id offset body) others a
+  taken_and m time id frame others a = others (applied_after m time id frame a)
 
   -- a frame that isn't a close stops its packet by its kind, or is taken
-  abbrev pub frame_and : Meaning t → (time : ℕ) → SpaceId → TypedValue → Option TransportError → (At t → At t) → At t → At t
-  frame_and m time id read (Some error) others a = stopped_after time error a
-  frame_and m time id read None others a = taken_and m time id read read.frame others a
+  abbrev pub frame_and : Meaning t → (time : ℕ) → SpaceId → FrameValue → Option TransportError → (At t → At t) → At t → At t
+  frame_and m time id frame (Some error) others a = stopped_after time error a
+  frame_and m time id frame None others a = taken_and m time id frame others a
 
   -- a close, or another frame, which stops its packet or is taken; `close` is the last close so far
   abbrev pub read_and : Meaning t → (time : ℕ) → SpaceId → TypedValue → Option ConnectionError → (close : Option ConnectionError) → (Option ConnectionError → At t → At t) → At t → At t
   read_and m time id read (Some why) close others a = close_and time id read.frame why others a
-  read_and m time id read None close others a = frame_and m time id read (stop_in a.state.setup.fixed.side id (next_number a.state.numbers id) a.state.numbers.filter.last read.ty read.frame) (others close) a
+  read_and m time id read None close others a = frame_and m time id read.frame (stop_in a.state.setup.fixed.side id (next_number a.state.numbers id) a.state.numbers.filter.last read.ty read.frame) (others close) a
 
   -- the frames of a packet, in order, up to the first stop, or the first close of an Initial or Handshake packet
   abbrev pub items_after : Meaning t → (time : ℕ) → SpaceId → List Item → (close : Option ConnectionError) → At t → At t

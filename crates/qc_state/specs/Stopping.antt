@@ -10,7 +10,8 @@ use Rattle.qc_state.specs.Moves.{Shut, Raise, Give, move_to}
 use Rattle.qc_state.specs.Types.{Types}
 use Rattle.qc_state.specs.View.{At}
 
--- the errors with which receiving closes, each with the type of the frame at fault, if there is one (RFC 9000, section 20.1)
+-- The errors with which receiving closes (RFC 9000, section 20.1). Each may name the type of a frame: it does of one that can't be
+-- read, and of one that may not stand in its packet or isn't taken so far.
 abbrev pub internal_error_at : Option ℕ → TransportError
 internal_error_at type = record { code = 0x01; frame = type }
 
@@ -23,8 +24,8 @@ abbrev pub violation_at : Option ℕ → TransportError
 violation_at type = record { code = 0x0a; frame = type }
 
 -- CRYPTO bytes too far ahead of those that were given to the session (RFC 9000, section 7.5)
-abbrev pub buffer_error_at : Option ℕ → TransportError
-buffer_error_at type = record { code = 0x0d; frame = type }
+abbrev pub buffer_error : TransportError
+buffer_error = record { code = 0x0d; frame = None }
 
 -- the peer's transport parameters aren't those of this connection (RFC 9000, section 7.3)
 abbrev pub parameter_error : TransportError

@@ -65,9 +65,9 @@ timers_stopped v = record v { loss_detection = None; idle = None; close = None; 
 unfoldable pub timers_closing : Timers → (probe time : ℕ) → Timers
 timers_closing v probe time = record v { loss_detection = None; idle = None; close = Some (plus time (times probe 3)); pacing = None; max_ack_delay = None }
 
--- the connection is told a time
+-- the connection is told a time: the greatest one never falls
 unfoldable pub clock_set : Timers → ℕ → Timers
-clock_set v time = record v { greatest = time }
+clock_set v time = record v { greatest = max v.greatest time }
 
 -- the least time that is set
 unfoldable pub next_timeout : Timers → Option ℕ

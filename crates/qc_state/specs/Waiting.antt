@@ -1,11 +1,12 @@
 -- The frames that wait to be sealed, and what becomes of them.
-use Rattle.std.specs.Prelude.{◌≡◌, ℕ, ◌+◌, ◌-◌, ◌<◌, ◌≤◌, ◌^◌, nat_lt, Bool, true, false, ◌⊎◌, ◌||◌, ◌&&◌, not, ◌==◌, if◌then◌else◌, List, [], ◌∷◌, ◌++◌, length, drop, Option, None, Some}
+use Rattle.std.specs.Prelude.{◌≡◌, ℕ, ◌+◌, ◌-◌, ◌<◌, ◌≤◌, ◌^◌, nat_lt, Bool, true, false, ◌⊎◌, ◌||◌, ◌&&◌, not, ◌==◌, if◌then◌else◌, List, [], ◌∷◌, ◌++◌, length, drop, Option, None, Some, option_map}
 use Rattle.std.specs.List.{list_any}
 use Rattle.qc_base.specs.declared.ecn.EcnCodepoint.{EcnCodepoint}
 use Rattle.qc_base.specs.declared.side.SpaceId.{SpaceId}
 use Rattle.qc_base.specs.declared.side.SpaceId.TheVariants.{«Data»}
 use Rattle.qc_frame.specs.Frame.{FrameValue}
 use Rattle.qc_frame.specs.FrameSpelling.{frames_spelling}
+use Rattle.qc_frame.specs.declared.frames.EcnCounts.{EcnCounts}
 use Rattle.qc_frame.specs.declared.frames.FrameOf.TheVariants as frames
 use Rattle.qc_base.specs.Time.{plus}
 use Rattle.qc_flight.specs.Packets.{Entry}
@@ -17,6 +18,7 @@ use Rattle.qc_recovery.specs.declared.calls.Fired.{Fired}
 use Rattle.qc_recovery.specs.declared.calls.Fired.TheVariants as fired
 use Rattle.qc_send_stream.specs.Buffer.{Buffer, bytes_written, discarded, from_lost, has_bytes, range_lost, range_sealed, row, waiting}
 use Rattle.qc_space.specs.Spaces.{marked}
+use Rattle.qc_state.specs.declared.spaces.Spaces.{Spaces}
 use Rattle.qc_state.specs.declared.waiting.TheConstants.{CRYPTO_HEAD}
 use Rattle.qc_state.specs.declared.waiting.Waiting.{Waiting}
 use Rattle.qc_state.specs.declared.waiting.SpaceWaiting.{SpaceWaiting}
@@ -118,19 +120,38 @@ begun_in w oldest = if w.probes == 0 then w else probe_sent (record w { probes =
 unfoldable pub datagram_begun : Waiting → SpaceId → (oldest : Option SentPacket) → Waiting
 datagram_begun v id oldest = record v { spaces = with_space v.spaces id (begun_in (space_of v.spaces id) oldest) }
 
+-- the counts of marks of a space begin with the first mark that comes on the connection: before it there are none
+abbrev pub counts_begun : Option EcnCodepoint → Option EcnCounts → Option EcnCounts
+counts_begun None counts = counts
+counts_begun (Some mark) None = Some (record { ect0 = 0; ect1 = 0; ce = 0 })
+counts_begun (Some mark) (Some counts) = Some counts
+
+-- so they do in every space
+abbrev pub marks_begun : Option EcnCodepoint → Spaces SpaceWaiting → Spaces SpaceWaiting
+marks_begun mark v = record {
+  initial = record v.initial { marks = counts_begun mark v.initial.marks };
+  handshake = record v.handshake { marks = counts_begun mark v.handshake.marks };
+  application = record v.application { marks = counts_begun mark v.application.marks };
+}
+
+-- a packet with this mark was accepted in a space with these counts
+abbrev pub mark_counted : Option EcnCodepoint → Option EcnCounts → Option EcnCounts
+mark_counted mark counts = option_map (λ c. marked c mark) (counts_begun mark counts)
+
 -- a packet came in the space and was accepted, which `seen` has already; its mark of ECN is counted (RFC 9000, section 13.4.1)
 unfoldable pub came_in : (in_data : Bool) → Window → Arrival → Option EcnCodepoint → SpaceWaiting → SpaceWaiting
-came_in in_data seen arrival mark w = record w { acks = acks_received in_data seen arrival w.acks; marks = marked w.marks mark }
+came_in in_data seen arrival mark w = record w { acks = acks_received in_data seen arrival w.acks; marks = mark_counted mark w.marks }
 
 -- such a packet's ACK is held back from now on, and wasn't before: a 1-RTT packet that elicits an ACK and leaves none owed (RFC
 -- 9000, section 13.2.1)
 unfoldable pub holds_back : Waiting → SpaceId → Window → Arrival → Bool
 holds_back v id seen arrival = sets_delay (is_space id «Data») seen arrival (space_of v.spaces id).acks.marks
 
--- such a packet came; where its ACK is held back, an ACK may be bundled with other frames at once
+-- such a packet came: its mark counts in its own space, and with the first one the ACKs of every space have counts from then on;
+-- where its ACK is held back, an ACK may be bundled with other frames at once
 unfoldable pub packet_came : Waiting → SpaceId → Window → Arrival → Option EcnCodepoint → Waiting
 packet_came v id seen arrival mark = record v {
-  spaces = with_space v.spaces id (came_in (is_space id «Data») seen arrival mark (space_of v.spaces id));
+  spaces = marks_begun mark (with_space v.spaces id (came_in (is_space id «Data») seen arrival mark (space_of v.spaces id)));
   bundled = if holds_back v id seen arrival then Some arrival.at else v.bundled;
 }
 

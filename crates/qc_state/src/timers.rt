@@ -153,11 +153,13 @@ impl Timers {
         self.max_ack_delay = None;
     }
 
-    /// The connection is told a time.
+    /// The connection is told a time: the greatest one never falls.
     pub fn told(&mut self, now: Instant)
         ensures { self.new ≡ clock_set self.old now }
     {
-        self.greatest = now;
+        if self.greatest.nanos() < now.nanos() {
+            self.greatest = now;
+        }
     }
 
     /// The least time that is set. None exactly where none is.

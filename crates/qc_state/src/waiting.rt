@@ -12,7 +12,7 @@ ghost use Rattle.qc_frame.specs.declared.frames.FrameOf.TheVariants as frames;
 ghost use Rattle.qc_base.specs.declared.side.SpaceId.TheVariants.{«Data»};
 ghost use Rattle.qc_path.specs.Acks.{sets_delay};
 ghost use Rattle.qc_state.specs.Spaces.{is_space, space_of, with_space};
-ghost use Rattle.qc_state.specs.Waiting.{TakenPart, TakesAck, TakesCrypto, ack_released, acked_in, again, all_again, all_confirmed, begun_in, bundle_next, came_in, close_begun, confirmed, crypto_written, datagram_begun, done_asked, fired_in, holds_back, lost_in, marks_part, nothing_left, packet_came, packet_told, packets_acked, packets_lost, ping_asked, probe_sent, probes_added, space_left, waiting_without, waits_here, waits_in, wants_sending, without_all};
+ghost use Rattle.qc_state.specs.Waiting.{TakenPart, TakesAck, TakesCrypto, ack_released, acked_in, again, all_again, all_confirmed, begun_in, bundle_next, came_in, close_begun, confirmed, counts_begun, crypto_written, datagram_begun, done_asked, fired_in, holds_back, lost_in, mark_counted, marks_begun, marks_part, nothing_left, packet_came, packet_told, packets_acked, packets_lost, ping_asked, probe_sent, probes_added, space_left, waiting_without, waits_here, waits_in, wants_sending, without_all};
 
 use crate::crypto_queue::CryptoQueue;
 use crate::spaces::Spaces;
@@ -39,8 +39,9 @@ pub struct SpaceWaiting {
     pub crypto: CryptoQueue,
     /// The numbers of packets that came and are to be acknowledged, and whether an ACK is owed (RFC 9000, 13.2).
     pub acks: PendingAcks,
-    /// How many packets were accepted with each mark of ECN (RFC 9000, 13.4.1).
-    pub marks: EcnCounts,
+    /// How many packets of the space were accepted with each mark of ECN; none before one of the connection was accepted with a
+    /// mark (RFC 9000, 13.4.1).
+    pub marks: Option<EcnCounts>,
     /// How many probes are due (RFC 9002, 6.2.4).
     pub probes: u64,
     /// Whether a packet of the space was sealed since a close began to be owed (RFC 9000, 10.2).
@@ -240,19 +241,18 @@ fn told_count(count: u64) -> u64
     count.min((1 << 62) - 1)
 }
 
-/// The counts of marks as an ACK tells them: none before the first packet that came with a mark.
-#[tactic(auto, unfolding(crate::specs::Acks::told_counts))]
-fn told_counts(counts: EcnCounts) -> Option<EcnCounts>
+/// The counts of marks as an ACK tells them: none before a packet of the connection came with a mark.
+fn told_counts(counts: Option<EcnCounts>) -> Option<EcnCounts>
     ensures { result ≡ told_counts counts }
 {
-    if counts.ect0 == 0 && (counts.ect1 == 0 && counts.ce == 0) {
-        return None;
+    match counts {
+        None => None,
+        Some(counts) => Some(EcnCounts {
+            ect0: told_count(counts.ect0),
+            ect1: told_count(counts.ect1),
+            ce: told_count(counts.ce),
+        }),
     }
-    Some(EcnCounts {
-        ect0: told_count(counts.ect0),
-        ect1: told_count(counts.ect1),
-        ce: told_count(counts.ce),
-    })
 }
 
 /// The ACK of the numbers to acknowledge in a space at a time. Want of memory is the only refusal.
@@ -395,6 +395,31 @@ fn ack_alone(
     Ok(frames)
 }
 
+/// The counts of a space, which begin with the first mark that comes on the connection.
+fn begin_counts(mark: Option<EcnCodepoint>, counts: Option<EcnCounts>) -> Option<EcnCounts>
+    ensures { result ≡ counts_begun mark counts }
+{
+    match (mark, counts) {
+        (None, counts) => counts,
+        (Some(_), None) => Some(EcnCounts {
+            ect0: 0,
+            ect1: 0,
+            ce: 0,
+        }),
+        (Some(_), Some(counts)) => Some(counts),
+    }
+}
+
+/// The counts of a space behind a packet with this mark.
+fn count_mark(mark: Option<EcnCodepoint>, counts: Option<EcnCounts>) -> Option<EcnCounts>
+    ensures { result ≡ mark_counted mark counts }
+{
+    match begin_counts(mark, counts) {
+        None => None,
+        Some(counts) => Some(with_mark(counts, mark)),
+    }
+}
+
 /// A packet came and was accepted. Answers whether its ACK is held back from now on.
 #[tactic(auto, unfolding(crate::specs::Waiting::came_in))]
 fn came(
@@ -408,7 +433,7 @@ fn came(
     ensures holds { result ≡ sets_delay in_data seen.now packet.now space.old.acks.marks }
 {
     let holds = space.acks.received(in_data, seen, packet);
-    space.marks = with_mark(space.marks, mark);
+    space.marks = count_mark(mark, space.marks);
     holds
 }
 
@@ -564,8 +589,18 @@ impl Waiting {
         }
     }
 
+    /// With the first mark of the connection the counts of every space begin.
+    fn begin_marks(&mut self, mark: Option<EcnCodepoint>)
+        ensures { self.new ≡ record self.old { spaces = marks_begun mark self.old.spaces } }
+    {
+        self.spaces.initial.marks = begin_counts(mark, self.spaces.initial.marks);
+        self.spaces.handshake.marks = begin_counts(mark, self.spaces.handshake.marks);
+        self.spaces.application.marks = begin_counts(mark, self.spaces.application.marks);
+    }
+
     /// A packet of the space came with this mark and was accepted, whose number `seen` has already. Answers whether its ACK is held
-    /// back from now on; then an ACK may be bundled with other frames at once.
+    /// back from now on; then an ACK may be bundled with other frames at once. The mark counts in this space, and with the first
+    /// one the ACKs of every space have counts from then on.
     pub fn came(
         &mut self,
         space: SpaceId,
@@ -577,6 +612,7 @@ impl Waiting {
         ensures holds { result ≡ holds_back self.old space seen.now packet.now }
     {
         let holds = self.take_in(space, seen, packet, mark);
+        self.begin_marks(mark);
         if holds {
             self.bundled = Some(packet.at);
         }

@@ -1,5 +1,5 @@
-use Rattle.qc_core.specs.Cutting.{rest_of}
-use Rattle.qc_core.specs.FirstPacket.{first_reason, size_of}
+use Rattle.qc_receive.specs.Cutting.{rest_of}
+use Rattle.qc_receive.specs.FirstPacket.{first_reason, size_of}
 use Rattle.qc_state.specs.Receiving.{first_packet_after}
 use Rattle.qc_state.specs.Types.{meaning}
 use Rattle.qc_conn.proofs.Firsts.{told_leads, told_answer}

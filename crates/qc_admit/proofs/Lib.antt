@@ -1,0 +1,10 @@
+pub mod Elicits
+pub mod Established
+pub mod Fitting
+pub mod Padding
+pub mod Payloads
+pub mod Reasons
+pub mod Refusals
+pub mod Sessions
+pub mod Taken
+pub mod Writes

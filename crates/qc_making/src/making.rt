@@ -1,0 +1,228 @@
+//! What clients and servers are made of.
+
+ghost use Rattle.std.specs.Prelude.{◌≡◌, ◌<◌, ◌^◌, ◌%◌, ◌&&◌, nat_lt, if◌then◌else◌, [], length, IfOk, false, None};
+ghost use Rattle.qc_path.specs.Acks.{no_marks};
+ghost use Rattle.qc_send_stream.specs.Buffer.{bytes_written, nothing};
+ghost use Rattle.qc_state.specs.Draws.{behind, filter_words, key_phase_of, word};
+ghost use Rattle.qc_state.specs.First.{first_path, fixed_of, just_made, nothing_waits};
+ghost use Rattle.qc_state.specs.Setup.{idle_limit_of};
+ghost use Rattle.qc_state.specs.View.{ideal};
+ghost use Rattle.qc_state.specs.declared.spaces.Spaces.{Spaces};
+
+use bytes::Bytes;
+use qc_assembler::Assembler;
+use qc_base::{ConnectionId, Duration, Instant, Side, VarInt};
+use qc_core::Core;
+use qc_crypto::Session;
+use qc_path::{ControllerFactory, PacketNumberFilter, PendingAcks};
+use qc_recovery::{IdleTimeout, PathData, Recovery, TransportConfig};
+use qc_state::setup::limit_of_millis;
+use qc_state::{
+    CryptoQueue, Fixed, KeyGroup, Life, Lower, Numbers, Paths, Setup, SoundSession, SpaceKeys,
+    SpaceNumbers, SpaceWaiting, Spaces, State, Suite, Timers, Waiting,
+};
+use rand_core::Rng;
+use std::alloc::{AllocError, Global};
+use std::net::IpAddr;
+
+/// The limit on idle time that a configuration gives: none where it has none or 0 (RFC 9000, 10.1).
+fn idle_limit(timeout: Option<IdleTimeout>) -> Option<Duration>
+    ensures { result ≡ idle_limit_of timeout }
+{
+    match timeout {
+        None => None,
+        Some(timeout) => limit_of_millis(VarInt::from(timeout).into_inner()),
+    }
+}
+
+/// How many packets the first 1-RTT keys seal before others take their place, from 10 to 999. It is drawn.
+fn key_phase_size<R: Rng>(random: &mut R) -> u64
+    ensures value { result ≡ key_phase_of (R.stream random.old) }
+    ensures drawn { R.stream random.new ≡ behind (R.stream random.old) }
+{
+    10 + random.next_u64() % 990
+}
+
+/// Whether a connection spins: where it is allowed, seven of eight do, which is drawn (RFC 9000, 17.4).
+fn spins<R: Rng>(allowed: bool, random: &mut R) -> bool
+    ensures value { result ≡ (allowed && nat_lt (word (R.stream random.old) % 8) 7) }
+    ensures drawn { R.stream random.new ≡ (if allowed then behind (R.stream random.old) else R.stream random.old) }
+{
+    if allowed {
+        return random.next_u64() % 8 < 7;
+    }
+    false
+}
+
+/// What a connection is given that doesn't change.
+#[derive(Drop)]
+pub(crate) struct Given {
+    /// This end's side.
+    pub side: Side,
+    /// The version of QUIC.
+    pub version: u32,
+    /// This end's id.
+    pub local_cid: ConnectionId,
+    /// The destination id of a client's first packets.
+    pub first_cid: ConnectionId,
+    /// The address to send from, where one is given.
+    pub local_ip: Option<IpAddr>,
+    /// Whether this end takes packets whose fixed bit isn't set.
+    pub grease_quic_bit: bool,
+}
+
+/// What doesn't change of a connection: it draws how many packets the first 1-RTT keys seal, and whether it spins.
+fn fixed<R: Rng>(given: Given, transport: &TransportConfig, random: &mut R) -> Fixed
+    ensures value { result ≡ fixed_of given.side given.version given.local_cid given.first_cid given.local_ip transport.now given.grease_quic_bit (R.stream random.old) }
+    ensures drawn { R.stream random.new ≡ filter_words transport.now.allow_spin (R.stream random.old) }
+{
+    let key_phase_size = key_phase_size(random);
+    let spins = spins(transport.get_allow_spin(), random);
+    Fixed {
+        side: given.side,
+        version: given.version,
+        local_cid: given.local_cid,
+        first_cid: given.first_cid,
+        local_ip: given.local_ip,
+        idle_limit: idle_limit(transport.get_max_idle_timeout()),
+        crypto_buffer_size: transport.get_crypto_buffer_size(),
+        grease_quic_bit: given.grease_quic_bit,
+        spins,
+        key_phase_size,
+    }
+}
+
+/// A space in which nothing waits but these CRYPTO bytes.
+fn space_with(crypto: CryptoQueue) -> SpaceWaiting
+    ensures { result ≡ record { done = false; ping = false; crypto = crypto; acks = record { ranges = []; marks = no_marks }; marks = None; probes = 0; told = false } }
+{
+    SpaceWaiting {
+        done: false,
+        ping: false,
+        crypto,
+        acks: PendingAcks::new(),
+        marks: None,
+        probes: 0,
+        told: false,
+    }
+}
+
+/// A space in which nothing waits.
+#[tactic(auto, unfolding(qc_send_stream::specs::Buffer::bytes_written, qc_send_stream::specs::Buffer::nothing, qc_send_stream::specs::Buffer::row))]
+fn nothing_waits(alloc: Global) -> SpaceWaiting
+    ensures { result ≡ nothing_waits [] }
+{
+    space_with(CryptoQueue::new(alloc))
+}
+
+/// The CRYPTO bytes of a space in which the session wrote these first. Want of memory is the only refusal.
+#[tactic(auto, unfolding(qc_state::specs::Waiting::crypto_more, qc_send_stream::specs::Buffer::nothing))]
+fn first_bytes(alloc: Global, bytes: Vec<u8>) -> Result<CryptoQueue, AllocError>
+    requires { length bytes.items < 2 ^ 62 }
+    ensures { IfOk result (λ queue. queue ≡ bytes_written bytes.items nothing) }
+{
+    let bytes = Bytes::from_vec(bytes)?;
+    let mut queue = CryptoQueue::new(alloc);
+    queue.write(bytes)?;
+    Ok(queue)
+}
+
+/// What waits of a connection that was just made: what its session wrote. Want of memory is the only refusal.
+fn waiting(alloc: Global, hello: Vec<u8>) -> Result<Waiting, AllocError>
+    requires { length hello.items < 2 ^ 62 }
+    ensures { IfOk result (λ waiting. waiting ≡ record { spaces = record { initial = nothing_waits hello.items; handshake = nothing_waits []; application = nothing_waits [] }; close_owed = false; bundled = None }) }
+{
+    let crypto = first_bytes(alloc, hello)?;
+    Ok(Waiting {
+        spaces: Spaces {
+            initial: space_with(crypto),
+            handshake: nothing_waits(alloc),
+            application: nothing_waits(alloc),
+        },
+        close_owed: false,
+        bundled: None,
+    })
+}
+
+/// The life of a connection that was just made.
+fn life() -> Life
+    ensures { result ≡ record { state = State.Handshake; reason = None; ready = false; connected = false; lost = None; reset_token = None; wanted = None; drained = false; close = None } }
+{
+    Life {
+        state: State::Handshake,
+        reason: None,
+        ready: false,
+        connected: false,
+        lost: None,
+        reset_token: None,
+        wanted: None,
+        drained: false,
+        close: None,
+    }
+}
+
+/// A connection that was just made at `now`: it has these keys of the Initial space, nothing waits but what its session wrote,
+/// its Initial packets carry this token, and its path has this congestion controller. It draws what doesn't change of it, and then
+/// which number of 1-RTT packets it skips first. Want of memory is the only refusal.
+#[tactic(auto, unfolding(qc_state::specs::Setup::ideal_setup))]
+pub(crate) fn made<U: Suite>(
+    alloc: Global,
+    keys: SpaceKeys<<U::Session as Session>::HeaderKey, <U::Session as Session>::PacketKey>,
+    session: SoundSession<U::Session>,
+    hello: Vec<u8>,
+    token: Bytes,
+    random: U::Random,
+    given: Given,
+    paths: Paths,
+    transport: &TransportConfig,
+    congestion: <U::Control as ControllerFactory>::Controller,
+    now: Instant,
+) -> Result<Core<U>, AllocError>
+    requires { length hello.items < 2 ^ 62 }
+    ensures { IfOk result (λ core. (ideal U.Random.stream core) ≡ just_made keys session hello.items token (U.Random.stream random) (fixed_of given.side given.version given.local_cid given.first_cid given.local_ip transport.now given.grease_quic_bit (U.Random.stream random)) paths transport.now (first_path U.Control.Controller.Controller transport.now congestion now) now) }
+{
+    let waiting = waiting(alloc, hello)?;
+    let mut random = random;
+    let fixed = fixed(given, transport, &mut random);
+    let filter = PacketNumberFilter::new(&mut random);
+    Ok(Core {
+        numbers: Numbers {
+            spaces: Spaces {
+                initial: SpaceNumbers::new(now),
+                handshake: SpaceNumbers::new(now),
+                application: SpaceNumbers::new(now),
+            },
+            filter,
+        },
+        keys: KeyGroup::new(keys),
+        life: life(),
+        paths,
+        timers: Timers {
+            loss_detection: None,
+            idle: None,
+            close: None,
+            pacing: None,
+            max_ack_delay: None,
+            sets_idle: true,
+            greatest: now,
+        },
+        waiting,
+        setup: Setup {
+            fixed,
+            peer: None,
+            token: None,
+            initial_token: token,
+            random,
+        },
+        lower: Lower {
+            session,
+            streams: Spaces {
+                initial: Assembler::new(alloc),
+                handshake: Assembler::new(alloc),
+                application: Assembler::new(alloc),
+            },
+            recovery: Recovery::new(alloc, transport),
+            path: PathData::new(now, transport, congestion, false, None),
+        },
+    })
+}

@@ -1,0 +1,102 @@
+//! A server's connection is made.
+
+ghost use Rattle.std.specs.Prelude.{◌≡◌, None, IfOk};
+ghost use Rattle.qc_state.specs.First.{server_view, fixed_of};
+ghost use Rattle.qc_recovery.specs.Paths.{first_size};
+ghost use Rattle.qc_state.specs.Types.{meaning};
+ghost use Rattle.qc_state.specs.View.{ideal};
+
+use crate::making::{Given, made};
+use bytes::Bytes;
+use qc_base::{ConnectionId, Duration, Instant, Side};
+use qc_core::Core;
+use qc_path::ControllerFactory;
+use qc_recovery::{TransportConfig, first_mtu};
+use qc_state::{Paths, SoundSession, SpaceKeys, Suite};
+use std::alloc::{AllocError, Global};
+use std::net::{IpAddr, SocketAddr};
+
+/// What a server's connection is made of.
+#[derive(Drop)]
+pub struct ServerSetup<U: Suite> {
+    /// A server's session. It is fresh: it has neither read nor written.
+    pub session: U::Session,
+    /// The source of random words.
+    pub random: U::Random,
+    /// What makes the congestion controller of the path (RFC 9002, 7).
+    pub control: U::Control,
+    /// The configuration of the transport.
+    pub transport: TransportConfig,
+    /// Whether this end takes packets whose fixed bit isn't set (RFC 9287).
+    pub grease_quic_bit: bool,
+    /// This end's id, which has `cid_len` bytes.
+    pub local_cid: ConnectionId,
+    /// The destination id of the client's first packets, of which the Initial keys are made (RFC 9001, 5.2).
+    pub first_cid: ConnectionId,
+    /// The length of this end's ids, in bytes.
+    pub cid_len: usize,
+    /// How long an id of this end is used; without a limit where there is none.
+    pub cid_lifetime: Option<Duration>,
+    /// The client's address.
+    pub remote: SocketAddr,
+    /// The address to send from, where one is given.
+    pub local_ip: Option<IpAddr>,
+    /// The version of QUIC (RFC 9000, 15).
+    pub version: u32,
+    /// Whether larger datagrams are searched for (RFC 9000, 14.3).
+    pub allow_mtud: bool,
+    /// The client's id: the source id of its first packets (RFC 9000, 7.2).
+    pub remote_cid: ConnectionId,
+    /// Whether the client may go on from another address (RFC 9000, 9). So far it may not.
+    pub migration: bool,
+    /// Whether this end announced a preferred address (RFC 9000, 9.6).
+    pub preferred: bool,
+    /// Whether it is known that the client gets what is sent to its address, by a token (RFC 9000, 8.1).
+    pub validated: bool,
+}
+
+/// A server's connection: it waits for its first packet. Want of memory is the only refusal.
+#[tactic(auto, unfolding(qc_state::specs::First::server_view))]
+pub fn new_server<U: Suite>(
+    alloc: Global,
+    setup: ServerSetup<U>,
+    now: Instant,
+) -> Result<Core<U>, AllocError>
+    requires fresh { U.Session.is_fresh setup.session }
+    ensures { IfOk result (λ core. (ideal U.Random.stream core) ≡ server_view (meaning U.Session.Session U.Session.HeaderKey.HeaderMask U.Session.PacketKey.PacketKey U.Control.Controller.Controller) setup.session (U.Random.stream setup.random) (fixed_of Side.Server setup.version setup.local_cid setup.first_cid setup.local_ip setup.transport setup.grease_quic_bit (U.Random.stream setup.random)) setup.remote setup.remote_cid setup.validated setup.transport (U.Control.built setup.control now (first_size setup.transport None)) now) }
+{
+    let session = SoundSession::new(setup.session);
+    let keys = SpaceKeys::new(session.initial_keys(&setup.first_cid, Side::Server));
+    let given = Given {
+        side: Side::Server,
+        version: setup.version,
+        local_cid: setup.local_cid,
+        first_cid: setup.first_cid,
+        local_ip: setup.local_ip,
+        grease_quic_bit: setup.grease_quic_bit,
+    };
+    let congestion = setup.control.build(now, first_mtu(&setup.transport, None));
+    let paths = Paths {
+        remote: setup.remote,
+        remote_cid: setup.remote_cid,
+        peer_fixed: true,
+        validated: setup.validated,
+        spin: false,
+        sent: 0,
+        received: 0,
+        app_limited: false,
+    };
+    made(
+        alloc,
+        keys,
+        session,
+        Vec::new(alloc),
+        Bytes::new(),
+        setup.random,
+        given,
+        paths,
+        &setup.transport,
+        congestion,
+        now,
+    )
+}

@@ -1,0 +1,6 @@
+pub mod Behind
+pub mod Cuts
+pub mod FirstDatagrams
+pub mod Handed
+pub mod Opens
+pub mod Shorts

@@ -1,0 +1,5 @@
+pub mod Cutting
+pub mod Events
+pub mod FirstPacket
+pub mod Short
+pub mod Told

@@ -1,0 +1,228 @@
+-- The header of a packet for which all was drawn, and what sealing it makes of the view before.
+use Rattle.std.proofs.Common.{◌≡◌, ℕ, ◌+◌, ◌-◌, ◌≤◌, List, [], ◌++◌, length, length-append, refl, ap, sym, ◌∙◌, subst, ◌%◌, replicate, nat_lt, Bool, true, false, ◌&&◌, not, if◌then◌else◌, Option, Some, None, IsSome, is_some, ◌<◌, ◌^◌, arith}
+use Rattle.std.specs.Result.{MatchResult}
+use Rattle.std.specs.Prelude.{IfOk, IfSome, Result, Ok, Err, option_map}
+use Rattle.rand_core.specs.Stream.{Stream}
+use Rattle.qc_base.specs.declared.side.SpaceId.{SpaceId}
+use Rattle.qc_base.specs.declared.side.SpaceId.TheVariants.{Initial, Handshake, «Data»}
+use Rattle.qc_base.specs.Varint.{varint, spelled, one, two, four, eight}
+use Rattle.qc_frame.specs.Frame.{FrameValue}
+use Rattle.qc_header.specs.declared.header.Header.{Header}
+use Rattle.qc_header.specs.HeaderSpelling.{header_spelling, initial_spelling, short_spelling}
+use Rattle.qc_frame.specs.FrameSpelling.{frames_spelling}
+use Rattle.qc_frame.specs.declared.frames.FrameOf.TheVariants.{Padding}
+use Rattle.qc_packet.specs.Building.{kill_of, min_size_of, padded_size}
+use Rattle.qc_packet.specs.PacketSpelling.{padding_len}
+use Rattle.qc_packet.specs.declared.slot.Slot.{Slot}
+use Rattle.qc_core.specs.Sealing.{sealed_drawn}
+use Rattle.qc_send.specs.Drawing.{drawn_for, header_with, slot_drawn, token_bytes, token_in}
+use Rattle.qc_state.specs.declared.deeds.Did.{Did}
+use Rattle.qc_state.specs.Draws.{bit}
+use Rattle.qc_state.specs.Moves.{Seal, move_to, state_move, numbers_move, keys_move, life_move, paths_move, timers_move, waiting_move, setup_move, lower_move, deeds_move}
+use Rattle.qc_state.specs.Recovering.{around_of, is_validated_by_peer, probe_timeout_now}
+use Rattle.qc_state.specs.declared.keys.KeyUse.{KeyUse}
+use Rattle.qc_state.specs.declared.transmit.TheConstants.{DATAGRAM_SIZE}
+use Rattle.qc_state.specs.Keys.{has_keys, header_key, packet_key, reaches_limit, usage_of}
+use Rattle.qc_state.specs.Numbers.{acked_number, next_number}
+use Rattle.qc_state.specs.Sending.{flips_now, frame_room, header_in, is_flown, least_size, packet_bytes, packet_size, padded, padding_of, sealed_with, slot_with, spin_now}
+use Rattle.qc_state.specs.Setup.{behind_spin, ideal_setup, idle_limit_now, packet_drawn, takes_grease}
+use Rattle.qc_state.specs.declared.setup.Setup.{Setup}
+use Rattle.qc_state.specs.Spaces.{is_space}
+use Rattle.qc_state.specs.Types.{Types, Meaning}
+use Rattle.qc_state.specs.View.{Held, View, At, at, ideal}
+use Rattle.qc_state.proofs.Seals.{fresh_use, keyed_header, keyed_packet, keyed_usage, least_wide, no_kill, padded_size_is}
+
+-- a number has a byte at least
+one_of : (n m : ℕ) (a b c : Bool) → 1 ≤ length (if a then spelled one n else if b then spelled two n else if c then spelled four n else spelled eight m)
+one_of n m true b c = omega arith
+one_of n m false true c = omega arith
+one_of n m false false true = omega arith
+one_of n m false false false = omega arith
+
+varint_some : (n : ℕ) → 1 ≤ length (varint n)
+unfolding varint
+varint_some n = one_of n (n % 4611686018427387904) (nat_lt n 64) (nat_lt n 16384) (nat_lt n 1073741824)
+
+varint_0 : length (varint 0) ≡ 1
+unfolding varint
+varint_0 = refl
+
+-- the spin bit of a 1-RTT packet
+spun_by : (spins bit spin : Bool) → (if true && not spins then bit else spin) ≡ (if spins then spin else bit)
+spun_by true bit spin = refl
+spun_by false bit spin = refl
+
+-- what was found isn't missing
+missing : {A : Type 0} (found given : Option A) → found ≡ given → IsSome given → found ≡ None → ⊥
+missing found given is some none = cc (ap is_some (sym is ∙ none), some)
+
+-- a function of what is there is there
+mapped_some : {A B : Type 0} (f : A → B) (x : Option A) → IsSome x → IsSome (option_map f x)
+mapped_some f None some = some
+mapped_some f (Some a) some = refl
+
+module _ {t : Types} where
+  -- what is drawn changes nothing that the header says
+  header_stays : (s : View t) (id : SpaceId) (spin : Bool) (token : List ℕ) → header_with (drawn_for id s) id spin token ≡ header_with s id spin token
+  unfolding drawn_for packet_drawn
+  header_stays s Initial spin token = refl
+  header_stays s Handshake spin token = refl
+  header_stays s Data spin token = refl
+
+  -- the header by what was drawn
+  header_by : (s : View t) (id : SpaceId) → header_with s id (if is_space id Data && not s.setup.fixed.spins then bit s.setup.random else s.paths.spin) (token_in id s.setup.initial_token) ≡ header_in s id
+  unfolding spin_now
+  header_by s Initial = refl
+  header_by s Handshake = refl
+  header_by s Data = ap (λ (b : Bool). header_with s Data b []) (spun_by s.setup.fixed.spins (bit s.setup.random) s.paths.spin)
+
+  pub header_drawn : (s s' : View t) (id : SpaceId) (spin : Bool) (token : List ℕ) (h : Header) → s' ≡ drawn_for id s → spin ≡ (if is_space id Data && not s.setup.fixed.spins then bit s.setup.random else s.paths.spin) →
+      token ≡ token_in id s.setup.initial_token → h ≡ header_with s' id spin token → h ≡ header_in s id
+  header_drawn s s' id spin token h is_s is_spin is_token is_h =
+      is_h ∙ ap (λ (v : View t). header_with v id spin token) is_s ∙ header_stays s id spin token ∙ ap (λ (b : Bool). header_with s id b token) is_spin
+      ∙ ap (λ (x : List ℕ). header_with s id (if is_space id Data && not s.setup.fixed.spins then bit s.setup.random else s.paths.spin) x) is_token ∙ header_by s id
+
+  -- a packet that was sealed, for which all was drawn before, is the move
+  sealed_is : (time : ℕ) (id : SpaceId) (number size : ℕ) (fs : List FrameValue) (s : View t) (ds : List Did) → sealed_drawn time id number size fs (at (drawn_for id s) ds) ≡ move_to (Seal time id number size fs) (at s ds)
+  unfolding sealed_drawn drawn_for move_to state_move numbers_move keys_move life_move paths_move timers_move waiting_move setup_move lower_move deeds_move packet_drawn idle_limit_now probe_timeout_now around_of is_validated_by_peer
+  sealed_is time id number size fs s ds = refl
+
+  pub seals_drawn : (time : ℕ) (id : SpaceId) (number size : ℕ) (fs : List FrameValue) (s s' : View t) (ds : List Did) (b : At t) → s' ≡ drawn_for id s → b ≡ sealed_drawn time id number size fs (at s' ds) → b ≡ move_to (Seal time id number size fs) (at s ds)
+  seals_drawn time id number size fs s s' ds b is_s is_b = is_b ∙ ap (λ (v : View t). sealed_drawn time id number size fs (at v ds)) is_s ∙ sealed_is time id number size fs s ds
+
+  -- a token makes the header so much longer
+  spelled_len : (s : View t) (id : SpaceId) → length (header_spelling (header_in s id) 0) ≡ length (header_spelling (header_with s id false []) 0) + token_bytes id s.setup.initial_token
+  unfolding header_spelling initial_spelling short_spelling
+  spelled_len s Initial = simp length-append (omega (arith, varint_some (length s.setup.initial_token), varint_0))
+  spelled_len s Handshake = omega arith
+  spelled_len s Data = omega arith
+
+  -- the room for frames, by the length of the header without a token
+  pub room_is : (s : View t) (id : SpaceId) (h : Header) (token none : List ℕ) (bare room more n : ℕ) → none ≡ [] → h ≡ header_with s id false none → bare ≡ length (header_spelling h 0) → room ≡ 1184 - bare →
+      token ≡ s.setup.initial_token → more ≡ token_bytes id token → n ≡ room - more → n ≡ frame_room s id
+  unfolding frame_room
+  room_is s id h token none bare room more n is_none is_h is_bare is_room is_token is_more is_n =
+      let first : bare ≡ length (header_spelling (header_with s id false []) 0) = is_bare ∙ ap (λ (x : Header). length (header_spelling x 0)) (is_h ∙ ap (λ (x : List ℕ). header_with s id false x) is_none) in
+      let rest : more ≡ token_bytes id s.setup.initial_token = is_more ∙ ap (λ (x : List ℕ). token_bytes id x) is_token in
+      omega (arith, spelled_len s id, first, is_room, rest, is_n)
+
+  -- the space has its keys still
+  pub keyed_still : (s s' : View t) (id : SpaceId) → s' ≡ drawn_for id s → has_keys s.keys id ≡ true → has_keys s'.keys id ≡ true
+  unfolding drawn_for
+  keyed_still s s' id is_s h = subst (λ (v : View t). has_keys v.keys id ≡ true) (sym is_s) h
+
+  -- the packet can be begun by what the view before said, where its key may seal one more
+  begins_with : (s : View t) (id : SpaceId) (known : Option KeyUse) → reaches_limit 0 known ≡ false → next_number s.numbers id < 2 ^ 62 - 1 → next_number s.numbers id - acked_number s.numbers id < 2 ^ 31 → 25 ≤ frame_room s id →
+      IfSome known (λ usage. kill_of (slot_with s id usage) (header_in s id) 0 DATAGRAM_SIZE ≡ None)
+  begins_with s id None fresh low near wide = tt
+  begins_with s id (Some usage) fresh low near wide = no_kill s id usage (fresh_use usage fresh) low near wide
+
+  slot_stays : (s : View t) (id : SpaceId) (usage : KeyUse) → slot_drawn (drawn_for id s) id (flips_now s id) usage ≡ slot_with s id usage
+  unfolding drawn_for
+  slot_stays s id usage = refl
+
+  usage_stays : (s : View t) (id : SpaceId) → usage_of (drawn_for id s).keys id ≡ usage_of s.keys id
+  unfolding drawn_for
+  usage_stays s id = refl
+
+  begins_after : (s : View t) (id : SpaceId) (known : Option KeyUse) → IfSome known (λ usage. kill_of (slot_with s id usage) (header_in s id) 0 DATAGRAM_SIZE ≡ None) →
+      IfSome known (λ usage. kill_of (slot_drawn (drawn_for id s) id (flips_now s id) usage) (header_in s id) 0 DATAGRAM_SIZE ≡ None)
+  begins_after s id None h = tt
+  begins_after s id (Some usage) h = ap (λ (x : Slot). kill_of x (header_in s id) 0 DATAGRAM_SIZE) (slot_stays s id usage) ∙ h
+
+  -- and so it can by the view behind
+  pub begins_still : (s s' : View t) (id : SpaceId) (h : Header) (flip : Bool) → s' ≡ drawn_for id s → h ≡ header_in s id → flip ≡ flips_now s id → reaches_limit 0 (usage_of s.keys id) ≡ false →
+      next_number s.numbers id < 2 ^ 62 - 1 → next_number s.numbers id - acked_number s.numbers id < 2 ^ 31 → 25 ≤ frame_room s id →
+      IfSome (usage_of s'.keys id) (λ usage. kill_of (slot_drawn s' id flip usage) h 0 DATAGRAM_SIZE ≡ None)
+  begins_still s s' id h flip is_s is_h is_flip fresh low near wide =
+      let first : IfSome (usage_of s.keys id) (λ usage. kill_of (slot_drawn (drawn_for id s) id (flips_now s id) usage) (header_in s id) 0 DATAGRAM_SIZE ≡ None) =
+      begins_after s id (usage_of s.keys id) (begins_with s id (usage_of s.keys id) fresh low near wide) in
+      let drawn : IfSome (usage_of (drawn_for id s).keys id) (λ usage. kill_of (slot_drawn (drawn_for id s) id (flips_now s id) usage) (header_in s id) 0 DATAGRAM_SIZE ≡ None) =
+      subst (λ (x : Option KeyUse). IfSome x (λ usage. kill_of (slot_drawn (drawn_for id s) id (flips_now s id) usage) (header_in s id) 0 DATAGRAM_SIZE ≡ None)) (sym (usage_stays s id)) first in
+      let headed : IfSome (usage_of (drawn_for id s).keys id) (λ usage. kill_of (slot_drawn (drawn_for id s) id (flips_now s id) usage) h 0 DATAGRAM_SIZE ≡ None) =
+      subst (λ (x : Header). IfSome (usage_of (drawn_for id s).keys id) (λ usage. kill_of (slot_drawn (drawn_for id s) id (flips_now s id) usage) x 0 DATAGRAM_SIZE ≡ None)) (sym is_h) drawn in
+      let flipped : IfSome (usage_of (drawn_for id s).keys id) (λ usage. kill_of (slot_drawn (drawn_for id s) id flip usage) h 0 DATAGRAM_SIZE ≡ None) =
+      subst (λ (x : Bool). IfSome (usage_of (drawn_for id s).keys id) (λ usage. kill_of (slot_drawn (drawn_for id s) id x usage) h 0 DATAGRAM_SIZE ≡ None)) (sym is_flip) headed in
+      subst (λ (v : View t). IfSome (usage_of v.keys id) (λ usage. kill_of (slot_drawn v id flip usage) h 0 DATAGRAM_SIZE ≡ None)) (sym is_s) flipped
+
+  -- its header leaves room for what each packet needs
+  pub sized_still : (s : View t) (id : SpaceId) (h : Header) → h ≡ header_in s id → 25 ≤ frame_room s id → min_size_of 0 h + 16 ≤ DATAGRAM_SIZE
+  sized_still s id h is_h wide = subst (λ (x : Header). min_size_of 0 x + 16 ≤ DATAGRAM_SIZE) (sym is_h) (least_wide s id wide)
+
+  -- the frames have the PADDING that they need
+  pub filled : (s : View t) (id : SpaceId) (h : Header) (least : ℕ) (fs gs : List FrameValue) → h ≡ header_in s id → least ≡ least_size s id fs → gs ≡ fs ++ replicate (padding_len h fs (padded_size h fs least)) Padding → gs ≡ padded s id fs
+  unfolding padded padding_of
+  filled s id h least fs gs is_h is_least is_gs =
+      is_gs ∙ ap (λ (x : Header). fs ++ replicate (padding_len x fs (padded_size x fs least)) Padding) is_h
+      ∙ ap (λ (n : ℕ). fs ++ replicate (padding_len (header_in s id) fs (padded_size (header_in s id) fs n)) Padding) is_least
+
+  -- the packet has as many bytes as it is to have
+  pub sized : (s : View t) (id : SpaceId) (h : Header) (least n : ℕ) (fs : List FrameValue) → h ≡ header_in s id → least ≡ least_size s id fs → n ≡ padded_size h fs least → n ≡ packet_size s id (padded s id fs)
+  sized s id h least n fs is_h is_least is_n = is_n ∙ ap (λ (x : ℕ). padded_size h fs x) is_least ∙ padded_size_is s id h fs is_h
+
+  -- these are its bytes
+  pub spelled_by : (m : Meaning t) (s s' : View t) (id : SpaceId) (h : Header) (flip : Bool) (least : ℕ) (fs gs : List FrameValue) (buffer : List ℕ) → s' ≡ drawn_for id s → h ≡ header_in s id → flip ≡ flips_now s id →
+      least ≡ least_size s id fs → gs ≡ fs ++ replicate (padding_len h fs (padded_size h fs least)) Padding →
+      buffer ≡ sealed_with m (header_key s'.keys id) (packet_key s'.keys id) flip h (next_number s'.numbers id) (frames_spelling gs) → buffer ≡ packet_bytes m s id (padded s id fs)
+  unfolding packet_bytes drawn_for
+  spelled_by m s s' id h flip least fs gs buffer is_s is_h is_flip is_least is_gs is =
+      is ∙ ap (λ (v : View t). sealed_with m (header_key v.keys id) (packet_key v.keys id) flip h (next_number v.numbers id) (frames_spelling gs)) is_s
+      ∙ ap (λ (b : Bool). sealed_with m (header_key s.keys id) (packet_key s.keys id) b h (next_number s.numbers id) (frames_spelling gs)) is_flip
+      ∙ ap (λ (x : Header). sealed_with m (header_key s.keys id) (packet_key s.keys id) (flips_now s id) x (next_number s.numbers id) (frames_spelling gs)) is_h
+      ∙ ap (λ (xs : List FrameValue). sealed_with m (header_key s.keys id) (packet_key s.keys id) (flips_now s id) (header_in s id) (next_number s.numbers id) (frames_spelling xs)) (filled s id h least fs gs is_h is_least is_gs)
+
+  -- whether it counts as in flight
+  pub flies_by : (s s' : View t) (id : SpaceId) (h : Header) (least : ℕ) (fs gs : List FrameValue) (counts : Bool) → s' ≡ drawn_for id s → h ≡ header_in s id → least ≡ least_size s id fs →
+      gs ≡ fs ++ replicate (padding_len h fs (padded_size h fs least)) Padding → counts ≡ is_flown s' gs → counts ≡ is_flown s (padded s id fs)
+  unfolding is_flown drawn_for
+  flies_by s s' id h least fs gs counts is_s is_h is_least is_gs is =
+      is ∙ ap (λ (v : View t). is_flown v gs) is_s ∙ ap (λ (xs : List FrameValue). is_flown s xs) (filled s id h least fs gs is_h is_least is_gs)
+
+  -- and sealing it is its move
+  pub moved_by : (s s' : View t) (ds : List Did) (time : ℕ) (id : SpaceId) (h : Header) (number size least len : ℕ) (fs gs : List FrameValue) (b : At t) → s' ≡ drawn_for id s → h ≡ header_in s id → number ≡ next_number s.numbers id →
+      least ≡ least_size s id fs → gs ≡ fs ++ replicate (padding_len h fs (padded_size h fs least)) Padding → size ≡ len → b ≡ sealed_drawn time id number size gs (at s' ds) →
+      b ≡ move_to (Seal time id (next_number s.numbers id) len (padded s id fs)) (at s ds)
+  moved_by s s' ds time id h number size least len fs gs b is_s is_h is_number is_least is_gs is_size is =
+      seals_drawn time id number size gs s s' ds b is_s is ∙ ap (λ (n : ℕ). move_to (Seal time id n size gs) (at s ds)) is_number
+      ∙ ap (λ (n : ℕ). move_to (Seal time id (next_number s.numbers id) n gs) (at s ds)) is_size
+      ∙ ap (λ (xs : List FrameValue). move_to (Seal time id (next_number s.numbers id) len xs) (at s ds)) (filled s id h least fs gs is_h is_least is_gs)
+
+module _ {t : Types} {R : Type 0} (stream : R → Stream) where
+  -- what is drawn for a packet was drawn
+  pub drawn_by : (v w : Held t R) (id : SpaceId) (setup : Setup R) → w ≡ v → ideal_setup stream setup ≡ packet_drawn (ideal_setup stream w.setup) id → ideal stream (record w { setup = setup }) ≡ drawn_for id (ideal stream v)
+  unfolding drawn_for
+  drawn_by v w id setup same left =
+      subst (λ (x : Held t R). ideal stream (record w { setup = setup }) ≡ drawn_for id (ideal stream x)) same (ap (λ (x : Setup Stream). record (ideal stream w) { setup = x }) left)
+
+  -- the header by that
+  pub header_is : (v w : Held t R) (id : SpaceId) (setup : Setup R) (spin : Bool) (token : List ℕ) (h : Header) → w ≡ v → ideal_setup stream setup ≡ packet_drawn (ideal_setup stream w.setup) id →
+      spin ≡ (if is_space id Data && not w.setup.fixed.spins then bit (stream w.setup.random) else w.paths.spin) → token ≡ token_in id v.setup.initial_token → h ≡ header_with (ideal stream (record w { setup = setup })) id spin token →
+      h ≡ header_in (ideal stream v) id
+  unfolding ideal_setup
+  header_is v w id setup spin token h same left is_spin is_token is_h =
+      header_drawn (ideal stream v) (ideal stream (record w { setup = setup })) id spin token h (drawn_by v w id setup same left)
+      (is_spin ∙ ap (λ (x : Held t R). if is_space id Data && not x.setup.fixed.spins then bit (stream x.setup.random) else x.paths.spin) same) is_token is_h
+
+  -- and whether its fixed bit is flipped
+  pub flip_is : (v w : Held t R) (id : SpaceId) (flip : Bool) → w ≡ v → flip ≡ (takes_grease w.setup.peer && bit (behind_spin (ideal_setup stream w.setup) id)) → flip ≡ flips_now (ideal stream v) id
+  unfolding flips_now ideal_setup
+  flip_is v w id flip same is = is ∙ ap (λ (x : Held t R). takes_grease x.setup.peer && bit (behind_spin (ideal_setup stream x.setup) id)) same
+
+  -- a space with keys has them all, and a slot
+  pub header_key_there : (v w : Held t R) (id : SpaceId) (found : Option t.H) → w ≡ v → has_keys v.keys id ≡ true → found ≡ header_key w.keys id → found ≡ None → ⊥
+  header_key_there v w id found same keyed is none =
+      missing found (header_key w.keys id) is (keyed_header w.keys id (ap (λ (x : Held t R). has_keys x.keys id) same ∙ keyed)) none
+
+  pub packet_key_there : (v w : Held t R) (id : SpaceId) (found : Option t.P) → w ≡ v → has_keys v.keys id ≡ true → found ≡ packet_key w.keys id → found ≡ None → ⊥
+  packet_key_there v w id found same keyed is none =
+      missing found (packet_key w.keys id) is (keyed_packet w.keys id (ap (λ (x : Held t R). has_keys x.keys id) same ∙ keyed)) none
+
+  pub slot_there : (v : Held t R) (id : SpaceId) (flip : Bool) (found : Option Slot) → has_keys v.keys id ≡ true → found ≡ option_map (slot_drawn (ideal stream v) id flip) (usage_of v.keys id) → found ≡ None → ⊥
+  slot_there v id flip found keyed is none =
+      missing found (option_map (slot_drawn (ideal stream v) id flip) (usage_of v.keys id)) is
+      (mapped_some (slot_drawn (ideal stream v) id flip) (usage_of v.keys id) (keyed_usage v.keys id keyed)) none
+
+  -- the token of an Initial packet
+  pub token_is : {E : Type 0} (v w : Held t R) (id : SpaceId) (copied : Result (List ℕ) E) → w ≡ v → id ≡ Initial → MatchResult copied (λ copy. copy ≡ w.setup.initial_token) (λ error. ⊥ → ⊥) → IfOk copied (λ token. token ≡ token_in id v.setup.initial_token)
+  token_is v w id (Ok copy) same first is = is ∙ ap (λ (x : Held t R). x.setup.initial_token) same ∙ ap (λ (x : SpaceId). token_in x v.setup.initial_token) (sym first)
+  token_is v w id (Err e) same first is = tt

@@ -1,0 +1,353 @@
+//! One packet: the frames that it takes, its header, and its bytes.
+
+ghost use Rattle.std.specs.Prelude.{◌≡◌, ◌+◌, ◌-◌, ◌<◌, ◌≤◌, ◌^◌, ◌++◌, ◌||◌, [], ◌∷◌, true, false, Some, None, IsSome, IfSome, if◌then◌else◌, length, option_map, replicate, OnOk, IfOk};
+ghost use Rattle.qc_send.specs.Drawing.{drawn_for, header_with, slot_drawn, token_bytes, token_in};
+ghost use Rattle.qc_base.specs.declared.side.SpaceId.TheVariants.{Initial};
+ghost use Rattle.qc_frame.specs.FrameSpelling.{frames_spelling};
+ghost use Rattle.qc_frame.specs.declared.frames.FrameOf.TheVariants.{Padding};
+ghost use Rattle.qc_packet.specs.Building.{kill_of, min_size_of, padded_size};
+ghost use Rattle.qc_packet.specs.PacketSpelling.{padding_len};
+ghost use Rattle.qc_header.specs.HeaderSpelling.{header_spelling, header_number};
+ghost use Rattle.qc_state.specs.Keys.{has_keys, header_key, packet_key, reaches_limit, usage_of};
+ghost use Rattle.qc_state.specs.Moves.{Take, Seal, move_to, state_move};
+ghost use Rattle.qc_state.specs.Numbers.{next_number, acked_number};
+ghost use Rattle.qc_state.specs.Sending.{TakenNow, is_key_nearly_used_up, flips_now, header_in, frame_room, spared_after, begun_after, skipped_after, fills, packet_size, least_size, padded, packet_bytes, is_flown, sealed_with, transmit_with};
+ghost use Rattle.qc_state.specs.Spaces.{is_space};
+ghost use Rattle.qc_state.specs.Types.{meaning};
+ghost use Rattle.qc_state.specs.View.{ideal, held};
+
+use crate::closing::{closing_frame, kept_reason};
+use crate::owing::next_number;
+use bytes::Bytes;
+use qc_base::{EcnCodepoint, Instant, LongType, PacketNumber, Side, SpaceId, varint_size};
+use qc_core::Core;
+use qc_core::stopping::key_limit_error;
+use qc_frame::FrameList;
+use qc_header::{Header, InitialHeader};
+use qc_packet::{Slot, seal_padded};
+use qc_state::{DATAGRAM_SIZE, Dids, Suite, Transmit};
+use std::alloc::{AllocError, Global};
+
+/// The size of a packet's tag, in bytes (RFC 9001, 5.3).
+const TAG: usize = 16;
+
+/// The size of the greatest close without a reason, in bytes.
+pub(crate) const GREATEST_CLOSE: usize = 25;
+
+/// Whether a packet fills a datagram: a client's Initial packet does, and a server's that elicits an acknowledgement.
+fn fills(side: Side, space: SpaceId, eliciting: bool) -> bool
+    ensures { result ≡ fills side space eliciting }
+{
+    match (side, space) {
+        (Side::Client, SpaceId::Initial) => true,
+        (Side::Server, SpaceId::Initial) => eliciting,
+        _ => false,
+    }
+}
+
+/// How much room of `room` these frames leave. Want of memory is the only refusal.
+fn room_left(alloc: Global, room: usize, frames: &FrameList) -> Result<usize, AllocError>
+    ensures { IfOk result (λ left. left ≡ room - length (frames_spelling frames.now)) }
+{
+    let mut bytes = Vec::new(alloc);
+    frames.put(&mut bytes)?;
+    Ok(room.saturating_sub(bytes.len()))
+}
+
+/// How many bytes a token adds to the header of a packet of this space: its own, and those of its length beyond the
+/// one that an empty token has.
+fn token_bytes(space: SpaceId, token: &[u8]) -> usize
+    ensures { result ≡ token_bytes space token.now }
+{
+    match space {
+        SpaceId::Initial => varint_size(token.len() as u64) - 1 + token.len(),
+        SpaceId::Handshake | SpaceId::Data => 0,
+    }
+}
+
+/// The header of the space's next packet, with this spin bit where it is a 1-RTT packet, and this token where it is an Initial
+/// one.
+#[tactic(auto, unfolding(qc_state::specs::Setup::ideal_setup))]
+fn header_with<U: Suite>(core: &Core<U>, space: SpaceId, spin: bool, token: Bytes) -> Header
+    requires { next_number core.now.numbers space - acked_number core.now.numbers space < 2 ^ 31 }
+    ensures { result ≡ header_with (ideal U.Random.stream core.now) space spin token }
+{
+    let number = PacketNumber::new(core.numbers.next(space), core.numbers.acked_number(space));
+    let dst_cid = core.paths.remote_cid;
+    let src_cid = core.setup.fixed.local_cid;
+    let version = core.setup.fixed.version;
+    match space {
+        SpaceId::Initial => Header::Initial(InitialHeader {
+            dst_cid,
+            src_cid,
+            token,
+            number,
+            version,
+        }),
+        SpaceId::Handshake => Header::Long {
+            ty: LongType::Handshake,
+            dst_cid,
+            src_cid,
+            number,
+            version,
+        },
+        SpaceId::Data => Header::Short {
+            spin,
+            key_phase: core.keys.phase(),
+            dst_cid,
+            number,
+        },
+    }
+}
+
+/// How much room for frames a datagram has behind the header of the space's next packet, and before its tag.
+#[tactic(auto, unfolding(qc_state::specs::Setup::ideal_setup))]
+pub(crate) fn frame_room<U: Suite>(core: &Core<U>, space: SpaceId) -> usize
+    requires { next_number core.now.numbers space - acked_number core.now.numbers space < 2 ^ 31 }
+    ensures value { result ≡ frame_room (ideal U.Random.stream core.now) space }
+    ensures wide { is_space space Initial ≡ false → 25 ≤ result }
+{
+    let bare = header_with(core, space, false, Bytes::new()).encoded_len();
+    let room = (DATAGRAM_SIZE as usize - TAG).saturating_sub(bare);
+    room.saturating_sub(token_bytes(space, core.setup.initial_token.as_slice()))
+}
+
+/// The token that the space's next packet carries: none but an Initial one has any. Want of memory is the only refusal.
+fn token<U: Suite>(core: &Core<U>, space: SpaceId) -> Result<Bytes, AllocError>
+    ensures { IfOk result (λ token. token ≡ token_in space core.now.setup.initial_token) }
+{
+    match space {
+        SpaceId::Initial => core.setup.initial_token.clone(),
+        SpaceId::Handshake | SpaceId::Data => Ok(Bytes::new()),
+    }
+}
+
+/// The header of the space's next packet, and whether its fixed bit is flipped; what is drawn for it is drawn. Want of memory is
+/// the only refusal.
+fn header_and_flip<U: Suite>(
+    core: &mut Core<U>,
+    space: SpaceId,
+) -> Result<(Header, bool), AllocError>
+    requires { next_number core.old.numbers space - acked_number core.old.numbers space < 2 ^ 31 }
+    ensures header { IfOk result (λ r. r.0 ≡ header_in (ideal U.Random.stream core.old) space) }
+    ensures flip { IfOk result (λ r. r.1 ≡ flips_now (ideal U.Random.stream core.old) space) }
+    ensures leads { OnOk result ((ideal U.Random.stream core.new) ≡ drawn_for space (ideal U.Random.stream core.old)) }
+{
+    let token = token(core, space)?;
+    let drawn = core.setup.draw_packet(space, core.paths.spin);
+    Ok((header_with(core, space, drawn.spin, token), drawn.flip))
+}
+
+/// Takes the ACK, where there is something to acknowledge and it leaves room for the greatest close without a reason, and the
+/// close.
+fn take_close<U: Suite>(
+    core: &mut Core<U>,
+    alloc: Global,
+    now: Instant,
+    space: SpaceId,
+    room: usize,
+) -> Result<FrameList, AllocError>
+    requires owed { core.old.waiting.close_owed ≡ true }
+    requires room { room ≡ frame_room (ideal U.Random.stream core.old) space }
+    ensures frames { IfOk result (λ frames. TakenNow now (ideal U.Random.stream core.old) space room frames) }
+    ensures leads { IfOk result (λ frames. (ideal U.Random.stream core.new) ≡ state_move (Take space frames) (ideal U.Random.stream core.old)) }
+{
+    let most = room.saturating_sub(GREATEST_CLOSE);
+    let mut frames = core.do_take_ack(alloc, now, space, most)?;
+    let left = room_left(alloc, room, &frames)?;
+    let close = closing_frame(core, alloc, space, kept_reason(core, left))?;
+    frames.push(close)?;
+    Ok(frames)
+}
+
+/// Takes frames at a time for a packet of the space, with what room for them there is beside its header: the close where one is
+/// owed, with an ACK in front, else frames that wait.
+#[tactic(auto, using(qc_state::proofs::Seals::takes_waiting))]
+pub(crate) fn take<U: Suite>(
+    core: &mut Core<U>,
+    alloc: Global,
+    now: Instant,
+    space: SpaceId,
+) -> Result<FrameList, AllocError>
+    requires { next_number core.old.numbers space - acked_number core.old.numbers space < 2 ^ 31 }
+    ensures wide { OnOk result (is_space space Initial ≡ false → 25 ≤ frame_room (ideal U.Random.stream core.old) space) }
+    ensures frames { IfOk result (λ frames. TakenNow now (ideal U.Random.stream core.old) space (frame_room (ideal U.Random.stream core.old) space) frames) }
+    ensures leads { IfOk result (λ frames. (ideal U.Random.stream core.new) ≡ state_move (Take space frames) (ideal U.Random.stream core.old)) }
+{
+    let room = frame_room(core, space);
+    if core.waiting.close_owed {
+        return take_close(core, alloc, now, space, room);
+    }
+    core.do_take(alloc, now, space, room)
+}
+
+/// How many bytes a packet of this space with these frames is to have at least: a datagram's size where it fills one.
+#[tactic(auto, unfolding(qc_state::specs::Sending::least_size, qc_state::specs::Setup::ideal_setup))]
+fn least_size<U: Suite>(core: &Core<U>, space: SpaceId, frames: &FrameList) -> usize
+    ensures value { result ≡ least_size (ideal U.Random.stream core.now) space frames.now }
+    ensures most { result ≤ DATAGRAM_SIZE }
+{
+    if fills(core.setup.fixed.side, space, frames.elicits()) {
+        return DATAGRAM_SIZE as usize;
+    }
+    0
+}
+
+/// A datagram is begun for the space: a probe that is due there is spent, and the number that would be next is skipped where it is
+/// to be. Want of memory is the only refusal.
+#[tactic(auto, unfolding(qc_state::specs::Sending::begun_after, qc_state::specs::Sending::skipped_after, qc_state::specs::Moves::move_to, qc_state::specs::Moves::deeds_move))]
+pub(crate) fn begin_datagram<U: Suite>(
+    core: &mut Core<U>,
+    space: SpaceId,
+    did: &Dids,
+) -> Result<(), AllocError>
+    ensures { OnOk result ((held U.Random.stream core.new did.now) ≡ begun_after space (held U.Random.stream core.old did.now)) }
+{
+    core.do_begin(space)?;
+    if core.numbers.is_skipped(space) {
+        core.do_skip();
+    }
+    Ok(())
+}
+
+/// This end closes behind a packet that was sealed, where its key may seal only one more, so that this one can be the close
+/// (RFC 9001, section 6.6). `nearly` is what `is_key_nearly_used_up` said before the packet.
+#[tactic(auto, unfolding(qc_state::specs::Sending::spared_after))]
+pub(crate) fn spare<U: Suite>(
+    core: &mut Core<U>,
+    did: &mut Dids,
+    now: Instant,
+    nearly: bool,
+) -> Result<(), AllocError>
+    ensures { OnOk result ((held U.Random.stream core.new did.new) ≡ spared_after now nearly (held U.Random.stream core.old did.old)) }
+{
+    if nearly {
+        return core.stopped(did, now, key_limit_error());
+    }
+    Ok(())
+}
+
+/// The mark of ECN that datagrams go with: ECT(0) while the path is taken to pass it on (RFC 9000, section 13.4.2).
+fn mark<U: Suite>(core: &Core<U>) -> Option<EcnCodepoint>
+    ensures { result ≡ (if core.now.lower.path.sending_ecn then Some EcnCodepoint.Ect0 else None) }
+{
+    if core.lower.path.sending_ecn {
+        return Some(EcnCodepoint::Ect0);
+    }
+    None
+}
+
+/// Where a datagram of this size goes.
+#[tactic(auto, unfolding(qc_state::specs::Sending::transmit_with, qc_state::specs::Setup::ideal_setup))]
+pub(crate) fn transmit_to<U: Suite>(core: &Core<U>, size: usize) -> Transmit
+    ensures { result ≡ transmit_with (ideal U.Random.stream core.now) size }
+{
+    Transmit {
+        destination: core.paths.remote,
+        ecn: mark(core),
+        size,
+        segment_size: None,
+        src_ip: core.setup.fixed.local_ip,
+    }
+}
+
+/// What the builder is given of the space's next packet, whose fixed bit is flipped or not. None exactly where the space has
+/// no keys.
+fn slot<U: Suite>(core: &Core<U>, space: SpaceId, flip: bool) -> Option<Slot>
+    ensures { result ≡ option_map (slot_drawn (ideal U.Random.stream core.now) space flip) (usage_of core.now.keys space) }
+{
+    match core.keys.usage(space) {
+        None => None,
+        Some(usage) => Some(Slot {
+            space,
+            number: core.numbers.next(space),
+            largest_acked: core.numbers.acked_number(space),
+            sealed: usage.sealed,
+            limit: usage.limit,
+            flip,
+        }),
+    }
+}
+
+/// Seals the space's next packet with this header and these frames into an empty buffer, its fixed bit flipped or not, filled up
+/// with PADDING to `least` bytes at least, and to what each packet has to have. The PADDING frames are added to the list. Want of
+/// memory is the only refusal.
+fn seal_with<U: Suite>(
+    core: &Core<U>,
+    space: SpaceId,
+    flip: bool,
+    header: &Header,
+    frames: &mut FrameList,
+    least: usize,
+    buf: &mut Vec<u8>,
+) -> Result<(), AllocError>
+    requires empty { buf.old.items ≡ [] }
+    requires keyed { has_keys core.now.keys space ≡ true }
+    requires numbered { IsSome (header_number header.now) }
+    requires begins { IfSome (usage_of core.now.keys space) (λ usage. kill_of (slot_drawn (ideal U.Random.stream core.now) space flip usage) header.now 0 DATAGRAM_SIZE ≡ None) }
+    requires sized { min_size_of 0 header.now + 16 ≤ DATAGRAM_SIZE }
+    requires room { length (header_spelling header.now 0) + length (frames_spelling frames.old) + 16 ≤ DATAGRAM_SIZE }
+    requires small { least ≤ DATAGRAM_SIZE }
+    ensures frames { OnOk result (frames.new ≡ frames.old ++ replicate (padding_len header.now frames.old (padded_size header.now frames.old least)) Padding) }
+    ensures bytes { OnOk result (buf.new.items ≡ sealed_with (meaning U.Session.Session U.Session.HeaderKey.HeaderMask U.Session.PacketKey.PacketKey U.Control.Controller.Controller) (header_key core.now.keys space) (packet_key core.now.keys space) flip header.now (next_number core.now.numbers space) (frames_spelling frames.new)) }
+    ensures full { OnOk result (length buf.new.items ≡ padded_size header.now frames.old least) }
+{
+    let header_key = match core.keys.header_key(space) {
+        Some(key) => key,
+        None => unreachable!(),
+    };
+    let packet_key = match core.keys.packet_key(space) {
+        Some(key) => key,
+        None => unreachable!(),
+    };
+    let slot = match slot(core, space, flip) {
+        Some(slot) => slot,
+        None => unreachable!(),
+    };
+    match seal_padded(
+        header_key,
+        packet_key,
+        &slot,
+        header,
+        frames,
+        DATAGRAM_SIZE as usize,
+        least,
+        buf,
+    ) {
+        Ok(()) => Ok(()),
+        Err(_) => Err(AllocError),
+    }
+}
+
+/// Seals the space's next packet with these frames into an empty buffer, filled up with PADDING to what it has to have, and counts
+/// it. What is drawn for it is drawn. Answers whether it counts as in flight. Want of memory is the only refusal.
+pub(crate) fn seal<U: Suite>(
+    core: &mut Core<U>,
+    alloc: Global,
+    did: &mut Dids,
+    now: Instant,
+    space: SpaceId,
+    frames: FrameList,
+    buf: &mut Vec<u8>,
+) -> Result<bool, AllocError>
+    requires empty { buf.old.items ≡ [] }
+    requires low { next_number core.old.numbers space < 2 ^ 62 - 1 }
+    requires near { next_number core.old.numbers space - acked_number core.old.numbers space < 2 ^ 31 }
+    requires keyed { has_keys core.old.keys space ≡ true }
+    requires fresh { reaches_limit 0 (usage_of core.old.keys space) ≡ false }
+    requires wide { 25 ≤ frame_room (ideal U.Random.stream core.old) space }
+    requires room { length (header_spelling (header_in (ideal U.Random.stream core.old) space) 0) + length (frames_spelling frames) + 16 ≤ DATAGRAM_SIZE }
+    ensures leads { OnOk result ((held U.Random.stream core.new did.new) ≡ move_to (Seal now space (next_number core.old.numbers space) (length buf.new.items) (padded (ideal U.Random.stream core.old) space frames)) (held U.Random.stream core.old did.old)) }
+    ensures bytes { OnOk result (buf.new.items ≡ packet_bytes (meaning U.Session.Session U.Session.HeaderKey.HeaderMask U.Session.PacketKey.PacketKey U.Control.Controller.Controller) (ideal U.Random.stream core.old) space (padded (ideal U.Random.stream core.old) space frames)) }
+    ensures size { OnOk result (length buf.new.items ≡ packet_size (ideal U.Random.stream core.old) space (padded (ideal U.Random.stream core.old) space frames)) }
+    ensures counts { IfOk result (λ counts. counts ≡ is_flown (ideal U.Random.stream core.old) (padded (ideal U.Random.stream core.old) space frames)) }
+{
+    let mut frames = frames;
+    let number = next_number(core, space);
+    let least = least_size(core, space, &frames);
+    let (header, flip) = header_and_flip(core, space)?;
+    seal_with(core, space, flip, &header, &mut frames, least, buf)?;
+    let counts = core.is_flown(&frames);
+    core.do_seal(alloc, did, now, space, number, buf.len() as u64, frames)?;
+    Ok(counts)
+}
