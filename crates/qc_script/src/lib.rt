@@ -23,8 +23,6 @@ mod lines;
 mod script;
 mod set_lines;
 mod settings;
-#[cfg(test)]
-mod tests;
 
 pub use script::{Script, ScriptError, read_script};
 pub use settings::{RandomWords, Settings};

@@ -12,8 +12,6 @@ mod laws;
 mod names;
 mod pieces;
 mod steps;
-#[cfg(test)]
-mod tests;
 mod trace;
 
 pub use laws::given_frames_have_their_names;

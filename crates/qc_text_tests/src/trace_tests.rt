@@ -1,8 +1,6 @@
 //! Texts of traces that are made by hand. The lines are written by hand, by the rules of the trace's text; the frames in
 //! them are spelled by RFC 9000, sections 19.2, 19.3, 19.19 and 19.20.
 
-use crate::laws::given_frames_have_their_names;
-use crate::trace::{steps_text, trace_text};
 use bytes::Bytes;
 use qc_base::{EcnCodepoint, Instant, ResetToken, SpaceId, TransportErrorCode, VarInt};
 use qc_frame::{FrameList, FrameOf};
@@ -10,6 +8,7 @@ use qc_state::{
     Answer, ApplicationClose, Body, ConnectionClose, ConnectionError, Dids, EndpointEvent,
     EndpointEvents, Events, Layer, Quiet, Step, Trace, Verdict, Word,
 };
+use qc_text::{given_frames_have_their_names, steps_text, trace_text};
 use std::alloc::{AllocError, Global};
 use std::net::{IpAddr, Ipv4Addr, Ipv6Addr, SocketAddr};
 use std::test::Fail;

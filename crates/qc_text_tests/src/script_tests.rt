@@ -1,8 +1,7 @@
 //! Lines of each form, and those at the edges of them.
 
-use crate::script::{Script, ScriptError, read_script};
-use crate::settings::{RandomWords, Settings};
 use qc_base::{ConnectionId, EcnCodepoint, Instant, Side, VarInt};
+use qc_script::{RandomWords, Script, ScriptError, Settings, read_script};
 use qc_state::Input;
 use std::alloc::Global;
 use std::net::{IpAddr, Ipv4Addr, Ipv6Addr, SocketAddr};
