@@ -21,7 +21,7 @@ TOP = os.path.dirname(os.path.dirname(os.path.realpath(__file__)))
 DOCUMENT = f"{TOP}/docs/THEOREM.md"
 BEGIN, END = "<!-- the list begins: tools/theorem.py --write makes it -->", "<!-- the list ends -->"
 # The promises: a function, and the file in which it stands.
-ROOTS = [("drive", "crates/qc_conn/src/driving.rt"), ("run", "crates/qconn/src/run.rt")]
+ROOTS = [("drive", "crates/qc_conn/src/driving.rt"), ("run", "crates/qc_run/src/run.rt")]
 
 WORD = re.compile(r"◌[^\s{}()\[\],;◌]+◌|[\w'«»ℓΑ-Ωα-ω₀-₉+*≡≢≤<-]*\w[\w'»-]*(?:\.[\w'«»-]+)*")
 

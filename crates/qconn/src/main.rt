@@ -2,41 +2,7 @@
 //! and writes the text of the trace to standard output.
 #![tactic(auto)]
 
-#[cfg(test)]
-mod ack_tests;
-#[cfg(test)]
-mod handshake_tests;
-#[cfg(test)]
-mod limit_tests;
-#[cfg(test)]
-mod number_tests;
-#[cfg(test)]
-mod peer_tests;
-mod perform;
-mod random;
-#[cfg(test)]
-mod receiving_tests;
-#[cfg(test)]
-mod ring_tests;
-mod run;
-#[cfg(test)]
-mod server_tests;
-#[cfg(test)]
-mod sign_tests;
-mod sink;
-mod source;
-mod standard;
-#[cfg(test)]
-mod tests;
-#[cfg(test)]
-mod timeout_tests;
-mod token;
-#[cfg(test)]
-mod token_tests;
-mod transfer;
-
-use run::{Status, end, run};
-use standard::{StdSink, StdSource};
+use qc_run::{Status, StdSink, StdSource, end, run};
 use std::env;
 use std::io::{self, ErrorKind};
 use std::process::ExitCode;
