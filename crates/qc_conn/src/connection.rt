@@ -372,6 +372,14 @@ impl<U: Suite> Connection<U> {
         self.core.poll_timeout()
     }
 
+    /// A connection of its parts: this core, and whether a call met want of memory.
+    pub fn from_parts(core: Core<U>, failed: bool) -> Connection<U>
+        ensures core { result.core ≡ core }
+        ensures mark { result.failed ≡ failed }
+    {
+        Connection { core, failed }
+    }
+
     /// One input of `drive`: the call, and the reports after it.
     pub(crate) fn call(&mut self, alloc: Global, at: u64, input: &Input) -> Result<Step, Fault>
         requires { self.old.core.timers.greatest ≤ time_of input.now }
@@ -413,15 +421,5 @@ impl<U: Suite> Connection<U> {
         ensures core { self.new.core ≡ self.old.core }
     {
         self.failed = true;
-    }
-}
-
-#[cfg(test)]
-impl<U: Suite> Connection<U> {
-    /// Gives its next Initial packet this number: for tests alone.
-    pub(crate) fn set_number(&mut self, number: u64)
-        ensures { self.new.core.timers.greatest ≡ self.old.core.timers.greatest }
-    {
-        self.core.numbers.spaces.initial.next = number;
     }
 }

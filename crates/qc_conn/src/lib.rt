@@ -3,21 +3,9 @@
 
 mod connection;
 mod driving;
-#[cfg(test)]
-mod event_tests;
 mod laws;
-#[cfg(test)]
-mod limit_tests;
-#[cfg(test)]
-mod probe_tests;
 mod steps;
-#[cfg(test)]
-mod tests;
 pub mod text;
-#[cfg(test)]
-mod timeout_tests;
-#[cfg(test)]
-mod token_tests;
 
 pub use connection::{Connection, FirstError};
 pub use driving::{BadWhy, DriveError, DriveKind, drive};

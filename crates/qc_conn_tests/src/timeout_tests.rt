@@ -2,14 +2,11 @@
 //! 999 ms after the packet, and doubles each time that it fires (RFC 9002, 6.2.1 and 6.2.2); the idle timer stands after the limit
 //! or three probe timeouts, the longer one (RFC 9000, 10.1), and the close timer three probe timeouts after the close (10.2).
 
-use crate::connection::Connection;
-use crate::driving::drive;
-use crate::tests::{Toy, client_with_limit, sealed_len};
-use crate::text::trace_text;
+use crate::clients::{Toy, client_with_limit, has_endpoint_event, has_event, sealed_len};
 use bytes::Bytes;
 use qc_base::{Instant, VarInt};
-use qc_config::NoneTokenStore;
-use qc_state::{ConnectionError, EndpointEvent, Event, Input};
+use qc_conn::Connection;
+use qc_state::{ConnectionError, EndpointEvent, Event};
 use std::alloc::Global;
 use std::test::Fail;
 
@@ -72,15 +69,15 @@ fn an_idle_client_ends_once(rt: HostRuntime) -> Result<(), Fail> {
         after(rt.alloc(), &mut client, 5_000_000_006),
         Some(5_000_000_007)
     );
-    assert!(rt; client.poll().is_none());
+    assert!(rt; !has_event(&mut client));
     assert_eq!(rt; after(rt.alloc(), &mut client, 5_000_000_007), None);
     assert!(rt; timed_out(&mut client));
-    assert!(rt; client.poll().is_none());
+    assert!(rt; !has_event(&mut client));
     assert!(rt; drained(&mut client));
-    assert!(rt; client.poll_endpoint_events().is_none());
+    assert!(rt; !has_endpoint_event(&mut client));
     assert_eq!(rt; after(rt.alloc(), &mut client, 5_000_000_008), None);
-    assert!(rt; client.poll().is_none());
-    assert!(rt; client.poll_endpoint_events().is_none());
+    assert!(rt; !has_event(&mut client));
+    assert!(rt; !has_endpoint_event(&mut client));
     Ok(())
 }
 
@@ -97,7 +94,7 @@ fn a_short_limit_waits_for_three_probes(rt: HostRuntime) -> Result<(), Fail> {
         after(rt.alloc(), &mut client, 1_998_000_007),
         Some(2_997_000_007)
     );
-    assert!(rt; client.poll().is_none());
+    assert!(rt; !has_event(&mut client));
     assert_eq!(rt; after(rt.alloc(), &mut client, 2_997_000_007), None);
     assert!(rt; timed_out(&mut client));
     Ok(())
@@ -111,44 +108,10 @@ fn a_closed_client_ends_for_no_reason(rt: HostRuntime) -> Result<(), Fail> {
         after(rt.alloc(), &mut client, 2_997_000_006),
         Some(2_997_000_007)
     );
-    assert!(rt; client.poll_endpoint_events().is_none());
+    assert!(rt; !has_endpoint_event(&mut client));
     assert_eq!(rt; after(rt.alloc(), &mut client, 2_997_000_007), None);
-    assert!(rt; client.poll().is_none());
+    assert!(rt; !has_event(&mut client));
     assert!(rt; drained(&mut client));
-    assert!(rt; client.poll_endpoint_events().is_none());
-    Ok(())
-}
-
-/// A transmit, and timeouts three probe timeouts after it and later.
-fn inputs() -> [Input; 3] {
-    [
-        Input::Transmit {
-            now: Instant::from_nanos(7),
-            max_datagrams: 1,
-        },
-        Input::Timeout {
-            now: Instant::from_nanos(2_997_000_007),
-        },
-        Input::Timeout {
-            now: Instant::from_nanos(2_997_000_008),
-        },
-    ]
-}
-
-// The lines are written by hand, by the rules of the trace's text.
-#[test]
-fn the_trace_tells_of_the_end(rt: HostRuntime) -> Result<(), Fail> {
-    let mut client = client_with_limit(rt.alloc(), 100).ok_or("no client")?;
-    let inputs = inputs();
-    match drive(rt.alloc(), &mut client, &inputs, &mut NoneTokenStore) {
-        Err(_) => assert!(rt; false, "refused"),
-        Ok(trace) => {
-            let text = String::from_utf8(trace_text(rt.alloc(), &trace)?)?;
-            let end =
-                "timer 999000007\nstep 1 timeout 2997000007\nlife 4\nlost TimedOut\nanswer done\nevent lost TimedOut\nendpoint drained\ntimer -\n\
-                step 2 timeout 2997000008\nanswer done\ntimer -\nend\n";
-            assert!(rt; text.as_str().ends_with(end), "{text}");
-        }
-    }
+    assert!(rt; !has_endpoint_event(&mut client));
     Ok(())
 }

@@ -7,17 +7,15 @@ ghost use Rattle.qc_receive.specs.FirstPacket.{IsFirstPacket};
 ghost use Rattle.qc_state.specs.Life.{is_handshake};
 ghost use Rattle.qc_state.specs.Setup.{is_first_awaited};
 
-use crate::connection::Connection;
-use crate::tests::{Toy, client_at, fresh_client};
+use crate::clients::{Toy, client_at, fresh_client};
 use bytes::BytesMut;
 use qc_base::{ConnectionId, Instant};
 use qc_config::{NoneTokenStore, announced};
+use qc_conn::{Connection, ConnectionEvent, ServerSetup};
 use qc_crypto::{ServerConfig, Session};
 use qc_header::{InitialPacket, PartialDecode};
-use qc_making::ServerSetup;
 use qc_packet::{OpenKeys, decrypt_packet_body, unprotect_header};
 use qc_path::NewRenoConfig;
-use qc_receive::ConnectionEvent;
 use qc_recovery::TransportConfig;
 use qc_state::paths::same_address;
 use qc_state::{ConnectionError, Event};
@@ -164,19 +162,43 @@ fn opened(first: PartialDecode) -> Option<(u64, InitialPacket)> {
     Some((number, packet))
 }
 
-/// What a server answers to a datagram that it is handed whole.
-fn answer_to_whole(alloc: Global, bytes: &[u8]) -> Option<Vec<u8>> {
-    let mut server = server(
+/// The server of the client's first packet.
+fn usual_server(alloc: Global) -> Option<Box<Connection<Toy>>>
+    ensures awaited { IfSome result (λ s. is_first_awaited s.value.core.setup ≡ true) }
+{
+    server(
         alloc,
         address(),
         ConnectionId::new(&[2; 8]),
         ConnectionId::new(&[1; 8]),
-    )?;
+    )
+}
+
+/// Whether a server takes a datagram that it is handed whole; None where it met want of memory.
+fn takes(alloc: Global, server: &mut Connection<Toy>, bytes: &[u8]) -> Option<bool>
+    requires awaited { is_first_awaited server.old.core.setup ≡ true }
+{
     let bytes = BytesMut::copy_from_slice(alloc, bytes).ok()?;
-    match server.first_datagram(alloc, Instant::from_nanos(1), address(), None, bytes) {
-        Ok(true) => sealed(alloc, &mut server),
-        _ => None,
+    let now = Instant::from_nanos(1);
+    server
+        .first_datagram(alloc, now, address(), None, bytes)
+        .ok()
+}
+
+/// A server that took a datagram which it was handed whole.
+fn server_behind(alloc: Global, bytes: &[u8]) -> Option<Box<Connection<Toy>>> {
+    let mut server = usual_server(alloc)?;
+    if takes(alloc, &mut server, bytes)? {
+        Some(server)
+    } else {
+        None
     }
+}
+
+/// What a server answers to a datagram that it is handed whole.
+fn answer_to_whole(alloc: Global, bytes: &[u8]) -> Option<Vec<u8>> {
+    let mut server = server_behind(alloc, bytes)?;
+    sealed(alloc, &mut server)
 }
 
 /// What a server answers that is handed its first packet in front of these bytes.
@@ -238,35 +260,46 @@ fn answer_to_opened(alloc: Global, bytes: &[u8]) -> Option<Vec<u8>> {
     }
 }
 
+/// The client's hello.
+fn hello(alloc: Global) -> Option<Vec<u8>> {
+    let mut client = client_at(alloc, 0, false)?;
+    sealed(alloc, &mut client)
+}
+
+/// A server that took the client's hello.
+fn server_behind_hello(alloc: Global) -> Option<Box<Connection<Toy>>> {
+    let hello = hello(alloc)?;
+    server_behind(alloc, hello.as_slice())
+}
+
 /// The first two datagrams of a server that is handed the client's hello.
 pub(crate) fn answers(alloc: Global) -> Option<(Vec<u8>, Vec<u8>)> {
-    let mut client = client_at(alloc, 0)?;
-    let hello = sealed(alloc, &mut client)?;
-    let mut server = server(
-        alloc,
-        address(),
-        ConnectionId::new(&[2; 8]),
-        ConnectionId::new(&[1; 8]),
-    )?;
-    let bytes = BytesMut::copy_from_slice(alloc, hello.as_slice()).ok()?;
-    match server.first_datagram(alloc, Instant::from_nanos(1), address(), None, bytes) {
-        Ok(true) => {
-            let first = sealed(alloc, &mut server)?;
-            let second = sealed(alloc, &mut server)?;
-            Some((first, second))
-        }
-        _ => None,
-    }
+    let mut server = server_behind_hello(alloc)?;
+    let first = sealed(alloc, &mut server)?;
+    let second = sealed(alloc, &mut server)?;
+    Some((first, second))
+}
+
+/// The length of what a server answers to a datagram that it is handed whole, and whether it is this.
+fn is_answer_to_whole(alloc: Global, bytes: &[u8], answer: &[u8]) -> Option<(usize, bool)> {
+    let whole = answer_to_whole(alloc, bytes)?;
+    Some((whole.len(), whole.as_slice() == answer))
+}
+
+/// The length of what a server answers to a datagram that it is handed whole, and whether that is what it answers where its endpoint
+/// opened the first packet.
+fn compare_answers(alloc: Global, bytes: &[u8]) -> Option<(usize, bool)> {
+    let opened = answer_to_opened(alloc, bytes)?;
+    is_answer_to_whole(alloc, bytes, opened.as_slice())
 }
 
 // The client's hello, once whole and once opened.
 #[test]
 fn a_first_packet_that_was_opened_is_heard(rt: HostRuntime) -> Result<(), Fail> {
-    let mut client = client_at(rt.alloc(), 0).ok_or("no client")?;
-    let hello = sealed(rt.alloc(), &mut client).ok_or("no hello")?;
-    let whole = answer_to_whole(rt.alloc(), hello.as_slice()).ok_or("no answer to the whole")?;
-    let opened = answer_to_opened(rt.alloc(), hello.as_slice()).ok_or("no answer to the opened")?;
-    assert_eq!(rt; whole.len(), 1200);
-    assert!(rt; opened.as_slice() == whole.as_slice());
+    let hello = hello(rt.alloc()).ok_or("no hello")?;
+    assert_eq!(rt;
+        compare_answers(rt.alloc(), hello.as_slice()),
+        Some((1200, true))
+    );
     Ok(())
 }
