@@ -123,6 +123,13 @@ impl<U: Suite> Connection<U> {
         })
     }
 
+    /// Whether this is a server that waits for its first packet: then `first_datagram` takes what comes, and else `handle_event`.
+    pub fn is_first_awaited(&self) -> bool
+        ensures { result ≡ is_first_awaited self.now.core.setup }
+    {
+        self.core.setup.is_first_awaited()
+    }
+
     /// A datagram came from `remote` at `now` to a server that waits for its first packet. True exactly where it is taken: the
     /// handshake goes on, it has at least 1200 bytes, it comes from the path's address, and it begins with an Initial packet
     /// with the ids that this end was made with, which opens and whose reserved bits are 0. Its token is then expected of the
