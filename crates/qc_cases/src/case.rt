@@ -3,7 +3,8 @@
 use crate::check::{Check, Kind};
 use crate::names::Names;
 use anyhow::{Result, bail};
-use qc_run::{MemorySink, MemorySource, Status, run};
+use qc_run::run::{Status, run};
+use qc_run::{MemorySink, MemorySource};
 use std::alloc::{AllocError, Global};
 
 /// How many bytes a run may write.

@@ -6,7 +6,7 @@
 
 mod perform;
 mod random;
-mod run;
+pub mod run;
 mod sink;
 mod source;
 mod standard;
@@ -15,7 +15,6 @@ mod transfer;
 
 pub use perform::{Toy, script_end};
 pub use random::ScriptRandom;
-pub use run::{Status, end, run};
 pub use sink::{MemorySink, Sink};
 pub use source::{Failed, MemorySource, SliceSource, Source};
 pub use standard::{StdSink, StdSource};

@@ -1,6 +1,7 @@
 //! Runs of the hello over sources and sinks in memory, some of whose calls fail.
 
-use qc_run::{MemorySink, MemorySource, SliceSource, Source, Status, run};
+use qc_run::run::{Status, run};
+use qc_run::{MemorySink, MemorySource, SliceSource, Source};
 use std::alloc::{AllocError, Global};
 use std::slice;
 use std::test::Fail;

@@ -3,7 +3,7 @@
 
 use bytes::Bytes;
 use qc_base::{EcnCodepoint, Instant, ResetToken, SpaceId, TransportErrorCode, VarInt};
-use qc_frame::{FrameList, FrameOf};
+use qc_frame::{FrameList, FrameOf, OwnedFrame};
 use qc_state::{
     Answer, ApplicationClose, Body, ConnectionClose, ConnectionError, Dids, EndpointEvent,
     EndpointEvents, Events, Layer, Quiet, Step, Trace, Verdict, Word,
@@ -15,39 +15,83 @@ use std::test::Fail;
 
 /// A step at time 5 with these deeds and this answer, which reports nothing.
 fn step(alloc: Global, word: Word, did: Dids, answer: Answer) -> Step {
+    reporting(
+        word,
+        did,
+        answer,
+        Events::new(alloc),
+        EndpointEvents::new(alloc),
+    )
+}
+
+/// A step at time 5 with these deeds, this answer and these reports.
+fn reporting(
+    word: Word,
+    did: Dids,
+    answer: Answer,
+    events: Events,
+    endpoint: EndpointEvents,
+) -> Step {
     Step {
         at: 0,
         word,
         now: Instant::from_nanos(5),
         did,
         answer,
-        events: Events::new(alloc),
-        endpoint: EndpointEvents::new(alloc),
+        events,
+        endpoint,
         timeout: None,
     }
 }
 
-/// The text of a trace with this step alone.
-fn text(alloc: Global, step: Step) -> Result<String, Fail> {
+/// A trace with this step alone.
+fn trace_of(alloc: Global, step: Step) -> Result<Trace, AllocError> {
     let mut trace = Trace::new(alloc);
     trace.push(step)?;
-    let bytes = trace_text(alloc, &trace)?;
-    Ok(String::from_utf8(bytes)?)
+    Ok(trace)
+}
+
+/// The text of a trace with this step alone.
+fn text(alloc: Global, step: Step) -> Result<Vec<u8>, AllocError> {
+    let trace = trace_of(alloc, step)?;
+    trace_text(alloc, &trace)
+}
+
+/// Whether the text of a trace with this step alone is this.
+fn is_text(alloc: Global, step: Step, told: &str) -> Result<bool, AllocError> {
+    let text = text(alloc, step)?;
+    Ok(text.as_slice() == told.as_bytes())
+}
+
+/// Whether the texts of no steps are these: that of the whole trace, and that of its steps.
+fn are_texts(alloc: Global, whole: &str, begun: &str) -> Result<(bool, bool), AllocError> {
+    let trace = Trace::new(alloc);
+    let is_whole = is_trace_text(alloc, &trace, whole)?;
+    let is_begun = is_steps_text(alloc, trace.as_slice(), begun)?;
+    Ok((is_whole, is_begun))
+}
+
+/// Whether the text of a trace is this.
+fn is_trace_text(alloc: Global, trace: &Trace, told: &str) -> Result<bool, AllocError> {
+    let text = trace_text(alloc, trace)?;
+    Ok(text.as_slice() == told.as_bytes())
+}
+
+/// Whether the text of these steps is this.
+fn is_steps_text(alloc: Global, steps: &[Step], told: &str) -> Result<bool, AllocError> {
+    let text = steps_text(alloc, steps)?;
+    Ok(text.as_slice() == told.as_bytes())
 }
 
 #[test]
 fn no_steps(rt: HostRuntime) -> Result<(), Fail> {
-    let trace = Trace::new(rt.alloc());
-    let whole = String::from_utf8(trace_text(rt.alloc(), &trace)?)?;
-    assert_eq!(rt; whole.as_str(), "qconn 1\nend\n");
-    let begun = String::from_utf8(steps_text(rt.alloc(), trace.as_slice())?)?;
-    assert_eq!(rt; begun.as_str(), "qconn 1\n");
+    let are = are_texts(rt.alloc(), "qconn 1\nend\n", "qconn 1\n")?;
+    assert_eq!(rt; are, (true, true));
     Ok(())
 }
 
-#[test]
-fn packets_that_came(rt: HostRuntime) -> Result<(), Fail> {
-    let mut did = Dids::new(rt.alloc());
+/// A packet of each verdict.
+fn put_pieces(did: &mut Dids) -> Result<(), AllocError> {
     did.push_piece(Some(SpaceId::Initial), Some(0), Verdict::Admitted)?;
     did.push_piece(Some(SpaceId::Handshake), None, Verdict::Failure)?;
     did.push_piece(Some(SpaceId::Data), Some(7), Verdict::Seen)?;
@@ -55,82 +99,115 @@ fn packets_that_came(rt: HostRuntime) -> Result<(), Fail> {
     did.push_piece(Some(SpaceId::Initial), Some(1), Verdict::AckOnly)?;
     did.push_piece(Some(SpaceId::Initial), Some(2), Verdict::BadBits)?;
     did.push_piece(Some(SpaceId::Initial), Some(3), Verdict::ReadForClose)?;
-    did.push_piece(Some(SpaceId::Data), Some(4), Verdict::NumberOnly)?;
-    let step = step(rt.alloc(), Word::Datagram, did, Answer::Done);
-    let text = text(rt.alloc(), step)?;
-    assert_eq!(rt;
-        text.as_str(),
-        "qconn 1\nstep 0 datagram 5\npiece initial 0 Admitted\npiece handshake - Failure\npiece data 7 Seen\npiece - - Ignored\npiece initial 1 AckOnly\npiece initial 2 BadBits\npiece initial 3 ReadForClose\npiece data 4 NumberOnly\nanswer done\ntimer -\nend\n"
-    );
+    did.push_piece(Some(SpaceId::Data), Some(4), Verdict::NumberOnly)
+}
+
+/// A step in which such packets came.
+fn pieces_step(alloc: Global) -> Result<Step, AllocError> {
+    let mut did = Dids::new(alloc);
+    put_pieces(&mut did)?;
+    Ok(step(alloc, Word::Datagram, did, Answer::Done))
+}
+
+#[test]
+fn packets_that_came(rt: HostRuntime) -> Result<(), Fail> {
+    let step = pieces_step(rt.alloc())?;
+    let told =
+        "qconn 1\nstep 0 datagram 5\npiece initial 0 Admitted\npiece handshake - Failure\npiece data 7 Seen\npiece - - Ignored\npiece initial 1 AckOnly\npiece initial 2 BadBits\npiece initial 3 ReadForClose\npiece data 4 NumberOnly\nanswer done\ntimer -\nend\n";
+    assert!(rt; is_text(rt.alloc(), step, told)?);
     Ok(())
 }
 
-/// The text of a step whose deed is that a layer was given this.
-fn given(alloc: Global, layer: Layer, bytes: &[u8]) -> Result<String, Fail> {
+/// A step whose deed is that a layer was given these bytes.
+fn given_step(alloc: Global, layer: Layer, bytes: &[u8]) -> Result<Step, AllocError> {
+    let body = Body::from_slice(alloc, bytes)?;
     let mut did = Dids::new(alloc);
-    did.push_gave(layer, Body::from_slice(alloc, bytes)?)?;
-    let step = step(alloc, Word::Datagram, did, Answer::Done);
-    text(alloc, step)
+    did.push_gave(layer, body)?;
+    Ok(step(alloc, Word::Datagram, did, Answer::Done))
 }
 
-// An ACK of number 0 alone, without and with counts of ECN; a close with code 5, no frame and no reason; an application's
-// close with code 7 and the reason "bye"; HANDSHAKE_DONE; a PING, which no layer is given.
+/// Whether that a layer was given these bytes is told by this line.
+fn is_given(alloc: Global, layer: Layer, bytes: &[u8], line: &str) -> Result<bool, Fail> {
+    let step = given_step(alloc, layer, bytes)?;
+    let text = String::from_utf8(text(alloc, step)?)?;
+    Ok(text.as_str().contains(line))
+}
+
+/// What the layer of the connection's life is given, and how it is told: a close with code 5, no frame and no reason; an
+/// application's close with code 7 and the reason "bye"; HANDSHAKE_DONE; a PING, which no layer is given; and no frame.
+const GIVEN_TO_LIFE: &[(&[u8], &str)] = &[
+    (&[0x1c, 5, 0, 0], "\ngave life CONNECTION_CLOSE/1c050000\n"),
+    (
+        &[0x1d, 7, 3, 0x62, 0x79, 0x65],
+        "\ngave life APPLICATION_CLOSE/1d0703627965\n",
+    ),
+    (&[0x1e], "\ngave life HANDSHAKE_DONE/1e\n"),
+    (&[1], "\ngave life -/01\n"),
+    (&[], "\ngave life -/\n"),
+];
+
+/// What recovery is given: an ACK of number 0 alone, without and with counts of ECN.
+const GIVEN_TO_RECOVERY: &[(&[u8], &str)] = &[
+    (&[2, 0, 0, 0, 0], "\ngave recovery ACK/0200000000\n"),
+    (
+        &[3, 0, 0, 0, 0, 1, 0, 0],
+        "\ngave recovery ACK/0300000000010000\n",
+    ),
+];
+
 #[test]
 fn frames_that_layers_are_given(rt: HostRuntime) -> Result<(), Fail> {
-    let ack = given(rt.alloc(), Layer::Recovery, &[2, 0, 0, 0, 0])?;
-    assert!(rt; ack.as_str().contains("\ngave recovery ACK/0200000000\n"));
-    let counted = given(rt.alloc(), Layer::Recovery, &[3, 0, 0, 0, 0, 1, 0, 0])?;
-    assert!(rt;
-        counted
-            .as_str()
-            .contains("\ngave recovery ACK/0300000000010000\n")
-    );
-    let close = given(rt.alloc(), Layer::Life, &[0x1c, 5, 0, 0])?;
-    assert!(rt;
-        close
-            .as_str()
-            .contains("\ngave life CONNECTION_CLOSE/1c050000\n")
-    );
-    let bye = given(rt.alloc(), Layer::Life, &[0x1d, 7, 3, 0x62, 0x79, 0x65])?;
-    assert!(rt;
-        bye.as_str()
-            .contains("\ngave life APPLICATION_CLOSE/1d0703627965\n")
-    );
-    let done = given(rt.alloc(), Layer::Life, &[0x1e])?;
-    assert!(rt; done.as_str().contains("\ngave life HANDSHAKE_DONE/1e\n"));
-    let other = given(rt.alloc(), Layer::Life, &[1])?;
-    assert!(rt; other.as_str().contains("\ngave life -/01\n"));
+    for (bytes, line) in GIVEN_TO_RECOVERY {
+        assert!(rt;
+            is_given(rt.alloc(), Layer::Recovery, bytes, line)?,
+            "{line}"
+        );
+    }
+    for (bytes, line) in GIVEN_TO_LIFE {
+        assert!(rt; is_given(rt.alloc(), Layer::Life, bytes, line)?, "{line}");
+    }
     given_frames_have_their_names();
-    let none = given(rt.alloc(), Layer::Life, &[])?;
-    assert!(rt; none.as_str().contains("\ngave life -/\n"));
     Ok(())
 }
 
 // They begin like an ACK, and have no name: they are no frame.
 #[test]
 fn bytes_that_the_session_is_given(rt: HostRuntime) -> Result<(), Fail> {
-    let bytes = given(rt.alloc(), Layer::Session, &[2, 0, 0x16, 0xff])?;
-    assert_eq!(rt;
-        bytes.as_str(),
-        "qconn 1\nstep 0 datagram 5\ngave session 020016ff\nanswer done\ntimer -\nend\n"
-    );
+    let step = given_step(rt.alloc(), Layer::Session, &[2, 0, 0x16, 0xff])?;
+    let told = "qconn 1\nstep 0 datagram 5\ngave session 020016ff\nanswer done\ntimer -\nend\n";
+    assert!(rt; is_text(rt.alloc(), step, told)?);
     Ok(())
+}
+
+/// The deed that the life rose to this.
+fn rose(alloc: Global, life: u8) -> Result<Dids, AllocError> {
+    let mut did = Dids::new(alloc);
+    did.push_rose(life)?;
+    Ok(did)
+}
+
+/// The events of a handshake that is over.
+fn connected(alloc: Global) -> Result<Events, AllocError> {
+    let mut events = Events::new(alloc);
+    events.push_ready()?;
+    events.push_connected()?;
+    Ok(events)
+}
+
+/// A step in which the handshake is over.
+fn handshake_step(alloc: Global) -> Result<Step, AllocError> {
+    let did = rose(alloc, 1)?;
+    let events = connected(alloc)?;
+    let endpoint = EndpointEvents::new(alloc);
+    Ok(reporting(Word::Datagram, did, Answer::Done, events, endpoint))
 }
 
 #[test]
 fn the_handshake(rt: HostRuntime) -> Result<(), Fail> {
-    let mut did = Dids::new(rt.alloc());
-    did.push_rose(1)?;
-    let mut step = step(rt.alloc(), Word::Datagram, did, Answer::Done);
-    let mut events = Events::new(rt.alloc());
-    events.push_ready()?;
-    events.push_connected()?;
-    step.events = events;
-    let text = text(rt.alloc(), step)?;
-    assert_eq!(rt;
-        text.as_str(),
-        "qconn 1\nstep 0 datagram 5\nlife 1\nanswer done\nevent handshake-data\nevent connected\ntimer -\nend\n"
-    );
+    let step = handshake_step(rt.alloc())?;
+    let told =
+        "qconn 1\nstep 0 datagram 5\nlife 1\nanswer done\nevent handshake-data\nevent connected\ntimer -\nend\n";
+    assert!(rt; is_text(rt.alloc(), step, told)?);
     Ok(())
 }
 
@@ -142,84 +219,106 @@ fn a_dropped_datagram(rt: HostRuntime) -> Result<(), Fail> {
         Dids::new(rt.alloc()),
         Answer::Dropped,
     );
-    let text = text(rt.alloc(), step)?;
-    assert_eq!(rt;
-        text.as_str(),
-        "qconn 1\nstep 0 datagram 5\nanswer dropped\ntimer -\nend\n"
-    );
+    let told = "qconn 1\nstep 0 datagram 5\nanswer dropped\ntimer -\nend\n";
+    assert!(rt; is_text(rt.alloc(), step, told)?);
     Ok(())
 }
 
-/// A step in which the connection drained for this reason, and told of it.
-fn lost(alloc: Global, reason: ConnectionError) -> Result<Step, AllocError> {
-    let mut did = Dids::new(alloc);
+/// The deeds that the life rose to this, for this reason.
+fn rose_for(alloc: Global, life: u8, reason: ConnectionError) -> Result<Dids, AllocError> {
+    let mut did = rose(alloc, life)?;
+    did.push_lost(reason)?;
+    Ok(did)
+}
+
+/// The event that the connection was lost for this reason.
+fn lost_event(alloc: Global, reason: ConnectionError) -> Result<Events, AllocError> {
     let mut events = Events::new(alloc);
-    did.push_rose(3)?;
-    did.push_lost(reason.copy()?)?;
     events.push_lost(reason)?;
-    let mut step = step(alloc, Word::Datagram, did, Answer::Done);
-    step.events = events;
+    Ok(events)
+}
+
+/// A step in which the connection drained for this reason, and told of it; it wants to be called at 9.
+fn lost_step(alloc: Global, reason: ConnectionError) -> Result<Step, AllocError> {
+    let did = rose_for(alloc, 3, reason.copy()?)?;
+    let events = lost_event(alloc, reason)?;
+    let endpoint = EndpointEvents::new(alloc);
+    let mut step = reporting(Word::Datagram, did, Answer::Done, events, endpoint);
     step.timeout = Some(Instant::from_nanos(9));
     Ok(step)
 }
 
+/// Whether the text of a trace in which the connection drained for this reason is this.
+fn is_lost_text(alloc: Global, reason: ConnectionError, told: &str) -> Result<bool, AllocError> {
+    let step = lost_step(alloc, reason)?;
+    is_text(alloc, step, told)
+}
+
 #[test]
-fn closes_of_the_peer(rt: HostRuntime) -> Result<(), Fail> {
-    let silent = ConnectionError::ConnectionClosed(ConnectionClose {
+fn a_close_of_the_peer(rt: HostRuntime) -> Result<(), Fail> {
+    let reason = ConnectionError::ConnectionClosed(ConnectionClose {
         error_code: TransportErrorCode::STREAM_STATE_ERROR,
         frame_type: None,
         reason: Bytes::new(),
     });
-    let text_of_silent = text(rt.alloc(), lost(rt.alloc(), silent)?)?;
-    assert_eq!(rt;
-        text_of_silent.as_str(),
-        "qconn 1\nstep 0 datagram 5\nlife 3\nlost ConnectionClosed 5 - -\nanswer done\nevent lost ConnectionClosed 5 - -\ntimer 9\nend\n"
-    );
-    let told = ConnectionError::ConnectionClosed(ConnectionClose {
+    let told =
+        "qconn 1\nstep 0 datagram 5\nlife 3\nlost ConnectionClosed 5 - -\nanswer done\nevent lost ConnectionClosed 5 - -\ntimer 9\nend\n";
+    assert!(rt; is_lost_text(rt.alloc(), reason, told)?);
+    Ok(())
+}
+
+#[test]
+fn a_close_of_the_peer_with_its_reason(rt: HostRuntime) -> Result<(), Fail> {
+    let reason = ConnectionError::ConnectionClosed(ConnectionClose {
         error_code: TransportErrorCode::PROTOCOL_VIOLATION,
         frame_type: Some(6),
         reason: Bytes::from_static(b"no"),
     });
-    let text_of_told = text(rt.alloc(), lost(rt.alloc(), told)?)?;
-    assert_eq!(rt;
-        text_of_told.as_str(),
-        "qconn 1\nstep 0 datagram 5\nlife 3\nlost ConnectionClosed 10 6 6e6f\nanswer done\nevent lost ConnectionClosed 10 6 6e6f\ntimer 9\nend\n"
-    );
+    let told =
+        "qconn 1\nstep 0 datagram 5\nlife 3\nlost ConnectionClosed 10 6 6e6f\nanswer done\nevent lost ConnectionClosed 10 6 6e6f\ntimer 9\nend\n";
+    assert!(rt; is_lost_text(rt.alloc(), reason, told)?);
     Ok(())
 }
 
 #[test]
 fn a_close_of_the_application(rt: HostRuntime) -> Result<(), Fail> {
-    let bye = ConnectionError::ApplicationClosed(ApplicationClose {
+    let reason = ConnectionError::ApplicationClosed(ApplicationClose {
         error_code: VarInt::from_u32(7),
         reason: Bytes::from_static(b"bye"),
     });
-    let text = text(rt.alloc(), lost(rt.alloc(), bye)?)?;
-    assert_eq!(rt;
-        text.as_str(),
-        "qconn 1\nstep 0 datagram 5\nlife 3\nlost ApplicationClosed 7 627965\nanswer done\nevent lost ApplicationClosed 7 627965\ntimer 9\nend\n"
-    );
+    let told =
+        "qconn 1\nstep 0 datagram 5\nlife 3\nlost ApplicationClosed 7 627965\nanswer done\nevent lost ApplicationClosed 7 627965\ntimer 9\nend\n";
+    assert!(rt; is_lost_text(rt.alloc(), reason, told)?);
     Ok(())
+}
+
+/// The event that the connection is drained.
+fn drained(alloc: Global) -> Result<EndpointEvents, AllocError> {
+    let mut endpoint = EndpointEvents::new(alloc);
+    endpoint.push(Some(EndpointEvent::Drained))?;
+    Ok(endpoint)
+}
+
+/// A step in which the connection ended with these deeds, because the peer gave no sign.
+fn silent_step_of(alloc: Global, did: Dids) -> Result<Step, AllocError> {
+    let events = lost_event(alloc, ConnectionError::TimedOut)?;
+    let endpoint = drained(alloc)?;
+    Ok(reporting(Word::Timeout, did, Answer::Done, events, endpoint))
+}
+
+/// A step in which the connection ended because the peer gave no sign.
+fn silent_step(alloc: Global) -> Result<Step, AllocError> {
+    let did = rose_for(alloc, 4, ConnectionError::TimedOut)?;
+    silent_step_of(alloc, did)
 }
 
 // A reason without values ends its line.
 #[test]
 fn an_end_without_a_sign(rt: HostRuntime) -> Result<(), Fail> {
-    let mut did = Dids::new(rt.alloc());
-    did.push_rose(4)?;
-    did.push_lost(ConnectionError::TimedOut)?;
-    let mut step = step(rt.alloc(), Word::Timeout, did, Answer::Done);
-    let mut events = Events::new(rt.alloc());
-    events.push_lost(ConnectionError::TimedOut)?;
-    step.events = events;
-    let mut endpoint = EndpointEvents::new(rt.alloc());
-    endpoint.push(Some(EndpointEvent::Drained))?;
-    step.endpoint = endpoint;
-    let text = text(rt.alloc(), step)?;
-    assert_eq!(rt;
-        text.as_str(),
-        "qconn 1\nstep 0 timeout 5\nlife 4\nlost TimedOut\nanswer done\nevent lost TimedOut\nendpoint drained\ntimer -\nend\n"
-    );
+    let step = silent_step(rt.alloc())?;
+    let told =
+        "qconn 1\nstep 0 timeout 5\nlife 4\nlost TimedOut\nanswer done\nevent lost TimedOut\nendpoint drained\ntimer -\nend\n";
+    assert!(rt; is_text(rt.alloc(), step, told)?);
     Ok(())
 }
 
@@ -231,86 +330,129 @@ fn frames(alloc: Global) -> Result<FrameList, AllocError> {
     Ok(frames)
 }
 
-#[test]
-fn a_packet_that_was_sent(rt: HostRuntime) -> Result<(), Fail> {
-    let mut did = Dids::new(rt.alloc());
-    did.push_sealed(SpaceId::Handshake, 12, frames(rt.alloc())?)?;
-    let answer = Answer::Out {
+/// The deed that a packet with these frames was sealed.
+fn sealed(
+    alloc: Global,
+    space: SpaceId,
+    number: u64,
+    frames: FrameList,
+) -> Result<Dids, AllocError> {
+    let mut did = Dids::new(alloc);
+    did.push_sealed(space, number, frames)?;
+    Ok(did)
+}
+
+/// The answer that two bytes are sent.
+fn out(alloc: Global) -> Result<Answer, AllocError> {
+    let bytes = Body::from_slice(alloc, &[0xab, 1])?;
+    Ok(Answer::Out {
         destination: SocketAddr::new(IpAddr::V4(Ipv4Addr::new(192, 0, 2, 1)), 4433),
         segment: None,
         ecn: Some(EcnCodepoint::Ect0),
-        bytes: Body::from_slice(rt.alloc(), &[0xab, 1])?,
-    };
-    let step = step(rt.alloc(), Word::Transmit, did, answer);
-    let text = text(rt.alloc(), step)?;
-    assert_eq!(rt;
-        text.as_str(),
-        "qconn 1\nstep 0 transmit 5\nseal handshake 12 0 PING/01 PADDING*3\nout c0000201/4433 2 - 2 ab01\ntimer -\nend\n"
-    );
+        bytes,
+    })
+}
+
+/// A step in which a packet was sent.
+fn sent_step(alloc: Global) -> Result<Step, AllocError> {
+    let did = sealed(alloc, SpaceId::Handshake, 12, frames(alloc)?)?;
+    let answer = out(alloc)?;
+    Ok(step(alloc, Word::Transmit, did, answer))
+}
+
+#[test]
+fn a_packet_that_was_sent(rt: HostRuntime) -> Result<(), Fail> {
+    let step = sent_step(rt.alloc())?;
+    let told =
+        "qconn 1\nstep 0 transmit 5\nseal handshake 12 0 PING/01 PADDING*3\nout c0000201/4433 2 - 2 ab01\ntimer -\nend\n";
+    assert!(rt; is_text(rt.alloc(), step, told)?);
     Ok(())
 }
 
-// An application's close with code 7 and the reason "bye", in a 1-RTT packet, and two PADDING frames behind it.
-#[test]
-fn a_close_of_this_application(rt: HostRuntime) -> Result<(), Fail> {
-    let mut reason = Vec::new(rt.alloc());
-    reason.extend_from_slice(b"bye")?;
-    let mut frames = FrameList::new(rt.alloc());
-    frames.push(FrameOf::ApplicationClose {
+/// An application's close with code 7 and the reason "bye".
+fn application_close(alloc: Global) -> Result<OwnedFrame, AllocError> {
+    let reason = Vec::from_slice(alloc, b"bye")?;
+    Ok(FrameOf::ApplicationClose {
         error_code: VarInt::from_u32(7),
         reason,
-    })?;
+    })
+}
+
+/// That close, and two PADDING frames.
+fn close_frames(alloc: Global) -> Result<FrameList, AllocError> {
+    let close = application_close(alloc)?;
+    let mut frames = FrameList::new(alloc);
+    frames.push(close)?;
     frames.push_padding(2)?;
-    let mut did = Dids::new(rt.alloc());
-    did.push_sealed(SpaceId::Data, 3, frames)?;
-    let step = step(rt.alloc(), Word::Transmit, did, Answer::Nothing);
-    let text = text(rt.alloc(), step)?;
-    assert_eq!(rt;
-        text.as_str(),
-        "qconn 1\nstep 0 transmit 5\nseal data 3 0 APPLICATION_CLOSE/1d0703627965 PADDING*2\ntimer -\nend\n"
-    );
+    Ok(frames)
+}
+
+/// A step in which a packet with these frames was sealed and nothing was sent.
+fn close_step(alloc: Global) -> Result<Step, AllocError> {
+    let did = sealed(alloc, SpaceId::Data, 3, close_frames(alloc)?)?;
+    Ok(step(alloc, Word::Transmit, did, Answer::Nothing))
+}
+
+// The close stands in a 1-RTT packet.
+#[test]
+fn a_close_of_this_application(rt: HostRuntime) -> Result<(), Fail> {
+    let step = close_step(rt.alloc())?;
+    let told =
+        "qconn 1\nstep 0 transmit 5\nseal data 3 0 APPLICATION_CLOSE/1d0703627965 PADDING*2\ntimer -\nend\n";
+    assert!(rt; is_text(rt.alloc(), step, told)?);
     Ok(())
+}
+
+/// What the endpoint is told: a token, nothing, and that 7 ids were wanted at 5.
+fn put_reports(endpoint: &mut EndpointEvents) -> Result<(), AllocError> {
+    let ip = Ipv6Addr::new(0x2001, 0xdb8, 0, 0, 0, 0, 0, 1);
+    let token = ResetToken::from([
+        240, 241, 242, 243, 244, 245, 246, 247, 248, 249, 250, 251, 252, 253, 254, 255,
+    ]);
+    let address = SocketAddr::new(IpAddr::V6(ip), 4433);
+    endpoint.push(Some(EndpointEvent::ResetToken(address, token)))?;
+    endpoint.push(None)?;
+    endpoint.push(Some(EndpointEvent::NeedIdentifiers(Instant::from_nanos(5), 7)))
+}
+
+/// A step that tells the endpoint so.
+fn reports_step(alloc: Global) -> Result<Step, AllocError> {
+    let mut endpoint = EndpointEvents::new(alloc);
+    put_reports(&mut endpoint)?;
+    let did = Dids::new(alloc);
+    let events = Events::new(alloc);
+    Ok(reporting(Word::Datagram, did, Answer::Done, events, endpoint))
 }
 
 // The token is the bytes from 240 to 255, and holds for the port 4433 of 2001:db8::1.
 #[test]
 fn reports_to_the_endpoint(rt: HostRuntime) -> Result<(), Fail> {
-    let mut step = step(
-        rt.alloc(),
-        Word::Datagram,
-        Dids::new(rt.alloc()),
-        Answer::Done,
-    );
-    let ip = Ipv6Addr::new(0x2001, 0xdb8, 0, 0, 0, 0, 0, 1);
-    let token = ResetToken::from([
-        240, 241, 242, 243, 244, 245, 246, 247, 248, 249, 250, 251, 252, 253, 254, 255,
-    ]);
-    let mut endpoint = EndpointEvents::new(rt.alloc());
-    endpoint.push(Some(EndpointEvent::ResetToken(SocketAddr::new(IpAddr::V6(ip), 4433), token)))?;
-    endpoint.push(None)?;
-    endpoint.push(Some(EndpointEvent::NeedIdentifiers(Instant::from_nanos(5), 7)))?;
-    step.endpoint = endpoint;
-    let text = text(rt.alloc(), step)?;
-    assert_eq!(rt;
-        text.as_str(),
-        "qconn 1\nstep 0 datagram 5\nanswer done\nendpoint reset-token 20010db8000000000000000000000001/4433 f0f1f2f3f4f5f6f7f8f9fafbfcfdfeff\nendpoint need 5 7\ntimer -\nend\n"
-    );
+    let step = reports_step(rt.alloc())?;
+    let told =
+        "qconn 1\nstep 0 datagram 5\nanswer done\nendpoint reset-token 20010db8000000000000000000000001/4433 f0f1f2f3f4f5f6f7f8f9fafbfcfdfeff\nendpoint need 5 7\ntimer -\nend\n";
+    assert!(rt; is_text(rt.alloc(), step, told)?);
     Ok(())
+}
+
+/// The deeds of a transmit that ended the connection.
+fn killed(alloc: Global) -> Result<Dids, AllocError> {
+    let mut did = rose(alloc, 4)?;
+    did.push_quiet(Quiet::Killed)?;
+    Ok(did)
+}
+
+/// A step in which a transmit ended the connection.
+fn killed_step(alloc: Global) -> Result<Step, AllocError> {
+    let did = killed(alloc)?;
+    let endpoint = drained(alloc)?;
+    let events = Events::new(alloc);
+    Ok(reporting(Word::Transmit, did, Answer::Nothing, events, endpoint))
 }
 
 #[test]
 fn the_end(rt: HostRuntime) -> Result<(), Fail> {
-    let mut did = Dids::new(rt.alloc());
-    did.push_rose(4)?;
-    did.push_quiet(Quiet::Killed)?;
-    let mut step = step(rt.alloc(), Word::Transmit, did, Answer::Nothing);
-    let mut endpoint = EndpointEvents::new(rt.alloc());
-    endpoint.push(Some(EndpointEvent::Drained))?;
-    step.endpoint = endpoint;
-    let text = text(rt.alloc(), step)?;
-    assert_eq!(rt;
-        text.as_str(),
-        "qconn 1\nstep 0 transmit 5\nlife 4\nquiet Killed\nendpoint drained\ntimer -\nend\n"
-    );
+    let step = killed_step(rt.alloc())?;
+    let told = "qconn 1\nstep 0 transmit 5\nlife 4\nquiet Killed\nendpoint drained\ntimer -\nend\n";
+    assert!(rt; is_text(rt.alloc(), step, told)?);
     Ok(())
 }

@@ -2,7 +2,8 @@
 //! and writes the text of the trace to standard output.
 #![tactic(auto)]
 
-use qc_run::{Status, StdSink, StdSource, end, run};
+use qc_run::run::{Status, end, run};
+use qc_run::{StdSink, StdSource};
 use std::env;
 use std::io::{self, ErrorKind};
 use std::process::ExitCode;
