@@ -71,27 +71,32 @@ fn expire(rt: &HostRuntime, end: &mut End, now: Instant) -> Result<()> {
     }
 }
 
-fn main(rt: HostRuntime) -> Result<()> {
-    let mut now = Instant::from_nanos(0);
-    let mut client = End::client(rt.alloc(), now)?;
-    let mut server = End::server(rt.alloc(), now)?;
+/// The client makes its handshake with the server, and closes in the fourth turn; then the two wait until they have forgotten
+/// each other. A turn carries what waits to be sent; where nothing does, the next timer comes.
+fn talk(rt: &HostRuntime, start: Instant, client: &mut End, server: &mut End) -> Result<()> {
+    let mut now = start;
     for turn in 0..10u32 {
         if turn == 3 {
-            client
-                .connection
-                .close(now, VarInt::from_u32(7), Bytes::from_static(b"bye"));
+            let reason = Bytes::from_static(b"bye");
+            client.connection.close(now, VarInt::from_u32(7), reason);
         }
-        let there = carry(&rt, now, &mut client, &mut server)?;
-        let back = carry(&rt, now, &mut server, &mut client)?;
+        let there = carry(rt, now, client, server)?;
+        let back = carry(rt, now, server, client)?;
         if !there && !back {
-            // Nothing is underway: the next timer comes.
-            let Some(next) = client.next_timeout(&server) else {
-                break
+            let Some(next) = client.next_timeout(server) else {
+                break;
             };
             now = next;
-            expire(&rt, &mut client, now)?;
-            expire(&rt, &mut server, now)?;
+            expire(rt, client, now)?;
+            expire(rt, server, now)?;
         }
     }
     Ok(())
+}
+
+fn main(rt: HostRuntime) -> Result<()> {
+    let start = Instant::from_nanos(0);
+    let mut client = End::client(rt.alloc(), start)?;
+    let mut server = End::server(rt.alloc(), start)?;
+    talk(&rt, start, &mut client, &mut server)
 }

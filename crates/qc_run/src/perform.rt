@@ -259,7 +259,8 @@ fn script_client(alloc: Global, set: &Settings) -> Result<Connection<Toy>, Alloc
 {
     let setup = client_setup(alloc, set)?;
     let mut store = OneToken::new(alloc, &set.token)?;
-    Connection::new_client(alloc, setup, &mut store, time_or(set.time))
+    let client = Connection::new_client(alloc, setup, &mut store, time_or(set.time))?;
+    Ok(client)
 }
 
 /// The server that these set lines make. Want of memory is the only error.
@@ -270,7 +271,8 @@ fn script_server(alloc: Global, set: &Settings) -> Result<Connection<Toy>, Alloc
     ensures plain { IfOk result (λ server. IsPlainStart server.core.waiting server.core.paths server.core.life) }
 {
     let setup = server_setup(alloc, set)?;
-    Connection::new_server(alloc, setup, time_or(set.time))
+    let server = Connection::new_server(alloc, setup, time_or(set.time))?;
+    Ok(server)
 }
 
 /// The connection that these set lines make, on the heap. Want of memory is the only error.
