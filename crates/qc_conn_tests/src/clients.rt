@@ -125,7 +125,7 @@ pub(crate) fn client_with_limit(alloc: Global, millis: u32) -> Option<Box<Connec
 /// The core of a client made at time 0.
 fn core(alloc: Global) -> Option<Core<Toy>> {
     let setup = setup(alloc, ToySettings::default(), TransportConfig::default())?;
-    Core::new_client(alloc, setup, Bytes::new(), Instant::from_nanos(0)).ok()
+    qc_making::new_client(alloc, setup, Bytes::new(), Instant::from_nanos(0)).ok()
 }
 
 /// A client made at time 0 whose next Initial packet has this number, and which met want of memory where `failed` says so.
