@@ -99,17 +99,6 @@ fn next_after(numbers: &[u64]) -> u64 {
     next
 }
 
-fn counts_of(counts: Option<(u32, u32)>) -> Option<EcnCounts> {
-    match counts {
-        None => None,
-        Some(counts) => Some(EcnCounts {
-            ect0: u64::from(counts.0),
-            ect1: 0,
-            ce: u64::from(counts.1),
-        }),
-    }
-}
-
 /// A sender.
 #[derive(Drop)]
 pub(crate) struct Sender {
@@ -161,8 +150,16 @@ impl Sender {
         alloc: Global,
         now: Instant,
         numbers: &[u64],
-        ecn: Option<EcnCounts>,
+        counts: Option<(u32, u32)>,
     ) -> Result<Settled, Fail> {
+        let ecn = match counts {
+            None => None,
+            Some(counts) => Some(EcnCounts {
+                ect0: u64::from(counts.0),
+                ect1: 0,
+                ce: u64::from(counts.1),
+            }),
+        };
         let owned = OwnedAck::of_numbers(alloc, &set_of(numbers), 0, ecn)?.ok_or("no numbers")?;
         let ack = Ack {
             largest: owned.largest,
@@ -193,7 +190,7 @@ impl Sender {
         numbers: &[u64],
         counts: Option<(u32, u32)>,
     ) -> Result<(usize, usize), Fail> {
-        let settled = self.settle(alloc, now, numbers, counts_of(counts))?;
+        let settled = self.settle(alloc, now, numbers, counts)?;
         Ok(numbers_of(settled))
     }
 
