@@ -108,7 +108,7 @@ take_have most zero es h = tt
 take_have most (suc n) [] h = tt
 take_have most (suc n) (e ∷ es) h = (h.0, h.1, take_have most n es h.2)
 
-found_has : (most : ℕ) (name : List ℕ) (es : List (List ℕ × List (List ℕ))) (queue : List (List ℕ)) → lookup (is_name name) es ≡ Some queue → HaveTokens most es → (0 < length queue) × (length queue ≤ most)
+pub found_has : (most : ℕ) (name : List ℕ) (es : List (List ℕ × List (List ℕ))) (queue : List (List ℕ)) → lookup (is_name name) es ≡ Some queue → HaveTokens most es → (0 < length queue) × (length queue ≤ most)
 found_has most name [] queue e h = cc
 found_has most name (f ∷ es) queue e h =
     (elim (is_name name f.0) as (λ b. cond b (Some f.1) (lookup (is_name name) es) ≡ Some queue → (0 < length queue) × (length queue ≤ most)) [
@@ -116,7 +116,7 @@ found_has most name (f ∷ es) queue e h =
       | false ↦ λ g. found_has most name es queue g h.2
     ]) e
 
-pushed_size : (most : ℕ) (token : List ℕ) (queue : List (List ℕ)) → 0 < most → length queue ≤ most → (0 < length (pushed most token queue)) × (length (pushed most token queue) ≤ most)
+pub pushed_size : (most : ℕ) (token : List ℕ) (queue : List (List ℕ)) → 0 < most → length queue ≤ most → (0 < length (pushed most token queue)) × (length (pushed most token queue) ≤ most)
 unfolding pushed
 pushed_size most token queue some few =
     (elim (nat_le most (length queue)) as (λ b. nat_le most (length queue) ≡ b → (0 < length ((if b then drop 1 queue else queue) ++ token ∷ [])) × (length ((if b then drop 1 queue else queue) ++ token ∷ []) ≤ most)) [

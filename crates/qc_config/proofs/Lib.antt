@@ -1,2 +1,3 @@
 pub mod CacheEntries
 pub mod CacheLaws
+pub mod KeptTokens

@@ -15,7 +15,7 @@ mod token_cache;
 mod validation_token;
 
 pub use announcement::announced;
-pub use cache_laws::cache_law;
+pub use cache_laws::{cache_gives_law, cache_law};
 pub use client::ClientConfig;
 pub use config_error::ConfigError;
 pub use endpoint::EndpointConfig;
