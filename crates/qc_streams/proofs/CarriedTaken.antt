@@ -22,8 +22,8 @@ use Rattle.qc_streams.specs.Credit.{room}
 use Rattle.qc_streams.specs.Frames.{bars_receiving, comes, receive_bar, receive_refusal, stream_came}
 use Rattle.qc_streams.specs.Records.{changed, record_of}
 use Rattle.qc_streams.specs.Refusals.{first_row, or_else}
-use Rattle.qc_streams.specs.Stream.{fresh_stream, has_ended, refusal_at, side_refusal, with_receiving}
-use Rattle.qc_streams.specs.Streams.{counted, dir_of, forgotten, fresh_peer, is_own, is_own_unopened, is_past_limit, is_peer_unopened, is_uni, lower_opened, met, opened_with, released, removed, settled, target, told_if}
+use Rattle.qc_streams.specs.Stream.{fresh_stream, has_ended, is_freed, refusal_at, side_refusal, with_receiving}
+use Rattle.qc_streams.specs.Streams.{counted, dir_of, forgotten, fresh_peer, is_own, is_own_unopened, is_past_limit, is_peer_unopened, is_uni, lingering, lower_opened, met, opened_with, released, removed, settled, stops_later, target, told_if}
 use Rattle.qc_streams.specs.Waiting.{left, left_from, touched, turn_at}
 use Rattle.qc_streams.specs.Waits.{IsPossible, Step, Read, StreamCame, after_step}
 use Rattle.qc_streams.specs.Within.{IsTaken}
@@ -158,7 +158,7 @@ freed_same k = refl
 
 removed_opened : (id : ℕ) (s : StreamsState) → HasOpened id s → HasOpened id (removed id s)
 unfolding removed
-removed_opened id s is = by (is_own s.side id)
+removed_opened id s is = by (is_own s.side id || is_freed (record_of id s.records))
   where
     by : (b : Bool) → was_opened s.side s.own (cond b s.peer (dir_put (dir_of id) (place_freed (by_dir (dir_of id) s.peer)) s.peer)) id ≡ true
     by true = is
@@ -168,13 +168,22 @@ left_opened : (turn : Option (ℤ × ℕ)) (id : ℕ) (s : StreamsState) → Has
 left_opened None id s is = is
 left_opened (Some place) id s is = is
 
+lingering_opened : (id : ℕ) (s : StreamsState) → HasOpened id s → HasOpened id (lingering id s)
+unfolding lingering touched
+lingering_opened id s is = by (is_own s.side id || is_freed (record_of id s.records))
+  where
+    by : (b : Bool) → was_opened s.side s.own (cond b s.peer (dir_put (dir_of id) (place_freed (by_dir (dir_of id) s.peer)) s.peer)) id ≡ true
+    by true = is
+    by false = opened_same s.side s.own s.peer _ (put_same place_freed freed_same (dir_of id) s.peer) id is
+
 settled_opened : (id : ℕ) (s : StreamsState) → HasOpened id s → HasOpened id (settled id s)
 unfolding settled released forgotten left touched
-settled_opened id s is = by (has_ended (record_of id s.records))
+settled_opened id s is = by (has_ended (record_of id s.records)) (stops_later (record_of id s.records))
   where
-    by : (b : Bool) → HasOpened id (cond b (released id s) (touched id s))
-    by true = removed_opened id (left id (forgotten id s)) (left_opened (turn_at (record_of id s.records)) id (forgotten id s) is)
-    by false = is
+    by : (b c : Bool) → HasOpened id (cond b (cond c (lingering id s) (released id s)) (touched id s))
+    by true true = lingering_opened id s is
+    by true false = removed_opened id (left id (forgotten id s)) (left_opened (turn_at (record_of id s.records)) id (forgotten id s) is)
+    by false c = is
 
 met_opened : (f : Recv → Recv) (id : ℕ) (s : StreamsState) → is_peer_unopened id s ≡ true → id < 2 ^ 62 → Holds s → HasOpened id (met (with_receiving f) id s)
 unfolding met opened_with with_receiving

@@ -1,6 +1,6 @@
 -- A part of a stream is drawn, and its turn is passed on, by one look at it
 use Rattle.std.proofs.Common.{◌≡◌, ◌∙◌, ℕ, Bool, true, false, if◌then◌else◌, Option, None, Some, ap, sym, subst, refl}
-use Rattle.std.specs.Prelude.{ℤ, neg_ℤ, negsuc}
+use Rattle.std.specs.Prelude.{ℤ, neg_ℤ}
 use Rattle.std.specs.BTreeMap.{is_at}
 use Rattle.std.specs.Ordering.{nat_cmp}
 use Rattle.qc_send_stream.specs.declared.send.Part.{Part}
@@ -9,11 +9,11 @@ use Rattle.qc_streams.specs.declared.state.StreamsState.{StreamsState}
 use Rattle.qc_streams.specs.declared.stream.Stream.{Stream}
 use Rattle.qc_streams.specs.declared.waiting.Waiting.{Waiting}
 use Rattle.qc_streams.specs.Lending.{AllRecords}
-use Rattle.qc_streams.specs.Parts.{IsTurnAt, IsTurnOf, draw_one, place_after, place_again, seal_one, sealed_part, turn_left, turn_taken, turned}
+use Rattle.qc_streams.specs.Parts.{IsTurnAt, IsTurnOf, draw_one, drawn_turn, first_rank, place_after, place_again, seal_one, sealed_part, turn_left, turn_taken, turned}
 use Rattle.qc_streams.specs.Records.{changed, on_some, record_of, with_record}
 use Rattle.qc_streams.specs.Stream.{with_sending}
 use Rattle.qc_streams.specs.Waiting.{dues_at, dues_of, entered, left, next_place, priority_at, with_turn}
-use Rattle.qc_streams.proofs.Filings.{entered_is, kept_out, left_is, same_turn, with_both}
+use Rattle.qc_streams.proofs.Filings.{entered_is, kept_out, left_is, with_both}
 use Rattle.qc_streams.proofs.Keyed.{set_here}
 use Rattle.qc_streams.proofs.Sequels.{set_twice}
 
@@ -29,41 +29,40 @@ again : (owes : Bool) (v : Stream) (id : ℕ) (all : AllRecords) (wait : Waiting
 unfolding turned_on with_both place_again next_place
 again false v id all wait s here = refl
 again true v id all wait s here =
-    ap (λ (o : Option Stream). entered (if s.fair then (neg_ℤ (priority_at o), wait.turns) else (negsuc 4294967295, wait.turns)) id (with_both (with_record id v all) wait s)) here
+    ap (λ (o : Option Stream). entered (if s.fair then (neg_ℤ (priority_at o), wait.turns) else (first_rank, wait.turns)) id (with_both (with_record id v all) wait s)) here
     ∙ entered_is v (place_after s.fair wait.turns v.priority) id (with_both (with_record id v all) wait s) here
     ∙ ap (λ (l : AllRecords). with_both l (turn_taken true (place_after s.fair wait.turns v.priority) id wait) s)
     (set_twice (is_at (nat_cmp id)) all v (with_turn (Some (place_after s.fair wait.turns v.priority)) v))
 
 -- the place that a stream without one is given, or none
-none_or : (owes : Bool) (place : ℤ × ℕ) (w : Stream) → w.turn ≡ None
-    → (if owes then with_turn (Some place) w else w) ≡ with_turn (if owes then Some place else None) w
-none_or true place w none = refl
-none_or false place w none = sym (same_turn w None none)
+none_or : (owes : Bool) (place : ℤ × ℕ) (w : Stream) → (if owes then with_turn (Some place) w else w) ≡ drawn_turn owes None place w
+none_or true place w = refl
+none_or false place w = refl
 
-other_or : (owes : Bool) (place : ℤ × ℕ) (w : Stream)
-    → (if owes then with_turn (Some place) (with_turn None w) else with_turn None w) ≡ with_turn (if owes then Some place else None) w
+other_or : (owes : Bool) (before place : ℤ × ℕ) (w : Stream)
+    → (if owes then with_turn (Some place) (with_turn None w) else with_turn None w) ≡ drawn_turn owes (Some before) place w
 unfolding with_turn
-other_or true place w = refl
-other_or false place w = refl
+other_or true before place w = refl
+other_or false before place w = refl
 
 passed_on : (owes : Bool) (turn : Option (ℤ × ℕ)) (w : Stream) (id : ℕ) (all : AllRecords) (wait : Waiting) (s : StreamsState) → w.turn ≡ turn
     → ((v : Stream) → record_of id (with_record id v all) ≡ Some v)
     → turned_on owes id (left id (with_both (with_record id w all) wait s))
-    ≡ with_both (with_record id (with_turn (if owes then Some (place_after s.fair wait.turns w.priority) else None) w) all)
+    ≡ with_both (with_record id (drawn_turn owes turn (place_after s.fair wait.turns w.priority) w) all)
     (turn_taken owes (place_after s.fair wait.turns w.priority) id (turn_left turn wait)) s
 unfolding with_both with_turn
 passed_on owes None w id all wait s has here =
     ap (λ (t : StreamsState). turned_on owes id t) (kept_out w id (with_both (with_record id w all) wait s) (here w) has)
     ∙ again owes w id all wait s (here w)
     ∙ ap (λ (x : Stream). with_both (with_record id x all) (turn_taken owes (place_after s.fair wait.turns w.priority) id wait) s)
-    (none_or owes (place_after s.fair wait.turns w.priority) w has)
+    (none_or owes (place_after s.fair wait.turns w.priority) w)
 passed_on owes (Some place) w id all wait s has here =
     ap (λ (t : StreamsState). turned_on owes id t)
     (left_is w place id (with_both (with_record id w all) wait s) (here w) has
     ∙ ap (λ (l : AllRecords). with_both l (turn_left (Some place) wait) s) (set_twice (is_at (nat_cmp id)) all w (with_turn None w)))
     ∙ again owes (with_turn None w) id all (turn_left (Some place) wait) s (here (with_turn None w))
     ∙ ap (λ (x : Stream). with_both (with_record id x all) (turn_taken owes (place_after s.fair wait.turns w.priority) id (turn_left (Some place) wait)) s)
-    (other_or owes (place_after s.fair wait.turns w.priority) w)
+    (other_or owes place (place_after s.fair wait.turns w.priority) w)
 
 turned_is : (o : Option Stream) (id : ℕ) (s : StreamsState) → record_of id s.records ≡ o → turned id s ≡ turned_on (dues_at o).bytes id (left id s)
 unfolding turned turned_on

@@ -1,7 +1,8 @@
 -- Places and turns: what stands at a place once a stream takes one, or gives one up, and which turn each stream has
-use Rattle.std.proofs.Common.{◌≡◌, ◌∙◌, ℕ, ℤ, ◌==◌, Bool, true, false, cond, ◌⊎◌, inl, inr, List, [], ◌∷◌, Option, None, Some, is_eq, is_some, ap, ap₂, sym, subst, arith, refl}
+use Rattle.std.proofs.Common.{◌≡◌, ◌∙◌, ℕ, ℤ, ◌==◌, Bool, true, false, cond, not, ◌&&◌, ◌⊎◌, inl, inr, List, [], ◌∷◌, Option, None, Some, is_eq, is_some, ap, ap₂, sym, subst, arith, refl}
 use Rattle.std.specs.declared.cmp.Ordering.{Ordering}
 use Rattle.std.specs.declared.cmp.Ordering.TheVariants.{Less, Equal, Greater}
+use Rattle.std.specs.Prelude.{neg_ℤ}
 use Rattle.std.specs.BTreeMap.{insert_entry, is_at}
 use Rattle.std.specs.Map.{lookup, remove_entry}
 use Rattle.std.specs.Option.{option_map}
@@ -15,7 +16,8 @@ use Rattle.qc_turns.specs.Ready.{place_cmp}
 use Rattle.qc_streams.specs.declared.stream.Stream.{Stream}
 use Rattle.qc_streams.specs.Lending.{AllRecords}
 use Rattle.qc_streams.specs.Records.{changed, on_some, record_of, with_new, without}
-use Rattle.qc_streams.specs.Waiting.{turn_at, with_turn}
+use Rattle.qc_streams.specs.Waiting.{due_at, due_next, dues_of, queue_one, takes_number, turn_at, with_turn}
+use Rattle.qc_streams.proofs.Waits.{here}
 use Rattle.qc_streams.proofs.Keyed.{Ascends, ascends_set, gone_here as record_gone, gone_other as record_left, new_here as record_new, new_other as record_old, set_alike, set_other}
 
 -- what an answer says
@@ -202,6 +204,28 @@ alike-in : (f : Stream → Stream) → ((st : Stream) → (f st).turn ≡ st.tur
 alike-in f same id j all None is = refl
 alike-in f same id j all (Some st) is = set_alike (λ (o : Option Stream). turn_at o) id j all st (f st) is (same st)
 
+-- a place is a stream's turn, or is put by for it
+abbrev pub Claims : Option Stream → ℤ × ℕ → Type 0
+Claims o place = (turn_at o ≡ Some place) ⊎ (due_at o ≡ Some place)
+
+pub claims_same : (o o' : Option Stream) (place : ℤ × ℕ) → turn_at o' ≡ turn_at o → due_at o' ≡ due_at o → Claims o' place → Claims o place
+claims_same o o' place turn due (inl is) = inl (sym turn ∙ is)
+claims_same o o' place turn due (inr is) = inr (sym due ∙ is)
+
+no_claim : (place : ℤ × ℕ) (o : Option Stream) → turn_at o ≡ None → due_at o ≡ None → Claims o place → ⊥
+no_claim place o turn due (inl is) = let no : None ≡ Some place = sym turn ∙ is in absurd (cc)
+no_claim place o turn due (inr is) = let no : None ≡ Some place = sym due ∙ is in absurd (cc)
+
+due-in : (f : Stream → Stream) → ((st : Stream) → (f st).due ≡ st.due) → (id j : ℕ) (all : AllRecords) (o : Option Stream) → record_of id all ≡ o
+    → due_at (record_of j (on_some f id o all)) ≡ due_at (record_of j all)
+due-in f same id j all None is = refl
+due-in f same id j all (Some st) is = set_alike (λ (o : Option Stream). due_at o) id j all st (f st) is (same st)
+
+-- the place that is put by for each stream stays where a change leaves that of one
+pub due_alike : (f : Stream → Stream) → ((st : Stream) → (f st).due ≡ st.due) → (id j : ℕ) (all : AllRecords)
+    → due_at (record_of j (changed f id all)) ≡ due_at (record_of j all)
+due_alike f same id j all = due-in f same id j all (record_of id all) refl
+
 -- the turn of each stream stays where a change leaves that of one
 pub turn_alike : (f : Stream → Stream) → ((st : Stream) → (f st).turn ≡ st.turn) → (id j : ℕ) (all : AllRecords)
     → turn_at (record_of j (changed f id all)) ≡ turn_at (record_of j all)
@@ -221,6 +245,88 @@ other-in f id j all (Some st) apart = set_other id j all (f st) (other_id id j a
 -- whatever becomes of one stream, the turn of any other stays
 pub turn_other : (f : Stream → Stream) (id j : ℕ) (all : AllRecords) → (id ≡ j → ⊥) → turn_at (record_of j (changed f id all)) ≡ turn_at (record_of j all)
 turn_other f id j all apart = ap (λ (o : Option Stream). turn_at o) (other-in f id j all (record_of id all) apart)
+
+pub due_other : (f : Stream → Stream) (id j : ℕ) (all : AllRecords) → (id ≡ j → ⊥) → due_at (record_of j (changed f id all)) ≡ due_at (record_of j all)
+due_other f id j all apart = ap (λ (o : Option Stream). due_at o) (other-in f id j all (record_of id all) apart)
+
+pub claims_other : (f : Stream → Stream) (id j : ℕ) (all : AllRecords) (q : ℤ × ℕ) → (id ≡ j → ⊥) → Claims (record_of j (changed f id all)) q
+    → Claims (record_of j all) q
+claims_other f id j all q apart = claims_same (record_of j all) (record_of j (changed f id all)) q (turn_other f id j all apart) (due_other f id j all apart)
+
+-- a stream that takes a place claims it alone
+entered-claim : (place q : ℤ × ℕ) (o : Option Stream) → Claims (option_map (with_turn (Some place)) o) q → place ≡ q
+unfolding with_turn
+entered-claim place q None (inl is) = absurd (cc)
+entered-claim place q None (inr is) = absurd (cc)
+entered-claim place q (Some st) (inl is) = cc
+entered-claim place q (Some st) (inr is) = absurd (cc)
+
+pub claims_entered : (place : ℤ × ℕ) (id j : ℕ) (all : AllRecords) (q : ℤ × ℕ) → Claims (record_of j (changed (with_turn (Some place)) id all)) q
+    → ((id ≡ j) × (place ≡ q)) ⊎ Claims (record_of j all) q
+claims_entered place id j all q claim = by (cases_eq id j)
+  where
+    by : (id ≡ j) ⊎ (id ≡ j → ⊥) → ((id ≡ j) × (place ≡ q)) ⊎ Claims (record_of j all) q
+    by (inl one) =
+        inl (
+          one,
+          entered-claim place q (record_of id all)
+              (subst (λ (o : Option Stream). Claims o q) (here (with_turn (Some place)) id all)
+              (subst (λ (k : ℕ). Claims (record_of k (changed (with_turn (Some place)) id all)) q) (sym one) claim)),
+        )
+    by (inr apart) = inr (claims_other (with_turn (Some place)) id j all q apart claim)
+
+left-claim : (q : ℤ × ℕ) (o : Option Stream) → Claims (option_map (with_turn None) o) q → ⊥
+unfolding with_turn
+left-claim q None (inl is) = absurd (cc)
+left-claim q None (inr is) = absurd (cc)
+left-claim q (Some st) (inl is) = absurd (cc)
+left-claim q (Some st) (inr is) = absurd (cc)
+
+-- one that gives its place up claims none
+pub claims_left : (id j : ℕ) (all : AllRecords) (q : ℤ × ℕ) → Claims (record_of j (changed (with_turn None) id all)) q → Claims (record_of j all) q
+claims_left id j all q claim = by (cases_eq id j)
+  where
+    by : (id ≡ j) ⊎ (id ≡ j → ⊥) → Claims (record_of j all) q
+    by (inl one) =
+        absurd (left-claim q (record_of id all)
+        (subst (λ (o : Option Stream). Claims o q) (here (with_turn None) id all)
+        (subst (λ (k : ℕ). Claims (record_of k (changed (with_turn None) id all)) q) (sym one) claim)))
+    by (inr apart) = claims_other (with_turn None) id j all q apart claim
+
+due-cases : (owes : Bool) (turn due : Option (ℤ × ℕ)) (next q : ℤ × ℕ) → due_next owes turn due next ≡ Some q
+    → ((next ≡ q) × ((owes && (not (is_some turn) && not (is_some due))) ≡ true)) ⊎ (due ≡ Some q)
+due-cases true None None next q is = inl (cc, refl)
+due-cases true None (Some place) next q is = inr is
+due-cases true (Some turn) due next q is = inr is
+due-cases false turn due next q is = absurd (cc)
+
+queued-claim : (n : ℕ) (q : ℤ × ℕ) (o : Option Stream) → Claims (option_map (queue_one n) o) q → ((q.1 ≡ n) × (takes_number o ≡ true)) ⊎ Claims o q
+unfolding queue_one
+queued-claim n q None (inl is) = absurd (cc)
+queued-claim n q None (inr is) = absurd (cc)
+queued-claim n q (Some st) (inl is) = inr (inl is)
+queued-claim n q (Some st) (inr is) = by (due-cases (dues_of st).bytes st.turn st.due (neg_ℤ st.priority, n) q is)
+  where
+    by : (((neg_ℤ st.priority, n) ≡ q) × (takes_number (Some st) ≡ true)) ⊎ (st.due ≡ Some q) → ((q.1 ≡ n) × (takes_number (Some st) ≡ true)) ⊎ Claims (Some st) q
+    by (inl new) = inl (ap (λ (p : ℤ × ℕ). p.1) (sym new.0), new.1)
+    by (inr is) = inr (inr is)
+
+-- one that began to wait claims the number of that moment, or what it claimed
+pub claims_queued : (n id j : ℕ) (all : AllRecords) (q : ℤ × ℕ) → Claims (record_of j (changed (queue_one n) id all)) q
+    → ((id ≡ j) × (q.1 ≡ n) × (takes_number (record_of id all) ≡ true)) ⊎ Claims (record_of j all) q
+claims_queued n id j all q claim = by (cases_eq id j)
+  where
+    new : (id ≡ j) → ((q.1 ≡ n) × (takes_number (record_of id all) ≡ true)) ⊎ Claims (record_of id all) q
+        → ((id ≡ j) × (q.1 ≡ n) × (takes_number (record_of id all) ≡ true)) ⊎ Claims (record_of j all) q
+    new one (inl is) = inl (one, is.0, is.1)
+    new one (inr claim) = inr (subst (λ (k : ℕ). Claims (record_of k all) q) one claim)
+
+    by : (id ≡ j) ⊎ (id ≡ j → ⊥) → ((id ≡ j) × (q.1 ≡ n) × (takes_number (record_of id all) ≡ true)) ⊎ Claims (record_of j all) q
+    by (inl one) =
+        new one (queued-claim n q (record_of id all)
+        (subst (λ (o : Option Stream). Claims o q) (here (queue_one n) id all)
+        (subst (λ (k : ℕ). Claims (record_of k (changed (queue_one n) id all)) q) (sym one) claim)))
+    by (inr apart) = inr (claims_other (queue_one n) id j all q apart claim)
 
 -- the turn that a stream is given
 pub turn_some : (turn : Option (ℤ × ℕ)) (o : Option Stream) → is_some o ≡ true → turn_at (option_map (with_turn turn) o) ≡ turn
@@ -256,3 +362,26 @@ new_turn id st all none absent j = by (id == j) refl
         subst (λ (k : ℕ). turn_at (record_of k (with_new id st all)) ≡ turn_at (record_of k all)) same
         (ap (λ (o : Option Stream). turn_at o) (record_new id all st) ∙ none ∙ sym (ap (λ (o : Option Stream). turn_at o) absent))
     by false is = ap (λ (o : Option Stream). turn_at o) (record_old id j all st is)
+
+-- what a stream claimed that leaves is free, and all others claim what they did
+pub without_claims : (id : ℕ) (all : AllRecords) → Ascends all → (j : ℕ) (q : ℤ × ℕ) → Claims (record_of j (without id all)) q → Claims (record_of j all) q
+without_claims id all order j q claim = by (id == j) refl
+  where
+    by : (b : Bool) → (id == j) ≡ b → Claims (record_of j all) q
+    by true is =
+        let same : id ≡ j = grind (arith, nat_tests) in
+        let gone : record_of j (without id all) ≡ None = subst (λ (k : ℕ). record_of k (without id all) ≡ None) same (record_gone id all order) in
+        absurd (no_claim q None refl refl (subst (λ (o : Option Stream). Claims o q) gone claim))
+    by false is = subst (λ (o : Option Stream). Claims o q) (record_left id j all is) claim
+
+-- a stream that comes claims none
+pub new_claims : (id : ℕ) (st : Stream) (all : AllRecords) → st.turn ≡ None → st.due ≡ None → (j : ℕ) (q : ℤ × ℕ)
+    → Claims (record_of j (with_new id st all)) q → Claims (record_of j all) q
+new_claims id st all turn due j q claim = by (id == j) refl
+  where
+    by : (b : Bool) → (id == j) ≡ b → Claims (record_of j all) q
+    by true is =
+        let same : id ≡ j = grind (arith, nat_tests) in
+        let new : record_of j (with_new id st all) ≡ Some st = subst (λ (k : ℕ). record_of k (with_new id st all) ≡ Some st) same (record_new id all st) in
+        absurd (no_claim q (Some st) turn due (subst (λ (o : Option Stream). Claims o q) new claim))
+    by false is = subst (λ (o : Option Stream). Claims o q) (record_old id j all st is) claim

@@ -17,7 +17,7 @@ use Rattle.qc_streams.specs.Lending.{AllRecords}
 use Rattle.qc_streams.specs.Parts.{place_again, turned}
 use Rattle.qc_streams.specs.Records.{changed, on_some, record_of, with_new, with_record, without}
 use Rattle.qc_streams.specs.Streams.{forgotten, released, removed}
-use Rattle.qc_streams.specs.Waiting.{all_filed, dues_at, entered, filed, is_idle, left, left_from, mark_off, new_waiting, next_place, place_left, place_made, placed, sets_filed, touched, turn_at, turn_filed, with_mark, with_turn}
+use Rattle.qc_streams.specs.Waiting.{all_filed, dues_at, entered, filed, is_idle, left, left_from, mark_off, due_at, new_waiting, next_place, or_next, place_left, place_made, placed, queue_one, queued, sets_filed, touched, turn_at, turn_filed, with_mark, with_turn}
 use Rattle.qc_streams.proofs.Keeps.{Fresh, Keeps, On, changed_in}
 use Rattle.qc_streams.proofs.Keyed.{Ascends, ascends_gone, ascends_new, ascends_set, gone_here, gone_other, new_here, new_other, set_alike, set_here, set_other}
 use Rattle.qc_streams.proofs.MarksOff.{filed_ids}
@@ -164,6 +164,13 @@ touched_room : (id : ℕ) (s : StreamsState) → On HasRoom s → On HasRoom (to
 unfolding touched
 touched_room id s h = touched-in id s.records s.waiting (record_of id s.records) refl h
 
+-- a stream began to wait
+queued_room : (id : ℕ) (s : StreamsState) → On HasRoom s → On HasRoom (queued id s)
+unfolding queued queue_one
+queued_room id s h =
+    same_marks (changed (queue_one s.waiting.turns) id s.records) s.waiting (queued id s).waiting refl
+    (kept (queue_one s.waiting.turns) (λ st. refl) id s.records s.waiting h)
+
 -- ---- a stream takes a turn, or gives it up
 
 left-from : (turn : Option (ℤ × ℕ)) (id : ℕ) (s : StreamsState) → On HasRoom s → On HasRoom (left_from turn id s)
@@ -192,7 +199,7 @@ turned_room id s h = by (dues_at (record_of id s.records)).bytes
     by false = left_room id s h
 
 turn-filed : (owes : Bool) (turn : Option (ℤ × ℕ)) (id : ℕ) (s : StreamsState) → On HasRoom s → On HasRoom (turn_filed owes turn id s)
-turn-filed true None id s h = entered_room (next_place id s) id s h
+turn-filed true None id s h = entered_room (or_next (due_at (record_of id s.records)) (next_place id s)) id s h
 turn-filed true (Some place) id s h = h
 turn-filed false turn id s h = left_room id s h
 
@@ -282,6 +289,8 @@ room = record {
   nothing = nothing_room;
   quiet = λ f owes id all w h. kept f owes.stays.mark id all w h;
   looked = λ f stays id s h. touched_room id (changed_in f id s) (kept f stays.mark id s.records s.waiting h);
+  queued = λ f stays id s h. touched_room id (queued id (changed_in f id s))
+      (queued_room id (changed_in f id s) (kept f stays.mark id s.records s.waiting h));
   gone = λ f stays id s h. released_room id (changed_in f id s) (kept f stays.mark id s.records s.waiting h);
   comes = comes_room;
   filed = filed_room;

@@ -14,10 +14,11 @@ use Rattle.qc_streams.specs.Parts.{place_again, turned}
 use Rattle.qc_streams.specs.Records.{changed, record_of, with_new, without}
 use Rattle.qc_streams.specs.Stops.{StopCodes}
 use Rattle.qc_streams.specs.Streams.{forgotten, released, removed}
-use Rattle.qc_streams.specs.Waiting.{dues_at, entered, filed, is_idle, left, mark_off, new_waiting, place_left, place_made, placed, sets_filed, touched, turn_at, turn_filed, with_mark}
+use Rattle.qc_streams.specs.Waiting.{dues_at, entered, filed, is_idle, left, mark_off, new_waiting, place_left, place_made, placed, queue_one, queued, sets_filed, touched, turn_at, turn_filed, with_mark}
 use Rattle.qc_streams.proofs.FiledIds.{AllAscend, Beside, InSets, Others, Sets, TurnOnly, entered_only, entered_turn, left_only, left_turn, none_changes, none_moves, one_changed, one_gone, one_new, one_then, put, put_here, same_id, same_turn, sets_beside, sets_here, sets_of, stays, turn_then}
 use Rattle.qc_streams.proofs.Keeps.{Fresh, Keeps, On, Owes, OwesBytes, Stays, changed_in, no_credit, no_reset, no_stop}
 use Rattle.qc_streams.proofs.Keyed.{Ascends, gone_here, new_here}
+use Rattle.qc_streams.proofs.Sequels.{changed_twice}
 use Rattle.qc_streams.proofs.Waits.{here}
 
 -- the ids of each set ascend, and of each stream without a mark, and of each id without a stream: it is in each set exactly where it owes
@@ -197,21 +198,35 @@ part_fits f k id s h =
 
 -- ---- a stream is looked at, leaves or comes
 
-looked_fits : (f : Stream → Stream) → Stays f → (id : ℕ) (s : StreamsState) → On SetsFit s → On SetsFit (touched id (changed_in f id s))
-unfolding touched with_mark
-looked_fits f k id s h =
-    let all' : AllRecords = changed (with_mark true) id (changed f id s.records) in
-    same_sets all' s.waiting (touched id (changed_in f id s)).waiting refl
-    (one_fits id s.records all' s.waiting s.waiting
-    (one_then id s.records (changed f id s.records) all' (one_changed f id s.records) (one_changed (with_mark true) id (changed f id s.records)))
-    (none_moves id (sets_of s.waiting))
-    (subst (Idle (λ o. IsExact id o s.waiting))
-    (sym (here (with_mark true) id (changed f id s.records) ∙ ap (λ (o : Option Stream). option_map (with_mark true) o) (here f id s.records)))
-    (by (record_of id s.records) (h.exact id))) h)
+marked_fits : (f : Stream → Stream) (id : ℕ) (all : AllRecords) (w : Waiting) → SetsFit all w → SetsFit (changed (with_mark true) id (changed f id all)) w
+unfolding with_mark
+marked_fits f id all w h =
+    let all' : AllRecords = changed (with_mark true) id (changed f id all) in
+    one_fits id all all' w w
+    (one_then id all (changed f id all) all' (one_changed f id all) (one_changed (with_mark true) id (changed f id all)))
+    (none_moves id (sets_of w))
+    (subst (Idle (λ o. IsExact id o w))
+    (sym (here (with_mark true) id (changed f id all) ∙ ap (λ (o : Option Stream). option_map (with_mark true) o) (here f id all)))
+    (by (record_of id all) (h.exact id))) h
   where
-    by : (o : Option Stream) → Idle (λ x. IsExact id x s.waiting) o → Idle (λ x. IsExact id x s.waiting) (option_map (with_mark true) (option_map f o))
+    by : (o : Option Stream) → Idle (λ x. IsExact id x w) o → Idle (λ x. IsExact id x w) (option_map (with_mark true) (option_map f o))
     by None one = one
     by (Some st) one = λ idle. absurd (false≢true (sym idle))
+
+looked_fits : (f : Stream → Stream) → Stays f → (id : ℕ) (s : StreamsState) → On SetsFit s → On SetsFit (touched id (changed_in f id s))
+unfolding touched
+looked_fits f k id s h =
+    same_sets (changed (with_mark true) id (changed f id s.records)) s.waiting (touched id (changed_in f id s)).waiting refl
+    (marked_fits f id s.records s.waiting h)
+
+-- a stream began to wait
+queued_fits : (f : Stream → Stream) → Stays f → (id : ℕ) (s : StreamsState) → On SetsFit s → On SetsFit (touched id (queued id (changed_in f id s)))
+unfolding touched queued
+queued_fits f k id s h =
+    let q : Stream → Stream = queue_one s.waiting.turns in
+    same_sets (changed (with_mark true) id (changed q id (changed f id s.records))) s.waiting (touched id (queued id (changed_in f id s))).waiting refl
+    (subst (λ (all : AllRecords). SetsFit (changed (with_mark true) id all) s.waiting) (sym (changed_twice f q id s.records))
+    (marked_fits (λ st. q (f st)) id s.records s.waiting h))
 
 removed_fits : (id : ℕ) (all : AllRecords) (w : Waiting) (s : StreamsState) → Others id all s.records → Beside id (sets_of w) (sets_of s.waiting)
     → InSets id (dues_at None) (sets_of s.waiting) → SetsFit all w → On SetsFit (removed id s)
@@ -264,6 +279,7 @@ filed_sets = record {
   nothing = nothing_fits;
   quiet = quiet_fits;
   looked = looked_fits;
+  queued = queued_fits;
   gone = gone_fits;
   comes = comes_fits;
   filed = filed_fits;

@@ -8,7 +8,7 @@ use Rattle.qc_streams.specs.declared.stream.Stream.{Stream}
 use Rattle.qc_streams.specs.declared.waiting.Waiting.{Waiting}
 use Rattle.qc_streams.specs.Lending.{AllRecords}
 use Rattle.qc_streams.specs.Records.{changed, on_some, record_of, with_record}
-use Rattle.qc_streams.specs.Waiting.{dues_at, dues_of, entered, file_one, filed, left, left_from, mark_off, mark_taken, next_place, place_behind, placed, priority_at, sets_filed, turn_at, turn_due, turn_filed, turn_moved, with_mark, with_turn}
+use Rattle.qc_streams.specs.Waiting.{due_at, dues_at, dues_of, entered, file_one, filed, filed_turn, left, left_from, mark_off, mark_taken, next_place, or_next, place_behind, placed, priority_at, sets_filed, turn_at, turn_filed, turn_moved, with_mark, with_turn}
 use Rattle.qc_streams.proofs.Keyed.{set_here}
 use Rattle.qc_streams.proofs.Sequels.{set_twice}
 
@@ -46,25 +46,20 @@ unfolding left
 kept_out w id s is none =
     ap (λ (o : Option Stream). left_from (turn_at o) id s) is ∙ ap (λ (t : Option (ℤ × ℕ)). left_from t id s) none
 
-pub same_turn : (w : Stream) (turn : Option (ℤ × ℕ)) → w.turn ≡ turn → with_turn turn w ≡ w
-unfolding with_turn
-same_turn w turn is = ap (λ (t : Option (ℤ × ℕ)). (let x : Stream = record w { turn = t } in x)) (sym is)
-
 -- where the stream `w` is found that was put in place of another, it goes on in its stead
 moved : (owes : Bool) (turn : Option (ℤ × ℕ)) (w : Stream) (id : ℕ) (all : AllRecords) (wait : Waiting) (s : StreamsState) → w.turn ≡ turn
     → record_of id (with_record id w all) ≡ Some w
     → turn_filed owes turn id (with_both (with_record id w all) wait s)
-    ≡ with_both (with_record id (with_turn (turn_due owes turn (neg_ℤ w.priority, wait.turns)) w) all) (turn_moved owes turn (neg_ℤ w.priority, wait.turns) id wait) s
+    ≡ with_both (with_record id (filed_turn owes turn (or_next w.due (neg_ℤ w.priority, wait.turns)) w) all)
+    (turn_moved owes turn (or_next w.due (neg_ℤ w.priority, wait.turns)) id wait) s
 unfolding with_both next_place
 moved true None w id all wait s has is =
-    ap (λ (o : Option Stream). entered (neg_ℤ (priority_at o), wait.turns) id (with_both (with_record id w all) wait s)) is
-    ∙ entered_is w (neg_ℤ w.priority, wait.turns) id (with_both (with_record id w all) wait s) is
-    ∙ ap (λ (l : AllRecords). with_both l (turn_moved true None (neg_ℤ w.priority, wait.turns) id wait) s) (set_twice (is_at (nat_cmp id)) all w (with_turn (Some (neg_ℤ w.priority, wait.turns)) w))
-moved true (Some place) w id all wait s has is =
-    ap (λ (x : Stream). with_both (with_record id x all) wait s) (sym (same_turn w (Some place) has))
-moved false None w id all wait s has is =
-    kept_out w id (with_both (with_record id w all) wait s) is has
-    ∙ ap (λ (x : Stream). with_both (with_record id x all) wait s) (sym (same_turn w None has))
+    let place : ℤ × ℕ = or_next w.due (neg_ℤ w.priority, wait.turns) in
+    ap (λ (o : Option Stream). entered (or_next (due_at o) (neg_ℤ (priority_at o), wait.turns)) id (with_both (with_record id w all) wait s)) is
+    ∙ entered_is w place id (with_both (with_record id w all) wait s) is
+    ∙ ap (λ (l : AllRecords). with_both l (turn_moved true None place id wait) s) (set_twice (is_at (nat_cmp id)) all w (with_turn (Some place) w))
+moved true (Some place) w id all wait s has is = refl
+moved false None w id all wait s has is = kept_out w id (with_both (with_record id w all) wait s) is has
 moved false (Some place) w id all wait s has is =
     left_is w place id (with_both (with_record id w all) wait s) is has
     ∙ ap (λ (l : AllRecords). with_both l (turn_moved false (Some place) place id wait) s) (set_twice (is_at (nat_cmp id)) all w (with_turn None w))

@@ -1,5 +1,5 @@
 -- A statement of all streams and of what waits of them that the kinds of steps keep, every step keeps
-use Rattle.std.proofs.Common.{◌≡◌, ◌∙◌, ℕ, zero, suc, ◌+◌, ◌-◌, ◌/◌, ◌≤◌, ◌==◌, Bool, true, false, cond, not, List, [], ◌∷◌, Option, None, Some, is_some, ap, sym, subst, take, drop, arith, refl}
+use Rattle.std.proofs.Common.{◌≡◌, ◌∙◌, ℕ, zero, suc, ◌+◌, ◌-◌, ◌/◌, ◌≤◌, ◌==◌, Bool, true, false, cond, not, ◌||◌, List, [], ◌∷◌, Option, None, Some, is_some, ap, sym, subst, take, drop, arith, refl}
 use Rattle.std.specs.BTreeMap.{is_at}
 use Rattle.std.specs.Map.{set_value}
 use Rattle.std.specs.Option.{unwrap_or}
@@ -17,6 +17,8 @@ use Rattle.qc_send_stream.specs.declared.fault.WriteError.TheVariants.{Blocked, 
 use Rattle.qc_send_stream.specs.declared.send.SendPart.{SendPart}
 use Rattle.qc_send_stream.specs.Sending.{finished, part_acked, part_lost, part_sealed, part_written, reset_acked, reset_lost, reset_sealed, unblocked, was_blocked, was_reset}
 use Rattle.qc_streams.specs.declared.control.Control.{Control}
+use Rattle.qc_streams.specs.declared.counts.ByDir.{ByDir}
+use Rattle.qc_streams.specs.declared.counts.PeerStreams.{PeerStreams}
 use Rattle.qc_streams.specs.declared.control.Control.TheVariants.{Reset, Stop, MaxData, MaxStreamData, MaxStreams}
 use Rattle.qc_streams.specs.declared.events.StreamEvent.{StreamEvent}
 use Rattle.qc_streams.specs.declared.parts.StreamPart.{StreamPart}
@@ -25,7 +27,7 @@ use Rattle.qc_streams.specs.declared.stream.Stream.{Stream}
 use Rattle.qc_streams.specs.declared.waiting.Waiting.{Waiting}
 use Rattle.qc_streams.specs.Calls.{after_read, gives, if_known, reading_begun, sends, write_refused, wrote}
 use Rattle.qc_streams.specs.Control.{control_acked, control_lost, control_sealed, stop_again}
-use Rattle.qc_streams.specs.Counts.{by_dir}
+use Rattle.qc_streams.specs.Counts.{by_dir, dir_put, place_freed}
 use Rattle.qc_streams.specs.Credit.{outgoing_written}
 use Rattle.qc_streams.specs.Early.{early_refused}
 use Rattle.qc_streams.specs.Events.{first_event}
@@ -37,14 +39,15 @@ use Rattle.qc_streams.specs.Records.{changed, on_some, record_of}
 use Rattle.qc_streams.specs.Sends.{was_taken}
 use Rattle.qc_streams.specs.Settings.{max_concurrent_set, priority_set, receive_window_set, send_window_set, with_priority}
 use Rattle.qc_streams.specs.Stops.{with_stop, without_stop}
-use Rattle.qc_streams.specs.Stream.{has_ended, limit_taken, stop_taken, totals_at, with_receiving, with_sending}
-use Rattle.qc_streams.specs.Streams.{accepted_one, counted, dir_of, fresh_own, fresh_peer, is_own, is_peer_unopened, limits_set, lower_opened, lower_unopened, made, met, new_streams, next_accepted, next_own, opened_own, opened_with, released, settled, told_if}
+use Rattle.qc_streams.specs.Stream.{has_ended, is_freed, limit_taken, stop_taken, totals_at, with_freed, with_receiving, with_sending}
+use Rattle.qc_streams.specs.Streams.{accepted_one, counted, dir_of, fresh_own, fresh_peer, is_own, is_peer_unopened, left_over, limits_set, lingering, lower_opened, lower_unopened, made, met, new_streams, next_accepted, next_own, opened_own, opened_with, released, settled, stops_later, told_if}
 use Rattle.qc_streams.specs.Waiting.{all_filed, filed, places_made, touched}
 use Rattle.qc_streams.specs.Waits.{ArePossible, Step, LimitsKnown, EarlyRefused, Closed, Failed, Opened, Accepted, Wrote, Refused, Finished, WasReset, Began, Read, Stopped, ResetAsked, PrioritySet, SendWindowSet, ReceiveWindowSet, ConcurrentSet, Polled, StreamCame, ResetCame, StopCame, StreamLimitCame, StreamsLimitCame, LimitCame, MarksFiled, ControlSealed, ControlLost, ControlAcked, PartSealed, BytesLost, BytesAcked, after, after_step}
 use Rattle.qc_streams.specs.Writable.{credit_at, held_up, passed, watched}
 use Rattle.qc_streams.proofs.Keeps.{Fresh, Keeps, On, Owes, Stays, changed_in}
 use Rattle.qc_streams.proofs.KeepSides.{Unowing, blocked_owes, came_fresh, credit_sealed_owes, limit_owes, opened_owes, own_fresh, owes_fresh, part_sealed_owes, peer_fresh, priority_owes, receiving_stays, reset_sealed_owes, reset_unowing, sending_stays, stop_owes, stop_sealed_owes, stream_unowing, taken_owes, unblocked_owes}
 use Rattle.qc_streams.proofs.MarksOff.{filed_ids}
+use Rattle.qc_streams.proofs.Sequels.{changed_twice}
 use Rattle.qc_streams.proofs.WaitIds.{nth, nth_apart, nth_self}
 use Rattle.qc_streams.proofs.WaitLaw.{nothing as at_first, step_ok}
 use Rattle.qc_streams.proofs.WaitOpened.{and-then, made_absent, not-less, not-own, own-count, past, peer-count, reaches}
@@ -71,18 +74,43 @@ changed_same : (id : ℕ) (all : AllRecords) → changed (λ st. st) id all ≡ 
 changed_same id all = same_some id all (record_of id all) refl
 
 stays_same : Stays (λ st. st)
-stays_same = record { mark = λ st. refl; turn = λ st. refl }
+stays_same = record { mark = λ st. refl; turn = λ st. refl; due = λ st. refl }
+
+freed_stays : (f : Stream → Stream) → Stays f → Stays (λ st. with_freed (f st))
+unfolding with_freed
+freed_stays f stays = record { mark = stays.mark; turn = stays.turn; due = stays.due }
 
 module _ {P : AllRecords → Waiting → Type 0} (k : Keeps P) where
   -- ---- a stream has changed, and it is looked at whether it has ended
 
+  lingering_changed : (f : Stream → Stream) → Stays f → (id : ℕ) (s : StreamsState) → On P s → On P (lingering id (changed_in f id s))
+  unfolding lingering
+  lingering_changed f stays id s h =
+      let peer : ByDir PeerStreams =
+      cond (is_own s.side id || is_freed (record_of id (changed f id s.records))) s.peer (dir_put (dir_of id) (place_freed (by_dir (dir_of id) s.peer)) s.peer) in
+      subst (λ (all : AllRecords). On P (touched id (record s { records = all; peer = peer }))) (sym (changed_twice f with_freed id s.records))
+      (k.looked (λ st. with_freed (f st)) (freed_stays f stays) id (record s { peer = peer }) h)
+
   settled_changed : (f : Stream → Stream) → Stays f → (id : ℕ) (s : StreamsState) → On P s → On P (settled id (changed_in f id s))
   unfolding settled
-  settled_changed f stays id s h = by (has_ended (record_of id (changed_in f id s).records))
+  settled_changed f stays id s h = by (has_ended (record_of id (changed_in f id s).records)) (stops_later (record_of id (changed_in f id s).records))
     where
-      by : (b : Bool) → On P (cond b (released id (changed_in f id s)) (touched id (changed_in f id s)))
-      by true = k.gone f stays id s h
-      by false = k.looked f stays id s h
+      by : (b c : Bool) → On P (cond b (cond c (lingering id (changed_in f id s)) (released id (changed_in f id s))) (touched id (changed_in f id s)))
+      by true true = lingering_changed f stays id s h
+      by true false = k.gone f stays id s h
+      by false c = k.looked f stays id s h
+
+  gone_same : (id : ℕ) (s : StreamsState) → On P s → On P (released id s)
+  gone_same id s h =
+      subst (λ (all : AllRecords). On P (released id (record s { records = all }))) (changed_same id s.records) (k.gone (λ st. st) stays_same id s h)
+
+  left_over_keeps : (id : ℕ) (s : StreamsState) → On P s → On P (left_over id s)
+  unfolding left_over
+  left_over_keeps id s h = by (has_ended (record_of id s.records))
+    where
+      by : (b : Bool) → On P (cond b (released id s) s)
+      by true = gone_same id s h
+      by false = h
 
   settled_same : (id : ℕ) (s : StreamsState) → On P s → On P (settled id s)
   settled_same id s h =
@@ -159,13 +187,13 @@ module _ {P : AllRecords → Waiting → Type 0} (k : Keeps P) where
   sends_keeps : (g : SendPart → SendPart) → (id : ℕ) (s : StreamsState) → On P s → On P (sends g id s)
   unfolding sends passed
   sends_keeps g id s h =
-      k.looked (with_sending (if_known g)) (sending_stays (if_known g)) id
+      k.queued (with_sending (if_known g)) (sending_stays (if_known g)) id
       (record (passed id (record s { records = changed (with_sending (if_known g)) id s.records })) { records = s.records }) h
 
   wrote_keeps : (id n : ℕ) (chunk : List ℕ) (s : StreamsState) → On P s → On P (wrote id n chunk s)
   unfolding wrote passed
   wrote_keeps id n chunk s h =
-      k.looked (with_sending (if_known (part_written (take n chunk)))) (sending_stays (if_known (part_written (take n chunk)))) id
+      k.queued (with_sending (if_known (part_written (take n chunk)))) (sending_stays (if_known (part_written (take n chunk)))) id
       (record (passed id (record s {
         records = changed (with_sending (if_known (part_written (take n chunk)))) id s.records;
         outgoing = outgoing_written n s.outgoing;
@@ -217,7 +245,8 @@ module _ {P : AllRecords → Waiting → Type 0} (k : Keeps P) where
   unfolding control_sealed max_data_sealed max_streams_sealed
   sealed_keeps (Reset id code size) s h = k.reset (with_sending reset_sealed) reset_sealed_owes id s.records s.waiting h
   sealed_keeps (Stop id code) s h =
-      k.gone_stops (without_stop id s.waiting.gone_stops) _ _ (k.stop (with_receiving stop_sealed) stop_sealed_owes id s.records s.waiting h)
+      left_over_keeps id _
+      (k.gone_stops (without_stop id s.waiting.gone_stops) _ _ (k.stop (with_receiving stop_sealed) stop_sealed_owes id s.records s.waiting h))
   sealed_keeps (MaxData limit) s h = h
   sealed_keeps (MaxStreamData id limit) s h = k.credit (with_receiving side_credit_sealed) credit_sealed_owes id s.records s.waiting h
   sealed_keeps (MaxStreams dir limit) s h = h
@@ -286,7 +315,7 @@ module _ {P : AllRecords → Waiting → Type 0} (k : Keeps P) where
   step_keeps (ControlLost c) s holds h = lost_keeps c s h
   step_keeps (ControlAcked c) s holds h = acked_keeps c s h
   step_keeps (PartSealed d) s holds h = part_keeps d s h
-  step_keeps (BytesLost id start stop last) s holds h = k.looked (with_sending (part_lost start stop last)) (sending_stays (part_lost start stop last)) id s h
+  step_keeps (BytesLost id start stop last) s holds h = k.queued (with_sending (part_lost start stop last)) (sending_stays (part_lost start stop last)) id s h
   step_keeps (BytesAcked id start stop last) s holds h =
       settled_changed (with_sending (part_acked start stop last)) (sending_stays (part_acked start stop last)) id s h
 

@@ -29,11 +29,11 @@ use Rattle.qc_streams.proofs.Keeps.{Fresh, Owes, OwesBytes, Stays, no_credit, no
 
 pub receiving_stays : (g : Recv → Recv) → Stays (with_receiving g)
 unfolding with_receiving
-receiving_stays g = record { mark = λ st. refl; turn = λ st. refl }
+receiving_stays g = record { mark = λ st. refl; turn = λ st. refl; due = λ st. refl }
 
 pub sending_stays : (g : SendPart → SendPart) → Stays (with_sending g)
 unfolding with_sending
-sending_stays g = record { mark = λ st. refl; turn = λ st. refl }
+sending_stays g = record { mark = λ st. refl; turn = λ st. refl; due = λ st. refl }
 
 -- what is owed, of what each side owes
 abbrev dues : (reset stop credit bytes : Bool) → Dues
@@ -83,11 +83,11 @@ opened_owes ordered = receiving_owes (opened ordered) (λ r. refl) (λ r. refl)
 
 pub taken_owes : Owes (λ d. d) was_taken
 unfolding was_taken dues_of
-taken_owes = record { stays = record { mark = λ st. refl; turn = λ st. refl }; dues = λ st. refl }
+taken_owes = record { stays = record { mark = λ st. refl; turn = λ st. refl; due = λ st. refl }; dues = λ st. refl }
 
 pub priority_owes : (priority : ℤ) → Owes (λ d. d) (with_priority priority)
 unfolding with_priority dues_of
-priority_owes priority = record { stays = record { mark = λ st. refl; turn = λ st. refl }; dues = λ st. refl }
+priority_owes priority = record { stays = record { mark = λ st. refl; turn = λ st. refl; due = λ st. refl }; dues = λ st. refl }
 
 pub unblocked_owes : Owes (λ d. d) (with_sending unblocked)
 unfolding unblocked reset_owed has_more
@@ -242,11 +242,13 @@ unfolding fresh_stream dues_of new_receiving
 own_fresh Bi s = record {
   mark = refl;
   turn = refl;
+  due = refl;
   dues = same_dues _ _ _ _ _ _ _ _ (nothing_sent s.limits.own_bidi_data) refl refl (nothing_more s.limits.own_bidi_data);
 }
 own_fresh Uni s = record {
   mark = refl;
   turn = refl;
+  due = refl;
   dues = same_dues _ _ _ _ _ _ _ _ (nothing_sent s.limits.own_uni_data) refl refl (nothing_more s.limits.own_uni_data);
 }
 
@@ -255,13 +257,14 @@ unfolding fresh_stream dues_of new_receiving
 peer_fresh Bi s = record {
   mark = refl;
   turn = refl;
+  due = refl;
   dues = same_dues _ _ _ _ _ _ _ _ (nothing_sent s.limits.peer_bidi_data) refl refl (nothing_more s.limits.peer_bidi_data);
 }
-peer_fresh Uni s = record { mark = refl; turn = refl; dues = refl }
+peer_fresh Uni s = record { mark = refl; turn = refl; due = refl; dues = refl }
 
 -- one that owes as before is fresh still
 pub owes_fresh : (f : Stream → Stream) (st : Stream) → Owes (λ d. d) f → Fresh st → Fresh (f st)
-owes_fresh f st o h = record { mark = o.stays.mark st ∙ h.mark; turn = o.stays.turn st ∙ h.turn; dues = o.dues st ∙ h.dues }
+owes_fresh f st o h = record { mark = o.stays.mark st ∙ h.mark; turn = o.stays.turn st ∙ h.turn; due = o.stays.due st ∙ h.due; dues = o.dues st ∙ h.dues }
 
 -- a change of a receiving side on which nothing came leaves nothing to be sent
 pub record Unowing (g : Recv → Recv) : Type 0 where
@@ -273,9 +276,10 @@ unfolding with_receiving fresh_stream dues_of
 came_fresh g u Bi s = record {
   mark = refl;
   turn = refl;
+  due = refl;
   dues = same_dues _ _ _ _ _ _ _ _ (nothing_sent s.limits.peer_bidi_data) (u.stop s.stream_window) (u.credit s.stream_window) (nothing_more s.limits.peer_bidi_data);
 }
-came_fresh g u Uni s = record { mark = refl; turn = refl; dues = same_dues _ _ _ _ _ _ _ _ refl (u.stop s.stream_window) (u.credit s.stream_window) refl }
+came_fresh g u Uni s = record { mark = refl; turn = refl; due = refl; dues = same_dues _ _ _ _ _ _ _ _ refl (u.stop s.stream_window) (u.credit s.stream_window) refl }
 
 taken_stop : (o window : ℕ) (bs : List ℕ) (last : Bool) → (stream_taken o bs last (new_receiving window)).stop_waits ≡ false
 unfolding stream_taken end_taken bytes_taken is_ended keeps new_receiving

@@ -10,12 +10,13 @@ use Rattle.qc_streams.specs.Parts.{turned}
 use Rattle.qc_streams.specs.Records.{changed, record_of, with_new}
 use Rattle.qc_streams.specs.Stops.{StopCodes}
 use Rattle.qc_streams.specs.Streams.{released}
-use Rattle.qc_streams.specs.Waiting.{dues_at, dues_of, filed, new_waiting, place_made, touched}
+use Rattle.qc_streams.specs.Waiting.{dues_at, dues_of, filed, new_waiting, place_made, queued, touched}
 
--- a change that leaves a stream's mark and its turn as they were
+-- a change that leaves a stream's mark as it was, its turn, and the place that is put by for it
 pub record Stays (f : Stream → Stream) : Type 0 where
   pub mark : (st : Stream) → (f st).marked ≡ st.marked
   pub turn : (st : Stream) → (f st).turn ≡ st.turn
+  pub due : (st : Stream) → (f st).due ≡ st.due
 
 -- one that leaves what it owes as it was, but for what `d` makes of that
 pub record Owes (d : Dues → Dues) (f : Stream → Stream) : Type 0 where
@@ -43,6 +44,7 @@ pub record OwesBytes (f : Stream → Stream) : Type 0 where
 pub record Fresh (st : Stream) : Type 0 where
   pub mark : st.marked ≡ false
   pub turn : st.turn ≡ None
+  pub due : st.due ≡ None
   pub dues : dues_of st ≡ dues_at None
 
 -- a statement of a state's streams and of what waits of them
@@ -61,6 +63,8 @@ pub record Keeps (P : AllRecords → Waiting → Type 0) : Type 0 where
   pub quiet : (f : Stream → Stream) → Owes (λ d. d) f → (id : ℕ) (all : AllRecords) (w : Waiting) → P all w → P (changed f id all) w
   -- a stream changes, and is marked
   pub looked : (f : Stream → Stream) → Stays f → (id : ℕ) (s : StreamsState) → On P s → On P (touched id (changed_in f id s))
+  -- a stream changes, waits from then on, and is marked
+  pub queued : (f : Stream → Stream) → Stays f → (id : ℕ) (s : StreamsState) → On P s → On P (touched id (queued id (changed_in f id s)))
   -- a stream changes, and leaves
   pub gone : (f : Stream → Stream) → Stays f → (id : ℕ) (s : StreamsState) → On P s → On P (released id (changed_in f id s))
   -- a stream is opened

@@ -37,6 +37,7 @@ pub mod Sizes
 pub mod StaysOpened
 pub mod StepAt
 pub mod StepKinds
+pub mod StepsLaw
 pub mod Stepped
 pub mod SteppedAt
 pub mod SteppedLaw

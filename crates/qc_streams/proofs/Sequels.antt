@@ -1,5 +1,5 @@
 -- A stream that is changed and settled by one look at it
-use Rattle.std.proofs.Common.{◌≡◌, ◌∙◌, ℕ, Bool, true, false, cond, if◌then◌else◌, not, ◌&&◌, List, [], ◌∷◌, take, Option, None, Some, ap, subst, refl}
+use Rattle.std.proofs.Common.{◌≡◌, ◌∙◌, ℕ, ◌+◌, Bool, true, false, cond, if◌then◌else◌, not, ◌&&◌, List, [], ◌∷◌, take, Option, None, Some, ap, subst, refl}
 use Rattle.std.specs.BTreeMap.{is_at}
 use Rattle.std.specs.Map.{set_value}
 use Rattle.std.specs.Option.{option_map}
@@ -7,21 +7,22 @@ use Rattle.std.specs.Ordering.{nat_cmp}
 use Rattle.qc_recv.specs.declared.recv.Recv.{Recv}
 use Rattle.qc_turns.specs.Marks.{marked}
 use Rattle.qc_streams.specs.declared.credit.Incoming.{Incoming}
-use Rattle.qc_streams.specs.declared.sequel.Sequel.TheVariants.{Leaves, Marks, Nothing}
+use Rattle.qc_streams.specs.declared.sequel.Sequel.TheVariants.{Leaves, Lingers, Marks, Nothing}
 use Rattle.qc_streams.specs.declared.state.StreamsState.{StreamsState}
 use Rattle.qc_streams.specs.declared.stream.Stream.{Stream}
-use Rattle.qc_send_stream.specs.Sending.{part_acked, part_lost, part_written}
+use Rattle.qc_send_stream.specs.Sending.{part_acked, part_written}
 use Rattle.qc_streams.specs.declared.events.StreamEvent.TheVariants.{Finished}
 use Rattle.qc_streams.specs.Blocked.{without_blocked}
 use Rattle.qc_streams.specs.Calls.{gives, if_known, wrote}
 use Rattle.qc_streams.specs.Credit.{outgoing_written, tallied}
 use Rattle.qc_streams.specs.Lending.{AllRecords}
 use Rattle.qc_streams.specs.Records.{changed, on_some, record_of, with_record}
-use Rattle.qc_streams.specs.Sequel.{followed, looked_at, marking, sequel_at, sequel_of, settling, write_followed}
-use Rattle.qc_streams.specs.Parts.{bytes_acked, bytes_lost, bytes_taken, finished_at, finishes}
+use Rattle.qc_streams.specs.Sequel.{followed, looked_at, queueing, sequel_at, sequel_of, settling, write_followed}
+use Rattle.qc_streams.specs.Parts.{bytes_acked, bytes_taken, finished_at, finishes}
 use Rattle.qc_streams.specs.Stream.{has_ended, is_over, totals_at, totals_if, with_receiving, with_sending}
-use Rattle.qc_streams.specs.Streams.{counted, released, settled, told_if}
-use Rattle.qc_streams.specs.Waiting.{is_idle, touched, with_mark}
+use Rattle.qc_streams.specs.Streams.{counted, lingering, released, settled, stops_later, told_if}
+use Rattle.qc_streams.specs.Counts.{held}
+use Rattle.qc_streams.specs.Waiting.{is_idle, owes_stop, queue_one, queued, takes_number, touched, with_mark}
 use Rattle.qc_streams.specs.Writable.{credit_at, passed}
 use Rattle.qc_streams.proofs.Keyed.{set_here}
 
@@ -46,6 +47,17 @@ pub set_twice : {X : Type 0} (test : ℕ → Bool) (es : List (ℕ × X)) (v w :
 set_twice test [] v w = refl
 set_twice test (e ∷ es) v w = twice_step (test e.0) test e es (set_value test es v) v w refl (set_twice test es v w)
 
+-- a stream that changes twice changes once
+twice_as : (f g : Stream → Stream) (id : ℕ) (all : AllRecords) (o : Option Stream) → record_of id all ≡ o
+    → changed g id (on_some f id o all) ≡ on_some (λ st. g (f st)) id o all
+twice_as f g id all None is = ap (λ (o : Option Stream). on_some g id o all) is
+twice_as f g id all (Some st) is =
+    ap (λ (o : Option Stream). on_some g id o (with_record id (f st) all)) (set_here id all st (f st) is)
+    ∙ set_twice (is_at (nat_cmp id)) all (f st) (g (f st))
+
+pub changed_twice : (f g : Stream → Stream) (id : ℕ) (all : AllRecords) → changed g id (changed f id all) ≡ changed (λ st. g (f st)) id all
+changed_twice f g id all = twice_as f g id all (record_of id all) refl
+
 -- what a stream is after a change
 found_as : (f : Stream → Stream) (id : ℕ) (all : AllRecords) (o : Option Stream) → record_of id all ≡ o
     → record_of id (on_some f id o all) ≡ option_map f o
@@ -59,7 +71,7 @@ found_so f id all = found_as f id all (record_of id all) refl
 
 settled_at : (o : Option Stream) → ℕ → StreamsState → StreamsState
 settled_at o id s =
-    if has_ended o then released id s
+    if has_ended o then (if stops_later o then lingering id s else released id s)
     else record s {
       records = on_some (with_mark true) id o s.records;
       waiting = record s.waiting { marks = if is_idle o then marked id s.waiting.marks else s.waiting.marks };
@@ -72,18 +84,19 @@ settled_is o id s is = subst (λ (x : Option Stream). settled id s ≡ settled_a
 with_all : AllRecords → StreamsState → StreamsState
 with_all all s = record s { records = all }
 
-by_flags : (over marked_before : Bool) (w : Stream) (id : ℕ) (s : StreamsState)
-    → (if over then released id (with_all (with_record id w s.records) s)
+by_flags : (over stops marked_before : Bool) (w : Stream) (id : ℕ) (s : StreamsState)
+    → (if over then (if stops then lingering id (with_all (with_record id w s.records) s) else released id (with_all (with_record id w s.records) s))
     else record s {
       records = with_record id (with_mark true w) s.records;
       waiting = record s.waiting { marks = if not marked_before then marked id s.waiting.marks else s.waiting.marks };
     })
-    ≡ followed (if over then Leaves else if marked_before then Nothing else Marks) id
+    ≡ followed (if over then (if stops then Lingers else Leaves) else if marked_before then Nothing else Marks) id
     (with_all (with_record id (if over then w else with_mark true w) s.records) s)
 unfolding with_all
-by_flags true m w id s = refl
-by_flags false true w id s = refl
-by_flags false false w id s = refl
+by_flags true true m w id s = refl
+by_flags true false m w id s = refl
+by_flags false c true w id s = refl
+by_flags false c false w id s = refl
 
 some_settled : (w st : Stream) (id : ℕ) (s : StreamsState) → record_of id s.records ≡ Some st
     → settled id (with_all (with_record id w s.records) s) ≡ followed (sequel_of w) id (with_all (with_record id (looked_at w) s.records) s)
@@ -91,12 +104,13 @@ unfolding with_all settled_at sequel_of looked_at
 some_settled w st id s is =
     settled_is (Some w) id (with_all (with_record id w s.records) s) (set_here id s.records st w is)
     ∙ ap
-    (λ (l : AllRecords). (if is_over w then released id (with_all (with_record id w s.records) s)
+    (λ (l : AllRecords). (if is_over w then (if owes_stop w.receiving then lingering id (with_all (with_record id w s.records) s)
+    else released id (with_all (with_record id w s.records) s))
     else record s {
       records = l;
       waiting = record s.waiting { marks = if not w.marked then marked id s.waiting.marks else s.waiting.marks };
     })) (set_twice (is_at (nat_cmp id)) s.records w (with_mark true w))
-    ∙ by_flags (is_over w) w.marked w id s
+    ∙ by_flags (is_over w) (owes_stop w.receiving) w.marked w id s
 
 settled_as : (f : Stream → Stream) (id : ℕ) (s : StreamsState) (o : Option Stream) → record_of id s.records ≡ o
     → settled id (with_all (on_some f id o s.records) s)
@@ -138,36 +152,61 @@ touched_is : (o : Option Stream) (id : ℕ) (s : StreamsState) → record_of id 
 unfolding touched_at touched
 touched_is o id s is = subst (λ (x : Option Stream). touched id s ≡ touched_at x id s) is refl
 
-marked_with : (Stream → Stream) → ℕ → Option Stream → StreamsState → StreamsState
-marked_with f id o s = record s {
-  records = on_some (marking f) id o s.records;
-  waiting = record s.waiting { marks = if is_idle (option_map f o) then marked id s.waiting.marks else s.waiting.marks };
+queued_at : (o : Option Stream) → ℕ → StreamsState → StreamsState
+queued_at o id s = record s {
+  records = on_some (queue_one s.waiting.turns) id o s.records;
+  waiting = record s.waiting { turns = if takes_number o then held (s.waiting.turns + 1) else s.waiting.turns };
 }
 
-touched_as : (f : Stream → Stream) (id : ℕ) (s : StreamsState) (o : Option Stream) → record_of id s.records ≡ o
-    → touched id (with_all (on_some f id o s.records) s) ≡ marked_with f id o s
-unfolding with_all touched_at marked_with marking
-touched_as f id s None is = touched_is None id s is
-touched_as f id s (Some st) is =
-    touched_is (Some (f st)) id (with_all (with_record id (f st) s.records) s) (set_here id s.records st (f st) is)
+queued_is : (o : Option Stream) (id : ℕ) (s : StreamsState) → record_of id s.records ≡ o → queued id s ≡ queued_at o id s
+unfolding queued_at queued
+queued_is o id s is = subst (λ (x : Option Stream). queued id s ≡ queued_at x id s) is refl
+
+-- a stream that is changed, waits from then on, and is marked
+noted_with : (Stream → Stream) → ℕ → Option Stream → StreamsState → StreamsState
+noted_with f id o s = record s {
+  records = on_some (queueing s.waiting.turns f) id o s.records;
+  waiting = record s.waiting {
+    marks = if is_idle (option_map f o) then marked id s.waiting.marks else s.waiting.marks;
+    turns = if takes_number (option_map f o) then held (s.waiting.turns + 1) else s.waiting.turns;
+  };
+}
+
+noted_as : (f : Stream → Stream) (id : ℕ) (s : StreamsState) (o : Option Stream) → record_of id s.records ≡ o
+    → touched id (queued id (with_all (on_some f id o s.records) s)) ≡ noted_with f id o s
+unfolding with_all touched_at queued_at noted_with queueing queue_one
+noted_as f id s None is = ap (λ (t : StreamsState). touched id t) (queued_is None id s is) ∙ touched_is None id s is
+noted_as f id s (Some st) is =
+    let n : ℕ = s.waiting.turns in
+    let w : Stream = f st in
+    let v : Stream = queue_one n w in
+    let turns : ℕ = (if takes_number (Some w) then held (n + 1) else n) in
+    let after : AllRecords → StreamsState = (λ (l : AllRecords). (let t : StreamsState = record s { records = l; waiting = record s.waiting { turns = turns } } in t)) in
+    ap (λ (t : StreamsState). touched id t)
+    (queued_is (Some w) id (with_all (with_record id w s.records) s) (set_here id s.records st w is)
+    ∙ ap (λ (l : AllRecords). after l) (set_twice (is_at (nat_cmp id)) s.records w v))
+    ∙ touched_is (Some v) id (after (with_record id v s.records)) (set_here id s.records st v is)
     ∙ ap
     (λ (l : AllRecords). (let t : StreamsState = record s {
       records = l;
-      waiting = record s.waiting { marks = if not (f st).marked then marked id s.waiting.marks else s.waiting.marks };
-    } in t)) (set_twice (is_at (nat_cmp id)) s.records (f st) (with_mark true (f st)))
+      waiting = record s.waiting { marks = if not w.marked then marked id s.waiting.marks else s.waiting.marks; turns = turns };
+    } in t)) (set_twice (is_at (nat_cmp id)) s.records v (with_mark true v))
 
--- a stream that is changed and marked is looked at once
-touched_so : (f : Stream → Stream) (id : ℕ) (s : StreamsState)
-    → touched id (with_all (changed f id s.records) s) ≡ marked_with f id (record_of id s.records) s
-touched_so f id s = touched_as f id s (record_of id s.records) refl
+noted_so : (f : Stream → Stream) (id : ℕ) (s : StreamsState)
+    → touched id (queued id (with_all (changed f id s.records) s)) ≡ noted_with f id (record_of id s.records) s
+noted_so f id s = noted_as f id s (record_of id s.records) refl
 
 -- so it is written on
 pub wrote_so : (id n : ℕ) (chunk : List ℕ) (s : StreamsState)
     → wrote id n chunk s
     ≡ write_followed (credit_at (option_map (with_sending (if_known (part_written (take n chunk)))) (record_of id s.records)))
+    (takes_number (option_map (with_sending (if_known (part_written (take n chunk)))) (record_of id s.records)))
     (is_idle (option_map (with_sending (if_known (part_written (take n chunk)))) (record_of id s.records))) id
-    (record s { records = changed (marking (with_sending (if_known (part_written (take n chunk))))) id s.records; outgoing = outgoing_written n s.outgoing })
-unfolding wrote passed with_all marked_with
+    (record s {
+      records = changed (queueing s.waiting.turns (with_sending (if_known (part_written (take n chunk))))) id s.records;
+      outgoing = outgoing_written n s.outgoing;
+    })
+unfolding wrote passed with_all noted_with
 wrote_so id n chunk s =
     let f : Stream → Stream = with_sending (if_known (part_written (take n chunk))) in
     let at : Option Stream → StreamsState =
@@ -175,20 +214,8 @@ wrote_so id n chunk s =
       outgoing = outgoing_written n s.outgoing;
       blocked = if credit_at o then s.blocked else without_blocked id s.blocked;
     } in t)) in
-    ap (λ (o : Option Stream). touched id (with_all (changed f id s.records) (at o))) (found_so f id s.records)
-    ∙ touched_so f id (at (option_map f (record_of id s.records)))
-
--- so bytes of it are lost
-pub lost_so : (id start stop : ℕ) (last : Bool) (s : StreamsState)
-    → bytes_lost id start stop last s
-    ≡ record s {
-      records = changed (marking (with_sending (part_lost start stop last))) id s.records;
-      waiting = record s.waiting {
-        marks = if is_idle (option_map (with_sending (part_lost start stop last)) (record_of id s.records)) then marked id s.waiting.marks else s.waiting.marks;
-      };
-    }
-unfolding bytes_lost with_all marked_with
-lost_so id start stop last s = touched_so (with_sending (part_lost start stop last)) id s
+    ap (λ (o : Option Stream). touched id (queued id (with_all (changed f id s.records) (at o)))) (found_so f id s.records)
+    ∙ noted_so f id (at (option_map f (record_of id s.records)))
 
 -- so it is told that bytes of it are acknowledged
 pub acked_so : (id start stop : ℕ) (last : Bool) (s : StreamsState)

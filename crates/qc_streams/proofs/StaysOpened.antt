@@ -1,5 +1,5 @@
 -- A stream that was opened stays so, but where the server refused early data
-use Rattle.std.proofs.Common.{◌≡◌, ◌∙◌, ℕ, ◌/◌, ◌^◌, ◌<◌, ◌≤◌, Bool, true, false, cond, not, nat_lt, List, [], ◌∷◌, Option, None, Some, is_some, sym, subst, arith, refl}
+use Rattle.std.proofs.Common.{◌≡◌, ◌∙◌, ℕ, ◌/◌, ◌^◌, ◌<◌, ◌≤◌, Bool, true, false, cond, not, ◌||◌, nat_lt, List, [], ◌∷◌, Option, None, Some, is_some, sym, subst, arith, refl}
 use Rattle.std.proofs.lemmas.Bool.Decides.{nat_tests}
 use Rattle.std.specs.Prelude.{ℤ}
 use Rattle.qc_base.specs.declared.side.Dir.{Dir}
@@ -33,9 +33,9 @@ use Rattle.qc_streams.specs.Parts.{bytes_acked, bytes_lost, bytes_taken, place_a
 use Rattle.qc_streams.specs.Records.{changed, record_of}
 use Rattle.qc_streams.specs.Settings.{concurrent_set, max_concurrent_set, priority_set, receive_window_set, send_window_set, with_concurrent}
 use Rattle.qc_streams.specs.Stops.{with_stop}
-use Rattle.qc_streams.specs.Stream.{has_ended, stop_taken, limit_taken, with_receiving, with_sending}
-use Rattle.qc_streams.specs.Streams.{accepted_one, counted, dir_of, forgotten, fresh_peer, is_own, is_peer_unopened, limits_set, met, opened_own, opened_with, released, removed, settled, told_if}
-use Rattle.qc_streams.specs.Waiting.{all_filed, dues_at, entered, filed, left, left_from, mark_off, placed, sets_filed, touched, turn_at, turn_filed}
+use Rattle.qc_streams.specs.Stream.{has_ended, is_freed, stop_taken, limit_taken, with_receiving, with_sending}
+use Rattle.qc_streams.specs.Streams.{accepted_one, counted, dir_of, forgotten, fresh_peer, is_own, is_peer_unopened, left_over, limits_set, lingering, met, opened_own, opened_with, released, removed, settled, stops_later, told_if}
+use Rattle.qc_streams.specs.Waiting.{all_filed, dues_at, entered, filed, left, left_from, mark_off, placed, queue_one, queued, sets_filed, touched, turn_at, turn_filed}
 use Rattle.qc_streams.specs.Waits.{IsPossible, Step, LimitsKnown, EarlyRefused, Closed, Failed, Opened, Accepted, Wrote, Refused, Finished, WasReset, Began, Read, Stopped, ResetAsked, PrioritySet, SendWindowSet, ReceiveWindowSet, ConcurrentSet, Polled, StreamCame, ResetCame, StopCame, StreamLimitCame, StreamsLimitCame, LimitCame, MarksFiled, ControlSealed, ControlLost, ControlAcked, PartSealed, BytesLost, BytesAcked, after_step}
 use Rattle.qc_streams.specs.Writable.{credit_at, held_up, passed, watched}
 use Rattle.qc_streams.proofs.StepAt.{StaysOpened}
@@ -151,7 +151,9 @@ left_more id s = left_from_more (turn_at (record_of id s.records)) id s
 removed_more : (id : ℕ) (s : StreamsState) → More s (removed id s)
 unfolding removed
 removed_more id s =
-    then s (record s { peer = freed (is_own s.side id) }) (removed id s) (by (is_own s.side id)) (same (record s { peer = freed (is_own s.side id) }) _ refl refl refl)
+    then s (record s { peer = freed (is_own s.side id || is_freed (record_of id s.records)) }) (removed id s)
+    (by (is_own s.side id || is_freed (record_of id s.records)))
+    (same (record s { peer = freed (is_own s.side id || is_freed (record_of id s.records)) }) _ refl refl refl)
   where
     freed : Bool → ByDir PeerStreams
     freed b = cond b s.peer (dir_put (dir_of id) (place_freed (by_dir (dir_of id) s.peer)) s.peer)
@@ -171,13 +173,36 @@ touched_more : (id : ℕ) (s : StreamsState) → More s (touched id s)
 unfolding touched
 touched_more id s = same s _ refl refl refl
 
+lingering_more : (id : ℕ) (s : StreamsState) → More s (lingering id s)
+unfolding lingering touched
+lingering_more id s =
+    then s (record s { peer = freed (is_own s.side id || is_freed (record_of id s.records)) }) (lingering id s)
+    (by (is_own s.side id || is_freed (record_of id s.records)))
+    (same (record s { peer = freed (is_own s.side id || is_freed (record_of id s.records)) }) _ refl refl refl)
+  where
+    freed : Bool → ByDir PeerStreams
+    freed b = cond b s.peer (dir_put (dir_of id) (place_freed (by_dir (dir_of id) s.peer)) s.peer)
+
+    by : (b : Bool) → More s (record s { peer = freed b })
+    by true = same s s refl refl refl
+    by false = peer_same place_freed freed_same (dir_of id) s
+
 settled_more : (id : ℕ) (s : StreamsState) → More s (settled id s)
 unfolding settled
-settled_more id s = by (has_ended (record_of id s.records))
+settled_more id s = by (has_ended (record_of id s.records)) (stops_later (record_of id s.records))
   where
-    by : (b : Bool) → More s (cond b (released id s) (touched id s))
+    by : (b c : Bool) → More s (cond b (cond c (lingering id s) (released id s)) (touched id s))
+    by true true = lingering_more id s
+    by true false = released_more id s
+    by false c = touched_more id s
+
+left_over_more : (id : ℕ) (s : StreamsState) → More s (left_over id s)
+unfolding left_over
+left_over_more id s = by (has_ended (record_of id s.records))
+  where
+    by : (b : Bool) → More s (cond b (released id s) s)
     by true = released_more id s
-    by false = touched_more id s
+    by false = same s s refl refl refl
 
 turn_filed_more : (owes : Bool) (turn : Option (ℤ × ℕ)) (id : ℕ) (s : StreamsState) → More s (turn_filed owes turn id s)
 unfolding entered
@@ -281,7 +306,7 @@ polled_more s = by s.peer.bi.tells s.peer.uni.tells
 sealed_more : (c : Control) (s : StreamsState) → More s (control_sealed c s)
 unfolding control_sealed max_data_sealed max_streams_sealed
 sealed_more (Reset id code size) s = same s _ refl refl refl
-sealed_more (Stop id code) s = same s _ refl refl refl
+sealed_more (Stop id code) s = then s _ _ (same s _ refl refl refl) (left_over_more id _)
 sealed_more (MaxData limit) s = same s _ refl refl refl
 sealed_more (MaxStreamData id limit) s = same s _ refl refl refl
 sealed_more (MaxStreams dir limit) s = peer_same places_sealed sealed_same dir s
@@ -316,7 +341,7 @@ unfolding sealed_part
 part_more d s = then s _ _ (same s _ refl refl refl) (turned_more d.id _)
 
 step_more : (x : Step) (s : StreamsState) → IsPossible x → keeps_streams x ≡ true → More s (after_step x s)
-unfolding after_step IsPossible keeps_streams reading_begun send_window_set receive_window_set max_concurrent_set accepted_one priority_set sends passed wrote touched stream_came reset_came stop_came stream_limit_came watched streams_limit_came limit_came bytes_lost bytes_acked bytes_taken told_if
+unfolding after_step IsPossible keeps_streams reading_begun send_window_set receive_window_set max_concurrent_set accepted_one priority_set sends passed wrote queued touched stream_came reset_came stop_came stream_limit_came watched streams_limit_came limit_came bytes_lost bytes_acked bytes_taken told_if
 step_more (LimitsKnown p) s can keeps = limits_more p s
 step_more EarlyRefused s can keeps = absurd (cc)
 step_more Closed s can keeps = same s _ refl refl refl

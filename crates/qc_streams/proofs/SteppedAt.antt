@@ -11,9 +11,9 @@ use Rattle.qc_streams.specs.declared.stream.Stream.{Stream}
 use Rattle.qc_streams.specs.Lending.{AllRecords}
 use Rattle.qc_streams.specs.Parts.{place_again, turned}
 use Rattle.qc_streams.specs.Records.{changed, on_some, record_of, without}
-use Rattle.qc_streams.specs.Stream.{has_ended, with_receiving, with_sending}
-use Rattle.qc_streams.specs.Streams.{forgotten, released, removed, settled}
-use Rattle.qc_streams.specs.Waiting.{all_filed, dues_at, entered, filed, left, left_from, mark_off, placed, sets_filed, touched, turn_at, turn_filed, with_mark, with_turn}
+use Rattle.qc_streams.specs.Stream.{has_ended, with_freed, with_receiving, with_sending}
+use Rattle.qc_streams.specs.Streams.{forgotten, left_over, lingering, released, removed, settled, stops_later}
+use Rattle.qc_streams.specs.Waiting.{all_filed, dues_at, entered, filed, left, left_from, mark_off, placed, queue_one, queued, sets_filed, touched, turn_at, turn_filed, with_mark, with_turn}
 use Rattle.qc_streams.specs.Waits.{Step, after_step}
 use Rattle.qc_streams.proofs.Keyed.{Ascends, ascends_gone, ascends_set, gone_here, gone_other, set_other}
 use Rattle.qc_streams.proofs.StepAt.{AlikeIf, ComesFrom, Gone, IsStepped, SendsAlike, SteppedAt, Stood, There, came_to, sent_to}
@@ -145,6 +145,28 @@ pub touched_follows : (id : ℕ) (s : StreamsState) → Follows s (touched id s)
 unfolding touched
 touched_follows id s = of_records s (record s { records = changed (with_mark true) id s.records }) _ refl (mark_follows true id s)
 
+queue-receiving : (n : ℕ) (st : Stream) → (queue_one n st).receiving ≡ st.receiving
+unfolding queue_one
+queue-receiving n st = refl
+
+queue-sending : (n : ℕ) (st : Stream) → (queue_one n st).sending ≡ st.sending
+unfolding queue_one
+queue-sending n st = refl
+
+queue_follows : (n id : ℕ) (s : StreamsState) → Follows s (record s { records = changed (queue_one n) id s.records })
+queue_follows n id s = record {
+  order = λ o. ascends_changed (queue_one n) id s.records o;
+  later = λ o j. later_changed (queue_one n) (queue-receiving n) (queue-sending n) j id s.records;
+}
+
+queued_follows : (id : ℕ) (s : StreamsState) → Follows s (queued id s)
+unfolding queued
+queued_follows id s = of_records s (record s { records = changed (queue_one s.waiting.turns) id s.records }) _ refl (queue_follows s.waiting.turns id s)
+
+-- a stream began to wait, and is marked
+pub noted_follows : (id : ℕ) (s : StreamsState) → Follows s (touched id (queued id s))
+noted_follows id s = follows_then s (queued id s) (touched id (queued id s)) (queued_follows id s) (touched_follows id (queued id s))
+
 left_from_follows : (turn : Option (ℤ × ℕ)) (id : ℕ) (s : StreamsState) → Follows s (left_from turn id s)
 left_from_follows None id s = follows_same s s refl
 left_from_follows (Some place) id s = of_records s (record s { records = changed (with_turn None) id s.records }) _ refl (turn_follows None id s)
@@ -168,13 +190,40 @@ released_follows id s =
     (follows_then s (forgotten id s) (left id (forgotten id s)) (follows_same s (forgotten id s) refl) (left_follows id (forgotten id s)))
     (removed_follows id (left id (forgotten id s)))
 
+freed-receiving : (st : Stream) → (with_freed st).receiving ≡ st.receiving
+unfolding with_freed
+freed-receiving st = refl
+
+freed-sending : (st : Stream) → (with_freed st).sending ≡ st.sending
+unfolding with_freed
+freed-sending st = refl
+
+freed_follows : (id : ℕ) (s : StreamsState) → Follows s (record s { records = changed with_freed id s.records })
+freed_follows id s = record {
+  order = λ o. ascends_changed with_freed id s.records o;
+  later = λ o j. later_changed with_freed freed-receiving freed-sending j id s.records;
+}
+
+lingering_follows : (id : ℕ) (s : StreamsState) → Follows s (lingering id s)
+unfolding lingering
+lingering_follows id s = follows_then s _ (lingering id s) (of_records s (record s { records = changed with_freed id s.records }) _ refl (freed_follows id s)) (touched_follows id _)
+
 pub settled_follows : (id : ℕ) (s : StreamsState) → Follows s (settled id s)
 unfolding settled
-settled_follows id s = by (has_ended (record_of id s.records))
+settled_follows id s = by (has_ended (record_of id s.records)) (stops_later (record_of id s.records))
   where
-    by : (b : Bool) → Follows s (cond b (released id s) (touched id s))
+    by : (b c : Bool) → Follows s (cond b (cond c (lingering id s) (released id s)) (touched id s))
+    by true true = lingering_follows id s
+    by true false = released_follows id s
+    by false c = touched_follows id s
+
+pub left_over_follows : (id : ℕ) (s : StreamsState) → Follows s (left_over id s)
+unfolding left_over
+left_over_follows id s = by (has_ended (record_of id s.records))
+  where
+    by : (b : Bool) → Follows s (cond b (released id s) s)
     by true = released_follows id s
-    by false = touched_follows id s
+    by false = follows_same s s refl
 
 turn_filed_follows : (owes : Bool) (turn : Option (ℤ × ℕ)) (id : ℕ) (s : StreamsState) → Follows s (turn_filed owes turn id s)
 turn_filed_follows true None id s = entered_follows _ id s

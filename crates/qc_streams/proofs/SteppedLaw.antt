@@ -29,15 +29,16 @@ use Rattle.qc_streams.specs.Parts.{bytes_acked, bytes_lost, bytes_taken, part_en
 use Rattle.qc_streams.specs.Records.{changed, on_some, record_of}
 use Rattle.qc_streams.specs.Sends.{was_taken}
 use Rattle.qc_streams.specs.Settings.{max_concurrent_set, priority_set, receive_window_set, send_window_set, with_priority}
-use Rattle.qc_streams.specs.Stops.{with_stop}
+use Rattle.qc_turns.specs.Ids.{without_id}
+use Rattle.qc_streams.specs.Stops.{with_stop, without_stop}
 use Rattle.qc_streams.specs.Stream.{limit_taken, stop_taken, totals_at, with_receiving, with_sending}
-use Rattle.qc_streams.specs.Streams.{accepted_one, counted, limits_set, met, next_accepted, settled, told_if}
-use Rattle.qc_streams.specs.Waiting.{touched}
+use Rattle.qc_streams.specs.Streams.{accepted_one, counted, left_over, limits_set, met, next_accepted, settled, told_if}
+use Rattle.qc_streams.specs.Waiting.{queued, touched}
 use Rattle.qc_streams.specs.Waits.{Step, LimitsKnown, EarlyRefused, Closed, Failed, Opened, Accepted, Wrote, Refused, Finished, WasReset, Began, Read, Stopped, ResetAsked, PrioritySet, SendWindowSet, ReceiveWindowSet, ConcurrentSet, Polled, StreamCame, ResetCame, StopCame, StreamLimitCame, StreamsLimitCame, LimitCame, MarksFiled, ControlSealed, ControlLost, ControlAcked, PartSealed, BytesLost, BytesAcked, after_step}
 use Rattle.qc_streams.specs.Writable.{credit_at, held_up, passed, watched}
 use Rattle.qc_streams.proofs.Keyed.{Ascends}
 use Rattle.qc_streams.proofs.StepAt.{Gone, SendsAlike, SteppedAt, Steps, came_to, sent_to}
-use Rattle.qc_streams.proofs.SteppedAt.{Follows, Later, all_filed_follows, ascends_changed, follows_same, follows_then, later_at, later_changed, later_same, settled_follows, touched_follows, turned_follows}
+use Rattle.qc_streams.proofs.SteppedAt.{Follows, Later, all_filed_follows, ascends_changed, follows_same, follows_then, later_at, later_changed, later_same, left_over_follows, noted_follows, settled_follows, touched_follows, turned_follows}
 use Rattle.qc_streams.proofs.WaitSteps.{Holds}
 use Rattle.qc_streams.proofs.SteppedOpened.{met_on, met_order, opened_on}
 use Rattle.qc_streams.proofs.Stepped.{ChangesNone, ChangesReceiving, ChangesSending, alike_self, keeps_on, makes_alike, makes_receiving, receives, rests_alike, rests_receiving, sends_on, still_on}
@@ -186,13 +187,13 @@ module _ (id : ℕ) (s : StreamsState) (holds : Holds s) where
         records = changed (with_sending (if_known (part_written (take n chunk)))) j s.records;
         outgoing = outgoing_written n s.outgoing;
       }) in
-      sends_after (Wrote j n chunk) j (if_known (part_written (take n chunk))) t (touched j t) (wrote_sends j n chunk) refl (touched_follows j t) refl
+      sends_after (Wrote j n chunk) j (if_known (part_written (take n chunk))) t (touched j (queued j t)) (wrote_sends j n chunk) refl (noted_follows j t) refl
 
   sends_at : (x : Step) (j : ℕ) (g : SendPart → SendPart) → ChangesSending j x (if_known g) → (after_step x s).records ≡ (sends g j s).records → SteppedAt id x s
   unfolding sends passed
   sends_at x j g c is =
       let t : StreamsState = passed j (record s { records = changed (with_sending (if_known g)) j s.records }) in
-      sends_after x j (if_known g) t (touched j t) c refl (touched_follows j t) is
+      sends_after x j (if_known g) t (touched j (queued j t)) c refl (noted_follows j t) is
 
   -- it reads, stops or asks
   gives_at : (x : Step) (j : ℕ) (g : Recv → Recv) → ChangesReceiving j x g → (after_step x s).records ≡ (gives g j s).records → SteppedAt id x s
@@ -263,7 +264,12 @@ module _ (id : ℕ) (s : StreamsState) (holds : Holds s) where
   sealed_at : (c : Control) → SteppedAt id (ControlSealed c) s
   unfolding after_step control_sealed max_data_sealed max_streams_sealed
   sealed_at (Reset j code size) = sends_on id j (ControlSealed (Reset j code size)) s reset_sealed (reset_sealed_sends j code size) (later_at _)
-  sealed_at (Stop j code) = receives id j (ControlSealed (Stop j code)) s stop_sealed (stop_sealed_receives j code) (later_at _)
+  sealed_at (Stop j code) =
+      let t : StreamsState = record s {
+        records = changed (with_receiving stop_sealed) j s.records;
+        waiting = record s.waiting { stops = without_id j s.waiting.stops; gone_stops = without_stop j s.waiting.gone_stops };
+      } in
+      receives_after (ControlSealed (Stop j code)) j stop_sealed t (left_over j t) (stop_sealed_receives j code) refl (left_over_follows j t) refl
   sealed_at (MaxData limit) = still_on id id (ControlSealed (MaxData limit)) s (data_sealed_none limit) (later_at _)
   sealed_at (MaxStreamData j limit) = receives id j (ControlSealed (MaxStreamData j limit)) s side_credit_sealed (credit_sealed_receives j limit) (later_at _)
   sealed_at (MaxStreams dir limit) = still_on id id (ControlSealed (MaxStreams dir limit)) s (streams_sealed_none dir limit) (later_at _)
@@ -300,7 +306,7 @@ module _ (id : ℕ) (s : StreamsState) (holds : Holds s) where
   unfolding after_step bytes_lost
   bytes_lost_at j start stop last =
       let t : StreamsState = record s { records = changed (with_sending (part_lost start stop last)) j s.records } in
-      sends_after (BytesLost j start stop last) j (part_lost start stop last) t (touched j t) (bytes_lost_sends j start stop last) refl (touched_follows j t) refl
+      sends_after (BytesLost j start stop last) j (part_lost start stop last) t (touched j (queued j t)) (bytes_lost_sends j start stop last) refl (noted_follows j t) refl
 
   bytes_acked_at : (j start stop : ℕ) (last : Bool) → SteppedAt id (BytesAcked j start stop last) s
   unfolding after_step bytes_acked bytes_taken told_if

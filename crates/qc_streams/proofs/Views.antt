@@ -26,8 +26,8 @@ use Rattle.qc_streams.specs.Chunks.{Chunks, IsUnwritten}
 use Rattle.qc_streams.specs.Credit.{budget, outgoing_written}
 use Rattle.qc_streams.specs.Records.{changed, record_of}
 use Rattle.qc_streams.specs.Stream.{has_ended, is_over, receiving_over, sending_over, with_receiving, with_sending}
-use Rattle.qc_streams.specs.Streams.{counted, failed, released, settled}
-use Rattle.qc_streams.specs.Waiting.{touched, with_mark}
+use Rattle.qc_streams.specs.Streams.{counted, failed, lingering, released, settled, stops_later}
+use Rattle.qc_streams.specs.Waiting.{queued, touched, with_mark}
 use Rattle.qc_streams.specs.Writable.{passed}
 use Rattle.qc_streams.proofs.Waits.{here}
 use Rattle.qc_streams.specs.Views.{IsBarred, IsGiven, IsUntaken, fault_marked, is_lost, is_shut, may_want, read_error, read_on, side_marked, told_after, unrefused, unwritten, write_bar, write_error}
@@ -140,10 +140,10 @@ pub copy_wrote : (id wanted n count : ℕ) (s s' : StreamsState) (chunk body : L
     → n ≡ count_taken (length chunk) (budget (send_room s) s.outgoing) (known_at id s) → s' ≡ wrote id n chunk s → s' ≡ wrote id n body s
 unfolding wrote
 copy_wrote id wanted n count s s' chunk body front within fits is taken to =
-    to ∙ ap (λ (l : List ℕ). touched id (passed id (let t : StreamsState = record s {
+    to ∙ ap (λ (l : List ℕ). touched id (queued id (passed id (let t : StreamsState = record s {
       records = changed (with_sending (if_known (part_written l))) id s.records;
       outgoing = outgoing_written n s.outgoing;
-    } in t))) (front_take n count chunk body front
+    } in t)))) (front_take n count chunk body front
     (both id wanted n count s fits is (taken ∙ ap (λ (k : ℕ). count_taken k (budget (send_room s) s.outgoing) (known_at id s)) (front_length count chunk body front within))).1)
 
 wants_known : (wanted most count : ℕ) (p : Option SendPart) → count ≡ unrefused wanted most p → 0 < count → needs_memory (write_fault most p) ≡ true
@@ -257,7 +257,7 @@ over_at id t is = is
 settled_at : (id : ℕ) (t : StreamsState) → receiving_over (receiving_at id t) ≡ false → receiving_at id (settled id t) ≡ receiving_at id t
 unfolding settled
 settled_at id t is =
-    ap (λ (b : Bool). receiving_at id (cond b (released id t) (touched id t))) (ended_at (record_of id t.records) (over_at id t is)) ∙ touched_at id t
+    ap (λ (b : Bool). receiving_at id (cond b (cond (stops_later (record_of id t.records)) (lingering id t) (released id t)) (touched id t))) (ended_at (record_of id t.records) (over_at id t is)) ∙ touched_at id t
 
 at_is : (f : Recv → Recv) (id : ℕ) (s : StreamsState)
     → receiving_at id (let t : StreamsState = record s { records = changed (with_receiving f) id s.records } in t) ≡ option_map f (receiving_at id s)

@@ -1,5 +1,5 @@
 -- Whatever happens, exactly those streams wait on which a write was blocked and that have credit
-use Rattle.std.proofs.Common.{◌≡◌, ◌∙◌, ℕ, ◌/◌, ◌<◌, ◌^◌, Bool, true, false, cond, ◌&&◌, nat_lt, List, [], ◌∷◌, Option, None, Some, is_some, ap, refl}
+use Rattle.std.proofs.Common.{◌≡◌, ◌∙◌, ℕ, ◌/◌, ◌<◌, ◌^◌, Bool, true, false, cond, ◌&&◌, nat_lt, List, [], ◌∷◌, take, Option, None, Some, is_some, ap, refl}
 use Rattle.std.specs.Prelude.{ℤ}
 use Rattle.qc_base.specs.declared.side.Dir.{Dir}
 use Rattle.qc_base.specs.declared.side.Dir.TheVariants.{Bi, Uni}
@@ -11,7 +11,7 @@ use Rattle.qc_recv.specs.Receiving.{opened, reset_asked, reset_taken, stop_asked
 use Rattle.qc_send_stream.specs.declared.fault.WriteError.{WriteError}
 use Rattle.qc_send_stream.specs.declared.fault.WriteError.TheVariants.{Blocked, ClosedStream, Stopped as WriteStopped, OutOfMemory}
 use Rattle.qc_send_stream.specs.declared.send.SendPart.{SendPart}
-use Rattle.qc_send_stream.specs.Sending.{finished, is_done, limit_raised, new_sending, part_written, reset_acked, reset_lost, reset_sealed, unblocked, was_blocked, was_reset}
+use Rattle.qc_send_stream.specs.Sending.{finished, is_done, limit_raised, new_sending, part_written, reset_acked, reset_lost, reset_sealed, part_lost, unblocked, was_blocked, was_reset}
 use Rattle.qc_streams.specs.declared.control.Control.{Control}
 use Rattle.qc_streams.specs.declared.control.Control.TheVariants.{Reset, Stop, MaxData, MaxStreamData, MaxStreams}
 use Rattle.qc_streams.specs.declared.counts.ByDir.{ByDir}
@@ -23,6 +23,7 @@ use Rattle.qc_streams.specs.declared.state.StreamsState.{StreamsState}
 use Rattle.qc_streams.specs.declared.stream.Stream.{Stream}
 use Rattle.qc_streams.specs.Calls.{after_read, gives, if_known, reading_begun, sends, write_refused, wrote}
 use Rattle.qc_streams.specs.Control.{control_acked, control_lost, control_sealed, stop_again}
+use Rattle.qc_streams.specs.Credit.{outgoing_written}
 use Rattle.qc_streams.specs.Counts.{accepted, by_dir, dir_put, opening_told, own_raised, places_lost, places_sealed}
 use Rattle.qc_streams.specs.Early.{early_refused}
 use Rattle.qc_streams.specs.Events.{first_event}
@@ -35,12 +36,12 @@ use Rattle.qc_streams.specs.Settings.{concurrent_set, max_concurrent_set, priori
 use Rattle.qc_streams.specs.Stops.{with_stop}
 use Rattle.qc_streams.specs.Stream.{fresh_stream, limit_taken, stop_taken, with_receiving, with_sending}
 use Rattle.qc_streams.specs.Streams.{accepted_one, counted, dir_of, fresh_peer, is_own, is_peer_unopened, limits_set, met, new_streams, next_accepted, opened_with, told_if}
-use Rattle.qc_streams.specs.Waiting.{all_filed, dues_at, entered, filed, left, mark_off, placed, touched, turn_filed, with_mark, with_turn}
+use Rattle.qc_streams.specs.Waiting.{all_filed, dues_at, entered, filed, left, mark_off, placed, queued, touched, turn_filed, with_mark, with_turn}
 use Rattle.qc_streams.specs.Waits.{ArePossible, IsPossible, Step, LimitsKnown, EarlyRefused, Closed, Failed, Opened, Accepted, Wrote, Refused, Finished, WasReset, Began, Read, Stopped, ResetAsked, PrioritySet, SendWindowSet, ReceiveWindowSet, ConcurrentSet, Polled, StreamCame, ResetCame, StopCame, StreamLimitCame, StreamsLimitCame, LimitCame, MarksFiled, ControlSealed, ControlLost, ControlAcked, PartSealed, BytesLost, BytesAcked, WaitWhereBlocked, after, after_step}
 use Rattle.qc_streams.specs.Writable.{awaits, awaits_at, credit_at, has_credit, held_up, passed, watched}
 use Rattle.qc_streams.proofs.WaitOpened.{met_ok, opened_own_ok, opened_with_ok}
 use Rattle.qc_streams.proofs.WaitSides.{acked_alike, finished_credit, lost_alike, reset_acked_alike, reset_credit, reset_lost_alike, reset_sealed_alike, sealed_alike, side_alike, side_credit, side_limit, side_told, stop_alike, written_credit}
-use Rattle.qc_streams.proofs.WaitSteps.{Holds, left_ok, opened_same, put_same, settled_ok, touched_ok, was_opened}
+use Rattle.qc_streams.proofs.WaitSteps.{Holds, left_ok, left_over_ok, opened_same, put_same, queued_ok, settled_ok, touched_ok, was_opened}
 use Rattle.qc_streams.proofs.Waits.{Sound, alike, held, pass, raise, told, watch, watch-in, weaken}
 
 -- ---- streams that change, and wait as before
@@ -118,11 +119,12 @@ accepted_ok dir s h =
     (put_same accepted accepted_same dir s.peer) (same_ok was_taken (λ st. refl) (next_accepted dir s) s h)
 
 pass_ok : (g : SendPart → SendPart) → ((p : SendPart) → has_credit (g p) ≡ true → awaits (Some (g p)) ≡ awaits (Some p)) → (id : ℕ) (s : StreamsState) → Holds s
-    → Holds (touched id (passed id (record s { records = changed (with_sending (if_known g)) id s.records })))
+    → Holds (touched id (queued id (passed id (record s { records = changed (with_sending (if_known g)) id s.records }))))
 unfolding passed
 pass_ok g same id s h =
     touched_ok id _
-    (pass (with_sending (if_known g)) (side_credit g same) (was_opened s.side s.own s.peer) id s.records s.blocked h)
+    (queued_ok id (passed id (record s { records = changed (with_sending (if_known g)) id s.records }))
+    (pass (with_sending (if_known g)) (side_credit g same) (was_opened s.side s.own s.peer) id s.records s.blocked h))
 
 sends_ok : (g : SendPart → SendPart) → ((p : SendPart) → has_credit (g p) ≡ true → awaits (Some (g p)) ≡ awaits (Some p)) → (id : ℕ) (s : StreamsState) → Holds s
     → Holds (sends g id s)
@@ -133,7 +135,11 @@ wrote_ok : (id n : ℕ) (chunk : List ℕ) (s : StreamsState) → Holds s → Ho
 unfolding wrote passed
 wrote_ok id n chunk s h =
     touched_ok id _
-    (pass (with_sending (if_known (part_written _))) (side_credit (part_written _) (written_credit _)) (was_opened s.side s.own s.peer) id s.records s.blocked h)
+    (queued_ok id (passed id (record s {
+      records = changed (with_sending (if_known (part_written (take n chunk)))) id s.records;
+      outgoing = outgoing_written n s.outgoing;
+    }))
+    (pass (with_sending (if_known (part_written _))) (side_credit (part_written _) (written_credit _)) (was_opened s.side s.own s.peer) id s.records s.blocked h))
 
 refused_ok : (e : WriteError) (id : ℕ) (s : StreamsState) → Holds s → Holds (write_refused e id s)
 unfolding write_refused held_up
@@ -245,7 +251,7 @@ part_ok d s h = turned_ok d.id _ (same_ok _ (side_alike _ (sealed_alike d.part.o
 sealed_ok : (c : Control) (s : StreamsState) → Holds s → Holds (control_sealed c s)
 unfolding control_sealed max_data_sealed max_streams_sealed
 sealed_ok (Reset id code size) s h = same_ok (with_sending reset_sealed) (side_alike reset_sealed reset_sealed_alike) id s h
-sealed_ok (Stop id code) s h = same_ok (with_receiving stop_sealed) (received_alike stop_sealed) id s h
+sealed_ok (Stop id code) s h = left_over_ok id _ (same_ok (with_receiving stop_sealed) (received_alike stop_sealed) id s h)
 sealed_ok (MaxData limit) s h = h
 sealed_ok (MaxStreamData id limit) s h = same_ok (with_receiving side_credit_sealed) (received_alike side_credit_sealed) id s h
 sealed_ok (MaxStreams dir limit) s h = peer_ok (dir_put dir (places_sealed (by_dir dir s.peer)) s.peer) s (put_same places_sealed sealed_same dir s.peer) h
@@ -319,7 +325,8 @@ step_ok (ControlSealed c) s can h = sealed_ok c s h
 step_ok (ControlLost c) s can h = lost_ok c s h
 step_ok (ControlAcked c) s can h = acked_ok c s h
 step_ok (PartSealed d) s can h = part_ok d s h
-step_ok (BytesLost id start stop last) s can h = touched_ok id _ (same_ok _ (side_alike _ (lost_alike start stop last)) id s h)
+step_ok (BytesLost id start stop last) s can h =
+    touched_ok id _ (queued_ok id _ (same_ok (with_sending (part_lost start stop last)) (side_alike _ (lost_alike start stop last)) id s h))
 step_ok (BytesAcked id start stop last) s can h = told_if_ok _ _ _ (settled_ok id _ (same_ok _ (side_alike _ (acked_alike start stop last)) id s h))
 
 pub after_ok : (xs : List Step) (s : StreamsState) → ArePossible xs → Holds s → Holds (after xs s)

@@ -1,5 +1,5 @@
 -- Exactly those streams wait on which a write was blocked and that have credit: what each step leaves of that
-use Rattle.std.proofs.Common.{◌≡◌, ◌∙◌, ℕ, ◌/◌, Bool, true, false, cond, nat_lt, Option, None, Some, ap, refl}
+use Rattle.std.proofs.Common.{◌≡◌, ◌∙◌, ℕ, ◌/◌, Bool, true, false, cond, ◌||◌, nat_lt, Option, None, Some, ap, refl}
 use Rattle.std.specs.Prelude.{ℤ}
 use Rattle.std.specs.Option.{option_map}
 use Rattle.qc_base.specs.declared.side.Dir.{Dir}
@@ -11,10 +11,10 @@ use Rattle.qc_streams.specs.declared.counts.PeerStreams.{PeerStreams}
 use Rattle.qc_streams.specs.declared.state.StreamsState.{StreamsState}
 use Rattle.qc_streams.specs.declared.stream.Stream.{Stream}
 use Rattle.qc_streams.specs.Counts.{by_dir, dir_put, place_freed, with_place}
-use Rattle.qc_streams.specs.Records.{record_of, without}
-use Rattle.qc_streams.specs.Stream.{has_ended}
-use Rattle.qc_streams.specs.Streams.{dir_of, forgotten, is_own, released, removed, settled}
-use Rattle.qc_streams.specs.Waiting.{left, left_from, touched, turn_at, with_mark, with_turn}
+use Rattle.qc_streams.specs.Records.{changed, record_of, without}
+use Rattle.qc_streams.specs.Stream.{has_ended, is_freed, with_freed}
+use Rattle.qc_streams.specs.Streams.{dir_of, forgotten, is_own, left_over, lingering, released, removed, settled, stops_later}
+use Rattle.qc_streams.specs.Waiting.{left, left_from, queue_one, queued, touched, turn_at, with_mark, with_turn}
 use Rattle.qc_streams.specs.Writable.{awaits_at}
 use Rattle.qc_streams.proofs.Waits.{Sound, alike, ended_not, here, leaves, raise}
 
@@ -30,6 +30,11 @@ Holds s = Sound (was_opened s.side s.own s.peer) s.records s.blocked
 pub touched_ok : (id : ℕ) (s : StreamsState) → Holds s → Holds (touched id s)
 unfolding touched with_mark
 touched_ok id s h = alike (with_mark true) (λ st. refl) (was_opened s.side s.own s.peer) id s.records s.blocked h
+
+-- a stream began to wait
+pub queued_ok : (id : ℕ) (s : StreamsState) → Holds s → Holds (queued id s)
+unfolding queued queue_one
+queued_ok id s h = alike (queue_one s.waiting.turns) (λ st. refl) (was_opened s.side s.own s.peer) id s.records s.blocked h
 
 left_from_ok : (turn : Option (ℤ × ℕ)) (id : ℕ) (s : StreamsState) → Holds s → Holds (left_from turn id s)
 unfolding with_turn
@@ -79,8 +84,9 @@ removed_ok : (id : ℕ) (s : StreamsState) → awaits_at (record_of id s.records
 unfolding removed
 removed_ok id s none h =
     raise (was_opened s.side s.own s.peer) _ (without id s.records) s.blocked
-    (opened_same s.side s.own s.peer (cond (is_own s.side id) s.peer (dir_put (dir_of id) (place_freed (by_dir (dir_of id) s.peer)) s.peer))
-    (removed_same (is_own s.side id) (dir_of id) s.peer))
+    (opened_same s.side s.own s.peer
+    (cond (is_own s.side id || is_freed (record_of id s.records)) s.peer (dir_put (dir_of id) (place_freed (by_dir (dir_of id) s.peer)) s.peer))
+    (removed_same (is_own s.side id || is_freed (record_of id s.records)) (dir_of id) s.peer))
     (leaves (was_opened s.side s.own s.peer) id s.records s.blocked none h)
 
 released_ok : (id : ℕ) (s : StreamsState) → awaits_at (record_of id s.records) ≡ false → Holds s → Holds (released id s)
@@ -88,10 +94,29 @@ unfolding released forgotten
 released_ok id s none h =
     removed_ok id (left id (forgotten id s)) (left_awaits id (forgotten id s) ∙ none) (left_ok id (forgotten id s) h)
 
+lingering_ok : (id : ℕ) (s : StreamsState) → Holds s → Holds (lingering id s)
+unfolding lingering with_freed
+lingering_ok id s h =
+    touched_ok id _
+    (raise (was_opened s.side s.own s.peer) _ (changed with_freed id s.records) s.blocked
+    (opened_same s.side s.own s.peer
+    (cond (is_own s.side id || is_freed (record_of id s.records)) s.peer (dir_put (dir_of id) (place_freed (by_dir (dir_of id) s.peer)) s.peer))
+    (removed_same (is_own s.side id || is_freed (record_of id s.records)) (dir_of id) s.peer))
+    (alike with_freed (λ st. refl) (was_opened s.side s.own s.peer) id s.records s.blocked h))
+
 pub settled_ok : (id : ℕ) (s : StreamsState) → Holds s → Holds (settled id s)
 unfolding settled
-settled_ok id s h = by (has_ended (record_of id s.records)) refl
+settled_ok id s h = by (has_ended (record_of id s.records)) (stops_later (record_of id s.records)) refl
   where
-    by : (b : Bool) → has_ended (record_of id s.records) ≡ b → Holds (cond b (released id s) (touched id s))
+    by : (b c : Bool) → has_ended (record_of id s.records) ≡ b → Holds (cond b (cond c (lingering id s) (released id s)) (touched id s))
+    by true true is = lingering_ok id s h
+    by true false is = released_ok id s (ended_not (record_of id s.records) is) h
+    by false c is = touched_ok id s h
+
+pub left_over_ok : (id : ℕ) (s : StreamsState) → Holds s → Holds (left_over id s)
+unfolding left_over
+left_over_ok id s h = by (has_ended (record_of id s.records)) refl
+  where
+    by : (b : Bool) → has_ended (record_of id s.records) ≡ b → Holds (cond b (released id s) s)
     by true is = released_ok id s (ended_not (record_of id s.records) is) h
-    by false is = touched_ok id s h
+    by false is = h

@@ -45,12 +45,12 @@ use Rattle.qc_streams.specs.Settings.{concurrent_set, max_concurrent_set, priori
 use Rattle.qc_streams.specs.Stops.{with_stop}
 use Rattle.qc_streams.specs.Stream.{limit_taken, stop_taken, with_receiving, with_sending}
 use Rattle.qc_streams.specs.Streams.{accepted_one, limits_set, new_streams, next_accepted, no_own, no_peer, told_if}
-use Rattle.qc_streams.specs.Waiting.{touched}
+use Rattle.qc_streams.specs.Waiting.{queued, touched}
 use Rattle.qc_streams.specs.Waits.{Step, LimitsKnown, EarlyRefused, Closed, Failed, Opened, Accepted, Wrote, Refused, Finished, WasReset, Began, Read, Stopped, ResetAsked, PrioritySet, SendWindowSet, ReceiveWindowSet, ConcurrentSet, Polled, StreamCame, ResetCame, StopCame, StreamLimitCame, StreamsLimitCame, LimitCame, MarksFiled, ControlSealed, ControlLost, ControlAcked, PartSealed, BytesLost, BytesAcked, after, after_step}
 use Rattle.qc_streams.specs.Within.{AreTaken, CreditIsKept, IsTaken, SendsWithin, StaysWithin}
 use Rattle.qc_streams.specs.Writable.{credit_at, held_up, passed, watched}
 use Rattle.qc_streams.proofs.WithinSides.{Good, blocked_good, credit_lost_good, credit_sealed_good, finished_good, good_at, good_changed_at, known_good, limit_good, opened_good, part_acked_good, part_lost_good, part_sealed_good, read_good, receiving_good, reset_acked_good, reset_asked_good, reset_good, reset_lost_good, reset_sealed_good, sending_good, stop_asked_good, stop_good, stop_lost_good, stop_sealed_good, unblocked_good}
-use Rattle.qc_streams.proofs.WithinSteps.{Fits, IncomingFits, OwnFits, PeerFits, all_filed_fits, changed_fits, comes_fits, gives_fits, met_fits, opened_own_fits, put_own, put_peer, sent_below, settled_fits, touched_fits, turned_fits, with_own, with_peer}
+use Rattle.qc_streams.proofs.WithinSteps.{Fits, IncomingFits, OwnFits, PeerFits, all_filed_fits, changed_fits, comes_fits, gives_fits, left_over_fits, met_fits, opened_own_fits, put_own, put_peer, queued_fits, sent_below, settled_fits, touched_fits, turned_fits, with_own, with_peer}
 use Rattle.qc_streams.proofs.WithinTaken.{reset_can, stream_can}
 
 -- ---- a write that takes no more than it may
@@ -91,10 +91,11 @@ wrote_fits : (id n : ℕ) (chunk : List ℕ) (s : StreamsState) → n ≤ count_
     → Fits (wrote id n chunk s)
 unfolding wrote passed known_at
 wrote_fits id n chunk s fits h =
-    touched_fits id (passed id (record s {
+    let t : StreamsState = passed id (record s {
       records = changed (with_sending (if_known (part_written (take n chunk)))) id s.records;
       outgoing = outgoing_written n s.outgoing;
-    }))
+    }) in
+    touched_fits id (queued id t) (queued_fits id t
     (record {
       good =
           good_changed_at (with_sending (if_known (part_written (take n chunk)))) id s.records
@@ -105,14 +106,17 @@ wrote_fits id n chunk s fits h =
       own = h.own;
       peer = h.peer;
       small = h.small;
-    })
+    }))
 
 -- ---- the application's other calls
 
 sends_fits : (g : SendPart → SendPart) → ((p : SendPart) → SendsWithin (Some p) → SendsWithin (Some (g p))) → (id : ℕ) (s : StreamsState) → Fits s
     → Fits (sends g id s)
 unfolding sends passed
-sends_fits g keeps id s h = touched_fits id _ (changed_fits (with_sending (if_known g)) (sending_good (if_known g) (known_good g keeps)) id s h)
+sends_fits g keeps id s h =
+    touched_fits id _
+    (queued_fits id (passed id (record s { records = changed (with_sending (if_known g)) id s.records }))
+    (changed_fits (with_sending (if_known g)) (sending_good (if_known g) (known_good g keeps)) id s h))
 
 refused_fits : (e : WriteError) (id : ℕ) (s : StreamsState) → Fits s → Fits (write_refused e id s)
 unfolding write_refused held_up
@@ -289,7 +293,7 @@ polled_fits s h = by s.peer.bi.tells s.peer.uni.tells
 control_fits : (c : Control) (s : StreamsState) → Fits s → Fits (control_sealed c s)
 unfolding control_sealed max_data_sealed max_streams_sealed
 control_fits (Reset id code size) s h = changed_fits (with_sending reset_sealed) (sending_good reset_sealed reset_sealed_good) id s h
-control_fits (Stop id code) s h = changed_fits (with_receiving stop_sealed) (receiving_good stop_sealed stop_sealed_good) id s h
+control_fits (Stop id code) s h = left_over_fits id _ (changed_fits (with_receiving stop_sealed) (receiving_good stop_sealed stop_sealed_good) id s h)
 control_fits (MaxData limit) s h = with_incoming (credit_sealed s.incoming) s (sealed_fits s.incoming h.incoming) h
 control_fits (MaxStreamData id limit) s h = changed_fits (with_receiving side_credit_sealed) (receiving_good side_credit_sealed credit_sealed_good) id s h
 control_fits (MaxStreams dir limit) s h = peer_fits places_sealed places_sealed_fits dir s h
@@ -369,7 +373,8 @@ step_fits (ControlLost c) s can h = control_lost_fits c s h
 step_fits (ControlAcked c) s can h = control_acked_fits c s h
 step_fits (PartSealed d) s can h = part_fits d s h
 step_fits (BytesLost id start stop last) s can h =
-    touched_fits id _ (changed_fits (with_sending (part_lost start stop last)) (sending_good _ (part_lost_good start stop last)) id s h)
+    touched_fits id _
+    (queued_fits id _ (changed_fits (with_sending (part_lost start stop last)) (sending_good _ (part_lost_good start stop last)) id s h))
 step_fits (BytesAcked id start stop last) s can h =
     settled_fits id _ (changed_fits (with_sending (part_acked start stop last)) (sending_good _ (part_acked_good start stop last)) id s h)
 

@@ -1,5 +1,5 @@
 -- What is sent and what comes stays within the credit: what the parts of steps leave of that
-use Rattle.std.proofs.Common.{◌≡◌, ◌∙◌, ℕ, zero, suc, ◌+◌, ◌-◌, ◌/◌, ◌^◌, ◌<◌, ◌≤◌, Bool, true, false, cond, not, ◌&&◌, nat_le, nat_lt, max, List, [], ◌∷◌, Option, None, Some, ap, sym, subst, arith, refl}
+use Rattle.std.proofs.Common.{◌≡◌, ◌∙◌, ℕ, zero, suc, ◌+◌, ◌-◌, ◌/◌, ◌^◌, ◌<◌, ◌≤◌, Bool, true, false, cond, not, ◌&&◌, ◌||◌, nat_le, nat_lt, max, List, [], ◌∷◌, Option, None, Some, ap, sym, subst, arith, refl}
 use Rattle.std.proofs.lemmas.Bool.Decides.{nat_tests}
 use Rattle.std.specs.Prelude.{ℤ}
 use Rattle.std.specs.Option.{option_map}
@@ -26,9 +26,9 @@ use Rattle.qc_streams.specs.Lending.{AllRecords}
 use Rattle.qc_streams.specs.Parts.{place_again, turned}
 use Rattle.qc_streams.specs.Records.{changed, record_of, without}
 use Rattle.qc_streams.specs.Refusals.{first_row, or_else}
-use Rattle.qc_streams.specs.Stream.{fresh_stream, has_ended, refusal_at, side_refusal, totals_at, totals_if, totals_of, with_receiving}
-use Rattle.qc_streams.specs.Streams.{counted, dir_of, forgotten, fresh_own, fresh_peer, is_own, is_past_limit, is_peer_unopened, lower_opened, made, may_open, met, opened_own, opened_with, released, removed, settled, target}
-use Rattle.qc_streams.specs.Waiting.{all_filed, dues_at, entered, filed, left, left_from, mark_off, placed, touched, turn_at, turn_filed, with_mark, with_turn}
+use Rattle.qc_streams.specs.Stream.{fresh_stream, has_ended, is_freed, refusal_at, side_refusal, totals_at, totals_if, totals_of, with_freed, with_receiving}
+use Rattle.qc_streams.specs.Streams.{counted, dir_of, forgotten, fresh_own, fresh_peer, is_own, is_past_limit, is_peer_unopened, left_over, lingering, lower_opened, made, may_open, met, opened_own, opened_with, released, removed, settled, stops_later, target}
+use Rattle.qc_streams.specs.Waiting.{all_filed, dues_at, entered, filed, left, left_from, mark_off, placed, queue_one, queued, touched, turn_at, turn_filed, with_mark, with_turn}
 use Rattle.qc_streams.specs.Within.{TakesWithin}
 use Rattle.qc_streams.proofs.Keyed.{new_here}
 use Rattle.qc_streams.proofs.Waits.{here}
@@ -118,6 +118,15 @@ left_fits : (id : ℕ) (s : StreamsState) → Fits s → Fits (left id s)
 unfolding left
 left_fits id s h = left_from_fits (turn_at (record_of id s.records)) id s h
 
+-- a stream began to wait
+queue_good : (n : ℕ) (st : Stream) → Good st → Good (queue_one n st)
+unfolding queue_one
+queue_good n st g = g
+
+pub queued_fits : (id : ℕ) (s : StreamsState) → Fits s → Fits (queued id s)
+unfolding queued
+queued_fits id s h = changed_fits (queue_one s.waiting.turns) (queue_good s.waiting.turns) id s h
+
 entered_fits : (place : ℤ × ℕ) (id : ℕ) (s : StreamsState) → Fits s → Fits (entered place id s)
 unfolding entered
 entered_fits place id s h = changed_fits (with_turn (Some place)) (turn_good (Some place)) id s h
@@ -134,8 +143,8 @@ freed_fits k h = record {
 removed_fits : (id : ℕ) (s : StreamsState) → Fits s → Fits (removed id s)
 unfolding removed
 removed_fits id s h =
-    with_all (without id s.records) (record s { peer = freed (is_own s.side id) }) (good_gone id s.records h.good)
-    (with_peer (freed (is_own s.side id)) s (by (is_own s.side id)) h)
+    with_all (without id s.records) (record s { peer = freed (is_own s.side id || is_freed (record_of id s.records)) }) (good_gone id s.records h.good)
+    (with_peer (freed (is_own s.side id || is_freed (record_of id s.records))) s (by (is_own s.side id || is_freed (record_of id s.records))) h)
   where
     freed : Bool → ByDir PeerStreams
     freed b = cond b s.peer (dir_put (dir_of id) (place_freed (by_dir (dir_of id) s.peer)) s.peer)
@@ -148,13 +157,40 @@ released_fits : (id : ℕ) (s : StreamsState) → Fits s → Fits (released id s
 unfolding released forgotten
 released_fits id s h = removed_fits id (left id (forgotten id s)) (left_fits id (forgotten id s) h)
 
+freed_good : (st : Stream) → Good st → Good (with_freed st)
+unfolding with_freed
+freed_good st h = h
+
+lingering_fits : (id : ℕ) (s : StreamsState) → Fits s → Fits (lingering id s)
+unfolding lingering
+lingering_fits id s h =
+    touched_fits id _
+    (changed_fits with_freed freed_good id (record s { peer = freed (is_own s.side id || is_freed (record_of id s.records)) })
+    (with_peer (freed (is_own s.side id || is_freed (record_of id s.records))) s (by (is_own s.side id || is_freed (record_of id s.records))) h))
+  where
+    freed : Bool → ByDir PeerStreams
+    freed b = cond b s.peer (dir_put (dir_of id) (place_freed (by_dir (dir_of id) s.peer)) s.peer)
+
+    by : (b : Bool) (dir : Dir) → PeerFits (by_dir dir (freed b))
+    by true dir = h.peer dir
+    by false dir = put_peer (dir_of id) (place_freed (by_dir (dir_of id) s.peer)) s.peer (freed_fits (by_dir (dir_of id) s.peer) (h.peer (dir_of id))) h.peer dir
+
 pub settled_fits : (id : ℕ) (s : StreamsState) → Fits s → Fits (settled id s)
 unfolding settled
-settled_fits id s h = by (has_ended (record_of id s.records))
+settled_fits id s h = by (has_ended (record_of id s.records)) (stops_later (record_of id s.records))
   where
-    by : (b : Bool) → Fits (cond b (released id s) (touched id s))
+    by : (b c : Bool) → Fits (cond b (cond c (lingering id s) (released id s)) (touched id s))
+    by true true = lingering_fits id s h
+    by true false = released_fits id s h
+    by false c = touched_fits id s h
+
+pub left_over_fits : (id : ℕ) (s : StreamsState) → Fits s → Fits (left_over id s)
+unfolding left_over
+left_over_fits id s h = by (has_ended (record_of id s.records))
+  where
+    by : (b : Bool) → Fits (cond b (released id s) s)
     by true = released_fits id s h
-    by false = touched_fits id s h
+    by false = h
 
 turn_fits : (owes : Bool) (turn : Option (ℤ × ℕ)) (id : ℕ) (s : StreamsState) → Fits s → Fits (turn_filed owes turn id s)
 turn_fits true None id s h = entered_fits _ id s h

@@ -23,7 +23,7 @@ use Rattle.qc_streams.specs.Kept.{kept_in}
 use Rattle.qc_streams.specs.Records.{record_of, changed}
 use Rattle.qc_streams.specs.Stream.{totals_at, with_receiving, with_sending}
 use Rattle.qc_streams.specs.Streams.{counted, settled}
-use Rattle.qc_streams.specs.Waiting.{touched}
+use Rattle.qc_streams.specs.Waiting.{queued, touched}
 use Rattle.qc_streams.specs.Writable.{credit_at, held_up, passed}
 
 -- a sending side that the application knows: not one of which all is acknowledged
@@ -44,9 +44,10 @@ known_at id s = known_of (record_of id s.records)
 abbrev pub if_known : (SendPart → SendPart) → SendPart → SendPart
 if_known f p = if is_done p then p else f p
 
--- the same of the stream with an id, which may not wait for the connection any more; it is looked at what it owes now
+-- the same of the stream with an id, which may not wait for the connection any more; its end waits from this moment on, and it is looked
+-- at what it owes now
 unfoldable pub sends : (SendPart → SendPart) → ℕ → StreamsState → StreamsState
-sends f id s = touched id (passed id (record s { records = changed (with_sending (if_known f)) id s.records }))
+sends f id s = touched id (queued id (passed id (record s { records = changed (with_sending (if_known f)) id s.records })))
 
 -- why a write is refused: the stream is unknown, or its sending side refuses
 abbrev pub write_fault : ℕ → Option SendPart → Option WriteError
@@ -68,10 +69,10 @@ count_taken wanted most (Some p) = takes wanted most p
 
 -- the application writes so many bytes of a chunk's front
 unfoldable pub wrote : ℕ → ℕ → List ℕ → StreamsState → StreamsState
-wrote id n chunk s = touched id (passed id (record s {
+wrote id n chunk s = touched id (queued id (passed id (record s {
   records = changed (with_sending (if_known (part_written (take n chunk)))) id s.records;
   outgoing = outgoing_written n s.outgoing;
-}))
+})))
 
 -- whether a write needs memory that may want: it isn't refused, or is blocked, which is noted
 abbrev pub needs_memory : Option WriteError → Bool

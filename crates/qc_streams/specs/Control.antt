@@ -1,10 +1,11 @@
 -- Frames of streams and of limits without bytes of a stream: which is sent next, and what becomes of them (RFC 9000, sections
 -- 19.4, 19.5 and 19.9 to 19.11)
-use Rattle.std.specs.Prelude.{ℕ, nat_le, if◌then◌else◌, Option, None, Some, is_some}
+use Rattle.std.specs.Prelude.{ℕ, ◌+◌, nat_le, if◌then◌else◌, length, Option, None, Some, is_some}
 use Rattle.std.specs.Option.{option_and_then, option_map}
 use Rattle.qc_base.specs.declared.side.Dir.{Dir}
 use Rattle.qc_base.specs.declared.side.Dir.TheVariants.{Bi, Uni}
 use Rattle.qc_base.specs.declared.varint.VarInt.{VarInt}
+use Rattle.qc_base.specs.Varint.{varint}
 use Rattle.qc_recv.specs.declared.recv.Recv.{Recv}
 use Rattle.qc_recv.specs.Owed.{credit_value, credit_sealed, credit_lost, stop_sealed, stop_lost}
 use Rattle.qc_send_stream.specs.declared.send.SendPart.{SendPart}
@@ -18,7 +19,7 @@ use Rattle.qc_streams.specs.Owed.{max_data_owed, max_data_sealed, max_data_lost,
 use Rattle.qc_streams.specs.Records.{record_of, changed}
 use Rattle.qc_streams.specs.Stops.{first_stop, with_stop, without_stop}
 use Rattle.qc_streams.specs.Stream.{with_receiving, with_sending}
-use Rattle.qc_streams.specs.Streams.{settled}
+use Rattle.qc_streams.specs.Streams.{left_over, settled}
 use Rattle.qc_streams.specs.Waiting.{touched}
 
 -- the code and the final size of the RESET_STREAM that a sending side owes
@@ -64,9 +65,18 @@ data_with limit = option_map MaxData limit
 abbrev pub streams_with : Dir → Option ℕ → Option Control
 streams_with dir limit = option_map (MaxStreams dir) limit
 
--- a frame that takes at most so many bytes, where there is room for them
-abbrev pub if_fits : ℕ → ℕ → Option Control → Option Control
-if_fits room most frame = if nat_le most room then frame else None
+-- how many bytes a frame takes: its type, of one byte, and its fields
+abbrev pub control_len : Control → ℕ
+control_len (Reset id code size) = 1 + length (varint id) + length (varint code) + length (varint size)
+control_len (Stop id code) = 1 + length (varint id) + length (varint code)
+control_len (MaxData limit) = 1 + length (varint limit)
+control_len (MaxStreamData id limit) = 1 + length (varint id) + length (varint limit)
+control_len (MaxStreams dir limit) = 1 + length (varint limit)
+
+-- a frame, where there is room for it
+abbrev pub if_fits : ℕ → Option Control → Option Control
+if_fits room None = None
+if_fits room (Some c) = if nat_le (control_len c) room then Some c else None
 
 -- a frame, or where there is none another
 abbrev pub or_else : Option Control → Option Control → Option Control
@@ -76,33 +86,33 @@ or_else None other = other
 -- the frame of a limit that is sent next
 abbrev pub next_limit : ℕ → StreamsState → Option Control
 next_limit room s =
-    or_else (if_fits room 9 (data_with (max_data_owed s)))
-    (or_else (if_fits room 17 (of_first credit_of (first_id s.waiting.credits) s))
-    (or_else (if_fits room 9 (streams_with Bi (max_streams_owed Bi s)))
-    (if_fits room 9 (streams_with Uni (max_streams_owed Uni s)))))
+    or_else (if_fits room (data_with (max_data_owed s)))
+    (or_else (if_fits room (of_first credit_of (first_id s.waiting.credits) s))
+    (or_else (if_fits room (streams_with Bi (max_streams_owed Bi s)))
+    (if_fits room (streams_with Uni (max_streams_owed Uni s)))))
 
 -- the frame that is sent next: RESET_STREAM, STOP_SENDING, those of streams that have gone last, MAX_DATA, MAX_STREAM_DATA and
 -- MAX_STREAMS, in this order
 unfoldable pub next_control : ℕ → StreamsState → Option Control
 next_control room s =
-    or_else (if_fits room 25 (of_first reset_of (first_id s.waiting.resets) s))
-    (or_else (if_fits room 17 (of_first stop_of (first_id s.waiting.stops) s))
-    (or_else (if_fits room 17 (gone_stop s))
-    (or_else (if_fits room 9 (data_with (max_data_owed s)))
-    (or_else (if_fits room 17 (of_first credit_of (first_id s.waiting.credits) s))
-    (or_else (if_fits room 9 (streams_with Bi (max_streams_owed Bi s)))
-    (if_fits room 9 (streams_with Uni (max_streams_owed Uni s))))))))
+    or_else (if_fits room (of_first reset_of (first_id s.waiting.resets) s))
+    (or_else (if_fits room (of_first stop_of (first_id s.waiting.stops) s))
+    (or_else (if_fits room (gone_stop s))
+    (or_else (if_fits room (data_with (max_data_owed s)))
+    (or_else (if_fits room (of_first credit_of (first_id s.waiting.credits) s))
+    (or_else (if_fits room (streams_with Bi (max_streams_owed Bi s)))
+    (if_fits room (streams_with Uni (max_streams_owed Uni s))))))))
 
--- a frame is sealed: it waits no longer
+-- a frame is sealed: it waits no longer, and with its STOP_SENDING a stream leaves that has ended
 unfoldable pub control_sealed : Control → StreamsState → StreamsState
 control_sealed (Reset id code size) s = record s {
   records = changed (with_sending reset_sealed) id s.records;
   waiting = record s.waiting { resets = without_id id s.waiting.resets };
 }
-control_sealed (Stop id code) s = record s {
+control_sealed (Stop id code) s = left_over id (record s {
   records = changed (with_receiving stop_sealed) id s.records;
   waiting = record s.waiting { stops = without_id id s.waiting.stops; gone_stops = without_stop id s.waiting.gone_stops };
-}
+})
 control_sealed (MaxData limit) s = max_data_sealed s
 control_sealed (MaxStreamData id limit) s = record s {
   records = changed (with_receiving credit_sealed) id s.records;

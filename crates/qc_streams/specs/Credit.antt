@@ -17,9 +17,13 @@ incoming_credit c = max c.reached (held (c.returned + c.window))
 unfoldable pub room : Incoming → ℕ
 room c = incoming_credit c - c.received
 
--- whether credit exceeds what was announced by an eighth of the window, and by more than nothing
+-- the credit that a MAX_DATA announces: at most 2^62 - 1
+unfoldable pub credit_value : Incoming → ℕ
+credit_value c = min (incoming_credit c) (2 ^ 62 - 1)
+
+-- whether the credit that can be announced exceeds what was announced by an eighth of the window, and by more than nothing
 unfoldable pub incoming_owes : Incoming → Bool
-incoming_owes c = nat_lt c.announced (incoming_credit c) && nat_le (c.window / 8) (incoming_credit c - c.announced)
+incoming_owes c = nat_lt c.announced (credit_value c) && nat_le (c.window / 8) (credit_value c - c.announced)
 
 -- a stream's bytes count as far as they are new, and those that it gives back
 unfoldable pub with_totals : Totals → Totals → Incoming → Incoming
@@ -40,10 +44,6 @@ with_window window c = record c { reached = incoming_credit c; window = window }
 -- the same; a frame of credit waits where one is owed
 unfoldable pub window_set : ℕ → Incoming → Incoming
 window_set window c = let next : Incoming = with_window window c in record next { waits = next.waits || incoming_owes next }
-
--- the credit that a MAX_DATA announces: at most 2^62 - 1
-unfoldable pub credit_value : Incoming → ℕ
-credit_value c = min (incoming_credit c) (2 ^ 62 - 1)
 
 -- a MAX_DATA is sealed
 unfoldable pub credit_sealed : Incoming → Incoming

@@ -27,3 +27,4 @@ pub mod Waits
 pub mod Filed
 pub mod Within
 pub mod Carried
+pub mod Steps

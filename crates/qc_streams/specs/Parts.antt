@@ -15,7 +15,7 @@ use Rattle.qc_streams.specs.Counts.{held}
 use Rattle.qc_streams.specs.Records.{record_of, changed}
 use Rattle.qc_streams.specs.Stream.{with_sending}
 use Rattle.qc_streams.specs.Streams.{settled, told_if}
-use Rattle.qc_streams.specs.Waiting.{dues_at, dues_of, entered, left, next_place, touched, with_turn}
+use Rattle.qc_streams.specs.Waiting.{dues_at, dues_of, entered, left, next_place, queued, touched, with_turn}
 
 -- What a stream may give next, with at most so many bytes
 unfoldable pub IsOfferOf : ℕ → Option SendPart → Option Part → Type 0
@@ -44,9 +44,13 @@ IsTurn most (Some id) s drawn = (part : Option Part) × IsOfferAt most (record_o
 unfoldable pub IsDrawn : ℕ → StreamsState → Option StreamPart → Type 0
 IsDrawn room s drawn = IsTurn (room - 19) (turn_in room s) s drawn
 
+-- the rank before that of every priority: -2^32
+abbrev pub first_rank : ℤ
+first_rank = negsuc 4294967295
+
 -- where a stream goes on that has more: with fairness behind the others of its priority, without before all others
 unfoldable pub place_again : ℕ → StreamsState → ℤ × ℕ
-place_again id s = if s.fair then next_place id s else (negsuc 4294967295, s.waiting.turns)
+place_again id s = if s.fair then next_place id s else (first_rank, s.waiting.turns)
 
 -- a stream had its turn: it takes another one where it has more
 unfoldable pub turned : ℕ → StreamsState → StreamsState
@@ -66,9 +70,9 @@ abbrev pub part_drawn : Option StreamPart → StreamsState → StreamsState
 part_drawn None s = s
 part_drawn (Some d) s = sealed_part d s
 
--- bytes of a stream are lost: those that aren't acknowledged wait again, and so does the end
+-- bytes of a stream are lost: those that aren't acknowledged wait again, and so does the end, from this moment on
 unfoldable pub bytes_lost : ℕ → ℕ → ℕ → Bool → StreamsState → StreamsState
-bytes_lost id start stop last s = touched id (record s { records = changed (with_sending (part_lost start stop last)) id s.records })
+bytes_lost id start stop last s = touched id (queued id (record s { records = changed (with_sending (part_lost start stop last)) id s.records }))
 
 -- whether all bytes and the end are acknowledged
 abbrev pub is_finished : Option SendPart → Bool
@@ -96,16 +100,21 @@ bytes_acked id start stop last s =
 
 -- where a stream of a priority goes on that has more, where so many turns were given: the same as `place_again`
 abbrev pub place_after : Bool → ℕ → ℤ → ℤ × ℕ
-place_after fair turns priority = if fair then (neg_ℤ priority, turns) else (negsuc 4294967295, turns)
+place_after fair turns priority = if fair then (neg_ℤ priority, turns) else (first_rank, turns)
 
 -- a stream of which a part is sealed
 unfoldable pub seal_one : Part → Stream → Stream
 seal_one part st = with_sending (part_sealed part.offset (part_end part) part.last) st
 
--- the same, which then has a place exactly where it has more
+-- a stream that had a turn takes the next place where it has more, and gives up the one that it has where it hasn't
+abbrev pub drawn_turn : Bool → Option (ℤ × ℕ) → ℤ × ℕ → Stream → Stream
+drawn_turn true turn next st = with_turn (Some next) st
+drawn_turn false None next st = st
+drawn_turn false (Some place) next st = with_turn None st
+
+-- the same of a stream of which a part is sealed
 unfoldable pub draw_one : Bool → ℕ → Part → Stream → Stream
-draw_one fair turns part st =
-    with_turn (if (dues_of (seal_one part st)).bytes then Some (place_after fair turns st.priority) else None) (seal_one part st)
+draw_one fair turns part st = drawn_turn (dues_of (seal_one part st)).bytes st.turn (place_after fair turns st.priority) (seal_one part st)
 
 -- What was drawn of a stream, beside the part
 pub record IsTurnOf (fair : Bool) (turns : ℕ) (st : Stream) (d : Drawn) : Type 0 where

@@ -43,7 +43,16 @@ side_refusal f (Some r) = f r
 
 -- a stream of which nothing came and nothing was sent, and whether this end opened it
 unfoldable pub fresh_stream : Bool → Option Recv → Option SendPart → Stream
-fresh_stream taken r p = record { receiving = r; sending = p; priority = pos 0; turn = None; marked = false; taken = taken }
+fresh_stream taken r p = record { receiving = r; sending = p; priority = pos 0; turn = None; due = None; marked = false; taken = taken; freed = false }
+
+-- its place is freed
+unfoldable pub with_freed : Stream → Stream
+with_freed st = record st { freed = true }
+
+-- whether there is a stream whose place was freed
+abbrev pub is_freed : Option Stream → Bool
+is_freed None = false
+is_freed (Some st) = st.freed
 
 -- the receiving side changes, where there is one
 unfoldable pub with_receiving : (Recv → Recv) → Stream → Stream

@@ -1,5 +1,5 @@
 -- The state over all streams of a connection (RFC 9000, sections 2 to 4)
-use Rattle.std.specs.Prelude.{ℕ, zero, suc, ◌+◌, ◌-◌, ◌*◌, ◌/◌, ◌%◌, ◌==◌, Bool, true, false, not, ◌&&◌, nat_lt, nat_le, if◌then◌else◌, [], ◌∷◌, ◌++◌, Option, None, Some}
+use Rattle.std.specs.Prelude.{ℕ, zero, suc, ◌+◌, ◌-◌, ◌*◌, ◌/◌, ◌%◌, ◌==◌, Bool, true, false, not, ◌&&◌, ◌||◌, nat_lt, nat_le, if◌then◌else◌, [], ◌∷◌, ◌++◌, Option, None, Some}
 use Rattle.qc_base.specs.declared.side.Dir.{Dir}
 use Rattle.qc_base.specs.declared.side.Dir.TheVariants.{Bi, Uni}
 use Rattle.qc_base.specs.declared.side.Side.{Side}
@@ -19,8 +19,8 @@ use Rattle.qc_streams.specs.Credit.{new_incoming, tallied, new_outgoing, outgoin
 use Rattle.qc_streams.specs.Lending.{AllRecords}
 use Rattle.qc_streams.specs.Records.{record_of, with_new, without, changed}
 use Rattle.qc_streams.specs.Sends.{was_taken}
-use Rattle.qc_streams.specs.Stream.{fresh_stream, totals_at, has_ended}
-use Rattle.qc_streams.specs.Waiting.{new_waiting, place_made, places_made, place_left, dues_at, sets_filed, left, touched, is_idle}
+use Rattle.qc_streams.specs.Stream.{fresh_stream, totals_at, has_ended, is_freed, with_freed}
+use Rattle.qc_streams.specs.Waiting.{new_waiting, place_made, places_made, place_left, dues_at, sets_filed, left, owes_stop, touched, is_idle}
 
 -- the other end
 abbrev pub other : Side → Side
@@ -186,11 +186,11 @@ target id s = if is_peer_unopened id s then Some (fresh_peer (dir_of id) s) else
 unfoldable pub counted : Totals → ℕ → StreamsState → StreamsState
 counted before id s = record s { incoming = tallied before (totals_at id s.records) s.incoming }
 
--- a stream leaves; where it is one of the peer's, it frees a place
+-- a stream leaves; where it is one of the peer's, it frees a place, unless it did before
 unfoldable pub removed : ℕ → StreamsState → StreamsState
 removed id s = record s {
   records = without id s.records;
-  peer = if is_own s.side id then s.peer else dir_put (dir_of id) (place_freed (by_dir (dir_of id) s.peer)) s.peer;
+  peer = if is_own s.side id || is_freed (record_of id s.records) then s.peer else dir_put (dir_of id) (place_freed (by_dir (dir_of id) s.peer)) s.peer;
   waiting = if is_idle (record_of id s.records) then place_left s.waiting else s.waiting;
 }
 
@@ -202,9 +202,26 @@ forgotten id s = record s { waiting = sets_filed (dues_at None) id s.waiting }
 unfoldable pub released : ℕ → StreamsState → StreamsState
 released id s = removed id (left id (forgotten id s))
 
--- a stream that has ended leaves; of another it is looked at what it owes now
+-- whether there is a stream whose STOP_SENDING waits
+abbrev pub stops_later : Option Stream → Bool
+stops_later None = false
+stops_later (Some st) = owes_stop st.receiving
+
+-- a stream that has ended and whose STOP_SENDING waits stays for that alone: where it is one of the peer's, it frees its place at once
+unfoldable pub lingering : ℕ → StreamsState → StreamsState
+lingering id s = touched id (record s {
+  records = changed with_freed id s.records;
+  peer = if is_own s.side id || is_freed (record_of id s.records) then s.peer else dir_put (dir_of id) (place_freed (by_dir (dir_of id) s.peer)) s.peer;
+})
+
+-- a stream that has ended leaves, once no STOP_SENDING of it waits; of another it is looked at what it owes now
 unfoldable pub settled : ℕ → StreamsState → StreamsState
-settled id s = if has_ended (record_of id s.records) then released id s else touched id s
+settled id s =
+    if has_ended (record_of id s.records) then (if stops_later (record_of id s.records) then lingering id s else released id s) else touched id s
+
+-- a stream that has ended leaves, and any other stays as it is
+unfoldable pub left_over : ℕ → StreamsState → StreamsState
+left_over id s = if has_ended (record_of id s.records) then released id s else s
 
 -- an event waits, if it is to be told
 unfoldable pub told_if : Bool → StreamEvent → StreamsState → StreamsState

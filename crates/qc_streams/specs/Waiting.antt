@@ -1,5 +1,5 @@
 -- What waits to be sent for single streams, and whose turn it is
-use Rattle.std.specs.Prelude.{ℕ, ℤ, neg_ℤ, zero, suc, pos, ◌+◌, Bool, true, false, not, ◌||◌, if◌then◌else◌, List, [], ◌∷◌, Option, None, Some, is_some}
+use Rattle.std.specs.Prelude.{ℕ, ℤ, neg_ℤ, zero, suc, pos, ◌+◌, Bool, true, false, not, ◌&&◌, ◌||◌, if◌then◌else◌, List, [], ◌∷◌, Option, None, Some, is_some}
 use Rattle.qc_recv.specs.declared.recv.Recv.{Recv}
 use Rattle.qc_send_stream.specs.declared.send.SendPart.{SendPart}
 use Rattle.qc_send_stream.specs.Sending.{has_more, reset_owed}
@@ -68,9 +68,9 @@ dues_at (Some st) = dues_of st
 unfoldable pub with_mark : Bool → Stream → Stream
 with_mark marked st = record st { marked = marked }
 
--- a stream's place among those that have bytes to send
+-- a stream's place among those that have bytes to send; none is put by for it any more
 unfoldable pub with_turn : Option (ℤ × ℕ) → Stream → Stream
-with_turn turn st = record st { turn = turn }
+with_turn turn st = record st { turn = turn; due = None }
 
 -- whether there is a stream that isn't marked
 abbrev pub is_idle : Option Stream → Bool
@@ -88,6 +88,16 @@ touched id s = record s {
 abbrev pub turn_at : Option Stream → Option (ℤ × ℕ)
 turn_at None = None
 turn_at (Some st) = st.turn
+
+-- the place that is put by for a stream
+abbrev pub due_at : Option Stream → Option (ℤ × ℕ)
+due_at None = None
+due_at (Some st) = st.due
+
+-- a place that is put by, or where there is none another
+abbrev pub or_next : Option (ℤ × ℕ) → ℤ × ℕ → ℤ × ℕ
+or_next None next = next
+or_next (Some place) next = place
 
 -- the priority of a stream
 abbrev pub priority_at : Option Stream → ℤ
@@ -117,9 +127,33 @@ entered place id s = record s {
 unfoldable pub next_place : ℕ → StreamsState → ℤ × ℕ
 next_place id s = (neg_ℤ (priority_at (record_of id s.records)), s.waiting.turns)
 
--- a stream has a place exactly where bytes wait, or the end
+-- the place that is put by for a stream whose bytes wait, or its end: as long as it has neither a place nor one that is put by, the
+-- next one
+abbrev pub due_next : Bool → Option (ℤ × ℕ) → Option (ℤ × ℕ) → ℤ × ℕ → Option (ℤ × ℕ)
+due_next true None None next = Some next
+due_next true None (Some place) next = Some place
+due_next true (Some turn) due next = due
+due_next false turn due next = None
+
+-- a stream began to wait, where so many turns were given: its place is put by, with the priority of that moment
+unfoldable pub queue_one : ℕ → Stream → Stream
+queue_one turns st = record st { due = due_next (dues_of st).bytes st.turn st.due (neg_ℤ st.priority, turns) }
+
+-- whether that takes a number
+abbrev pub takes_number : Option Stream → Bool
+takes_number None = false
+takes_number (Some st) = (dues_of st).bytes && (not (is_some st.turn) && not (is_some st.due))
+
+-- the stream with an id began to wait: its first turn is that of this moment, and not of that when it is looked at
+unfoldable pub queued : ℕ → StreamsState → StreamsState
+queued id s = record s {
+  records = changed (queue_one s.waiting.turns) id s.records;
+  waiting = record s.waiting { turns = if takes_number (record_of id s.records) then held (s.waiting.turns + 1) else s.waiting.turns };
+}
+
+-- a stream has a place exactly where bytes wait, or the end: the one that was put by, or the next one
 abbrev pub turn_filed : Bool → Option (ℤ × ℕ) → ℕ → StreamsState → StreamsState
-turn_filed true None id s = entered (next_place id s) id s
+turn_filed true None id s = entered (or_next (due_at (record_of id s.records)) (next_place id s)) id s
 turn_filed true (Some place) id s = s
 turn_filed false turn id s = left id s
 
@@ -163,20 +197,21 @@ unfoldable pub all_filed : List ℕ → StreamsState → StreamsState
 all_filed [] s = s
 all_filed (id ∷ ids) s = all_filed ids (filed id s)
 
--- the place of a stream that was looked at: the one that it has, the next one where it has none, and none where neither bytes wait
--- nor the end
-abbrev pub turn_due : Bool → Option (ℤ × ℕ) → ℤ × ℕ → Option (ℤ × ℕ)
-turn_due true None next = Some next
-turn_due true (Some place) next = Some place
-turn_due false turn next = None
+-- what a stream is that was looked at: it takes a place where it has none and bytes wait, or the end, and gives up the one that it has
+-- where neither does
+abbrev pub filed_turn : Bool → Option (ℤ × ℕ) → ℤ × ℕ → Stream → Stream
+filed_turn true None next st = with_turn (Some next) st
+filed_turn true (Some place) next st = st
+filed_turn false None next st = st
+filed_turn false (Some place) next st = with_turn None st
 
--- what a stream is once it was looked at, where so many turns were given: without its mark, and at its place
+-- the same of a stream where so many turns were given, which loses its mark
 unfoldable pub file_one : ℕ → Stream → Stream
-file_one turns st = with_turn (turn_due (dues_of st).bytes st.turn (neg_ℤ st.priority, turns)) (with_mark false st)
+file_one turns st = filed_turn (dues_of st).bytes st.turn (or_next st.due (neg_ℤ st.priority, turns)) (with_mark false st)
 
--- the place behind all others of a stream's priority, where so many turns were given
+-- the place that a stream takes, where so many turns were given: the one that was put by, or that behind all others of its priority
 abbrev pub place_behind : ℕ → Option Stream → ℤ × ℕ
-place_behind turns found = (neg_ℤ (priority_at found), turns)
+place_behind turns found = or_next (due_at found) (neg_ℤ (priority_at found), turns)
 
 -- a stream takes the next place where it has none, and gives up the one that it has, by whether bytes wait, or the end
 abbrev pub turn_moved : Bool → Option (ℤ × ℕ) → ℤ × ℕ → ℕ → Waiting → Waiting

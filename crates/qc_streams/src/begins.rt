@@ -53,10 +53,10 @@ impl Records {
         ensures refused { IfErr result (λ e. begin_refusal ordered (receiving_of (record_of id self.old)) ≡ Some e) }
         ensures err { OnErr result (self.new ≡ self.old) }
     {
-        match self.streams.get_mut(id) {
-            Some(stream) => stream.begin(ordered),
-            None => Err(ReadableError::ClosedStream),
-        }
+        let Some(stream) = self.streams.get_mut(id) else {
+            return Err(ReadableError::ClosedStream);
+        };
+        stream.begin(ordered)
     }
 
     /// Whether a MAX_STREAM_DATA of the stream with an id waits.

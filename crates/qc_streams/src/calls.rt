@@ -8,9 +8,9 @@ ghost use Rattle.std.specs.Option.{option_map};
 ghost use Rattle.qc_streams.specs.Credit.{budget, tallied};
 ghost use Rattle.qc_streams.specs.Kept.{kept_in};
 ghost use Rattle.qc_streams.specs.Records.{changed, record_of};
-ghost use Rattle.qc_streams.specs.Sequel.{marking, sequel_at, settling};
+ghost use Rattle.qc_streams.specs.Sequel.{queueing, sequel_at, settling};
 ghost use Rattle.qc_streams.specs.Stream.{totals_at, totals_if, with_receiving, with_sending};
-ghost use Rattle.qc_streams.specs.Waiting.{is_idle};
+ghost use Rattle.qc_streams.specs.Waiting.{is_idle, takes_number};
 ghost use Rattle.qc_streams.specs.Writable.{credit_at};
 
 use crate::credit::Incoming;
@@ -27,13 +27,20 @@ use qc_recv::Chunk;
 use qc_send_stream::{FinishError, WriteError};
 
 impl Records {
-    /// Writes on the stream with an id, which is marked then.
-    #[tactic(auto, using(crate::proofs::Keeping::same, crate::proofs::Sending::still, crate::proofs::Sending::recounts), unfolding(qc_send_stream::specs::Sending::IsWriteRefusal, crate::specs::Sequel::marking))]
-    fn write(&mut self, id: u64, chunk: &mut Bytes, most: u64) -> Result<(usize, Noted), WriteError>
+    /// Writes on the stream with an id, where so many turns were given; it waits from then on, and is marked.
+    #[tactic(auto, using(crate::proofs::Keeping::same, crate::proofs::Sending::still, crate::proofs::Sending::recounts), unfolding(qc_send_stream::specs::Sending::IsWriteRefusal, crate::specs::Sequel::queueing))]
+    fn write(
+        &mut self,
+        id: u64,
+        chunk: &mut Bytes,
+        most: u64,
+        turns: u64,
+    ) -> Result<(usize, Noted), WriteError>
         requires { kept_in self.old + most < 2 ^ 64 }
         ensures count { IfOk result (λ w. w.0 ≡ count_taken (length chunk.old) most (known_of (record_of id self.old))) }
-        ensures written { IfOk result (λ w. self.new ≡ changed (marking (with_sending (if_known (part_written (take w.0 chunk.old))))) id self.old) }
+        ensures written { IfOk result (λ w. self.new ≡ changed (queueing turns (with_sending (if_known (part_written (take w.0 chunk.old))))) id self.old) }
         ensures credit { IfOk result (λ w. w.1.credit ≡ credit_at (option_map (with_sending (if_known (part_written (take w.0 chunk.old)))) (record_of id self.old))) }
+        ensures numbered { IfOk result (λ w. w.1.numbered ≡ takes_number (option_map (with_sending (if_known (part_written (take w.0 chunk.old)))) (record_of id self.old))) }
         ensures idle { IfOk result (λ w. w.1.idle ≡ is_idle (option_map (with_sending (if_known (part_written (take w.0 chunk.old)))) (record_of id self.old))) }
         ensures rest { IfOk result (λ w. chunk.new ≡ drop w.0 chunk.old) }
         ensures fits { OnOk result (write_fault most (known_of (record_of id self.old)) ≡ None) }
@@ -45,7 +52,7 @@ impl Records {
             Some(stream) => {
                 let before = stream.sends();
                 let count = stream.write(chunk, most)?;
-                let noted = stream.note_write();
+                let noted = stream.note_write(turns);
                 let after = stream.sends();
                 let _count = self.streams.len();
                 self.kept += count as u64;
@@ -141,10 +148,10 @@ impl Records {
         ensures refused { is_err result ≡ closed_to (receiving_of (record_of id self.old)) }
         ensures err { OnErr result (self.new ≡ self.old) }
     {
-        match self.streams.get_mut(id) {
-            Some(stream) => stream.received_reset(),
-            None => Err(ClosedStream),
-        }
+        let Some(stream) = self.streams.get_mut(id) else {
+            return Err(ClosedStream);
+        };
+        stream.received_reset()
     }
 }
 
@@ -177,7 +184,8 @@ impl StreamsState {
         ensures err { IfErr result (λ e. self.new ≡ write_refused e id self.old) }
         ensures kept { OnErr result (chunk.new ≡ chunk.old) }
     {
-        match self.records.write(id.value(), chunk, most) {
+        let turns = self.waiting.turns;
+        match self.records.write(id.value(), chunk, most, turns) {
             Ok((count, noted)) => {
                 self.outgoing.write(count as u64);
                 self.follow_write(noted, id.value());
@@ -240,6 +248,7 @@ impl StreamsState {
     {
         self.records.finish(id.value())?;
         self.pass(id.value());
+        self.queue(id.value());
         self.touch(id.value());
         Ok(())
     }
@@ -257,6 +266,7 @@ impl StreamsState {
     {
         self.records.reset(id.value(), error_code)?;
         self.pass(id.value());
+        self.queue(id.value());
         self.touch(id.value());
         Ok(())
     }

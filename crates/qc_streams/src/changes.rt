@@ -138,9 +138,10 @@ impl Records {
     pub(crate) fn raise_limit(&mut self, id: u64, limit: VarInt)
         ensures { self.new ≡ changed (with_sending (limit_taken limit)) id self.old }
     {
-        if let Some(stream) = self.streams.get_mut(id) {
-            stream.raise_limit(limit);
-        }
+        let Some(stream) = self.streams.get_mut(id) else {
+            return;
+        };
+        stream.raise_limit(limit);
     }
 
     /// What the stream with an id counts for the connection's credit.

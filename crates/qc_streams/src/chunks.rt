@@ -11,9 +11,9 @@ ghost use Rattle.qc_streams.specs.Credit.{budget};
 ghost use Rattle.qc_streams.specs.Kept.{kept_in, kept_of};
 ghost use Rattle.qc_streams.specs.Records.{changed, record_of};
 ghost use Rattle.qc_streams.specs.Sends.{sends_of};
-ghost use Rattle.qc_streams.specs.Sequel.{marking};
+ghost use Rattle.qc_streams.specs.Sequel.{queueing};
 ghost use Rattle.qc_streams.specs.Stream.{with_sending};
-ghost use Rattle.qc_streams.specs.Waiting.{is_idle};
+ghost use Rattle.qc_streams.specs.Waiting.{is_idle, takes_number};
 ghost use Rattle.qc_streams.specs.Writable.{credit_at};
 
 use crate::records::Records;
@@ -145,19 +145,22 @@ impl Stream {
 }
 
 impl Records {
-    /// Writes the front of chunks on the stream with an id, which is marked then.
-    #[tactic(auto, using(crate::proofs::Keeping::same, crate::proofs::Sending::still, crate::proofs::Sending::recounts), unfolding(qc_send_stream::specs::Sending::IsWriteRefusal, crate::specs::Sequel::marking))]
+    /// Writes the front of chunks on the stream with an id, where so many turns were given; it waits from then
+    /// on, and is marked.
+    #[tactic(auto, using(crate::proofs::Keeping::same, crate::proofs::Sending::still, crate::proofs::Sending::recounts), unfolding(qc_send_stream::specs::Sending::IsWriteRefusal, crate::specs::Sequel::queueing))]
     fn write_chunks(
         &mut self,
         id: u64,
         chunks: &mut [Bytes],
         most: u64,
+        turns: u64,
     ) -> Result<(Taken, Noted), WriteError>
         requires { kept_in self.old + most < 2 ^ 64 }
         ensures count { IfOk result (λ t. t.0.lacked ≡ false → t.0.bytes ≡ count_taken (length (concat chunks.old)) most (known_of (record_of id self.old))) }
         ensures whole { IfOk result (λ t. t.0.lacked ≡ false → t.0.chunks ≡ whole_in t.0.bytes chunks.old) }
-        ensures written { IfOk result (λ t. self.new ≡ changed (marking (with_sending (if_known (part_written (take t.0.bytes (concat chunks.old)))))) id self.old) }
+        ensures written { IfOk result (λ t. self.new ≡ changed (queueing turns (with_sending (if_known (part_written (take t.0.bytes (concat chunks.old)))))) id self.old) }
         ensures credit { IfOk result (λ t. t.1.credit ≡ credit_at (option_map (with_sending (if_known (part_written (take t.0.bytes (concat chunks.old))))) (record_of id self.old))) }
+        ensures numbered { IfOk result (λ t. t.1.numbered ≡ takes_number (option_map (with_sending (if_known (part_written (take t.0.bytes (concat chunks.old))))) (record_of id self.old))) }
         ensures idle { IfOk result (λ t. t.1.idle ≡ is_idle (option_map (with_sending (if_known (part_written (take t.0.bytes (concat chunks.old))))) (record_of id self.old))) }
         ensures rest { IfOk result (λ t. chunks.new ≡ cut_front t.0.bytes chunks.old) }
         ensures fits { OnOk result (write_fault most (known_of (record_of id self.old)) ≡ None) }
@@ -169,7 +172,7 @@ impl Records {
             Some(stream) => {
                 let before = stream.sends();
                 let taken = stream.write_chunks(chunks, most)?;
-                let noted = stream.note_write();
+                let noted = stream.note_write(turns);
                 let after = stream.sends();
                 let _count = self.streams.len();
                 self.kept += taken.bytes as u64;
@@ -202,7 +205,8 @@ impl StreamsState {
         ensures err { IfErr result (λ e. self.new ≡ write_refused e id self.old) }
         ensures kept { OnErr result (chunks.new ≡ chunks.old) }
     {
-        match self.records.write_chunks(id.value(), chunks, most) {
+        let turns = self.waiting.turns;
+        match self.records.write_chunks(id.value(), chunks, most, turns) {
             Ok((taken, noted)) => {
                 self.outgoing.write(taken.bytes as u64);
                 self.follow_write(noted, id.value());

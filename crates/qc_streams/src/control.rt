@@ -1,15 +1,15 @@
 //! Frames of streams and of limits without bytes of a stream: which is sent next, and what becomes of them.
 
-ghost use Rattle.std.specs.Prelude.{◌≡◌, OnErr, OnOk, Some};
+ghost use Rattle.std.specs.Prelude.{◌≡◌, ◌≤◌, IfSome, OnErr, OnOk, Some};
 ghost use Rattle.qc_base.specs.declared.side.Dir.TheVariants.{Bi, Uni};
 ghost use Rattle.qc_turns.specs.Ids.{first_id};
-ghost use Rattle.qc_streams.specs.Control.{control_acked, control_drawn, control_lost, control_sealed, credit_due, credit_of, data_with, gone_stop, if_fits, next_control, next_limit, of_first, or_else, reset_due, reset_of, stop_again, stop_due, stop_of, streams_with};
+ghost use Rattle.qc_streams.specs.Control.{control_acked, control_drawn, control_len, control_lost, control_sealed, credit_due, credit_of, data_with, gone_stop, if_fits, next_control, next_limit, of_first, or_else, reset_due, reset_of, stop_again, stop_due, stop_of, streams_with};
 ghost use Rattle.qc_streams.specs.Owed.{max_data_owed, max_streams_owed};
 ghost use Rattle.qc_streams.specs.Records.{record_of};
 
 use crate::records::Records;
 use crate::state::StreamsState;
-use qc_base::{Dir, VarInt};
+use qc_base::{Dir, VarInt, varint_size};
 use qc_recv::Recv;
 use qc_send_stream::SendPart;
 use std::alloc::AllocError;
@@ -100,11 +100,38 @@ impl Records {
     }
 }
 
-/// A frame that takes at most so many bytes, where there is room for them.
-fn if_fits(room: usize, most: usize, frame: Option<Control>) -> Option<Control>
-    ensures { result ≡ if_fits room most frame }
+impl Control {
+    /// How many bytes the frame takes: its type, of one byte, and its fields.
+    pub fn len(&self) -> usize
+        ensures len { result ≡ control_len self.now }
+        ensures most { result ≤ 25 }
+    {
+        match self {
+            Control::Reset { id, code, size } => {
+                1 + varint_size(*id) + varint_size(code.into_inner()) + varint_size(*size)
+            }
+            Control::Stop { id, code } => 1 + varint_size(*id) + varint_size(code.into_inner()),
+            Control::MaxData { limit } => 1 + varint_size(*limit),
+            Control::MaxStreamData { id, limit } => 1 + varint_size(*id) + varint_size(*limit),
+            Control::MaxStreams { limit, .. } => 1 + varint_size(*limit),
+        }
+    }
+}
+
+/// A frame, where there is room for it.
+fn if_fits(room: usize, frame: Option<Control>) -> Option<Control>
+    ensures { result ≡ if_fits room frame }
 {
-    if most <= room { frame } else { None }
+    match frame {
+        Some(frame) => {
+            if frame.len() <= room {
+                Some(frame)
+            } else {
+                None
+            }
+        }
+        None => None,
+    }
 }
 
 /// A frame, or where there is none another.
@@ -182,16 +209,16 @@ impl StreamsState {
     fn next_limit(&self, room: usize) -> Option<Control>
         ensures { result ≡ next_limit room self.now }
     {
-        let data = if_fits(room, 9, self.next_data_limit());
+        let data = if_fits(room, self.next_data_limit());
         if data.is_some() {
             return data;
         }
-        let credit = if_fits(room, 17, self.credit_to_send());
+        let credit = if_fits(room, self.credit_to_send());
         if credit.is_some() {
             return credit;
         }
-        let bi = if_fits(room, 9, self.next_streams_limit(Dir::Bi));
-        let uni = if_fits(room, 9, self.next_streams_limit(Dir::Uni));
+        let bi = if_fits(room, self.next_streams_limit(Dir::Bi));
+        let uni = if_fits(room, self.next_streams_limit(Dir::Uni));
         or_else(bi, uni)
     }
 
@@ -200,22 +227,22 @@ impl StreamsState {
     pub fn next_control(&self, room: usize) -> Option<Control>
         ensures { result ≡ next_control room self.now }
     {
-        let reset = if_fits(room, 25, self.reset_to_send());
+        let reset = if_fits(room, self.reset_to_send());
         if reset.is_some() {
             return reset;
         }
-        let stop = if_fits(room, 17, self.stop_to_send());
+        let stop = if_fits(room, self.stop_to_send());
         if stop.is_some() {
             return stop;
         }
-        let gone = if_fits(room, 17, self.gone_stop());
+        let gone = if_fits(room, self.gone_stop());
         if gone.is_some() {
             return gone;
         }
         self.next_limit(room)
     }
 
-    /// A frame was sealed.
+    /// A frame was sealed: with its STOP_SENDING a stream leaves that has ended.
     #[tactic(auto, unfolding(crate::specs::Control::control_sealed))]
     pub fn control_sealed(&mut self, frame: &Control)
         ensures { self.new ≡ control_sealed frame.now self.old }
@@ -229,6 +256,7 @@ impl StreamsState {
                 self.records.stop_sealed(*id);
                 self.waiting.stops.remove(*id);
                 self.waiting.gone_stops.remove(*id);
+                self.let_go(*id);
             }
             Control::MaxData { .. } => self.max_data_sealed(),
             Control::MaxStreamData { id, .. } => {
@@ -241,7 +269,7 @@ impl StreamsState {
 
     /// Draws the frame that is sent next, where there is room for so many bytes: RESET_STREAM comes
     /// before STOP_SENDING (those of streams that have gone last), MAX_DATA, MAX_STREAM_DATA and
-    /// MAX_STREAMS, and none is drawn whose greatest form doesn't fit. It counts as sealed.
+    /// MAX_STREAMS, and none is drawn that doesn't fit. It counts as sealed.
     pub fn draw_control(&mut self, room: usize) -> Option<Control>
         ensures next { result ≡ next_control room self.old }
         ensures drawn { self.new ≡ control_drawn result self.old }

@@ -64,7 +64,7 @@ impl Incoming {
     fn owes(&self) -> bool
         ensures { result ≡ incoming_owes self.now }
     {
-        let credit = self.credit();
+        let credit = self.credit_value();
         self.announced < credit && self.window / 8 <= credit - self.announced
     }
 

@@ -103,9 +103,10 @@ impl Records {
     pub(crate) fn reset_sealed(&mut self, id: u64)
         ensures { self.new ≡ changed (with_sending reset_sealed) id self.old }
     {
-        if let Some(stream) = self.streams.get_mut(id) {
-            stream.reset_sealed();
-        }
+        let Some(stream) = self.streams.get_mut(id) else {
+            return;
+        };
+        stream.reset_sealed();
     }
 
     /// A RESET_STREAM of the stream with an id is lost.
@@ -113,9 +114,10 @@ impl Records {
     pub(crate) fn reset_lost(&mut self, id: u64)
         ensures { self.new ≡ changed (with_sending reset_lost) id self.old }
     {
-        if let Some(stream) = self.streams.get_mut(id) {
-            stream.reset_lost();
-        }
+        let Some(stream) = self.streams.get_mut(id) else {
+            return;
+        };
+        stream.reset_lost();
     }
 
     /// A RESET_STREAM of the stream with an id is acknowledged.
@@ -137,9 +139,10 @@ impl Records {
     pub(crate) fn stop_sealed(&mut self, id: u64)
         ensures { self.new ≡ changed (with_receiving stop_sealed) id self.old }
     {
-        if let Some(stream) = self.streams.get_mut(id) {
-            stream.stop_sealed();
-        }
+        let Some(stream) = self.streams.get_mut(id) else {
+            return;
+        };
+        stream.stop_sealed();
     }
 
     /// A STOP_SENDING of the stream with an id is lost.
@@ -147,9 +150,10 @@ impl Records {
     pub(crate) fn stop_lost(&mut self, id: u64)
         ensures { self.new ≡ changed (with_receiving stop_lost) id self.old }
     {
-        if let Some(stream) = self.streams.get_mut(id) {
-            stream.stop_lost();
-        }
+        let Some(stream) = self.streams.get_mut(id) else {
+            return;
+        };
+        stream.stop_lost();
     }
 
     /// A MAX_STREAM_DATA of the stream with an id is sealed.
@@ -157,9 +161,10 @@ impl Records {
     pub(crate) fn credit_sealed(&mut self, id: u64)
         ensures { self.new ≡ changed (with_receiving credit_sealed) id self.old }
     {
-        if let Some(stream) = self.streams.get_mut(id) {
-            stream.credit_sealed();
-        }
+        let Some(stream) = self.streams.get_mut(id) else {
+            return;
+        };
+        stream.credit_sealed();
     }
 
     /// A MAX_STREAM_DATA of the stream with an id is lost.
@@ -167,8 +172,9 @@ impl Records {
     pub(crate) fn credit_lost(&mut self, id: u64)
         ensures { self.new ≡ changed (with_receiving credit_lost) id self.old }
     {
-        if let Some(stream) = self.streams.get_mut(id) {
-            stream.credit_lost();
-        }
+        let Some(stream) = self.streams.get_mut(id) else {
+            return;
+        };
+        stream.credit_lost();
     }
 }

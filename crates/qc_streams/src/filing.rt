@@ -4,12 +4,12 @@ ghost use Rattle.std.specs.Prelude.{◌≡◌, OnOk, Some, true, is_some};
 ghost use Rattle.qc_streams.specs.Kept.{kept_of};
 ghost use Rattle.qc_streams.specs.Records.{changed, record_of};
 ghost use Rattle.qc_streams.specs.Sends.{sends_of};
-ghost use Rattle.qc_streams.specs.Waiting.{all_filed, dues_at, dues_of, file_one, filed, is_idle, left, mark_taken, place_behind, priority_at, touched, turn_at, turn_due, turn_moved, with_mark, with_turn};
+ghost use Rattle.qc_streams.specs.Waiting.{all_filed, due_next, dues_at, dues_of, file_one, filed, filed_turn, is_idle, left, mark_taken, or_next, place_behind, priority_at, queue_one, queued, takes_number, touched, turn_at, turn_moved, with_mark, with_turn};
 
 use crate::records::Records;
 use crate::state::StreamsState;
 use crate::stream::Stream;
-use crate::waiting::{Dues, Waiting};
+use crate::waiting::{Dues, Waiting, owes_data};
 use qc_turns::Place;
 use std::alloc::AllocError;
 
@@ -21,7 +21,7 @@ struct Filed {
     dues: Dues,
     // the place that it had
     turn: Option<Place>,
-    // the place behind all others of its priority
+    // the place that it takes where it has none
     next: Place,
 }
 
@@ -39,9 +39,9 @@ impl Stream {
     {
         let dues = self.dues();
         let turn = self.turn;
-        let next = (-i64::from(self.priority), turns);
+        let next = or_next(self.due, (-i64::from(self.priority), turns));
         self.marked = false;
-        self.turn = turn_due(dues.bytes, turn, next);
+        self.move_turn(dues.bytes, next);
         Filed {
             known: true,
             dues,
@@ -51,16 +51,72 @@ impl Stream {
     }
 }
 
-/// The place of a stream that was looked at.
-fn turn_due(owes: bool, turn: Option<Place>, next: Place) -> Option<Place>
-    ensures { result ≡ turn_due owes turn next }
+/// A place that is put by, or where there is none another.
+fn or_next(due: Option<Place>, next: Place) -> Place
+    ensures { result ≡ or_next due next }
+{
+    match due {
+        Some(place) => place,
+        None => next,
+    }
+}
+
+impl Stream {
+    /// It was looked at: it takes a place where it has none and bytes wait, or the end, and gives up the one
+    /// that it has where neither does.
+    #[tactic(auto, unfolding(crate::specs::Waiting::with_turn))]
+    fn move_turn(&mut self, owes: bool, next: Place)
+        ensures moved { self.new ≡ filed_turn owes self.old.turn next self.old }
+        ensures same { kept_of self.new ≡ kept_of self.old }
+        ensures still { sends_of self.new ≡ sends_of self.old }
+    {
+        match self.turn {
+            Some(_) => {
+                if !owes {
+                    self.set_turn(None);
+                }
+            }
+            None => {
+                if owes {
+                    self.set_turn(Some(next));
+                }
+            }
+        }
+    }
+
+    /// It began to wait, where so many turns were given, or waits no more; answers whether a number is taken.
+    #[tactic(auto, unfolding(crate::specs::Waiting::queue_one, crate::specs::Waiting::dues_of))]
+    pub(crate) fn queue(&mut self, turns: u64) -> bool
+        ensures queued { self.new ≡ queue_one turns self.old }
+        ensures number { result ≡ takes_number (Some self.old) }
+        ensures same { kept_of self.new ≡ kept_of self.old }
+        ensures still { sends_of self.new ≡ sends_of self.old }
+    {
+        let owes = owes_data(&mut self.sending);
+        let numbered = owes && (self.turn.is_none() && self.due.is_none());
+        self.due = due_next(
+            owes,
+            self.turn,
+            self.due,
+            (-i64::from(self.priority), turns),
+        );
+        numbered
+    }
+}
+
+/// The place that is put by for a stream whose bytes wait, or its end.
+fn due_next(owes: bool, turn: Option<Place>, due: Option<Place>, next: Place) -> Option<Place>
+    ensures { result ≡ due_next owes turn due next }
 {
     if !owes {
         return None;
     }
     match turn {
-        Some(place) => Some(place),
-        None => Some(next),
+        Some(_) => due,
+        None => match due {
+            Some(place) => Some(place),
+            None => Some(next),
+        },
     }
 }
 
@@ -119,14 +175,27 @@ impl Records {
         }
     }
 
+    /// The stream with an id began to wait, where so many turns were given; answers whether a number is taken.
+    #[tactic(auto, using(crate::proofs::Keeping::same, crate::proofs::Sending::still))]
+    fn queue(&mut self, id: u64, turns: u64) -> bool
+        ensures queued { self.new ≡ changed (queue_one turns) id self.old }
+        ensures number { result ≡ takes_number (record_of id self.old) }
+    {
+        let Some(stream) = self.streams.get_mut(id) else {
+            return false;
+        };
+        stream.queue(turns)
+    }
+
     /// The stream with an id is marked, or isn't any more.
     #[tactic(auto, using(crate::proofs::Keeping::same, crate::proofs::Sending::still))]
     fn set_mark(&mut self, id: u64, marked: bool)
         ensures { self.new ≡ changed (with_mark marked) id self.old }
     {
-        if let Some(stream) = self.streams.get_mut(id) {
-            stream.set_mark(marked);
-        }
+        let Some(stream) = self.streams.get_mut(id) else {
+            return;
+        };
+        stream.set_mark(marked);
     }
 
     /// The stream with an id has a place, or none.
@@ -134,9 +203,10 @@ impl Records {
     fn set_turn(&mut self, id: u64, turn: Option<Place>)
         ensures { self.new ≡ changed (with_turn turn) id self.old }
     {
-        if let Some(stream) = self.streams.get_mut(id) {
-            stream.set_turn(turn);
-        }
+        let Some(stream) = self.streams.get_mut(id) else {
+            return;
+        };
+        stream.set_turn(turn);
     }
 
     /// Whether there is a stream with an id that isn't marked.
@@ -190,6 +260,16 @@ impl StreamsState {
             self.waiting.marks.mark(id);
         }
         self.records.set_mark(id, true);
+    }
+
+    /// A stream began to wait: its first turn is that of this moment.
+    #[tactic(auto, unfolding(crate::specs::Waiting::queued, crate::specs::Counts::held))]
+    pub(crate) fn queue(&mut self, id: u64)
+        ensures { self.new ≡ queued id self.old }
+    {
+        if self.records.queue(id, self.waiting.turns) {
+            self.waiting.turns = self.waiting.turns.saturating_add(1);
+        }
     }
 
     /// A stream gives its place up.

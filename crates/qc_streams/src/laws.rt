@@ -1,10 +1,16 @@
 //! Laws of the streams of a connection, which hold whatever happens: what waits is where it is looked for.
 
-ghost use Rattle.std.specs.Prelude.{ℕ, ◌<◌, ◌^◌, Bool, List};
+ghost use Rattle.std.specs.Prelude.{◌≡◌, ℕ, ◌<◌, ◌^◌, Bool, List, Some};
 ghost use Rattle.qc_base.specs.declared.side.Side.{Side};
 ghost use Rattle.qc_streams.specs.Carried.{EndIsToldOnce, GivesEachOnce, ReadsWhatCame, SendsWhatWasWritten};
 ghost use Rattle.qc_streams.specs.Filed.{FiledIsExact, OwedIsFiled, TurnsStand, UnmarkedHavePlaces};
+ghost use Rattle.qc_streams.specs.Control.{next_control};
+ghost use Rattle.qc_streams.specs.Parts.{IsDrawn};
+ghost use Rattle.qc_streams.specs.Steps.{AllMay, Handed, IsOffered, IsOwed, NamesStream, steps_of};
 ghost use Rattle.qc_streams.specs.Streams.{new_streams};
+ghost use Rattle.qc_streams.specs.declared.control.Control.{Control};
+ghost use Rattle.qc_streams.specs.declared.parts.StreamPart.{StreamPart};
+ghost use Rattle.qc_streams.specs.declared.state.StreamsState.{StreamsState};
 ghost use Rattle.qc_streams.specs.Waits.{ArePossible, Step, WaitWhereBlocked};
 ghost use Rattle.qc_streams.specs.Within.{CreditIsKept};
 
@@ -59,10 +65,11 @@ pub fn credit_is_kept()
     ensures { (side : Side) (uni bi window stream_window send_window : ℕ) (fair : Bool) (xs : List Step) → window < 2 ^ 64 → stream_window < 2 ^ 64 → CreditIsKept (new_streams side uni bi window stream_window send_window fair) xs }
 {}
 
-/// A law, which runs no code. Whatever happens to the streams of a connection: what a STREAM frame may hold
-/// of a stream from an offset on are the bytes that were written on it there, however often parts of it were
-/// lost and are sent again, and it has the end only where they end (RFC 9000, section 2.2). So the bytes that
-/// are sent for a stream at an offset are always the same.
+/// A law, which runs no code. Whatever happens to the streams of a connection, where writes take no more than
+/// they may, streams are opened where they may be, and frames that name a stream aren't refused: what a STREAM
+/// frame may hold of a stream from an offset on are the bytes that were written on it there, however often
+/// parts of it were lost and are sent again, and it has the end only where they end (RFC 9000, section 2.2). So
+/// the bytes that are sent for a stream at an offset are always the same.
 #[tactic(auto, using(crate::proofs::CarriedLaw::sends_what_was_written))]
 pub fn sends_what_was_written()
     ensures { (side : Side) (uni bi window stream_window send_window : ℕ) (fair : Bool) (xs : List Step) → SendsWhatWasWritten (new_streams side uni bi window stream_window send_window fair) xs }
@@ -91,4 +98,24 @@ pub fn end_is_told_once()
 #[tactic(auto, using(crate::proofs::CarriedLaw::gives_each_once))]
 pub fn gives_each_once()
     ensures { (side : Side) (uni bi window stream_window send_window : ℕ) (fair : Bool) (xs : List Step) → GivesEachOnce (new_streams side uni bi window stream_window send_window fair) xs }
+{}
+
+/// A law, which runs no code. What is drawn of a stream waited, whoever's turn it was: bytes that were lost, or
+/// that were written and never sealed, or the end (RFC 9000, section 2.2).
+#[tactic(auto, using(crate::proofs::StepsLaw::drawn_offers))]
+pub fn drawn_bytes_waited()
+    ensures { (room : ℕ) (s : StreamsState) (d : StreamPart) → IsDrawn room s (Some d) → IsOffered d s }
+{}
+
+/// A law, which runs no code. A frame without bytes that is drawn was owed (RFC 9000, sections 3.3, 3.5 and 4).
+#[tactic(auto, using(crate::proofs::StepsLaw::next_owes))]
+pub fn drawn_frames_were_owed()
+    ensures { (room : ℕ) (s : StreamsState) (c : Control) → next_control room s ≡ Some c → IsOwed c s }
+{}
+
+/// A law, which runs no code. A frame that comes and names a stream that there can be is a step that there may
+/// be, or none where it is refused.
+#[tactic(auto, using(crate::proofs::StepsLaw::handed_may))]
+pub fn frames_are_steps()
+    ensures { (f : Handed) (s : StreamsState) → NamesStream f → AllMay (steps_of f s) s }
 {}

@@ -45,8 +45,10 @@ pub use credit::{Incoming, Outgoing};
 pub use events::{Events, StreamEvent};
 pub use fault::{ClosedStream, FinishError, ReadError, Refusal, StreamFault, WriteError};
 pub use laws::{
-    credit_is_kept, filed_is_what_is_owed, sends_what_was_written, streams_wait_where_blocked,
-    turns_stand, unmarked_streams_have_places, what_is_owed_is_filed,
+    credit_is_kept, drawn_bytes_waited, drawn_frames_were_owed, end_is_told_once,
+    filed_is_what_is_owed, frames_are_steps, gives_each_once, reads_what_came,
+    sends_what_was_written, streams_wait_where_blocked, turns_stand, unmarked_streams_have_places,
+    what_is_owed_is_filed,
 };
 pub use parts::StreamPart;
 pub use qc_recv::{Chunk, ReadableError};

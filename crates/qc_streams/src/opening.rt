@@ -1,17 +1,67 @@
 //! Which streams are open, and how they come and go.
 
-ghost use Rattle.std.specs.Prelude.{◌≡◌, ◌<◌, ◌^◌, OnOk, OnErr};
+ghost use Rattle.std.specs.Prelude.{◌≡◌, ◌<◌, ◌^◌, ◌||◌, OnOk, OnErr, if◌then◌else◌};
+ghost use Rattle.qc_streams.specs.Counts.{by_dir, dir_put, place_freed};
 ghost use Rattle.qc_streams.specs.Kept.{kept_of};
-ghost use Rattle.qc_streams.specs.Streams.{counted, is_own, is_own_unopened, is_past_limit, is_peer_unopened, opened_with, released, settled, told_if, removed, with_lower};
+ghost use Rattle.qc_streams.specs.Streams.{counted, dir_of, is_own, is_own_unopened, is_past_limit, is_peer_unopened, opened_with, left_over, lingering, released, settled, stops_later, told_if, removed, with_lower};
 ghost use Rattle.qc_streams.specs.Waiting.{place_made};
-ghost use Rattle.qc_streams.specs.Records.{with_new};
+ghost use Rattle.qc_streams.specs.Records.{changed, record_of, with_new};
+ghost use Rattle.qc_streams.specs.Sends.{sends_of};
+ghost use Rattle.qc_streams.specs.Stream.{is_freed, with_freed};
 
 use crate::events::StreamEvent;
 use crate::kinds::{dir_of, of_kind};
+use crate::records::Records;
 use crate::state::StreamsState;
 use crate::stream::{Stream, Totals};
+use crate::waiting::owes_stop;
 use qc_base::Side;
 use std::alloc::AllocError;
+
+impl Stream {
+    /// Its place is freed.
+    #[tactic(auto, unfolding(crate::specs::Stream::with_freed))]
+    fn set_freed(&mut self)
+        ensures freed { self.new ≡ with_freed self.old }
+        ensures same { kept_of self.new ≡ kept_of self.old }
+        ensures still { sends_of self.new ≡ sends_of self.old }
+    {
+        self.freed = true;
+    }
+}
+
+impl Records {
+    /// Whether there is a stream with an id whose place was freed.
+    fn is_freed(&self, id: u64) -> bool
+        ensures { result ≡ is_freed (record_of id self.now) }
+    {
+        match self.streams.get(id) {
+            Some(stream) => stream.freed,
+            None => false,
+        }
+    }
+
+    /// Whether there is a stream with an id whose STOP_SENDING waits.
+    fn stops_later(&self, id: u64) -> bool
+        ensures { result ≡ stops_later (record_of id self.now) }
+    {
+        match self.streams.get(id) {
+            Some(stream) => owes_stop(&stream.receiving),
+            None => false,
+        }
+    }
+
+    /// The place of the stream with an id is freed.
+    #[tactic(auto, using(crate::proofs::Keeping::same, crate::proofs::Sending::still))]
+    fn set_freed(&mut self, id: u64)
+        ensures { self.new ≡ changed with_freed id self.old }
+    {
+        let Some(stream) = self.streams.get_mut(id) else {
+            return;
+        };
+        stream.set_freed();
+    }
+}
 
 impl StreamsState {
     /// Whether this end opens the stream with an id.
@@ -103,19 +153,47 @@ impl StreamsState {
         Ok(())
     }
 
+    /// A stream of the peer that has ended frees its place, unless it did before.
+    fn free_place(&mut self, id: u64)
+        ensures { self.new ≡ record self.old { peer = if is_own self.old.side id || is_freed (record_of id self.old.records) then self.old.peer else dir_put (dir_of id) (place_freed (by_dir (dir_of id) self.old.peer)) self.old.peer } }
+    {
+        if self.is_own(id) || self.records.is_freed(id) {
+            return;
+        }
+        let dir = dir_of(id);
+        let peer = self.peer.get(dir).with_place();
+        self.peer.put(dir, peer);
+    }
+
     /// A stream leaves.
     #[tactic(auto, unfolding(crate::specs::Streams::removed, crate::specs::Waiting::place_left))]
     fn remove(&mut self, id: u64)
         ensures { self.new ≡ removed id self.old }
     {
+        self.free_place(id);
         if self.records.is_idle(id) {
             self.waiting.marks.drop_place();
         }
         self.records.remove(id);
-        if !self.is_own(id) {
-            let dir = dir_of(id);
-            let peer = self.peer.get(dir).with_place();
-            self.peer.put(dir, peer);
+    }
+
+    /// A stream that has ended stays for its STOP_SENDING, and frees its place.
+    #[tactic(auto, unfolding(crate::specs::Streams::lingering))]
+    pub(crate) fn linger(&mut self, id: u64)
+        ensures { self.new ≡ lingering id self.old }
+    {
+        self.free_place(id);
+        self.records.set_freed(id);
+        self.touch(id);
+    }
+
+    /// A stream that has ended leaves.
+    #[tactic(auto, unfolding(crate::specs::Streams::left_over))]
+    pub(crate) fn let_go(&mut self, id: u64)
+        ensures { self.new ≡ left_over id self.old }
+    {
+        if self.records.has_ended(id) {
+            self.release(id);
         }
     }
 
@@ -129,15 +207,18 @@ impl StreamsState {
         self.remove(id);
     }
 
-    /// A stream that has ended leaves; of another it is looked at what it owes now.
+    /// A stream that has ended leaves, once no STOP_SENDING of it waits; of another it is looked at what it
+    /// owes now.
     #[tactic(auto, unfolding(crate::specs::Streams::settled))]
     pub(crate) fn settle(&mut self, id: u64)
         ensures { self.new ≡ settled id self.old }
     {
-        if self.records.has_ended(id) {
-            self.release(id);
-        } else {
+        if !self.records.has_ended(id) {
             self.touch(id);
+        } else if self.records.stops_later(id) {
+            self.linger(id);
+        } else {
+            self.release(id);
         }
     }
 

@@ -5,11 +5,10 @@ ghost use Rattle.std.specs.Option.{option_map};
 ghost use Rattle.qc_send_stream.specs.Sending.{IsOffer, part_acked, part_lost, part_sealed};
 ghost use Rattle.qc_streams.specs.Kept.{kept_of};
 ghost use Rattle.qc_streams.specs.Sends.{sends_of};
-ghost use Rattle.qc_streams.specs.Parts.{IsDrawn, IsOfferAt, IsOfferOf, IsTurnAt, IsTurnOf, bytes_acked, bytes_lost, draw_one, finished_at, is_finished, part_drawn, part_end, place_after, turn_left, turn_taken};
+ghost use Rattle.qc_streams.specs.Parts.{IsDrawn, IsOfferAt, IsOfferOf, IsTurnAt, IsTurnOf, bytes_acked, bytes_lost, draw_one, drawn_turn, finished_at, is_finished, part_drawn, part_end, place_after, turn_left, turn_taken};
 ghost use Rattle.qc_streams.specs.Records.{changed, record_of};
-ghost use Rattle.qc_streams.specs.Sequel.{marking, sequel_at, sequel_of, settling};
+ghost use Rattle.qc_streams.specs.Sequel.{sequel_at, sequel_of, settling};
 ghost use Rattle.qc_streams.specs.Stream.{with_sending};
-ghost use Rattle.qc_streams.specs.Waiting.{is_idle};
 
 use crate::events::StreamEvent;
 use crate::records::Records;
@@ -107,6 +106,21 @@ impl Stream {
         }
     }
 
+    /// It had a turn: it takes the next place where it has more, and gives up the one that it has where it
+    /// hasn't.
+    #[tactic(auto, unfolding(crate::specs::Waiting::with_turn))]
+    fn pass_turn(&mut self, owes: bool, turn: Option<Place>, next: Place)
+        ensures passed { self.new ≡ drawn_turn owes turn next self.old }
+        ensures same { kept_of self.new ≡ kept_of self.old }
+        ensures still { sends_of self.new ≡ sends_of self.old }
+    {
+        if owes {
+            self.set_turn(Some(next));
+        } else if turn.is_some() {
+            self.set_turn(None);
+        }
+    }
+
     /// Draws what it gives next, with at most so many bytes, where so many turns were given.
     #[tactic(auto, unfolding(crate::specs::Parts::draw_one, crate::specs::Parts::seal_one, crate::specs::Waiting::dues_of, crate::specs::Waiting::with_turn))]
     fn draw(&mut self, most: usize, fair: bool, turns: u64) -> Result<Option<Drawn>, AllocError>
@@ -124,7 +138,7 @@ impl Stream {
         };
         self.seal(part.offset, part_end(&part), part.last)?;
         let owes = owes_data(&mut self.sending);
-        self.turn = if owes { Some(next) } else { None };
+        self.pass_turn(owes, turn, next);
         Ok(Some(Drawn {
             part,
             owes,
@@ -221,17 +235,15 @@ impl Records {
         Ok(Some(drawn))
     }
 
-    /// Bytes of the stream with an id are lost, which is marked then; answers whether it wasn't before.
-    #[tactic(auto, using(crate::proofs::Keeping::same, crate::proofs::Sending::still), unfolding(crate::specs::Sequel::marking))]
-    fn lose(&mut self, id: u64, start: u64, end: u64, last: bool) -> Result<bool, AllocError>
-        ensures lost { OnOk result (self.new ≡ changed (marking (with_sending (part_lost start end last))) id self.old) }
-        ensures idle { IfOk result (λ idle. idle ≡ is_idle (option_map (with_sending (part_lost start end last)) (record_of id self.old))) }
+    /// Bytes of the stream with an id are lost.
+    #[tactic(auto, using(crate::proofs::Keeping::same, crate::proofs::Sending::still))]
+    fn lose(&mut self, id: u64, start: u64, end: u64, last: bool) -> Result<(), AllocError>
+        ensures lost { OnOk result (self.new ≡ changed (with_sending (part_lost start end last)) id self.old) }
     {
         let Some(stream) = self.streams.get_mut(id) else {
-            return Ok(false);
+            return Ok(());
         };
-        stream.lose(start, end, last)?;
-        Ok(stream.mark())
+        stream.lose(start, end, last)
     }
 
     /// Bytes of the stream with an id are acknowledged, of which one look tells what is to be done.
@@ -322,7 +334,7 @@ impl StreamsState {
     /// # Errors
     ///
     /// Want of memory.
-    #[tactic(auto, using(crate::proofs::Sequels::lost_so))]
+    #[tactic(auto, unfolding(crate::specs::Parts::bytes_lost))]
     pub fn bytes_lost(
         &mut self,
         id: StreamId,
@@ -332,9 +344,9 @@ impl StreamsState {
     ) -> Result<(), AllocError>
         ensures { OnOk result (self.new ≡ bytes_lost id start end last self.old) }
     {
-        if self.records.lose(id.value(), start, end, last)? {
-            self.waiting.marks.mark(id.value());
-        }
+        self.records.lose(id.value(), start, end, last)?;
+        self.queue(id.value());
+        self.touch(id.value());
         Ok(())
     }
 

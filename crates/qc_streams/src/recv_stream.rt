@@ -1,7 +1,9 @@
 //! The application's view of a stream that it reads.
 
 ghost use Rattle.std.specs.Prelude.{◌≡◌, false, IfErr, IfOk, OnErr, OnOk, None, Some, is_err};
+ghost use Rattle.std.specs.Borrow.{RestsIfErr, sem};
 ghost use Rattle.qc_recv.specs.Receiving.{reset_asked, stop_asked};
+ghost use Rattle.qc_streams.specs.contracts.state.StreamsState.{the_row};
 ghost use Rattle.qc_streams.specs.Calls.{begin_refusal, closed_to, gives, reading_begun, receiving_at, reset_of};
 ghost use Rattle.qc_streams.specs.Views.{IsAnswer, after_next, is_lost, owes_frames, told_after};
 
@@ -68,6 +70,7 @@ impl StreamsState {
     /// Those of [`StreamsState::begin`]; nothing changes then.
     #[tactic(auto, using(crate::proofs::Views::begun_so))]
     pub fn chunks(&mut self, id: StreamId, ordered: bool) -> Result<Chunks<'_>, ReadableError>
+        ensures* rests { sem 𝓛 (RestsIfErr the_row self.entry (λ c. c.state.ghost_name) result (λ last. last ≡ self.old)) }
         ensures same_reference { IfOk result (λ c. c.state.ghost_name ≡ self.entry.ghost_name) }
         ensures begun { IfOk result (λ c. c.state.now ≡ reading_begun ordered id self.old) }
         ensures id { IfOk result (λ c. c.id ≡ id) }

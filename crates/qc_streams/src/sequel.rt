@@ -8,12 +8,15 @@ ghost use Rattle.qc_streams.specs.Waiting.{with_mark};
 
 use crate::state::StreamsState;
 use crate::stream::Stream;
+use crate::waiting::owes_stop;
 
 /// What is to be done for a stream once it was changed.
 #[derive(Clone, Copy, Debug, PartialEq, Eq)]
 pub(crate) enum Sequel {
     /// It has ended, and leaves.
     Leaves,
+    /// It has ended, and stays for its STOP_SENDING.
+    Lingers,
     /// It wasn't marked, and its mark is put behind the others.
     Marks,
     /// Nothing: it was marked, or there is no stream.
@@ -30,7 +33,11 @@ impl Stream {
         ensures still { sends_of self.new ≡ sends_of self.old }
     {
         if self.is_over() {
-            return Sequel::Leaves;
+            return if owes_stop(&self.receiving) {
+                Sequel::Lingers
+            } else {
+                Sequel::Leaves
+            };
         }
         let marked = self.marked;
         self.marked = true;
@@ -64,6 +71,7 @@ impl StreamsState {
     {
         match sequel {
             Sequel::Leaves => self.release(id),
+            Sequel::Lingers => self.linger(id),
             Sequel::Marks => self.waiting.marks.mark(id),
             Sequel::Nothing => {}
         }

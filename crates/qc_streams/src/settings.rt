@@ -2,7 +2,7 @@
 
 ghost use Rattle.std.specs.Prelude.{◌≡◌, ◌+◌, max, IfOk, OnErr, OnOk, is_err};
 ghost use Rattle.qc_streams.specs.Calls.{known, known_at, known_of};
-ghost use Rattle.qc_streams.specs.Counts.{held};
+ghost use Rattle.qc_streams.specs.Counts.{by_dir, held};
 ghost use Rattle.qc_streams.specs.Credit.{incoming_credit};
 ghost use Rattle.qc_streams.specs.Kept.{kept_of};
 ghost use Rattle.qc_streams.specs.Sends.{sends_of};
@@ -134,5 +134,12 @@ impl StreamsState {
     {
         let peer = self.peer.get(dir).with_concurrent(count.into_inner());
         self.peer.put(dir, peer);
+    }
+
+    /// How many streams of a direction the peer may have open at a time.
+    pub fn max_concurrent(&self, dir: Dir) -> u64
+        ensures { result ≡ (by_dir dir self.now.peer).concurrent }
+    {
+        self.peer.get(dir).concurrent.value()
     }
 }

@@ -24,10 +24,15 @@ pub struct Stream {
     pub priority: i32,
     /// Its place among them, while it has one.
     pub turn: Option<Place>,
+    /// The place that it takes once it is looked at: that of the moment when its bytes, or its end, began
+    /// to wait.
+    pub due: Option<Place>,
     /// Whether it is marked, so that what it owes is looked at.
     pub marked: bool,
     /// Whether this end opened it, or the application accepted it.
     pub taken: bool,
+    /// Whether its place was freed: it has ended, and stays for its STOP_SENDING alone.
+    pub freed: bool,
 }
 
 /// What a stream counts for the connection's credit.
@@ -50,8 +55,10 @@ impl Stream {
             sending,
             priority: 0,
             turn: None,
+            due: None,
             marked: false,
             taken,
+            freed: false,
         }
     }
 

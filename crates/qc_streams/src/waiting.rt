@@ -79,7 +79,7 @@ pub(crate) fn owes_data(sending: &mut Option<SendPart>) -> bool
 }
 
 /// Whether a STOP_SENDING waits.
-fn owes_stop(receiving: &Option<Recv>) -> bool
+pub(crate) fn owes_stop(receiving: &Option<Recv>) -> bool
     ensures { result ≡ owes_stop receiving.now }
 {
     match receiving {
@@ -134,7 +134,7 @@ impl Stream {
         self.marked = marked;
     }
 
-    /// It has a place among those that have bytes to send, or none.
+    /// It has a place among those that have bytes to send, or none; none is put by for it any more.
     #[tactic(auto, unfolding(crate::specs::Waiting::with_turn))]
     pub(crate) fn set_turn(&mut self, turn: Option<Place>)
         ensures turn { self.new ≡ with_turn turn self.old }
@@ -142,6 +142,7 @@ impl Stream {
         ensures still { sends_of self.new ≡ sends_of self.old }
     {
         self.turn = turn;
+        self.due = None;
     }
 }
 

@@ -11,7 +11,7 @@ ghost use Rattle.qc_streams.specs.Records.{changed, record_of};
 ghost use Rattle.qc_streams.specs.Sends.{sends_of};
 ghost use Rattle.qc_streams.specs.Sequel.{write_followed};
 ghost use Rattle.qc_streams.specs.Stream.{with_sending};
-ghost use Rattle.qc_streams.specs.Waiting.{with_mark};
+ghost use Rattle.qc_streams.specs.Waiting.{queue_one, takes_number, with_mark};
 ghost use Rattle.qc_streams.specs.Writable.{awaits, awaits_at, credit_at, credit_of, has_credit, passed, watched};
 
 use crate::events::StreamEvent;
@@ -86,22 +86,32 @@ impl Stream {
 pub(crate) struct Noted {
     // whether its stream may be written on again, as far as it goes by itself
     credit: bool,
+    // whether the number of its turn is taken
+    numbered: bool,
     // whether it wasn't marked
     idle: bool,
 }
 
 impl Stream {
-    /// It was written on: it is marked. Answers what is to be done.
-    pub(crate) fn note_write(&mut self) -> Noted
+    /// It was written on, where so many turns were given: it waits from this moment on, and is marked.
+    /// Answers what is to be done.
+    #[tactic(auto, unfolding(crate::specs::Waiting::queue_one))]
+    pub(crate) fn note_write(&mut self, turns: u64) -> Noted
         ensures credit { result.credit ≡ credit_of self.old.sending }
+        ensures numbered { result.numbered ≡ takes_number (Some self.old) }
         ensures idle { result.idle ≡ not self.old.marked }
-        ensures marked { self.new ≡ with_mark true self.old }
+        ensures marked { self.new ≡ with_mark true (queue_one turns self.old) }
         ensures same { kept_of self.new ≡ kept_of self.old }
         ensures still { sends_of self.new ≡ sends_of self.old }
     {
         let credit = has_credit(&self.sending);
+        let numbered = self.queue(turns);
         let idle = self.mark();
-        Noted { credit, idle }
+        Noted {
+            credit,
+            numbered,
+            idle,
+        }
     }
 }
 
@@ -131,9 +141,10 @@ impl Records {
     fn block(&mut self, id: u64)
         ensures { self.new ≡ changed (with_sending (if_known was_blocked)) id self.old }
     {
-        if let Some(stream) = self.streams.get_mut(id) {
-            stream.block();
-        }
+        let Some(stream) = self.streams.get_mut(id) else {
+            return;
+        };
+        stream.block();
     }
 
     /// That the stream with an id can be written on again is told.
@@ -141,9 +152,10 @@ impl Records {
     fn unblock(&mut self, id: u64)
         ensures { self.new ≡ changed (with_sending unblocked) id self.old }
     {
-        if let Some(stream) = self.streams.get_mut(id) {
-            stream.unblock();
-        }
+        let Some(stream) = self.streams.get_mut(id) else {
+            return;
+        };
+        stream.unblock();
     }
 }
 
@@ -178,11 +190,15 @@ impl StreamsState {
     }
 
     /// What a write on a stream left to be done is done.
+    #[tactic(auto, unfolding(crate::specs::Counts::held))]
     pub(crate) fn follow_write(&mut self, noted: Noted, id: u64)
-        ensures { self.new ≡ write_followed noted.credit noted.idle id self.old }
+        ensures { self.new ≡ write_followed noted.credit noted.numbered noted.idle id self.old }
     {
         if !noted.credit {
             self.blocked.remove(id);
+        }
+        if noted.numbered {
+            self.waiting.turns = self.waiting.turns.saturating_add(1);
         }
         if noted.idle {
             self.waiting.marks.mark(id);

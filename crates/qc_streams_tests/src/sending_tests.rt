@@ -115,8 +115,11 @@ fn frames_go_in_their_order(rt: HostRuntime) -> Result<(), Fail> {
         Act::Stop(1, 5, true),
         Act::Reset(1, 6, true),
         Act::File,
-        Act::Next(8, None),
-        Act::Next(24, Some(stop(1))),
+        // they take 4 bytes, 3, 2 and 3
+        Act::Next(1, None),
+        Act::Next(2, Some(data())),
+        Act::Next(3, Some(stop(1))),
+        Act::Next(4, Some(reset())),
         drawn(reset()),
         drawn(stop(1)),
         drawn(data()),
@@ -165,10 +168,11 @@ fn a_lost_stop_outlives_its_stream(rt: HostRuntime) -> Result<(), Fail> {
         Act::File,
         Act::Draw(17, Some(stop(3))),
         Act::Next(17, Some(stop(7))),
-        // their ends come, and they leave: what still waits goes with them
+        // their ends come, and they end: what still waits goes on to wait
         Act::Stream(3, 0, 0, true, None),
         Act::Stream(7, 1, 0, true, None),
         Act::RemoteOpen(Dir::Uni, 0),
+        Act::Draw(17, Some(stop(7))),
         Act::Next(17, four),
         // what is lost waits again, the least id first, and is drawn once
         Act::Lost(stop(7)),
@@ -177,6 +181,126 @@ fn a_lost_stop_outlives_its_stream(rt: HostRuntime) -> Result<(), Fail> {
         Act::Draw(17, Some(stop(7))),
         Act::Draw(17, four),
         Act::Draw(17, None),
+    ];
+    assert_eq!(rt; first_of_client(rt.alloc(), usual(), &acts)?, None);
+    Ok(())
+}
+
+#[test]
+fn a_stop_behind_a_known_end_is_sent(rt: HostRuntime) -> Result<(), Fail> {
+    let three = Some(Control::MaxStreams {
+        dir: Dir::Uni,
+        limit: 3,
+    });
+    let acts = [
+        fifty(),
+        // a byte of stream 3 comes with its end, and it is stopped: it has ended, and its place is free at once
+        Act::Stream(3, 0, 1, true, None),
+        Act::Stop(3, 5, true),
+        Act::RemoteOpen(Dir::Uni, 0),
+        Act::StreamsOwed(Dir::Uni, Some(3)),
+        // another frame of it frees no other place
+        Act::Stream(3, 0, 1, true, None),
+        Act::RemoteOpen(Dir::Uni, 0),
+        Act::Stop(3, 5, false),
+        Act::Read(3, true, 9, Given::Closed),
+        Act::File,
+        Act::Draw(100, Some(stop(3))),
+        Act::StreamsOwed(Dir::Uni, Some(3)),
+        Act::Draw(100, three),
+        Act::Draw(100, None),
+        // lost, it waits again, though its stream has gone
+        Act::Lost(stop(3)),
+        Act::Draw(100, Some(stop(3))),
+        Act::Draw(100, None),
+    ];
+    assert_eq!(rt; first_of_client(rt.alloc(), usual(), &acts)?, None);
+    Ok(())
+}
+
+#[test]
+fn a_stop_outlives_the_last_acknowledgement(rt: HostRuntime) -> Result<(), Fail> {
+    let acts = [
+        fifty(),
+        // stream 1 is finished on both sides; it is stopped while its own end is underway
+        Act::Stream(1, 0, 0, true, None),
+        Act::Finish(1, Ok(())),
+        Act::File,
+        Act::Part(100, Some((1, 0, 0, true))),
+        Act::Stop(1, 5, true),
+        Act::RemoteOpen(Dir::Bi, 1),
+        // its end is acknowledged: it has ended, and the STOP_SENDING still waits
+        Act::BytesAcked(1, 0, 0, true),
+        Act::RemoteOpen(Dir::Bi, 0),
+        Act::File,
+        Act::Draw(100, Some(stop(1))),
+        Act::Draw(100, Some(places(3))),
+        Act::Draw(100, None),
+    ];
+    assert_eq!(rt; first_of_client(rt.alloc(), usual(), &acts)?, None);
+    Ok(())
+}
+
+#[test]
+fn streams_go_in_the_order_of_writing(rt: HostRuntime) -> Result<(), Fail> {
+    let unfair = Setup {
+        fair: false,
+        ..usual()
+    };
+    let acts = [
+        fifty(),
+        // stream 1 is looked at first, since it is read first, but stream 0 is written first
+        Act::Stream(1, 0, 2, false, None),
+        Act::Read(1, true, 2, Given::Chunk(0, 2)),
+        Act::Open(Dir::Bi, Some(0)),
+        Act::Write(0, 3, Ok(3)),
+        Act::Write(1, 3, Ok(3)),
+        Act::File,
+        two(0, 0, 2),
+        two(0, 2, 1),
+        two(1, 0, 2),
+        two(1, 2, 1),
+        Act::Part(21, None),
+    ];
+    assert_eq!(rt; first_of_client(rt.alloc(), unfair, &acts)?, None);
+    assert_eq!(rt; first_of_client(rt.alloc(), usual(), &fair_order())?, None);
+    Ok(())
+}
+
+/// The same with turns: the first one is that of the writing.
+fn fair_order() -> [Act; 12] {
+    [
+        fifty(),
+        Act::Stream(1, 0, 2, false, None),
+        Act::Read(1, true, 2, Given::Chunk(0, 2)),
+        Act::Open(Dir::Bi, Some(0)),
+        Act::Write(0, 3, Ok(3)),
+        Act::Write(1, 3, Ok(3)),
+        Act::File,
+        two(0, 0, 2),
+        two(1, 0, 2),
+        two(0, 2, 1),
+        two(1, 2, 1),
+        Act::Part(21, None),
+    ]
+}
+
+#[test]
+fn a_priority_counts_from_the_next_turn_on(rt: HostRuntime) -> Result<(), Fail> {
+    let acts = [
+        fifty(),
+        Act::Open(Dir::Bi, Some(0)),
+        Act::Open(Dir::Bi, Some(4)),
+        Act::Write(0, 3, Ok(3)),
+        Act::Write(4, 3, Ok(3)),
+        // set behind the writing, it counts from the second turn on
+        Act::SetPriority(4, 1, true),
+        Act::File,
+        two(0, 0, 2),
+        two(4, 0, 2),
+        two(4, 2, 1),
+        two(0, 2, 1),
+        Act::Part(21, None),
     ];
     assert_eq!(rt; first_of_client(rt.alloc(), usual(), &acts)?, None);
     Ok(())

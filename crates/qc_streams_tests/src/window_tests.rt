@@ -69,3 +69,30 @@ fn a_larger_window_owes_credit(rt: HostRuntime) -> Result<(), Fail> {
     assert_eq!(rt; first_of_client(rt.alloc(), setup(), &acts)?, None);
     Ok(())
 }
+
+#[test]
+fn credit_that_no_frame_can_tell_owes_nothing(rt: HostRuntime) -> Result<(), Fail> {
+    // the greatest number that a frame has
+    let most = (1 << 62) - 1;
+    let acts = [
+        Act::ReceiveWindow(VarInt::MAX),
+        Act::DataOwed(Some(most)),
+        Act::SealData,
+        // the window is lowered, and 10 bytes are read: the credit that was reached stays, and all of it is told
+        Act::ReceiveWindow(number(16)),
+        Act::Stream(1, 0, 10, false, None),
+        Act::Read(1, true, 10, Given::Chunk(0, 10)),
+        Act::DataOwed(None),
+        Act::Credit(most),
+        // raised again it would be greater by these 10 bytes, which no frame can tell
+        Act::ReceiveWindow(VarInt::MAX),
+        Act::Credit(most + 10),
+        Act::DataOwed(None),
+        Act::ReceiveWindow(number(16)),
+        Act::Stream(3, 0, 10, false, None),
+        Act::Read(3, true, 10, Given::Chunk(0, 10)),
+        Act::DataOwed(None),
+    ];
+    assert_eq!(rt; first_of_client(rt.alloc(), setup(), &acts)?, None);
+    Ok(())
+}
