@@ -56,9 +56,16 @@ fn longer(alloc: Global) -> Result<Vec<u8>, AllocError> {
     Ok(bytes)
 }
 
+fn is_decoded(alloc: Global, raw: &[u8]) -> Result<bool, AllocError> {
+    match decoded(alloc, raw) {
+        Ok(token) => Ok(token.is_some()),
+        Err(error) => Err(error),
+    }
+}
+
 fn is_longer_one_decoded(alloc: Global) -> Result<bool, AllocError> {
     let bytes = longer(alloc)?;
-    Ok(decoded(alloc, bytes.as_slice())?.is_some())
+    is_decoded(alloc, bytes.as_slice())
 }
 
 #[test]
