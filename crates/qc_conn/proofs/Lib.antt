@@ -1,3 +1,4 @@
+pub mod Clocks
 pub mod Refusals
 pub mod RunsPlain
 pub mod Reports
