@@ -1,4 +1,4 @@
-pub mod Clocks
+mod Clocks
 pub mod Refusals
 pub mod RunsPlain
 pub mod Reports

@@ -140,7 +140,6 @@ impl<U: Suite> Connection<U> {
     ///
     /// `OutOfMemory` for want of memory; the connection is then marked as failed. `Failed` exactly where it was marked
     /// before; then nothing changes.
-    #[tactic(auto, using(qc_state::proofs::Clocks::datagram_clock))]
     pub fn first_datagram(
         &mut self,
         alloc: Global,
@@ -178,7 +177,6 @@ impl<U: Suite> Connection<U> {
     ///
     /// `OutOfMemory` for want of memory; the connection is then marked as failed. `Failed` exactly where it was marked
     /// before; then nothing changes.
-    #[tactic(auto, using(crate::proofs::Clocks::handed_clock))]
     pub fn handle_event<G: TokenStore>(
         &mut self,
         alloc: Global,
@@ -218,7 +216,6 @@ impl<U: Suite> Connection<U> {
     /// `Lost` exactly where this packet gave a reason for the connection's end; all is done then as well, and the reason is
     /// reported by `poll` too. `OutOfMemory` for want of memory; the connection is then marked as failed. `Failed` exactly
     /// where it was marked before; then nothing changes.
-    #[tactic(auto, using(qc_state::proofs::Clocks::first_packet_clock))]
     pub fn handle_first_packet(
         &mut self,
         alloc: Global,
@@ -273,7 +270,6 @@ impl<U: Suite> Connection<U> {
     ///
     /// `OutOfMemory` for want of memory; the connection is then marked as failed. `Failed` exactly where it was marked
     /// before; then nothing changes.
-    #[tactic(auto, using(qc_state::proofs::Clocks::timeout_clock))]
     pub fn handle_timeout(&mut self, alloc: Global, now: Instant) -> Result<(), Fault>
         ensures leads { OnOk result ((ideal U.Random.stream self.new.core) ≡ (timeout_after (meaning U.Session.Session U.Session.HeaderKey.HeaderMask U.Session.PacketKey.PacketKey U.Control.Controller.Controller) now (began (ideal U.Random.stream self.old.core) now)).state) }
         ensures idle { OnOk result (is_drained self.old.core.life.state ≡ false → has_come self.new.core.timers.idle now ≡ false) }
@@ -307,7 +303,6 @@ impl<U: Suite> Connection<U> {
     ///
     /// `OutOfMemory` for want of memory; the connection is then marked as failed, and `buf` is empty. `Failed` exactly
     /// where it was marked before; then nothing changes.
-    #[tactic(auto, using(crate::proofs::Clocks::sent_clock))]
     pub fn poll_transmit(
         &mut self,
         alloc: Global,
@@ -342,7 +337,6 @@ impl<U: Suite> Connection<U> {
     /// The application closes the connection at `now` (RFC 9000, 10.2): from now on all that is sent is the close, which
     /// tells the peer the code and the reason once the handshake is over, and before only that this end closed. A later
     /// close changes nothing but the greatest time that was told. Neither takes memory.
-    #[tactic(auto, using(crate::proofs::Clocks::close_leads, crate::proofs::Clocks::closed_clock))]
     pub fn close(&mut self, now: Instant, error_code: VarInt, reason: Bytes)
         ensures leads { (ideal U.Random.stream self.new.core) ≡ (close_after now error_code reason (began (ideal U.Random.stream self.old.core) now)).state }
         ensures clock { self.new.core.timers.greatest ≡ max self.old.core.timers.greatest now }

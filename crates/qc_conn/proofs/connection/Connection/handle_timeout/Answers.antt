@@ -1,0 +1,8 @@
+use Rattle.std.proofs.Common.{ap, ◌∙◌}
+use Rattle.std.specs.Prelude.{max}
+use Rattle.qc_state.proofs.Clocks.{timeout_clock}
+use Rattle.qc_conn.proofs.connection.Connection.handle_timeout.Goals as goal
+
+-- the greatest time
+pub returns-in-Ok-clause-clock : goal.returns-in-Ok-clause-clock
+returns-in-Ok-clause-clock g c = timeout_clock _ c.args.now _ _ c.in-Ok.ensures.leads ∙ ap (λ v. max v.core.timers.greatest c.args.now) c.self.view_is
