@@ -9,7 +9,7 @@ use Rattle.qc_conn.proofs.connection.Connection.handle_event.Goals as goal
 pub returns-clause-clock : goal.returns-clause-clock
 returns-clause-clock g c =
     elim c.match-core_event.branch [
-      in-Ok w ↦ held_done c.match-core_event.result _
+      | in-Ok w ↦ held_done c.match-core_event.result _
           (ap (λ v. v.core.timers.greatest) w.self-is ∙ handed_clock _ c.args.event _ _ w.in-Ok.ensures ∙ ap (λ v. max v.core.timers.greatest (time_of_event c.args.event)) c.self.view_is)
       | in-Err w ↦ none_done c.match-core_event.result _ _ w.result-is
     ]
