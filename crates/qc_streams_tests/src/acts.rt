@@ -65,7 +65,7 @@ pub enum Act {
     /// The next event.
     Poll(Option<StreamEvent>),
     /// A STREAM frame comes: its offset, how many bytes it has, and its FIN.
-    Stream(u32, u64, usize, bool, Option<Refusal>),
+    Stream(u32, u32, usize, bool, Option<Refusal>),
     /// A RESET_STREAM comes: its code and its final size.
     ResetStream(u32, u32, u64, Option<Refusal>),
     /// A STOP_SENDING comes with a code.
@@ -208,6 +208,37 @@ fn ten_and_ten(alloc: Global) -> Result<[Bytes; 2], AllocError> {
     Ok([some_bytes(alloc, 0, 10)?, some_bytes(alloc, 10, 10)?])
 }
 
+/// Whether a write is refused so.
+fn is_refused(answer: Result<usize, WriteError>, refusal: &WriteError) -> bool {
+    match answer {
+        Ok(_) => false,
+        Err(given) => given == *refusal,
+    }
+}
+
+/// Whether a write of 20 bytes is refused so, and one of two chunks of 10 bytes.
+fn refuses(alloc: Global, streams: &mut StreamsState, stream: u32, refusal: &WriteError) -> bool {
+    let all = BYTES;
+    is_refused(streams.send_stream(id(stream)).write(&all), refusal)
+        && refuses_chunks(alloc, streams, stream, refusal)
+}
+
+/// Whether a write of two chunks of 10 bytes is refused so.
+fn refuses_chunks(
+    alloc: Global,
+    streams: &mut StreamsState,
+    stream: u32,
+    refusal: &WriteError,
+) -> bool {
+    match ten_and_ten(alloc) {
+        Ok(mut chunks) => match streams.send_stream(id(stream)).write_chunks(&mut chunks) {
+            Ok(_) => false,
+            Err(given) => given == *refusal,
+        },
+        Err(_) => false,
+    }
+}
+
 /// What a chunk is, where its bytes are the stream's.
 fn given_chunk(chunk: &Chunk) -> Option<Given> {
     if !are_those(&chunk.bytes, chunk.offset) {
@@ -265,16 +296,20 @@ fn reads(
     }
 }
 
-/// Whether the next reads give that, and whether something is to be sent then.
-fn give_all(mut chunks: Chunks<'_>, most: usize, given: [Option<Given>; 3], sent: bool) -> bool {
-    for wanted in given {
-        if let Some(wanted) = wanted {
-            if !gives(&chunks.next(most), wanted) {
-                return false;
-            }
-        }
+/// Whether the next read gives that, where one is wanted.
+fn gives_next(chunks: &mut Chunks<'_>, most: usize, wanted: Option<Given>) -> bool {
+    match wanted {
+        Some(wanted) => gives(&chunks.next(most), wanted),
+        None => true,
     }
-    chunks.finalize().should_transmit() == sent
+}
+
+/// Whether the next reads give that.
+fn give_all(chunks: &mut Chunks<'_>, most: usize, given: [Option<Given>; 3]) -> bool {
+    let [first, second, third] = given;
+    let mut right = gives_next(chunks, most, first);
+    right = gives_next(chunks, most, second) && right;
+    gives_next(chunks, most, third) && right
 }
 
 /// Whether reads of one opening give that, and whether something is to be sent then.
@@ -287,7 +322,10 @@ fn reads_all(
     sent: bool,
 ) -> bool {
     match streams.recv_stream(id(stream)).read(ordered) {
-        Ok(chunks) => give_all(chunks, most, given, sent),
+        Ok(mut chunks) => {
+            let right = give_all(&mut chunks, most, given);
+            chunks.finalize().should_transmit() == sent && right
+        }
         Err(_) => false,
     }
 }
@@ -305,11 +343,12 @@ fn takes(
     alloc: Global,
     streams: &mut StreamsState,
     stream: u32,
-    offset: u64,
+    offset: u32,
     len: usize,
     fin: bool,
     refusal: Option<Refusal>,
 ) -> bool {
+    let offset = u64::from(offset);
     match some_bytes(alloc, offset, len) {
         Ok(body) => is_taken(streams.received(id(stream), offset, body, fin), refusal),
         Err(_) => false,
@@ -356,10 +395,7 @@ impl Act {
             Act::Accept(dir, stream) => streams.streams().accept(dir) == id_of(stream),
             Act::Write(stream, len, answer) => writes(streams, stream, len, answer),
             Act::Chunks(stream, answer) => writes_chunks(alloc, streams, stream, answer),
-            Act::Refused(stream, refusal) => {
-                writes(streams, stream, 20, Err(refusal))
-                    && writes_chunks(alloc, streams, stream, Err(refusal))
-            }
+            Act::Refused(stream, refusal) => refuses(alloc, streams, stream, &refusal),
             Act::Finish(stream, answer) => streams.send_stream(id(stream)).finish() == answer,
             Act::Reset(stream, code, can) => {
                 streams.send_stream(id(stream)).reset(number(code)).is_ok() == can

@@ -136,12 +136,15 @@ fn wrong_of_none(
 #[test]
 fn a_write_of_no_chunks_is_refused_alike(rt: HostRuntime) -> Result<(), Fail> {
     let mut streams = opened(rt.alloc())?;
-    let closed = Err(WriteError::ClosedStream);
-    assert!(rt; wrong_of_none(&mut streams, &[(0, written(0, 0)), (8, closed)]).is_none());
+    let open = [(0, written(0, 0)), (8, Err(WriteError::ClosedStream))];
+    assert!(rt; wrong_of_none(&mut streams, &open).is_none());
     let acts = [Act::Finish(0, Ok(())), Act::StopSending(4, 3, None)];
     assert_eq!(rt; first_wrong(rt.alloc(), &mut streams, &acts), None);
-    let stopped = Err(WriteError::Stopped(number(3)));
-    assert!(rt; wrong_of_none(&mut streams, &[(0, closed), (4, stopped)]).is_none());
+    let ended = [
+        (0, Err(WriteError::ClosedStream)),
+        (4, Err(WriteError::Stopped(number(3)))),
+    ];
+    assert!(rt; wrong_of_none(&mut streams, &ended).is_none());
     streams.close();
     assert!(rt; wrong_of_none(&mut streams, &[(8, Err(WriteError::Blocked))]).is_none());
     Ok(())

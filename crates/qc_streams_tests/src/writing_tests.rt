@@ -23,17 +23,16 @@ fn writable(stream: u32) -> Act {
 /// A client that may send 5 bytes on all streams, and 4 on each of three of its own: 4 bytes are written on the first
 /// and one on the second, and then a write is blocked on each.
 fn held_up() -> [Act; 9] {
-    let blocked = Err(WriteError::Blocked);
     [
         Act::Limits(limits(3, 3, 5, 4)),
         Act::Open(Dir::Bi, Some(0)),
         Act::Open(Dir::Bi, Some(4)),
         Act::Open(Dir::Bi, Some(8)),
         Act::Write(0, 20, Ok(4)),
-        Act::Write(0, 20, blocked),
+        Act::Write(0, 20, Err(WriteError::Blocked)),
         Act::Write(4, 20, Ok(1)),
-        Act::Write(4, 20, blocked),
-        Act::Write(8, 20, blocked),
+        Act::Write(4, 20, Err(WriteError::Blocked)),
+        Act::Write(8, 20, Err(WriteError::Blocked)),
     ]
 }
 
