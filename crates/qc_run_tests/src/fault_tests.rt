@@ -154,10 +154,10 @@ fn count_parts(alloc: Global, script: &[u8], parts: &[&str]) -> Result<(Status, 
     let mut sink = sink_of(alloc, &none())?;
     let status = run_from(alloc, &mut SliceSource::new(script), &mut sink)?;
     let text = String::from_utf8(Vec::from_slice(alloc, sink.held())?)?;
-    let mut count = 0;
+    let mut count = 0usize;
     for part in parts {
         if text.as_str().contains(part) {
-            count += 1;
+            count = count.saturating_add(1);
         }
     }
     Ok((status, count))
