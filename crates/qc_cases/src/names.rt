@@ -1,13 +1,22 @@
 //! Texts that have names.
 
 use anyhow::{Result, bail};
-use std::alloc::Global;
+use std::alloc::{AllocError, Global};
 
 /// A text and its name.
 #[derive(Drop)]
 struct Name {
     name: String,
     text: String,
+}
+
+impl Name {
+    /// This text with this name.
+    fn new(alloc: Global, name: &str, text: &str) -> Result<Name, AllocError> {
+        let name = String::from_str(alloc, name)?;
+        let text = String::from_str(alloc, text)?;
+        Ok(Name { name, text })
+    }
 }
 
 /// The texts that have names so far.
@@ -42,13 +51,14 @@ impl Names {
         if self.text(name).is_some() {
             bail!("a name that stands twice");
         }
-        self.push(alloc, name, text)
+        let named = Name::new(alloc, name, text)?;
+        self.push(named)?;
+        Ok(())
     }
 
-    fn push(&mut self, alloc: Global, name: &str, text: &str) -> Result<()> {
-        let name = String::from_str(alloc, name)?;
-        let text = String::from_str(alloc, text)?;
-        self.list.push(Name { name, text })?;
+    /// Puts a text with its name behind the others.
+    fn push(&mut self, named: Name) -> Result<(), AllocError> {
+        self.list.push(named)?;
         Ok(())
     }
 
