@@ -6,5 +6,6 @@ pub mod Powers
 pub mod RunsSettle
 pub mod Settling
 pub mod Spans
+pub mod Stands
 pub mod Told
 pub mod Unknown

@@ -32,7 +32,8 @@ abbrev pub sent_at : ℕ → Option Entry → Option ℕ → Option ℕ
 sent_at number None kept = kept
 sent_at number (Some e) kept = if e.0 == number then Some e.1.at else kept
 
--- the greatest number acknowledged rises, and the time of its packet is kept where that is newly acknowledged
+-- The greatest number acknowledged in a space never falls (RFC 9002, appendix A.7); the time at which its packet was sent is
+-- kept where that is newly acknowledged.
 unfoldable pub raised : ℕ → List Entry → SpaceRecovery → SpaceRecovery
 raised largest acked s =
     if exceeds s.greatest largest then record s { greatest = Some largest; kept_at = sent_at largest (greatest_entry acked) s.kept_at } else s
@@ -50,7 +51,8 @@ acked_of ranges s = those (is_acked ranges) s.flight
 unfoldable pub space_acked : ℕ → List NumberRange → SpaceRecovery → SpaceRecovery
 space_acked largest ranges s = raised largest (acked_of ranges s) (record s { flight = others (is_acked ranges) s.flight })
 
--- the time at which a packet is lost for its age, of the earliest one that may be
+-- When the next packet is lost for its age: the delay after the earliest packet that is below the greatest one acknowledged
+-- was sent (RFC 9002, section 6.1.2).
 abbrev pub time_of_loss : ℕ → Option ℕ → Option ℕ
 time_of_loss delay None = None
 time_of_loss delay (Some at) = Some (plus at delay)
@@ -65,12 +67,14 @@ space_less l now delay largest s =
     let rest : List Entry = others (is_lost largest l.packet_threshold now delay) s.flight in
     record s { flight = rest; loss_time = time_of_loss delay (earliest_of (those (is_below largest) rest)) }
 
--- for how long the peer held an ACK back: nothing outside Data, else what it says, and at most what it may
+-- For how long the peer held an ACK back: what it says, in units of 2^exponent microseconds, and no more than the most that it
+-- announced; nothing for Initial and Handshake packets, whose ACKs aren't held back (RFC 9002, section 5.3).
 unfoldable pub held_back : SpaceId → Around → ℕ → ℕ
 held_back space around delay =
     if is_data space then min around.max_ack_delay (times (times delay (2 ^ min around.ack_delay_exponent 63)) 1000) else 0
 
--- the first sample's space and the number that was next there; one that is noted stays
+-- Persistent congestion is established only for packets sent after the path's first sample (RFC 9002, section 7.6.2): its
+-- space and the number that was next there are noted, and stay.
 abbrev pub first_noted : Option (SpaceId × ℕ) → SpaceId → ℕ → Option (SpaceId × ℕ)
 first_noted None space next = Some (space, next)
 first_noted (Some sample) space next = Some sample
@@ -125,7 +129,8 @@ module _ {C : Type 0} where
         congestion = if is_probe e.0 p.mtud then m.after_resize p.congestion (mtu_acked now e.0 e.1.size p.mtud).current else p.congestion;
       } else p
 
-  -- the controller is told of a packet that elicits an ACK, unless the path is being validated
+  -- The controller is told of an acknowledged packet that elicits an ACK (RFC 9002, appendix B.5), unless the path is being
+  -- validated: then its window doesn't grow.
   unfoldable pub ack_told : Control C → ℕ → Bool → Entry → PathData C → PathData C
   ack_told m now limited e p =
       if e.1.ack_eliciting && is_none p.challenge then record p { congestion = m.after_ack p.congestion now e.1.at e.1.size limited p.rtt } else p
@@ -139,7 +144,7 @@ module _ {C : Type 0} where
   unfoldable pub end_told : Control C → ℕ → ℕ → Bool → Option ℕ → PathData C → PathData C
   end_told m now in_flight limited largest p = record p { congestion = m.after_acks p.congestion now in_flight limited largest }
 
-  -- a sample is taken: the time since the greatest packet acknowledged was sent
+  -- A sample is the time since the greatest packet acknowledged was sent (RFC 9002, section 5.1).
   unfoldable pub sample_taken : ℕ → SpaceId → ℕ → ℕ → ℕ → PathData C → PathData C
   sample_taken now space next delay at p = record p { rtt = sampled delay (now - at) p.rtt; first_sample = first_noted p.first_sample space next }
 

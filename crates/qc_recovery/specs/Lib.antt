@@ -5,6 +5,7 @@ pub mod Losses
 pub mod Paths
 pub mod Runs
 pub mod Settlement
+pub mod Stands
 pub mod Steps
 pub mod Told
 pub mod TransportConfig

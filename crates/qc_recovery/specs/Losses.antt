@@ -22,7 +22,8 @@ rank Initial = 0
 rank Handshake = 1
 rank Data = 2
 
--- how long ago a packet has to be sent to be lost: a part of the round trip time, and 1 ms at least
+-- How long ago a packet has to be sent to be lost: a part of the greater of the smoothed and the latest round trip time, and
+-- at least the granularity of timers, 1 ms (RFC 9002, section 6.1.2).
 unfoldable pub loss_delay : Limits → Rtt → ℕ
 loss_delay l rtt = max (times (cautious rtt) l.time_numerator / max l.time_denominator 1) 1000000
 
@@ -100,7 +101,9 @@ reaches marks span from before [] = false
 reaches marks span from before (e ∷ es) =
     (e.0 == before + 1) && ((marks e && nat_lt span (e.1.at - from)) || reaches marks span from e.0 es)
 
--- one of the packets lost is such a first one, after the first sample
+-- Congestion is persistent where two packets that elicit an ACK are lost, the time between their sending exceeds a span, no
+-- packet between them is acknowledged, and a sample was taken before the first of them was sent (RFC 9002, section 7.6.2).
+-- Here: one of the packets lost is such a first one.
 abbrev pub persists : (Entry → Bool) → ℕ → Option ℕ → List Entry → Bool
 persists marks span start [] = false
 persists marks span start (e ∷ es) = (marks e && may_start start e.0 && reaches marks span e.1.at e.0 es) || persists marks span start es
@@ -131,6 +134,7 @@ scans marks span start before from (e ∷ es) =
     (marks e && is_far span (run_on (e.0 == before + 1) from) e.1.at)
     || scans marks span start e.0 (earlier_start (marks e && may_start start e.0) (run_on (e.0 == before + 1) from) e.1.at) es
 
--- the probe timeout of the Data space, times the threshold
+-- That span is the probe timeout of the Data space, with the time for which the peer may hold an ACK back in every space, times
+-- a threshold (RFC 9002, section 7.6.1).
 unfoldable pub congestion_span : Limits → Rtt → ℕ → ℕ
 congestion_span l rtt max_ack_delay = times (plus (probe_base rtt) max_ack_delay) l.persistent

@@ -74,11 +74,12 @@ sooner None b = b
 sooner (Some a) None = Some a
 sooner (Some a) (Some b) = if nat_lt b.0 a.0 then Some b else Some a
 
--- a duration doubled for each time that the timer fired without an answer, and at most 16 times
+-- A probe timeout is doubled each time that it expires without an answer (RFC 9002, section 6.2.1); here at most 16 times.
 unfoldable pub backed_off : ℕ → ℕ → ℕ
 backed_off duration count = times duration (2 ^ min count 16)
 
--- the probe timeout of a space: in Data the peer may hold its ACK back
+-- The probe timeout of a space: the smoothed round trip time and four times its variation, 1 ms at least, and in Data the time
+-- for which the peer may hold its ACK back (RFC 9002, section 6.2.1).
 unfoldable pub probe_timeout : SpaceId → Around → Rtt → ℕ
 probe_timeout id around rtt = plus (probe_base rtt) (if is_data id then around.max_ack_delay else 0)
 
@@ -92,13 +93,15 @@ abbrev pub later_by : ℕ → Option ℕ → Option ℕ
 later_by duration None = None
 later_by duration (Some time) = Some (plus time duration)
 
--- a space with packets that count as in flight is probed a probe timeout after its last packet that elicits an ACK
+-- A space with packets that count as in flight is probed a probe timeout after its last packet that elicits an ACK was sent
+-- (RFC 9002, section 6.2.1 and appendix A.8).
 unfoldable pub probe_in : SpaceId → Around → Rtt → ℕ → SpaceRecovery → Option (ℕ × SpaceId)
 probe_in id around rtt count s =
     if counted_of s.flight == 0 then None
     else timed id (later_by (backed_off (probe_timeout id around rtt) count) s.eliciting_at)
 
--- the earliest of these; Data counts only after the handshake
+-- The earliest of these. Data counts only after the handshake is over: before it the peer may not be able to acknowledge
+-- (RFC 9002, section 6.2.1).
 unfoldable pub probe_first : Around → Rtt → Recovery → Option (ℕ × SpaceId)
 probe_first around rtt r =
     sooner (sooner (probe_in Initial around rtt r.count r.initial) (probe_in Handshake around rtt r.count r.handshake))
@@ -109,7 +112,8 @@ abbrev pub is_handshake : SpaceId → Bool
 is_handshake Handshake = true
 is_handshake _ = false
 
--- with nothing to be acknowledged, Handshake is probed where it is the highest space, else Initial, if it has keys
+-- A client that has nothing to be acknowledged and whose address may not be validated probes, lest both ends wait: in Handshake
+-- where that is its highest space, else in Initial, from now on (RFC 9002, section 6.2.2.1). Without keys there is no probe.
 unfoldable pub probe_of_nothing : ℕ → Around → Rtt → Recovery → Option (ℕ × SpaceId)
 probe_of_nothing now around rtt r =
     if is_handshake around.highest then (if around.handshake_keys then Some (plus now (backed_off (probe_base rtt) r.count), Handshake) else None)
@@ -124,7 +128,9 @@ unfoldable pub loss_first : Recovery → Option (ℕ × SpaceId)
 loss_first r =
     sooner (sooner (timed Initial r.initial.loss_time) (timed Handshake r.handshake.loss_time)) (timed Data r.application.loss_time)
 
--- the lines behind the first, in their order: blocked; nothing to be acknowledged on a validated path, or elsewhere; else
+-- The lines behind the first, in their order: a blocked end can't send a probe; an end with nothing to be acknowledged, whose
+-- address the peer has validated, has nothing to probe for; without such a validation it probes; else the earliest probe
+-- timeout counts (RFC 9002, sections 6.2.1 and 6.2.2.1, appendix A.8).
 unfoldable pub probe_line : ℕ → Around → Rtt → Recovery → Option (ℕ × SpaceId)
 probe_line now around rtt r =
     if around.blocked then None
@@ -142,7 +148,8 @@ abbrev pub time_of : Option (ℕ × SpaceId) → Option ℕ
 time_of None = None
 time_of (Some a) = Some a.0
 
--- the time of the loss timer: that of the first line which holds
+-- The time of the loss timer: the earliest loss time where there is one, else that of the first line which holds (RFC 9002,
+-- appendix A.8).
 unfoldable pub armed_at : ℕ → Around → Rtt → Recovery → Option ℕ
 armed_at now around rtt r = time_of (first_that_holds (loss_first r) (probe_line now around rtt r))
 
@@ -154,7 +161,8 @@ was_acknowledged id r = is_some (space_of id r).greatest
 abbrev pub has_eliciting : List Entry → Bool
 has_eliciting es = list_any (λ e. e.1.ack_eliciting) es
 
--- a space is dropped: nothing of it is in flight, and none of its times counts
+-- A space whose keys are dropped has nothing in flight any more, and none of its times counts (RFC 9002, section 6.4 and
+-- appendix A.11).
 unfoldable pub space_dropped : SpaceRecovery → SpaceRecovery
 space_dropped s = record s { flight = []; eliciting_at = None; loss_time = None }
 
@@ -190,7 +198,8 @@ pub record FiredAfter (C : Type 0) : Type 0 where
 abbrev pub fired_with : {C : Type 0} → Recovery → PathData C → Fired → FiredAfter C
 fired_with r p f = record { recovery = r; path = p; fired = f }
 
--- how often the timer fired without an answer: an acknowledgement ends that, once the peer has validated the address
+-- How often the timer fired without an answer: an acknowledgement ends that, unless this end doesn't know whether the peer has
+-- validated its address (RFC 9002, section 6.2.1).
 abbrev pub count_after : Around → List Entry → ℕ → ℕ
 count_after around acked count = if around.peer_validated && not (length acked == 0) then 0 else count
 
@@ -198,7 +207,8 @@ count_after around acked count = if around.peer_validated && not (length acked =
 abbrev pub occasion : ℕ → SpaceId → ℕ → ℕ → Recovery → Occasion
 occasion now id next began r = record { time = now; space = id; next = next; began = began; others = other_bytes id r }
 
--- two probes are due, or one where nothing elicits an ACK
+-- Two probes are due where something may be lost, so that one lost datagram costs no further timeout; else one (RFC 9002,
+-- section 6.2.4).
 abbrev pub probes_of : Recovery → ℕ
 probes_of r = if is_quiet r then 1 else 2
 

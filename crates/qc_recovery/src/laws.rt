@@ -1,22 +1,25 @@
 //! What holds of recovery's steps.
 
-ghost use Rattle.std.specs.Prelude.{◌≡◌, ℕ, ◌≤◌, ◌==◌, true, false, List, [], ◌++◌, length, None, IsPermutation};
+ghost use Rattle.std.specs.Prelude.{◌≡◌, ℕ, ◌≤◌, ◌==◌, true, false, List, [], ◌++◌, length, None, IsPermutation, is_some, unwrap_or};
+ghost use Rattle.std.specs.List.{list_any};
 ghost use Rattle.qc_base.specs.declared.range_set.NumberRange.{NumberRange};
 ghost use Rattle.qc_base.specs.declared.side.SpaceId.{SpaceId};
-ghost use Rattle.qc_flight.specs.Packets.{has_number, is_acked, is_in, those};
+ghost use Rattle.qc_flight.specs.Packets.{has_number, is_acked, is_below, is_in, those};
 ghost use Rattle.qc_frame.specs.AckRanges.{Acknowledges};
 ghost use Rattle.qc_frame.specs.Frame.{AckValue};
 ghost use Rattle.qc_frame.specs.FrameFits.{Fits};
 ghost use Rattle.qc_frame.specs.declared.frames.FrameOf.TheVariants as frames;
 ghost use Rattle.qc_path.specs.Arrived.{exceeds};
-ghost use Rattle.qc_recovery.specs.Acking.{acked_of, raised, space_acked};
+ghost use Rattle.qc_path.specs.RoundTrips.{Rtt};
+ghost use Rattle.qc_recovery.specs.Acking.{acked_of, limit_with, raised, space_acked};
 ghost use Rattle.qc_recovery.specs.Calls.{begun_recovery};
 ghost use Rattle.qc_recovery.specs.Frames.{ranges_up_of, values_of};
 ghost use Rattle.qc_recovery.specs.Runs.{AreSettledOnce, Call, all_fates, calls_after, no_fates};
 ghost use Rattle.qc_recovery.specs.Settlement.{all_of};
+ghost use Rattle.qc_recovery.specs.Stands.{all_asked, stands};
 ghost use Rattle.qc_recovery.specs.Told.{CongestionEvent, acks_written, is_no_probe, loss_events, losses_of_ack, marks_told, recorder};
 ghost use Rattle.qc_recovery.specs.TransportValues.{TransportValues};
-ghost use Rattle.qc_recovery.specs.Steps.{ack_after, marks_read, path_lost, space_after, space_timed, space_with};
+ghost use Rattle.qc_recovery.specs.Steps.{ack_after, armed_at, marks_read, path_lost, space_after, space_timed, space_with};
 ghost use Rattle.qc_recovery.specs.declared.calls.AckValues.{AckValues};
 ghost use Rattle.qc_recovery.specs.declared.calls.Around.{Around};
 ghost use Rattle.qc_recovery.specs.declared.calls.Occasion.{Occasion};
@@ -72,4 +75,16 @@ pub fn losses_are_told_once()
     ensures timer { (l : Limits) (now : ℕ) (id : SpaceId) (s : SpaceRecovery) (p : PathData (List CongestionEvent)) → (space_timed recorder l now id s p).path.congestion ≡ p.congestion ++ loss_events false (those (is_no_probe id p.mtud) (space_timed recorder l now id s p).lost) }
     ensures ack { (l : Limits) (o : Occasion) (a : AckValues) (ranges : List NumberRange) (around : Around) (s : SpaceRecovery) (p : PathData (List CongestionEvent)) → (length (acked_of ranges s) == 0) ≡ false → (space_after recorder l o a ranges around s p).path.congestion ≡ p.congestion ++ (losses_of_ack l o around (space_after recorder l o a ranges around s p).lost (acks_written o a ranges around s p) ++ marks_told o a (exceeds s.greatest a.largest) (length (acked_of ranges s)) (space_acked a.largest ranges s) (path_lost recorder l o around (space_after recorder l o a ranges around s p).lost (acks_written o a ranges around s p))) }
     ensures ack_of_nothing { (l : Limits) (o : Occasion) (a : AckValues) (ranges : List NumberRange) (around : Around) (s : SpaceRecovery) (p : PathData (List CongestionEvent)) → (length (acked_of ranges s) == 0) ≡ true → (space_after recorder l o a ranges around s p).path.congestion ≡ p.congestion ++ marks_told o a (exceeds s.greatest a.largest) 0 (space_acked a.largest ranges s) p }
+{}
+
+/// A law, which runs no code. After any calls, each with its own path, the loss timer stands exactly
+/// where a packet may be lost for its age at a known time, or where sending isn't blocked and something
+/// waits: a packet that counts, in a space in which one that elicits an ACK was sent; or, with nothing
+/// in flight that elicits an ACK, an end whose address may not be validated (RFC 9002, section 6.2). And
+/// behind an ACK that newly acknowledges, and behind a loss for age, that time is known exactly where a
+/// packet below the greatest number acknowledged is in flight.
+pub fn timer_stands_where_something_waits<C: Controller>()
+    ensures stands { (config : TransportValues) (calls : List (Call C)) (now : ℕ) (around : Around) (rtt : Rtt) → is_some (armed_at now around rtt (calls_after C.Controller calls (begun_recovery config))) ≡ stands around (λ id. all_asked id calls false) (calls_after C.Controller calls (begun_recovery config)) }
+    ensures ack { (l : Limits) (o : Occasion) (a : AckValues) (ranges : List NumberRange) (around : Around) (s : SpaceRecovery) (p : PathData C) → (length (acked_of ranges s) == 0) ≡ false → is_some (space_after C.Controller l o a ranges around s p).space.loss_time ≡ list_any (is_below (limit_with s.greatest a.largest)) (space_after C.Controller l o a ranges around s p).space.flight }
+    ensures age { (l : Limits) (now : ℕ) (id : SpaceId) (s : SpaceRecovery) (p : PathData C) → is_some (space_timed C.Controller l now id s p).space.loss_time ≡ list_any (is_below (unwrap_or s.greatest 0)) (space_timed C.Controller l now id s p).space.flight }
 {}
