@@ -3,8 +3,8 @@ use Rattle.std.proofs.Common.{◌≡◌, ◌∙◌, ap, sym, ℕ, ◌+◌, ◌<�
 use Rattle.std.proofs.lemmas.Bool.{cases_order, cases_lt, lt-ltb, le-ltb, eq-eqb, ne_eqb, false≢true}
 use Rattle.std.proofs.lemmas.List.Elements.{All-head, All-tail}
 use Rattle.std.proofs.lemmas.Map.Keys.{le_from_not_gt}
-use Rattle.std.specs.Prelude.{IfSome, IfNone, IsSome}
-use Rattle.std.specs.List.{All, slice_get}
+use Rattle.std.specs.Prelude.{IfSome, IfNone, IsSome, is_some}
+use Rattle.std.specs.List.{All, list_any, slice_get}
 use Rattle.std.specs.Map.{lookup}
 use Rattle.std.specs.BTreeMap.{is_at}
 use Rattle.std.specs.BTreeSet.{insert_key}
@@ -212,3 +212,27 @@ none_lost (e ∷ es) listed = by (none_lost es listed.1) e.1.lost refl
     by : first_lost es ≡ None → (t : Bool) → e.1.lost ≡ t → first_lost (e ∷ es) ≡ None
     by rest true is = absurd (false≢true (listed.0 is))
     by rest false is = rw is rest
+
+-- ---- whether one is lost
+
+some_lost : (k : ℕ) (es : List (ℕ × Segment)) → is_lost (lookup (is_at (nat_cmp k)) es) ≡ true → is_some (first_lost es) ≡ true
+unfolding first_lost is_lost
+some_lost k [] lost = absurd (false≢true lost)
+some_lost k (e ∷ es) lost = by (λ l. some_lost k es l) e.1.lost refl
+  where
+    by : (is_lost (lookup (is_at (nat_cmp k)) es) ≡ true → is_some (first_lost es) ≡ true) → (t : Bool) → e.1.lost ≡ t → is_some (first_lost (e ∷ es)) ≡ true
+    by rest true is = rw is refl
+    by rest false is = elim (same_key k e.0) [
+      | inl same ↦ absurd (false≢true (sym is ∙ ap is_lost (sym (find_here k e es same)) ∙ lost))
+      | inr other ↦ rw is (rest (ap is_lost (sym (find_other k e es other)) ∙ lost))
+    ]
+
+pub any_is_lost : (es : List (ℕ × Segment)) (ks : List ℕ) → Apart 0 es → Listed es ks
+    → list_any (λ k. is_lost (lookup (is_at (nat_cmp k)) es)) ks ≡ is_some (first_lost es)
+any_is_lost es [] apart listed = sym (ap (λ (o : Option ℕ). is_some o) (none_lost es listed))
+any_is_lost es (k ∷ ks) apart listed = by (λ l. any_is_lost es ks apart l) (is_lost (lookup (is_at (nat_cmp k)) es)) refl
+  where
+    by : (Listed es ks → list_any (λ k. is_lost (lookup (is_at (nat_cmp k)) es)) ks ≡ is_some (first_lost es)) → (t : Bool)
+        → is_lost (lookup (is_at (nat_cmp k)) es) ≡ t → list_any (λ k. is_lost (lookup (is_at (nat_cmp k)) es)) (k ∷ ks) ≡ is_some (first_lost es)
+    by rest true is = rw is (sym (some_lost k es is))
+    by rest false is = rw is (rest (pop_listed k 0 es ks apart listed is))

@@ -317,3 +317,11 @@ pub fresh_waits : (written sent : ℕ) (es : List (ℕ × Segment)) → Apart 0 
     → is_some (first_behind sent es) ≡ has_bytes (waiting (buffered written sent es))
 fresh_waits written sent es apart none =
     sym (from_is_some sent 0 (first_behind sent es)) ∙ (next_fresh written sent 0 es apart none).given
+
+-- a byte waits where one is fresh, and where one is lost
+pub some_waits : (written sent : ℕ) (es : List (ℕ × Segment)) (o : Option ℕ) (b : Bool) → Apart 0 es → first_lost es ≡ o → is_some (first_behind sent es) ≡ b
+    → cond b true (is_some o) ≡ has_bytes (waiting (buffered written sent es))
+some_waits written sent es (Some end) true apart lost fresh = lost_waits written sent end es apart lost
+some_waits written sent es (Some end) false apart lost fresh = lost_waits written sent end es apart lost
+some_waits written sent es None true apart lost fresh = sym fresh ∙ fresh_waits written sent es apart lost
+some_waits written sent es None false apart lost fresh = sym fresh ∙ fresh_waits written sent es apart lost

@@ -3,7 +3,7 @@
 ghost use Rattle.std.specs.Prelude.{◌≡◌, ◌+◌, ◌^◌, ◌<◌, ◌≤◌, not, take, drop, length, IfOk, OnOk, OnErr};
 ghost use Rattle.qc_send_stream.specs.Buffer.{bytes_written, discarded, has_bytes, nothing, part_bytes, part_offset, range_acked, range_lost, range_sealed, sent_with, waiting, IsNext};
 
-use crate::ends::{first_lost, note_range};
+use crate::ends::{any_lost, first_lost, note_range};
 use crate::parts::{fresh_part, has_fresh, lost_part};
 use crate::segments::{Segment, cut_range, keep, mark, remove, unmark};
 use bytes::{Buf, Bytes};
@@ -129,6 +129,15 @@ impl SendBuffer {
             Some(_) => true,
             None => has_fresh(&self.segments, self.sent),
         }
+    }
+
+    /// Whether a byte waits to be sent, as [`SendBuffer::waits`] answers it, and nothing changes. It
+    /// takes longer where many bytes that were lost have come to be acknowledged since, and neither
+    /// `waits` nor `offer` was called.
+    pub fn has_waiting(&self) -> bool
+        ensures { result ≡ has_bytes (waiting self.now) }
+    {
+        has_fresh(&self.segments, self.sent) || any_lost(&self.segments, &self.lost)
     }
 
     /// What is to be sent next, at most so many bytes: lost ones before fresh ones, the lowest of

@@ -1,8 +1,9 @@
 //! The ends of segments that were lost, by which the first that still is lost is found.
 
-ghost use Rattle.std.specs.Prelude.{◌≡◌, ◌<◌, true, drop, IfSome, OnOk, OnErr};
+ghost use Rattle.std.specs.Prelude.{◌≡◌, ◌<◌, true, drop, is_some, IfSome, OnOk, OnErr};
 ghost use Rattle.std.specs.BTreeMap.{is_at};
 ghost use Rattle.std.specs.BTreeSet.{insert_key};
+ghost use Rattle.std.specs.List.{list_any};
 ghost use Rattle.std.specs.Map.{lookup};
 ghost use Rattle.std.specs.Ordering.{nat_cmp};
 ghost use Rattle.qc_send_stream.specs.Segments.{Apart, Extends, Listed, NoneBelow, Noted, among, first_lost, is_lost, lowest};
@@ -92,4 +93,21 @@ pub(crate) fn first_lost(segments: &BTreeMap<u64, Segment>, lost: &mut BTreeSet<
         drop_lowest(lost);
     }
     None
+}
+
+/// Whether one of the ends is that of a lost segment.
+fn has_lost_end(segments: &BTreeMap<u64, Segment>, lost: &BTreeSet<u64>) -> bool
+    ensures { result ≡ list_any (λ end. is_lost (lookup (is_at (nat_cmp end)) segments.now.entries)) lost.now.keys }
+{
+    lost.iter().any(|end| is_lost(segments, *end))
+}
+
+/// Whether a segment is lost. Ends of segments that aren't lost any more are passed over, and stay.
+#[tactic(auto, using(crate::proofs::LostEnds::any_is_lost))]
+pub(crate) fn any_lost(segments: &BTreeMap<u64, Segment>, lost: &BTreeSet<u64>) -> bool
+    requires apart { Apart 0 segments.now.entries }
+    requires listed { Listed segments.now.entries lost.now.keys }
+    ensures { result ≡ is_some (first_lost segments.now.entries) }
+{
+    has_lost_end(segments, lost)
 }

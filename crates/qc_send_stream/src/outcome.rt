@@ -248,6 +248,14 @@ impl SendPart {
         self.reset.is_none() && (waits || self.end_waits())
     }
 
+    /// The same, and nothing changes: see [`SendBuffer::has_waiting`](crate::SendBuffer::has_waiting).
+    #[tactic(auto, unfolding(crate::specs::Sending::has_more))]
+    pub fn has_waiting(&self) -> bool
+        ensures { result ≡ has_more self.now }
+    {
+        self.reset.is_none() && (self.buffer.has_waiting() || self.end_waits())
+    }
+
     /// What is to be sent next, with at most so many bytes: lost ones before fresh ones, the lowest
     /// of them first; the stream's end with the bytes that reach it, or alone. None where nothing
     /// waits, and on a stream that was reset.
