@@ -1,6 +1,6 @@
 //! Where the program's output goes.
 
-ghost use Rattle.std.specs.Prelude.{◌≡◌, ◌≢◌, ℕ, ◌<◌, ◌≤◌, List, [], ◌++◌, length, take, Option, Some, None, IfOk, OnErr, vec_len};
+ghost use Rattle.std.specs.Prelude.{◌≡◌, ◌≢◌, ℕ, ◌+◌, ◌-◌, ◌<◌, ◌≤◌, ◌↔◌, List, [], ◌++◌, length, take, min, Option, Some, None, IfOk, OnErr, IsErr, Contains, vec_len, vec_capacity};
 ghost use Rattle.qc_run.specs.Outside.{Keeps, Appends, Rose};
 
 use crate::source::Failed;
@@ -38,6 +38,7 @@ pub struct MemorySink {
     failing: Vec<u64>,
     idle: Vec<u64>,
     faults: u64,
+    ghost taken: { room ≤ vec_capacity held },
 }
 
 impl MemorySink {
@@ -94,25 +95,46 @@ impl Sink for MemorySink {
 
     ghost faults = { λ s. s.faults };
 
-    fn write(&mut self, bytes: &[u8]) -> Result<usize, Failed> {
+    fn write(&mut self, bytes: &[u8]) -> Result<usize, Failed>
+        ensures within { IfOk result (λ n. n ≤ length bytes.now) }
+        ensures takes { IfOk result (λ n. Appends (Some self.old.held.items) (Some self.new.held.items) (take n bytes.now)) }
+        ensures kept { OnErr result (Keeps (Some self.old.held.items) (Some self.new.held.items)) }
+        ensures never_falls { self.old.faults ≤ self.new.faults }
+        ensures cause { OnErr result (Rose self.old.faults self.new.faults) }
+        ensures idle { IfOk result (λ n. n ≡ 0 → 0 < length bytes.now → Rose self.old.faults self.new.faults) }
+
+        // The calls that are named fail, and no others do: of those the ones that are named idle take nothing, and the rest
+        // take all, or as much as there is room for.
+        ensures fails { IsErr result ↔ Contains self.old.failing.items self.old.calls }
+        ensures rests { Contains self.old.idle.items self.old.calls → IfOk result (λ n. n ≡ 0) }
+        ensures count { (¬ Contains self.old.idle.items self.old.calls) → IfOk result (λ n. n ≡ min (self.old.room - vec_len self.old.held) (length bytes.now)) }
+        ensures no_fault { IfOk result (λ n. 0 < n → self.new.faults ≡ self.old.faults) }
+
+        // Each call counts, and from then on the same ones fail or take nothing, and the room is the same.
+        ensures calls { self.new.calls ≡ min (self.old.calls + 1) u64.MAX }
+        ensures failing { self.new.failing ≡ self.old.failing }
+        ensures idles { self.new.idle ≡ self.old.idle }
+        ensures room { self.new.room ≡ self.old.room }
+    {
         let call = self.calls;
         self.calls = call.saturating_add(1);
         if self.failing.as_slice().contains(&call) {
             self.fault();
             return Err(Failed);
         }
+        if self.idle.as_slice().contains(&call) {
+            self.fault();
+            return Ok(0);
+        }
         let free = self.room.saturating_sub(self.held.len());
-        if free == 0 || self.idle.as_slice().contains(&call) {
+        if free == 0 {
             self.fault();
             return Ok(0);
         }
         let count = free.min(bytes.len());
         match self.held.extend_from_slice(&bytes[..count]) {
             Ok(()) => Ok(count),
-            Err(_) => {
-                self.fault();
-                Err(Failed)
-            }
+            Err(_) => unreachable!(),
         }
     }
 }

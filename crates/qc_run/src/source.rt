@@ -1,6 +1,6 @@
 //! Where the program's input comes from.
 
-ghost use Rattle.std.specs.Prelude.{◌≡◌, ◌≢◌, ℕ, ◌<◌, ◌≤◌, ◌↔◌, List, [], length, take, drop, Option, Some, None, IfOk, OnOk, OnErr, IsErr, Contains};
+ghost use Rattle.std.specs.Prelude.{◌≡◌, ◌≢◌, ℕ, ◌+◌, ◌<◌, ◌≤◌, ◌↔◌, List, [], length, take, drop, min, Option, Some, None, IfOk, OnOk, OnErr, IsErr, Contains};
 ghost use Rattle.qc_run.specs.Outside.{Keeps, Gives, IsAtEnd, Rose};
 
 /// A read or a write that failed: the source or sink raised its count of faults.
@@ -63,7 +63,23 @@ impl Source for MemorySource {
 
     ghost faults = { λ s. s.faults };
 
-    fn read(&mut self, buf: &mut [u8]) -> Result<usize, Failed> {
+    fn read(&mut self, buf: &mut [u8]) -> Result<usize, Failed>
+        ensures within { IfOk result (λ n. n ≤ length buf.new) }
+        ensures gives { IfOk result (λ n. Gives (Some (drop self.old.given self.old.bytes.items)) (Some (drop self.new.given self.new.bytes.items)) (take n buf.new)) }
+        ensures end { IfOk result (λ n. n ≡ 0 → 0 < length buf.new → IsAtEnd (Some (drop self.new.given self.new.bytes.items))) }
+        ensures kept { OnErr result (Keeps (Some (drop self.old.given self.old.bytes.items)) (Some (drop self.new.given self.new.bytes.items))) }
+        ensures never_falls { self.old.faults ≤ self.new.faults }
+        ensures cause { OnErr result (Rose self.old.faults self.new.faults) }
+
+        // The calls that are named fail, and no others do: those give all that is left, or as much as the buffer holds.
+        ensures fails { IsErr result ↔ Contains self.old.failing.items self.old.calls }
+        ensures count { IfOk result (λ n. n ≡ min (length (drop self.old.given self.old.bytes.items)) (length buf.new)) }
+        ensures no_fault { OnOk result (self.new.faults ≡ self.old.faults) }
+
+        // Each call counts, and the same ones fail from then on.
+        ensures calls { self.new.calls ≡ min (self.old.calls + 1) u64.MAX }
+        ensures failing { self.new.failing ≡ self.old.failing }
+    {
         let call = self.calls;
         self.calls = call.saturating_add(1);
         if self.failing.as_slice().contains(&call) {
