@@ -1,7 +1,7 @@
 -- Datagrams that are one 1-RTT packet.
-use Rattle.std.proofs.Common.{◌≡◌, ℕ, ◌+◌, ◌<◌, ◌≤◌, List, [], ◌∷◌, length, take, drop, refl, ap, sym, ◌∙◌, subst, Bool, true, false, Option, Some, None, arith}
+use Rattle.std.proofs.Common.{◌≡◌, ℕ, ◌+◌, ◌<◌, ◌≤◌, List, [], ◌∷◌, ◌++◌, length, take, drop, refl, ap, sym, ◌∙◌, subst, Bool, true, false, Option, Some, None, arith}
 use Rattle.std.proofs.lemmas.Bool.Decides.{nat_tests}
-use Rattle.std.proofs.lemmas.List.{take-append-drop, take_all, length-take-le, length-drop}
+use Rattle.std.proofs.lemmas.List.{take-append-drop, take_at, length-take-le, length-drop}
 use Rattle.std.specs.Prelude.{◌&&◌, ◌-◌, ◌/◌, ◌%◌, ◌==◌, nat_lt, cond, if◌then◌else◌, Result, Ok}
 use Rattle.std.specs.Global.{Global}
 use Rattle.std.specs.declared.net.SocketAddr.{SocketAddr}
@@ -35,9 +35,17 @@ use Rattle.qc_state.specs.Receiving.{counted_after, heard_after, lets_in, piece_
 use Rattle.qc_state.specs.Types.{Types, Meaning}
 use Rattle.qc_state.specs.View.{At}
 
--- all that is behind a place
-pub all_behind : (n : ℕ) (xs : List ℕ) → take (length xs - n) (drop n xs) ≡ drop n xs
-all_behind n xs = take_all (length xs - n) (drop n xs) (omega (arith, length-drop n xs))
+-- bytes that were changed where they stand, all of them
+pub in_place : (new old : List ℕ) → length new ≡ length old → take (length old) (new ++ drop (length new) old) ≡ new
+in_place new old same = take_at new (drop (length new) old) (length old) same
+
+-- what isn't below a bound
+long_by : (n least : ℕ) (b : Bool) → nat_lt n least ≡ b → (n < least → ⊥) → least ≤ n
+long_by n least true t h = absurd (h (grind (arith, nat_tests)))
+long_by n least false t h = grind (arith, nat_tests)
+
+pub long_enough : (n least : ℕ) → (n < least → ⊥) → least ≤ n
+long_enough n least h = long_by n least (nat_lt n least) refl h
 
 module _ {P : Type 0} (opening : P → OpeningFunction) (rx : ℕ) where
   -- there are no keys of 1-RTT packets
