@@ -50,7 +50,9 @@ use Rattle.qc_path.specs.RoundTrips.{estimate}
 use Rattle.qc_state.specs.Acks.{is_ack}
 use Rattle.qc_state.specs.Setup.{peer_delay}
 use Rattle.qc_state.proofs.Begun.{begun_life, begun_same, holds_begun}
-use Rattle.qc_state.proofs.Receives.{IsReceived, holds_armed, holds_datagram, holds_initial, holds_stopped, in_packet_received}
+use Rattle.qc_state.proofs.Ends.{holds_armed, holds_initial, holds_stopped}
+use Rattle.qc_state.proofs.ReceivedMoves.{IsReceived, in_packet_received}
+use Rattle.qc_state.proofs.Receives.{holds_datagram}
 use Rattle.qc_state.proofs.Expired.{IsTimed, holds_timeout}
 use Rattle.qc_state.proofs.Telling.{is_none_none, low_rank, open_rank}
 use Rattle.qc_state.proofs.Told.{loud_alive, closes_only}

@@ -52,7 +52,10 @@ use Rattle.qc_state.specs.Types.{Types, Meaning}
 use Rattle.qc_state.specs.Verdicts.{first_row, verdict_of}
 use Rattle.qc_state.specs.View.{View, At}
 use Rattle.qc_state.specs.Recovering.{loss_time}
-use Rattle.qc_state.proofs.Receives.{holds_counted, holds_fixed, holds_given, holds_initial, holds_payload, holds_stopped}
+use Rattle.qc_state.proofs.Ends.{holds_given, holds_initial, holds_stopped}
+use Rattle.qc_state.proofs.OpenPackets.{holds_fixed, holds_payload}
+use Rattle.qc_state.proofs.ReceivedMoves.{OpenPacket}
+use Rattle.qc_state.proofs.Receives.{holds_counted}
 use Rattle.qc_state.proofs.Telling.{told_appends}
 
 -- of two tests that hold each holds
@@ -324,9 +327,10 @@ module _ {t : Types} where
       let e : Bool = list_any is_eliciting_item (items_of payload) in
       let b : At t = accepted_after time id number e signs verdict.Admitted a in
       let c : At t = fixed_after id source b in
+      let o : OpenPacket = record { time = time; space = id; signs = signs; source = source; token = []; number = number; payload = payload } in
       harmed_next a b _ (harmed_accepted time id number e signs verdict.Admitted a refl)
-      (grown_next b c _ (holds_fixed Grown grown_here grown_next (λ x r d k. grown_move x d) id source b)
-      (holds_payload Grown grown_here grown_next (λ x r d k. grown_move x d) m time id payload c))
+      (grown_next b c _ (holds_fixed m o Grown grown_here grown_next (λ x d r k. grown_move x d) b)
+      (holds_payload m o Grown grown_here grown_next (λ x d r k. grown_move x d) c))
 
   -- a packet is read for a close
   closing_grown : (a : At t) (b : Bool) → Grown a (if b then move_to Drain a else move_to Owe a)

@@ -33,7 +33,9 @@ use Rattle.qc_state.specs.Types.{Types, Meaning}
 use Rattle.qc_state.specs.View.{View, At}
 use Rattle.qc_state.proofs.Begun.{begun_keys, holds_begun}
 use Rattle.qc_state.proofs.Expired.{IsTimed, holds_timeout}
-use Rattle.qc_state.proofs.Receives.{AreUnused, IsReceived, holds_armed, holds_datagram, holds_initial, holds_stopped, in_packet_received}
+use Rattle.qc_state.proofs.Ends.{holds_armed, holds_initial, holds_stopped}
+use Rattle.qc_state.proofs.ReceivedMoves.{AreUnused, IsReceived, in_packet_received}
+use Rattle.qc_state.proofs.Receives.{holds_datagram}
 
 -- a key that may seal one packet more has sealed no more than it may behind it
 once_more : (sealed limit : ℕ) → nat_le limit (sealed + 0) ≡ false → plus sealed 1 ≤ limit

@@ -10,6 +10,7 @@ pub mod Begun
 pub mod Clocks
 pub mod DatagramLaws
 pub mod Expansions
+pub mod Ends
 pub mod Expired
 pub mod HarmlessBytes
 pub mod Joins
@@ -19,6 +20,8 @@ pub mod PathsHold
 pub mod Receives
 pub mod Seals
 pub mod Steps
+mod OpenPackets
+pub mod ReceivedMoves
 mod Telling
 pub mod Told
 mod ToldReceiving

@@ -44,7 +44,8 @@ use Rattle.qc_state.specs.Types.{Types, Meaning}
 use Rattle.qc_state.specs.View.{View, At, at}
 use Rattle.qc_state.proofs.Begun.{begun_paths, begun_same}
 use Rattle.qc_state.proofs.Expired.{IsTimed, holds_timeout}
-use Rattle.qc_state.proofs.Receives.{IsInPacket, holds_pieces}
+use Rattle.qc_state.proofs.ReceivedMoves.{IsOfPiece}
+use Rattle.qc_state.proofs.Receives.{holds_pieces}
 
 -- nothing changes of the counts of a path, nor of its address, and an address that is validated stays so
 record Still (p p' : Paths) : Type 0 where
@@ -218,7 +219,7 @@ module _ {t : Types} where
   deed_at x d a one still shown = record { since = d ∷ []; appended = ap (λ (ds : List Did). told a.did ds) one; still = still; shown = shown }
 
   -- the moves of a packet that came
-  still_move : (x : Move t) → IsInPacket x → (a : At t) → MayMove x a.state → StillAt a (move_to x a)
+  still_move : (x : Move t) → IsOfPiece x → (a : At t) → MayMove x a.state → StillAt a (move_to x a)
   unfolding paths_move deeds_move peer_fixed
   still_move (Forget id) r a h = silent_at (Forget id) a refl (still_here a.state.paths) (λ v. inl v)
   still_move (Enter id n v) r a h = deed_at (Enter id n v) _ a refl (still_here a.state.paths) (λ v. inl v)

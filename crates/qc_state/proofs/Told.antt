@@ -34,7 +34,7 @@ use Rattle.qc_state.specs.View.{View, At, at}
 use Rattle.qc_state.proofs.Begun.{begun_life, begun_owed, holds_begun}
 use Rattle.qc_state.proofs.Telling.{behind_here, tells_append, rises, reasons, lives, closes, admits, one_at_most, low_rank, open_rank, kernel, Told, told_here, told_next, told_move, given_by}
 use Rattle.qc_state.proofs.Expired.{holds_timeout}
-use Rattle.qc_state.proofs.Receives.{holds_armed, holds_initial, holds_stopped}
+use Rattle.qc_state.proofs.Ends.{holds_armed, holds_initial, holds_stopped}
 use Rattle.qc_state.proofs.ToldReceiving.{told_datagram}
 
 -- the greater of two times, of which the other isn't less
