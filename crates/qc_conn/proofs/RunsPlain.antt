@@ -60,6 +60,7 @@ use Rattle.qc_state.specs.Spaces.{space_of, with_space, is_space}
 use Rattle.qc_state.specs.Timeouts.{timeout_after}
 use Rattle.qc_state.specs.Types.{Types, Meaning}
 use Rattle.qc_state.specs.View.{Held, View, At, at, ideal}
+use Rattle.qc_state.specs.EventLaws.{OnlyDoneWaits}
 use Rattle.qc_state.specs.First.{first_view, server_view}
 use Rattle.qc_state.specs.declared.setup.Fixed.{Fixed}
 use Rattle.qc_state.specs.Waiting.{again, all_again, lost_in, confirmed, all_confirmed, acked_in, packets_lost, packets_acked, probes_added, fired_in, packet_again, with_ping, wants_sending, probe_sent, begun_in, datagram_begun, ping_asked, waiting_without, close_begun, packet_told, untold, came_in, packet_came, ack_released, bundle_next, crypto_more, crypto_written, nothing_left, space_left, without, Waits, without_all, WaitAll, done_asked}
@@ -748,6 +749,21 @@ module _ {t : Types} {R : Type 0} where
       let path : v.paths.remote ≡ remote = ap (λ (v : View t). v.paths.remote) made in
       let none : v.life.reset_token ≡ None = ap (λ (v : View t). v.life.reset_token) made in
       record { crypto = (omega arith, omega arith, omega arith); address = subst IsPlainAddress (sym path) plain; token = subst (λ (o : Option PeerToken). IfSome o (λ peer. IsPlainAddress peer.remote)) (sym none) tt }
+
+module _ {t : Types} {R : Type 0} where
+  -- in a client that was just made nothing waits to be told
+  pub first_told : (stream : R → Stream) (m : Meaning t) (session : t.S) (words : Stream) (fixed : Fixed) (remote : SocketAddr) (first_cid token : List ℕ) (transport : TransportValues) (congestion : t.C) (time : ℕ) (v : Held t R) → ideal stream v ≡ first_view m session words fixed remote first_cid token transport congestion time
+      → OnlyDoneWaits v.life
+  unfolding first_view
+  first_told stream m session words fixed remote first_cid token transport congestion time v made =
+      record { lost = λ _. ap (λ (v : View t). v.life.lost) made; connected = λ _. ap (λ (v : View t). v.life.connected) made; drained = λ _. ap (λ (v : View t). v.life.drained) made }
+
+  -- nor in such a server
+  pub server_told : (stream : R → Stream) (m : Meaning t) (session : t.S) (words : Stream) (fixed : Fixed) (remote : SocketAddr) (remote_cid : List ℕ) (validated : Bool) (transport : TransportValues) (congestion : t.C) (time : ℕ) (v : Held t R) → ideal stream v ≡ server_view m session words fixed remote remote_cid validated transport congestion time
+      → OnlyDoneWaits v.life
+  unfolding server_view
+  server_told stream m session words fixed remote remote_cid validated transport congestion time v made =
+      record { lost = λ _. ap (λ (v : View t). v.life.lost) made; connected = λ _. ap (λ (v : View t). v.life.connected) made; drained = λ _. ap (λ (v : View t). v.life.drained) made }
 
 -- ---- two runs
 

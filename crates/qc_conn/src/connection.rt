@@ -10,6 +10,7 @@ ghost use Rattle.qc_receive.specs.FirstPacket.{IsFirstPacket, first_reason, size
 ghost use Rattle.qc_recovery.specs.Paths.{first_size};
 ghost use Rattle.qc_state.specs.Receiving.{datagram_after, first_packet_after, is_taken};
 ghost use Rattle.qc_state.specs.Setup.{is_first_awaited};
+ghost use Rattle.qc_state.specs.EventLaws.{OnlyDoneWaits};
 ghost use Rattle.qc_state.specs.First.{first_view, server_view, fixed_of};
 ghost use Rattle.qc_state.specs.Life.{is_drained};
 ghost use Rattle.qc_state.specs.Moves.{Ask, state_move};
@@ -89,6 +90,7 @@ impl<U: Suite> Connection<U> {
         requires client { U.Session.side_of setup.session ≡ Side.Client }
         ensures made { IfOk result (λ c. (ideal U.Random.stream c.core) ≡ first_view (meaning U.Session.Session U.Session.HeaderKey.HeaderMask U.Session.PacketKey.PacketKey U.Control.Controller.Controller) setup.session (U.Random.stream setup.random) (fixed_of Side.Client setup.version setup.local_cid setup.first_cid setup.local_ip setup.transport setup.grease_quic_bit (U.Random.stream setup.random)) setup.remote setup.first_cid (unwrap_or (G.taken store.old (string_bytes setup.server_name)) []) setup.transport (U.Control.built setup.control now (first_size setup.transport None)) now) }
         ensures plain { IsPlainAddress setup.remote → IfOk result (λ c. IsPlainStart c.core.waiting c.core.paths c.core.life) }
+        ensures told { IfOk result (λ c. OnlyDoneWaits c.core.life) }
         ensures alive { IfOk result (λ c. c.failed ≡ false) }
         ensures store { OnOk result (store.new ≡ G.after_take store.old (string_bytes setup.server_name)) }
     {
@@ -114,6 +116,7 @@ impl<U: Suite> Connection<U> {
         requires fresh { U.Session.is_fresh setup.session }
         ensures made { IfOk result (λ c. (ideal U.Random.stream c.core) ≡ server_view (meaning U.Session.Session U.Session.HeaderKey.HeaderMask U.Session.PacketKey.PacketKey U.Control.Controller.Controller) setup.session (U.Random.stream setup.random) (fixed_of Side.Server setup.version setup.local_cid setup.first_cid setup.local_ip setup.transport setup.grease_quic_bit (U.Random.stream setup.random)) setup.remote setup.remote_cid setup.validated setup.transport (U.Control.built setup.control now (first_size setup.transport None)) now) }
         ensures plain { IsPlainAddress setup.remote → IfOk result (λ c. IsPlainStart c.core.waiting c.core.paths c.core.life) }
+        ensures told { IfOk result (λ c. OnlyDoneWaits c.core.life) }
         ensures alive { IfOk result (λ c. c.failed ≡ false) }
     {
         let core = qc_making::new_server(alloc, setup, now)?;

@@ -4,6 +4,7 @@ ghost use Rattle.std.specs.Prelude.{◌≡◌, ◌≢◌, ◌≤◌, [], true, f
 ghost use Rattle.std.specs.List.{All};
 ghost use Rattle.qc_text.specs.OneText.{IsPlain, IsPlainStart};
 ghost use Rattle.qc_conn.specs.Refusal.{bad_call, refusal_of, first_refusal, NamesInput, RefusedAt};
+ghost use Rattle.qc_state.specs.EventLaws.{EachTells, OnlyDoneWaits, TellsOnce, untold_of};
 ghost use Rattle.qc_state.specs.KeyLaws.{KeysHold};
 ghost use Rattle.qc_state.specs.PathLaws.{PathHolds, all_from};
 ghost use Rattle.qc_state.specs.Headline.{deeds_of, EachRises, EachAdmitted, EachAcksKnown, Harmless, LifeRises, OnlyCloses, LosesOnce};
@@ -166,7 +167,7 @@ fn drive_all<U: Suite>(
 /// name the first input whose time lies before the greatest so far, or which asks for a call that can't be made; the
 /// connection is as the inputs before left it, and their steps are carried. `OutOfMemory` for want of memory; the steps
 /// of the inputs before are carried, and the connection is marked as failed.
-#[tactic(auto, using(qc_state::proofs::PathsHold::path_run, qc_state::proofs::KeysHold::run_keys_hold, qc_state::proofs::HarmlessBytes::run_harmless, qc_state::proofs::Told::run_rises, qc_state::proofs::Told::run_admits, qc_state::proofs::Told::ran_admits, qc_state::proofs::AcksAccepted::run_acks_known, qc_state::proofs::AcksAccepted::ran_acks_known, qc_state::proofs::Told::run_life_rises, qc_state::proofs::Told::run_closes, qc_state::proofs::Told::run_loses_once, qc_state::proofs::Told::ran_rises, qc_state::proofs::Told::ran_life_rises, qc_state::proofs::Told::ran_closes, qc_state::proofs::Told::ran_loses_once, crate::proofs::RunsPlain::run_plain, crate::proofs::RunsPlain::run_stays, crate::proofs::RunsPlain::ran_plain))]
+#[tactic(auto, using(qc_state::proofs::PathsHold::path_run, qc_state::proofs::EventsTold::run_tells_done, qc_state::proofs::EventsTold::ran_tells_done, qc_state::proofs::EventsTold::run_tells_once, qc_state::proofs::EventsTold::ran_tells_once, qc_state::proofs::EventsTold::run_stays_done, qc_state::proofs::KeysHold::run_keys_hold, qc_state::proofs::HarmlessBytes::run_harmless, qc_state::proofs::Told::run_rises, qc_state::proofs::Told::run_admits, qc_state::proofs::Told::ran_admits, qc_state::proofs::AcksAccepted::run_acks_known, qc_state::proofs::AcksAccepted::ran_acks_known, qc_state::proofs::Told::run_life_rises, qc_state::proofs::Told::run_closes, qc_state::proofs::Told::run_loses_once, qc_state::proofs::Told::ran_rises, qc_state::proofs::Told::ran_life_rises, qc_state::proofs::Told::ran_closes, qc_state::proofs::Told::ran_loses_once, crate::proofs::RunsPlain::run_plain, crate::proofs::RunsPlain::run_stays, crate::proofs::RunsPlain::ran_plain))]
 pub fn drive<U: Suite, G: TokenStore>(
     alloc: Global,
     connection: &mut Connection<U>,
@@ -194,6 +195,14 @@ pub fn drive<U: Suite, G: TokenStore>(
     ensures harmless { IfOk result (λ trace. Harmless (ideal U.Random.stream connection.old.core) inputs.now trace (ideal U.Random.stream connection.new.core)) }
     ensures reason { IfOk result (λ trace. LosesOnce (ideal U.Random.stream connection.old.core) trace) }
     ensures reason_part { IfErr result (λ e. LosesOnce (ideal U.Random.stream connection.old.core) e.done) }
+
+    // Just what came to pass is told, in the step in which it did, and each thing once: a loss with its reason, that the handshake is
+    // over with the rise to Established, and the end with the rise to Drained; where nothing else waited to be told before.
+    ensures told { OnlyDoneWaits connection.old.core.life → IfOk result (λ trace. EachTells (untold_of connection.old.core.life) trace) }
+    ensures told_part { OnlyDoneWaits connection.old.core.life → IfErr result (λ e. EachTells (untold_of connection.old.core.life) e.done) }
+    ensures once { OnlyDoneWaits connection.old.core.life → IfOk result (λ trace. TellsOnce connection.old.core.life trace) }
+    ensures once_part { OnlyDoneWaits connection.old.core.life → IfErr result (λ e. TellsOnce connection.old.core.life e.done) }
+    ensures told_end { OnlyDoneWaits connection.old.core.life → OnOk result (OnlyDoneWaits connection.new.core.life) }
 
     // Where the path's address has neither flow label nor scope, the trace's text leaves nothing out.
     ensures plain { IsPlainStart connection.old.core.waiting connection.old.core.paths connection.old.core.life → IfOk result (λ trace. All IsPlain trace) }

@@ -23,7 +23,7 @@ IsTimed (Fire r) = Unit {0}
 IsTimed (Arm at) = Unit {0}
 IsTimed Pace = Unit {0}
 IsTimed Release = Unit {0}
-IsTimed (Raise to) = Unit {0}
+IsTimed (Raise to) = to ≡ Drained
 IsTimed (Give why) = Unit {0}
 IsTimed _ = ⊥
 
@@ -59,12 +59,12 @@ module _ {t : Types} (R : At t → At t → Type 0) (here : (a : At t) → R a a
   -- the connection ends at once
   holds_killed : (why : ConnectionError) (a : At t) → is_drained a.state.life.state ≡ false → R a (killed_after why a)
   unfolding killed_after given_after MayMove
-  holds_killed why a h = next a (move_to (Raise Drained) a) _ (move (Raise Drained) tt a (low_rank a.state.life.state h)) (given_by why (move_to (Raise Drained) a) _ refl)
+  holds_killed why a h = next a (move_to (Raise Drained) a) _ (move (Raise Drained) refl a (low_rank a.state.life.state h)) (given_by why (move_to (Raise Drained) a) _ refl)
 
   -- or once it has waited for its peer
   raised_by : (a : At t) (b : Bool) → is_drained a.state.life.state ≡ false → R a (if b then move_to (Raise Drained) a else a)
   unfolding MayMove
-  raised_by a true h = move (Raise Drained) tt a (low_rank a.state.life.state h)
+  raised_by a true h = move (Raise Drained) refl a (low_rank a.state.life.state h)
   raised_by a false h = here a
 
   -- behind the end for want of a sign nothing is left to come

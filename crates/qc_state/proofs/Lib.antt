@@ -9,10 +9,12 @@ mod AcksKnown
 pub mod Begun
 pub mod Clocks
 pub mod DatagramLaws
+pub mod EventsTold
 pub mod Expansions
 pub mod Ends
 pub mod Expired
 pub mod HarmlessBytes
+pub mod Inputs
 pub mod Joins
 pub mod KeysHold
 pub mod OnlyOnce

@@ -19,6 +19,7 @@ use Rattle.qc_state.specs.declared.deeds.Layer.TheVariants as layer
 use Rattle.qc_state.specs.declared.deeds.Verdict.{Verdict}
 use Rattle.qc_state.specs.declared.deeds.Verdict.TheVariants as verdict
 use Rattle.qc_state.specs.declared.opening.Signs.{Signs}
+use Rattle.qc_state.specs.declared.life.State.TheVariants.{Drained}
 use Rattle.qc_state.specs.Keys.{NewKeys, NoKeys, HandshakeKeys, DataKeys}
 use Rattle.qc_state.specs.Lower.{ready_bytes, stream_of}
 use Rattle.qc_state.specs.Moves.{Move, Give, Forget, Enter, Expect, Fail, Accept, Fix, Hear, Ack, Arm, Come, Read, Write, Ready, Token, Learn, Want, Confirm, Establish, Tell, Drain, Leave, Owe, Shut, Raise, accepts}
@@ -78,7 +79,7 @@ IsOfPiece Drain = Unit {0}
 IsOfPiece (Leave time) = Unit {0}
 IsOfPiece Owe = Unit {0}
 IsOfPiece (Shut time close) = Unit {0}
-IsOfPiece (Raise to) = Unit {0}
+IsOfPiece (Raise to) = to ≡ Drained
 IsOfPiece (Give why) = Unit {0}
 IsOfPiece _ = ⊥
 
@@ -117,7 +118,7 @@ IsUnread _ = ⊥
 -- the moves that a packet makes which doesn't open
 abbrev pub IsUnopened : {t : Types} → Move t → Type 0
 IsUnopened Fail = Unit {0}
-IsUnopened (Raise to) = Unit {0}
+IsUnopened (Raise to) = to ≡ Drained
 IsUnopened (Tell d) = IsUnread d
 IsUnopened x = IsEnding x
 
@@ -129,7 +130,7 @@ IsOutside x = IsUnopened x
 
 pub unopened_piece : {t : Types} (x : Move t) → IsUnopened x → IsOfPiece x
 unopened_piece Fail h = tt
-unopened_piece (Raise to) h = tt
+unopened_piece (Raise to) h = h
 unopened_piece (Tell d) h = tt
 unopened_piece (Forget id) h = tt
 unopened_piece (Arm at) h = tt

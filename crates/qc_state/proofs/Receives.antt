@@ -83,7 +83,7 @@ module _ {t : Types} (m : Meaning t) (Comes : Piece → Type 0) (R : At t → At
   unfolding killed_after MayMove
   killed_by why a true h =
       let b : At t = move_to (Raise state.Drained) a in
-      next a b _ (move (Raise state.Drained) tt a h) (holds_given R here next (λ x e c may. move x (ending_unopened x e) c may) why b)
+      next a b _ (move (Raise state.Drained) refl a h) (holds_given R here next (λ x e c may. move x (ending_unopened x e) c may) why b)
   killed_by why a false h = here a
 
   -- a packet didn't open

@@ -1,6 +1,7 @@
 pub mod Acks
 pub mod DatagramLaws
 pub mod Draws
+pub mod EventLaws
 pub mod Expansion
 pub mod First
 pub mod Flight

@@ -9,6 +9,7 @@ ghost use Rattle.qc_header.specs.HeaderReading.{piece_at};
 ghost use Rattle.qc_header.specs.Piece.{Piece};
 ghost use Rattle.qc_path.specs.Arrived.{Remembers, Window, is_among};
 ghost use Rattle.qc_state.specs.DatagramLaws.{DatagramHolds};
+ghost use Rattle.qc_state.specs.EventLaws.{EachTells, OnlyDoneWaits, TellsOnce, untold_of};
 ghost use Rattle.qc_state.specs.Headline.{deeds_of, accepted_in, AcksOnly, EachAcksKnown, EachNew, Harmless, IsKept, NoneTwice};
 ghost use Rattle.qc_state.specs.KeyLaws.{KeysHold};
 ghost use Rattle.qc_state.specs.Opening.{opening_of};
@@ -59,6 +60,15 @@ pub fn paths_hold<U: Suite>()
 /// it counts, and the count stays within the limit. Of 1-RTT keys each epoch has a count of its own.
 pub fn keys_hold<U: Suite>()
     ensures { (s last : View (record { S = U.Session; H = U.Session.HeaderKey; P = U.Session.PacketKey; D = U.Session.HandshakeData; I = U.Session.PeerIdentity; C = U.Control.Controller })) (k : ℕ) (is : List Input) (xs : List Step) → Run (meaning U.Session.Session U.Session.HeaderKey.HeaderMask U.Session.PacketKey.PacketKey U.Control.Controller.Controller) k s is xs last → KeysHold s.keys → KeysHold last.keys }
+{}
+
+/// A law, which runs no code. Over a run just what came to pass is told, in the step in which it did, and each thing at most once: a
+/// loss for the reason of the end, that the handshake is over, and to the endpoint the end; where only what came to pass waited to be
+/// told at the start, as in a new connection, in which nothing waits. So it is again where the run ends.
+pub fn events_told<U: Suite>()
+    ensures done { (s last : View (record { S = U.Session; H = U.Session.HeaderKey; P = U.Session.PacketKey; D = U.Session.HandshakeData; I = U.Session.PeerIdentity; C = U.Control.Controller })) (k : ℕ) (is : List Input) (xs : List Step) → Run (meaning U.Session.Session U.Session.HeaderKey.HeaderMask U.Session.PacketKey.PacketKey U.Control.Controller.Controller) k s is xs last → OnlyDoneWaits s.life → EachTells (untold_of s.life) xs }
+    ensures once { (s last : View (record { S = U.Session; H = U.Session.HeaderKey; P = U.Session.PacketKey; D = U.Session.HandshakeData; I = U.Session.PeerIdentity; C = U.Control.Controller })) (k : ℕ) (is : List Input) (xs : List Step) → Run (meaning U.Session.Session U.Session.HeaderKey.HeaderMask U.Session.PacketKey.PacketKey U.Control.Controller.Controller) k s is xs last → OnlyDoneWaits s.life → TellsOnce s.life xs }
+    ensures stays { (s last : View (record { S = U.Session; H = U.Session.HeaderKey; P = U.Session.PacketKey; D = U.Session.HandshakeData; I = U.Session.PeerIdentity; C = U.Control.Controller })) (k : ℕ) (is : List Input) (xs : List Step) → Run (meaning U.Session.Session U.Session.HeaderKey.HeaderMask U.Session.PacketKey.PacketKey U.Control.Controller.Controller) k s is xs last → OnlyDoneWaits s.life → OnlyDoneWaits last.life }
 {}
 
 /// A law, which runs no code. Where all inputs of a run are datagrams, and each of its deeds tells of a packet that was ignored

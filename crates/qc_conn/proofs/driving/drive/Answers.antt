@@ -1,5 +1,6 @@
 use Rattle.std.specs.Prelude.{List, Result, Ok, Err, IfOk, OnOk}
 use Rattle.qc_state.proofs.AcksAccepted.{none_acks_known}
+use Rattle.qc_state.proofs.EventsTold.{none_tells_done, none_tells_once}
 use Rattle.qc_state.proofs.KeysHold.{run_keys_hold}
 use Rattle.qc_state.proofs.Steps.{ran_none}
 use Rattle.qc_state.proofs.Told.{none_rises, none_admits, none_life_rises, none_closes, none_loses_once}
@@ -40,3 +41,9 @@ returns-then-is_failed-clause-admitted_part g c = none_admits _ _ c.new.ensures
 
 pub returns-then-is_failed-clause-acknowledged_part : goal.returns-then-is_failed-clause-acknowledged_part
 returns-then-is_failed-clause-acknowledged_part g c = none_acks_known _ _ c.new.ensures
+
+pub returns-then-is_failed-clause-told_part : goal.returns-then-is_failed-clause-told_part
+returns-then-is_failed-clause-told_part g c = λ _. none_tells_done _ _ c.new.ensures
+
+pub returns-then-is_failed-clause-once_part : goal.returns-then-is_failed-clause-once_part
+returns-then-is_failed-clause-once_part g c = λ _. none_tells_once _ _ c.new.ensures

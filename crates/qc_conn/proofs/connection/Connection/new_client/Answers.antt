@@ -1,6 +1,10 @@
-use Rattle.qc_conn.proofs.RunsPlain.{first_plain}
+use Rattle.qc_conn.proofs.RunsPlain.{first_plain, first_told}
 use Rattle.qc_conn.proofs.connection.Connection.new_client.Goals as goal
 
 -- its address is that of the setup
 pub returns-clause-plain : goal.returns-clause-plain
 returns-clause-plain g c plain = first_plain g.U.Random.Rng.stream _ _ _ _ c.args.setup.remote c.args.setup.first_cid _ _ _ c.args.now c.in_ok-core.core c.in_ok-core.ensures.made c.in_ok-core.ensures.hello plain
+
+-- nothing waits to be told
+pub returns-clause-told : goal.returns-clause-told
+returns-clause-told g c = first_told g.U.Random.Rng.stream _ _ _ _ c.args.setup.remote c.args.setup.first_cid _ _ _ c.args.now c.in_ok-core.core c.in_ok-core.ensures.made

@@ -1,6 +1,10 @@
-use Rattle.qc_conn.proofs.RunsPlain.{server_plain}
+use Rattle.qc_conn.proofs.RunsPlain.{server_plain, server_told}
 use Rattle.qc_conn.proofs.connection.Connection.new_server.Goals as goal
 
 -- its address is that of the setup
 pub returns-clause-plain : goal.returns-clause-plain
 returns-clause-plain g c plain = server_plain g.U.Random.Rng.stream _ _ _ _ c.args.setup.remote c.args.setup.remote_cid c.args.setup.validated _ _ c.args.now c.in_ok-core.core c.in_ok-core.ensures plain
+
+-- nothing waits to be told
+pub returns-clause-told : goal.returns-clause-told
+returns-clause-told g c = server_told g.U.Random.Rng.stream _ _ _ _ c.args.setup.remote c.args.setup.remote_cid c.args.setup.validated _ _ c.args.now c.in_ok-core.core c.in_ok-core.ensures
