@@ -19,10 +19,12 @@ pub mod Joins
 pub mod KeysHold
 pub mod OnlyOnce
 pub mod PathsHold
+pub mod PieceLaws
 pub mod Receives
 pub mod Seals
 pub mod Steps
-mod OpenPackets
+pub mod OpenPackets
+mod Progresses
 pub mod ReceivedMoves
 mod Telling
 pub mod Told

@@ -269,7 +269,7 @@ module _ {t : Types} where
   unfolding counted_after move_to state_move paths_move
   counted_paths time blocked n a = let b : At t = move_to (Hear n) a in freed_paths time b (blocked && not (is_blocked b.state.paths))
 
-  counted_did : (time : ℕ) (blocked : Bool) (n : ℕ) (a : At t) → (counted_after time blocked n a).did ≡ a.did
+  pub counted_did : (time : ℕ) (blocked : Bool) (n : ℕ) (a : At t) → (counted_after time blocked n a).did ≡ a.did
   unfolding counted_after move_to deeds_move
   counted_did time blocked n a = let b : At t = move_to (Hear n) a in freed_did time b (blocked && not (is_blocked b.state.paths))
 

@@ -230,30 +230,34 @@ module _ {t : Types} where
     pub known : m.parameters s.lower.session ≡ Ok (Some parameters)
     pub held : parameters.stateless_reset_token ≡ Some token
 
+  -- the moves by which the handshake goes on behind the frames of a packet, where it makes them
+  abbrev pub IsProgress : Meaning t → (time : ℕ) → Move t → View t → Type 0
+  IsProgress m time (Forget id) s = Unit {0}
+  IsProgress m time (Arm at) s = Unit {0}
+  IsProgress m time (Write bytes keys session) s = IsWrittenBy m bytes keys session s
+  IsProgress m time (Token token) s = IsTokenOf m token s
+  IsProgress m time (Learn parameters) s = m.parameters s.lower.session ≡ Ok (Some parameters)
+  IsProgress m time (Want at count) s = at ≡ time
+  IsProgress m time Confirm s = Unit {0}
+  IsProgress m time Establish s = Unit {0}
+  IsProgress m time (Shut at close) s = Unit {0}
+  IsProgress m time (Give why) s = Unit {0}
+  IsProgress m time _ s = ⊥
+
   -- the moves that this packet makes, where it makes them
   abbrev pub IsInPacket : Meaning t → OpenPacket → Move t → View t → Type 0
-  IsInPacket m o (Forget id) s = Unit {0}
   IsInPacket m o (Enter id n v) s = IsJudged o id n v s
   IsInPacket m o (Accept time id n e g v) s = (time ≡ o.time) × (g ≡ o.signs) × (accepts v ≡ true) × IsJudged o id n v s
   IsInPacket m o (Fix cid) s = cid ≡ o.source
   IsInPacket m o (Ack id n r) s = IsSettledOf m o id n r s
-  IsInPacket m o (Arm at) s = Unit {0}
   IsInPacket m o (Come id offset bytes) s = (id ≡ o.space) × IsFrameOf o (frames.Crypto offset bytes)
   IsInPacket m o (Read id count session) s = IsReadOf m o id count session s
-  IsInPacket m o (Write bytes keys session) s = IsWrittenBy m bytes keys session s
   IsInPacket m o Ready s = Unit {0}
-  IsInPacket m o (Token token) s = IsTokenOf m token s
-  IsInPacket m o (Learn parameters) s = m.parameters s.lower.session ≡ Ok (Some parameters)
-  IsInPacket m o (Want time count) s = time ≡ o.time
-  IsInPacket m o Confirm s = Unit {0}
-  IsInPacket m o Establish s = Unit {0}
   IsInPacket m o (Tell d) s = IsToldOf o d s
   IsInPacket m o Drain s = Unit {0}
   IsInPacket m o (Leave time) s = time ≡ o.time
   IsInPacket m o Owe s = Unit {0}
-  IsInPacket m o (Shut time close) s = Unit {0}
-  IsInPacket m o (Give why) s = Unit {0}
-  IsInPacket m o _ s = ⊥
+  IsInPacket m o x s = IsProgress m o.time x s
 
   -- what they are whatever the packet holds
   pub in_packet_piece : (m : Meaning t) (o : OpenPacket) (x : Move t) (s : View t) → IsInPacket m o x s → IsOfPiece x
@@ -280,6 +284,26 @@ module _ {t : Types} where
   in_packet_piece m o (Shut time close) s h = tt
   in_packet_piece m o (Give why) s h = tt
   in_packet_piece m o _ s h = absurd h
+
+  pub progress_in_packet : (m : Meaning t) (o : OpenPacket) (x : Move t) (s : View t) → IsProgress m o.time x s → IsInPacket m o x s
+  progress_in_packet m o (Forget id) s h = tt
+  progress_in_packet m o (Arm at) s h = tt
+  progress_in_packet m o (Write bytes keys session) s h = h
+  progress_in_packet m o (Token token) s h = h
+  progress_in_packet m o (Learn parameters) s h = h
+  progress_in_packet m o (Want time count) s h = h
+  progress_in_packet m o Confirm s h = tt
+  progress_in_packet m o Establish s h = tt
+  progress_in_packet m o (Shut time close) s h = tt
+  progress_in_packet m o (Give why) s h = tt
+  progress_in_packet m o _ s h = absurd h
+
+  pub ending_progress : (m : Meaning t) (time : ℕ) (x : Move t) (s : View t) → IsEnding x → IsProgress m time x s
+  ending_progress m time (Forget id) s h = tt
+  ending_progress m time (Arm at) s h = tt
+  ending_progress m time (Shut at close) s h = tt
+  ending_progress m time (Give why) s h = tt
+  ending_progress m time _ s h = absurd h
 
   pub ending_in_packet : (m : Meaning t) (o : OpenPacket) (x : Move t) (s : View t) → IsEnding x → IsInPacket m o x s
   ending_in_packet m o (Forget id) s h = tt

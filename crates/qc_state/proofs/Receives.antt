@@ -54,7 +54,7 @@ module _ {t : Types} where
     pub lively : is_over s.life.state ≡ false
 
   -- what is expected leaves how a datagram is cut
-  same_cut : (token bytes : List ℕ) (a : At t) → cut_of (move_to (Expect token) a).state bytes ≡ cut_of a.state bytes
+  pub same_cut : (token bytes : List ℕ) (a : At t) → cut_of (move_to (Expect token) a).state bytes ≡ cut_of a.state bytes
   unfolding move_to state_move setup_move token_expected
   same_cut token bytes a = refl
 

@@ -15,6 +15,7 @@ pub mod Numbers
 pub mod Opening
 pub mod PathLaws
 pub mod Paths
+pub mod PieceLaws
 pub mod Polls
 pub mod Progress
 pub mod Receiving

@@ -120,6 +120,19 @@ expected_below Initial = Initial
 expected_below Handshake = Handshake
 expected_below Data = Handshake
 
+-- The error with which a CRYPTO frame, whose bytes end at `end`, stops its packet, if it does, where so many bytes may be kept and these
+-- came of its stream: new bytes of a space that is over; bytes too far ahead of those that the session was given, or past the end
+-- of any stream; too many parts kept, once these bytes are (RFC 9000, sections 7.5 and 19.6; RFC 9001, section 4.1.3). Its fields are
+-- right where they stand, so the error names no type of frame.
+abbrev pub crypto_stop_of : (most : ℕ) → (expected : SpaceId) → Assembly → SpaceId → (offset : ℕ) → (body : List ℕ) → Option TransportError
+crypto_stop_of most expected stream id offset body =
+    let end : ℕ = offset + length body in
+    first_stop
+    ((nat_lt stream.read end && is_below id expected, violation_at None)
+    ∷ (nat_le (2 ^ 62) end || nat_lt most (end - stream.read), buffer_error)
+    ∷ (nat_lt 1024 (part_count (inserted offset body stream).came), internal_error_at None)
+    ∷ [])
+
 -- an Initial packet with these ids
 abbrev pub is_initial_with : (dst_cid src_cid : List ℕ) → ProtectedHeader → Bool
 is_initial_with dst_cid src_cid (protected.Initial dst src token_start token_len version) = pointwise nat_eq dst dst_cid && pointwise nat_eq src src_cid
@@ -186,19 +199,9 @@ module _ {t : Types} where
   unfoldable pub expected_space : View t → SpaceId
   expected_space s = if is_established s.life.state then «Data» else expected_below s.keys.highest
 
-  -- The error with which a CRYPTO frame, whose bytes end at `end`, stops its packet, if it does: new bytes of a space that is
-  -- over; bytes too far ahead of those that the session was given, or past the end of any stream; too many parts kept, once
-  -- these bytes are (RFC 9000, sections 7.5 and 19.6; RFC 9001, section 4.1.3). Its fields are right where they stand, so the
-  -- error names no type of frame.
+  -- the error with which a CRYPTO frame stops its packet, if it does
   unfoldable pub crypto_stop : View t → SpaceId → (offset : ℕ) → (body : List ℕ) → Option TransportError
-  crypto_stop s id offset body =
-      let stream : Assembly = stream_of s.lower id in
-      let end : ℕ = offset + length body in
-      first_stop
-      ((nat_lt stream.read end && is_below id (expected_space s), violation_at None)
-      ∷ (nat_le (2 ^ 62) end || nat_lt s.setup.fixed.crypto_buffer_size (end - stream.read), buffer_error)
-      ∷ (nat_lt 1024 (part_count (inserted offset body stream).came), internal_error_at None)
-      ∷ [])
+  crypto_stop s id offset body = crypto_stop_of s.setup.fixed.crypto_buffer_size (expected_space s) (stream_of s.lower id) id offset body
 
   -- the session answered a read: where it refused the bytes, this end closes for its error; else `others` comes behind, once
   -- it is noted whether the handshake's data is ready

@@ -32,9 +32,9 @@ pub use events::{EndpointEvent, EndpointEvents, Event, Events};
 pub use input::{Input, Word};
 pub use keys::{KeyGroup, KeyUse, OneRttKeys, SpaceKeys};
 pub use laws::{
-    acks_were_accepted, datagrams_keep, events_are_datagrams, events_told,
-    first_packets_are_datagrams, harmless_bytes, keys_hold, numbers_count_once, paths_hold,
-    runs_join,
+    acks_were_accepted, datagrams_keep, datagrams_tell, events_are_datagrams, events_told,
+    first_packets_are_datagrams, harmless_bytes, keys_hold, numbers_count_once, packets_tell,
+    paths_hold, runs_join,
 };
 pub use life::{
     ApplicationClose, Close, ConnectionClose, ConnectionError, Life, PeerToken, State, Wanted,

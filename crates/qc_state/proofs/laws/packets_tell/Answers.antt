@@ -1,0 +1,5 @@
+use Rattle.qc_state.proofs.PieceLaws.{piece_tells}
+use Rattle.qc_state.proofs.laws.packets_tell.Goals as goal
+
+pub returns : goal.returns
+returns g c a time mark p = piece_tells _ time mark p a
