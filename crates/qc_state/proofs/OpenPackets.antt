@@ -1,11 +1,10 @@
 -- What holds of each move that a packet which opened makes, holds of the packet. Each move is said to be one of this packet, so
 -- that a law can learn which payload a frame that is given belongs to.
-use Rattle.std.proofs.Common.{◌≡◌, ℕ, ◌<◌, ◌⊎◌, inl, inr, List, [], ◌∷◌, length, refl, ap, sym, ◌∙◌, subst, Bool, true, false, Option, Some, None, if◌then◌else◌, arith}
-use Rattle.std.specs.Prelude.{zero, suc, ◌-◌, ◌==◌, min, not, ◌&&◌, Result, Ok, Err}
+use Rattle.std.proofs.Common.{◌≡◌, ℕ, ◌<◌, inl, inr, List, [], ◌∷◌, length, refl, ap, sym, subst, Bool, true, false, Option, Some, None, if◌then◌else◌, arith}
+use Rattle.std.specs.Prelude.{not, Result, Ok, Err}
 use Rattle.std.specs.List.{list_any}
 use Rattle.qc_base.specs.declared.transport_error.TransportError.{TransportError}
-use Rattle.qc_base.specs.declared.side.Side.{Side}
-use Rattle.qc_base.specs.declared.side.Side.TheVariants.{Client, Server}
+use Rattle.qc_base.specs.declared.side.Side.TheVariants.{Server}
 use Rattle.qc_base.specs.declared.side.SpaceId.{SpaceId}
 use Rattle.qc_base.specs.declared.side.SpaceId.TheVariants.{Initial, Handshake, «Data»}
 use Rattle.qc_flight.specs.Packets.{Entry}
@@ -13,8 +12,6 @@ use Rattle.qc_frame.specs.Frame.{AckValue, FrameValue, TypedValue}
 use Rattle.qc_frame.specs.FrameSpelling.{spelling}
 use Rattle.qc_frame.specs.Payload.{Item, items_of}
 use Rattle.qc_frame.specs.declared.frames.FrameOf.TheVariants as frames
-use Rattle.qc_params.specs.declared.params.TransportParameters.{TransportParameters}
-use Rattle.qc_crypto.specs.declared.keys.Keys.{Keys}
 use Rattle.qc_state.specs.declared.deeds.Did.{Did}
 use Rattle.qc_state.specs.declared.deeds.Did.TheVariants as did
 use Rattle.qc_state.specs.declared.deeds.Layer.TheVariants as layer
@@ -23,16 +20,15 @@ use Rattle.qc_state.specs.declared.deeds.Verdict.TheVariants as verdict
 use Rattle.qc_state.specs.declared.life.ConnectionError.{ConnectionError}
 use Rattle.qc_state.specs.declared.life.State.{State}
 use Rattle.qc_state.specs.declared.life.State.TheVariants as state
-use Rattle.qc_state.specs.declared.lower.Lower.{Lower}
-use Rattle.qc_state.specs.Life.{rank_of, is_open, is_closed, is_handshake, token_learned, identifiers_wanted}
+use Rattle.qc_state.specs.Life.{rank_of, is_open, is_closed}
 use Rattle.qc_state.specs.Lower.{ready_bytes, stream_of}
-use Rattle.qc_state.specs.Moves.{Move, Forget, Enter, Accept, Fix, Ack, Come, Read, Write, Ready, Token, Learn, Want, Confirm, Establish, Tell, Drain, Leave, Owe, move_to, state_move, numbers_move, keys_move, life_move, paths_move, timers_move, waiting_move, setup_move, lower_move, MayMove, accepts, enters, armed_after, armed_with}
+use Rattle.qc_state.specs.Moves.{Move, Forget, Enter, Accept, Fix, Ack, Come, Read, Ready, Tell, Drain, Leave, Owe, move_to, state_move, numbers_move, keys_move, life_move, paths_move, timers_move, waiting_move, setup_move, lower_move, MayMove, accepts, enters, armed_after}
 use Rattle.qc_state.specs.Numbers.{is_new_in}
-use Rattle.qc_state.specs.Progress.{keys_behind, session_behind, is_written, write_after, writes_after, written_after, ids_fit, token_after, learned_with, parameters_and, is_end, ended_after, progress_after, learned_after, over_after}
+use Rattle.qc_state.specs.Progress.{progress_after}
 use Rattle.qc_state.specs.Receiving.{reason_of, is_close_item, is_eliciting_item, left_after, rearmed_after, settled_after, acked_after, confirmed_after, applied_after, close_given, closed_in_data, close_and, end_after, crypto_stop, answered_and, given_and, kept_and, crypto_and, taken_and, frame_and, read_and, items_after, payload_after, fixes_peer, fixed_after, read_for_close, admitted_after, verdict_after, received_after, accepted_after}
 use Rattle.qc_state.specs.Paths.{is_blocked}
 use Rattle.qc_state.specs.Recovering.{settled_by}
-use Rattle.qc_state.specs.Stopping.{given_after, missing_parameters, parameter_error, stopped_after}
+use Rattle.qc_state.specs.Stopping.{given_after, stopped_after}
 use Rattle.qc_state.specs.Types.{Types, Meaning}
 use Rattle.qc_state.specs.Verdicts.{first_row, verdict_of}
 use Rattle.qc_state.specs.View.{View, At}

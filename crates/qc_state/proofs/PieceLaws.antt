@@ -6,14 +6,13 @@ use Rattle.std.specs.declared.net.SocketAddr.{SocketAddr}
 use Rattle.qc_assembler.specs.Assembly.{Assembly, advanced, inserted}
 use Rattle.qc_base.specs.declared.ecn.EcnCodepoint.{EcnCodepoint}
 use Rattle.qc_base.specs.declared.transport_error.TransportError.{TransportError}
-use Rattle.qc_base.specs.declared.side.Side.{Side}
-use Rattle.qc_base.specs.declared.side.Side.TheVariants.{Client, Server}
+use Rattle.qc_base.specs.declared.side.Side.TheVariants.{Server}
 use Rattle.qc_base.specs.declared.side.SpaceId.{SpaceId}
 use Rattle.qc_base.specs.declared.side.SpaceId.TheVariants.{Initial, Handshake, «Data»}
 use Rattle.qc_flight.specs.Packets.{Entry}
-use Rattle.qc_frame.specs.Frame.{AckValue, FrameValue, TypedValue}
+use Rattle.qc_frame.specs.Frame.{AckValue, FrameValue}
 use Rattle.qc_frame.specs.FrameSpelling.{spelling}
-use Rattle.qc_frame.specs.Payload.{Item, items_of, items_within}
+use Rattle.qc_frame.specs.Payload.{Item, items_of}
 use Rattle.qc_frame.specs.declared.frames.FrameOf.TheVariants as frames
 use Rattle.qc_header.specs.HeaderGrammar.{DatagramItem}
 use Rattle.qc_header.specs.Piece.{Piece, space_of}
@@ -42,9 +41,8 @@ use Rattle.qc_state.specs.Opening.{opening_of}
 use Rattle.qc_state.specs.Paths.{is_blocked}
 use Rattle.qc_state.specs.PieceLaws.{Goes, Last, Outcome, Reading, Refused, TellsDatagram, TellsPiece, TellsPieces, applied_in, applied_with, gifts_by, gifts_of, given_in, kind_outcome, opening_deed, opening_gifts, outcome_of, piece_deed, piece_gifts, pieces_in, read_behind, read_outcome, reading_behind, reading_of, refused_or, session_gift, unless_refused}
 use Rattle.qc_state.specs.Receiving.{accepted_after, acked_after, admitted_after, answered_and, applied_after, close_and, close_given, closed_in_data, confirmed_after, counted_after, crypto_and, crypto_stop, crypto_stop_of, cut_of, datagram_after, end_after, expected_below, expected_space, failed_after, first_after, first_token, fixed_after, fixes_peer, frame_and, given_and, heard_after, is_close_item, is_eliciting_item, items_after, kept_and, left_after, opening_after, payload_after, piece_after, pieces_after, piece_told, read_and, read_for_close, rearmed_after, received_after, reason_of, settled_after, stop_in, taken_and, verdict_after}
-use Rattle.qc_state.specs.Recovering.{loss_time, settled_by}
+use Rattle.qc_state.specs.Recovering.{settled_by}
 use Rattle.qc_state.specs.Sending.{drops_initial, initial_left}
-use Rattle.qc_state.specs.Spaces.{space_of as value_in, with_space}
 use Rattle.qc_state.specs.Stopping.{given_after, key_limit_error, killed_after, stopped_after, violation_at}
 use Rattle.qc_state.specs.Types.{Types, Meaning}
 use Rattle.qc_state.specs.Verdicts.{first_row, verdict_of}
