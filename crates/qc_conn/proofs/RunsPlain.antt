@@ -10,7 +10,6 @@ use Rattle.rand_core.specs.Stream.{Stream}
 use Rattle.qc_base.specs.Varint.{IsNumber}
 use Rattle.qc_base.specs.declared.ecn.EcnCodepoint.{EcnCodepoint}
 use Rattle.qc_base.specs.declared.side.Side.{Side}
-use Rattle.qc_base.specs.declared.side.Side.TheVariants.{Client}
 use Rattle.qc_base.specs.declared.side.SpaceId.{SpaceId}
 use Rattle.qc_base.specs.declared.side.SpaceId.TheVariants.{Initial, Handshake, «Data»}
 use Rattle.qc_frame.specs.Frame.{FrameValue, AckValue}
@@ -29,14 +28,12 @@ use Rattle.qc_send_stream.specs.Buffer.{bytes_written, discarded, nothing, range
 use Rattle.qc_state.specs.Acks.{AckPart, SaysAck, is_ack, may_acknowledge}
 use Rattle.qc_state.specs.declared.deeds.Did.{Did}
 use Rattle.qc_state.specs.declared.deeds.Did.TheVariants as deed
-use Rattle.qc_state.specs.declared.deeds.Quiet.TheVariants.{NothingOwed, Silent, Killed, Amplification}
 use Rattle.qc_state.specs.declared.input.Input.{Input}
 use Rattle.qc_state.specs.declared.input.Input.TheVariants as input
 use Rattle.qc_state.specs.declared.life.Close.{Close}
 use Rattle.qc_state.specs.declared.life.Close.TheVariants.{Connection, Application}
 use Rattle.qc_state.specs.declared.events.EndpointEvent.TheVariants as endpoint
 use Rattle.qc_state.specs.declared.life.ConnectionError.{ConnectionError}
-use Rattle.qc_state.specs.declared.life.ConnectionError.TheVariants as lost
 use Rattle.qc_state.specs.declared.life.Life.{Life}
 use Rattle.qc_state.specs.declared.life.PeerToken.{PeerToken}
 use Rattle.qc_state.specs.declared.life.Wanted.{Wanted}
@@ -49,28 +46,27 @@ use Rattle.qc_state.specs.declared.trace.Answer.TheVariants as answer
 use Rattle.qc_state.specs.declared.waiting.SpaceWaiting.{SpaceWaiting}
 use Rattle.qc_state.specs.declared.waiting.Waiting.{Waiting}
 use Rattle.qc_state.specs.Life.{is_closed, is_open, data_ready, drained_event, endpoint_events, identifiers_wanted, life_closed, life_drained, life_established, life_raised, reason_given, token_event, token_learned, token_reported, wanted_event, wanted_reported, drained_reported, lost_reported, connected_reported, ready_reported}
-use Rattle.qc_state.specs.Moves.{Move, Clock, Take, Seal, Forget, Raise, Say, Give, Enter, Fail, Accept, Fix, Hear, Ack, Fire, Arm, Pace, Release, Begin, Skip, Come, Read, Write, Ready, Learn, Establish, Tell, Drain, Leave, Owe, Shut, IsTold, MayMove, state_move, move_to, deeds_move, life_move, paths_move, waiting_move, keys_move, armed_with, Expect, Confirm, Token, Want}
+use Rattle.qc_state.specs.Moves.{Move, Take, Seal, Forget, Raise, Say, Give, Enter, Fail, Accept, Fix, Hear, Ack, Fire, Arm, Pace, Release, Begin, Skip, Come, Read, Write, Ready, Learn, Establish, Tell, Drain, Leave, Owe, Shut, IsTold, MayMove, state_move, move_to, deeds_move, life_move, paths_move, waiting_move, keys_move, Expect, Confirm, Token, Want}
 use Rattle.qc_state.specs.Numbers.{next_number, received_number}
-use Rattle.qc_state.specs.Paths.{path_idle, path_sent, path_received, peer_fixed, path_accepted, path_spun, is_blocked}
+use Rattle.qc_state.specs.Paths.{path_idle, path_sent, path_received, peer_fixed, path_accepted, path_spun}
 use Rattle.qc_state.specs.Receiving.{datagram_after, is_taken}
-use Rattle.qc_state.specs.Run.{time_of, packets_of, began, close_after, input_after, called, reported, step_after, IsAllowed, out_of, answer_of, IsStep, Run, Ran}
-use Rattle.qc_state.specs.Sending.{told_code, told_type, told_application_code, told_close, close_frame, closing_frame, IsKeptReason, frame_room, Closes, padded, padding_of, packet_size, sending_space, begun_after, begun_view, Carries, drops_initial, initial_left, is_flown, flown_after, sealed_in, is_key_nearly_used_up, limit_met, spared_after, quiet_after, packet_after, transmit_after, MayTransmit, transmit_bytes, transmit_of, transmit_with, owed_quiet_after, is_silent, owes}
-use Rattle.qc_state.specs.Stopping.{given_after, key_limit_error, killed_after, stopped_after}
+use Rattle.qc_state.specs.Run.{time_of, began, close_after, input_after, called, reported, step_after, IsAllowed, out_of, answer_of, IsStep, Run, Ran}
+use Rattle.qc_state.specs.Sending.{told_code, told_type, told_application_code, told_close, close_frame, closing_frame, IsKeptReason, frame_room, Closes, padded, padding_of, packet_size, Carries, transmit_after, MayTransmit, transmit_bytes, transmit_of, transmit_with, Choice}
 use Rattle.qc_state.specs.Spaces.{space_of, with_space, is_space}
 use Rattle.qc_state.specs.Timeouts.{timeout_after}
 use Rattle.qc_state.specs.Types.{Types, Meaning}
-use Rattle.qc_state.specs.View.{Held, View, At, at, ideal}
+use Rattle.qc_state.specs.View.{Held, View, At, ideal}
 use Rattle.qc_state.specs.EventLaws.{OnlyDoneWaits}
 use Rattle.qc_state.specs.First.{first_view, server_view}
 use Rattle.qc_state.specs.declared.setup.Fixed.{Fixed}
 use Rattle.qc_state.specs.Waiting.{again, all_again, lost_in, confirmed, all_confirmed, acked_in, packets_lost, packets_acked, probes_added, fired_in, packet_again, with_ping, wants_sending, probe_sent, begun_in, datagram_begun, ping_asked, waiting_without, close_begun, packet_told, untold, came_in, packet_came, ack_released, bundle_next, crypto_more, crypto_written, nothing_left, space_left, without, Waits, without_all, WaitAll, done_asked}
-use Rattle.qc_state.proofs.Begun.{begun_did, begun_life, begun_paths, holds_begun}
 use Rattle.qc_state.proofs.Expired.{IsTimed, holds_timeout}
 use Rattle.qc_state.proofs.ReceivedMoves.{IsReceived}
 use Rattle.qc_state.proofs.Receives.{holds_datagram}
 use Rattle.qc_text.specs.OneText.{IsSpelled, IsDeedPlain, IsPlainAddress, IsAnswerPlain, IsEndpointPlain, IsPlain, IsSpaceBelowLimit, IsBelowLimit, IsPlainStart, IsTellingRun}
 use Rattle.qc_text.specs.TraceText.{trace_text}
 use Rattle.qc_text.proofs.TraceBack.{trace_back}
+use Rattle.qc_state.proofs.Transmitted.{IsSealable, IsSending, holds_transmit}
 
 -- ---- frames that waited
 
@@ -202,16 +198,6 @@ close_plain time w most acks true id room kept v (AckPart.left_out ack says long
 close_plain time w most acks false id room kept v (AckPart.none is) few k h =
     let close : List FrameValue = closing_frame id kept v ∷ [] in
     subst (λ (fs : List FrameValue). ArePlain w (fs ++ close)) (sym is) (closing_plain w id room kept v few k h)
-
--- deeds that seal nothing
-unsealed_plain : (ds : List Did) → packets_of ds ≡ [] → All IsDeedPlain ds
-unsealed_plain [] e = All-nil IsDeedPlain
-unsealed_plain (deed.Sealed space number epoch early fs ∷ ds) e = cc e
-unsealed_plain (deed.Piece space number verdict ∷ ds) e = All-cons IsDeedPlain (deed.Piece space number verdict) ds tt (unsealed_plain ds e)
-unsealed_plain (deed.Gave layer body ∷ ds) e = All-cons IsDeedPlain (deed.Gave layer body) ds tt (unsealed_plain ds e)
-unsealed_plain (deed.Rose life ∷ ds) e = All-cons IsDeedPlain (deed.Rose life) ds tt (unsealed_plain ds e)
-unsealed_plain (deed.Lost reason ∷ ds) e = All-cons IsDeedPlain (deed.Lost reason) ds tt (unsealed_plain ds e)
-unsealed_plain (deed.Quiet quiet ∷ ds) e = All-cons IsDeedPlain (deed.Quiet quiet) ds tt (unsealed_plain ds e)
 
 -- ---- what receiving and sending keep
 
@@ -397,20 +383,6 @@ unfolding endpoint_events token_event wanted_event drained_event
 endpoint_plain v h = all_plain v.reset_token v.wanted v.drained h
 
 module _ {t : Types} where
-  quiet_by : (why : ConnectionError) (a : At t) (x y u z : Bool) → let b : At t = move_to (Raise Drained) a in
-      let q : At t = if x then move_to (Say Silent) a else if y then (if u then move_to (Say Amplification) a else move_to (Say Killed) (if z then move_to (Give why) b else b)) else move_to (Say NothingOwed) a in
-      (q.state.waiting ≡ a.state.waiting) × (q.state.paths.remote ≡ a.state.paths.remote) × (q.state.life.reset_token ≡ a.state.life.reset_token)
-  unfolding move_to state_move waiting_move paths_move path_idle life_move life_raised
-  quiet_by why a true y u z = (refl, refl, refl)
-  quiet_by why a false true true z = (refl, refl, refl)
-  quiet_by why a false true false true = (refl, refl, given_token (life_raised a.state.life Drained) why)
-  quiet_by why a false true false false = (refl, refl, refl)
-  quiet_by why a false false u z = (refl, refl, refl)
-
-  quiet_stays : (a : At t) → ((quiet_after a).state.waiting ≡ a.state.waiting) × ((quiet_after a).state.paths.remote ≡ a.state.paths.remote) × ((quiet_after a).state.life.reset_token ≡ a.state.life.reset_token)
-  unfolding quiet_after owed_quiet_after killed_after given_after
-  quiet_stays a = quiet_by (limit_met a.state) a (is_silent a.state) (owes a.state) (is_blocked a.state.paths) (is_none (move_to (Raise Drained) a).state.life.reason)
-
   room_below : (s : View t) (id : SpaceId) (acks : List FrameValue) → frame_room s id - length (frames_spelling acks) < 2 ^ 62
   unfolding frame_room
   room_below s id acks = omega arith
@@ -429,254 +401,151 @@ module _ {t : Types} where
       let w : SpaceWaiting = space_of s.waiting.spaces id in
       subst (ArePlain w) (sym is) (padded_plain w gs (padding_of s id gs) (frames_spelled time s.waiting.bundled w gs wait h))
 
-  -- leaving the Initial space
-  left_by : (time : ℕ) (a : At t) (x : Bool) → let r : At t = if x then armed_with false time (move_to (Forget Initial) a) else a in
-      (r.did ≡ a.did) × (IsBelowLimit a.state.waiting → IsBelowLimit r.state.waiting) × (r.state.paths ≡ a.state.paths) × (r.state.life ≡ a.state.life)
-  unfolding armed_with move_to state_move deeds_move waiting_move space_left paths_move life_move
-  left_by time a true = (refl, λ h. (nothing_below a.state.waiting.spaces.initial h.0, h.1, h.2), refl, refl)
-  left_by time a false = (refl, λ h. h, refl, refl)
-
-  initial_stays : (time : ℕ) (id : SpaceId) (a : At t) → let r : At t = initial_left Client false time id a in
-      (r.did ≡ a.did) × (IsBelowLimit a.state.waiting → IsBelowLimit r.state.waiting) × (r.state.paths ≡ a.state.paths) × (r.state.life ≡ a.state.life)
-  unfolding initial_left
-  initial_stays time id a = left_by time a (drops_initial Client a.state id)
-
-  -- the loss timer is set anew behind a packet, or not
-  flown_stays : (time : ℕ) (counts : Bool) (a : At t) → let r : At t = flown_after time counts a in
-      (r.did ≡ a.did) × (r.state.waiting ≡ a.state.waiting) × (r.state.paths ≡ a.state.paths) × (r.state.life ≡ a.state.life)
-  unfolding armed_with move_to state_move deeds_move waiting_move paths_move life_move
-  flown_stays time true a = (refl, refl, refl, refl)
-  flown_stays time false a = (refl, refl, refl, refl)
-
-  -- this end closes behind a packet, or not
-  stopped_by : (time : ℕ) (as_told : Close) (why : ConnectionError) (a : At t) (x y : Bool) → let b : At t = move_to (Shut time as_told) a in
-      let r : At t = if x then (if y then move_to (Give why) b else b) else a in
-      (All IsDeedPlain a.did → All IsDeedPlain r.did) × (IsBelowLimit a.state.waiting → IsBelowLimit r.state.waiting) × (r.state.paths.remote ≡ a.state.paths.remote) × (r.state.life.reset_token ≡ a.state.life.reset_token)
-  unfolding move_to state_move deeds_move waiting_move close_begun paths_move life_move life_closed
-  stopped_by time as_told why a true true =
-      (λ p. one_more (a.did ++ deed.Rose 2 ∷ []) (deed.Lost why) tt (one_more a.did (deed.Rose 2) tt p), begun_below a.state.waiting a.state.waiting.close_owed, refl, given_token (life_closed a.state.life as_told) why)
-  stopped_by time as_told why a true false = (one_more a.did (deed.Rose 2) tt, begun_below a.state.waiting a.state.waiting.close_owed, refl, refl)
-  stopped_by time as_told why a false y = (λ p. p, λ h. h, refl, refl)
-
-  spared_stays : (time : ℕ) (nearly : Bool) (a : At t) → let r : At t = spared_after time nearly a in
-      (All IsDeedPlain a.did → All IsDeedPlain r.did) × (IsBelowLimit a.state.waiting → IsBelowLimit r.state.waiting) × (r.state.paths.remote ≡ a.state.paths.remote) × (r.state.life.reset_token ≡ a.state.life.reset_token)
-  unfolding spared_after stopped_after given_after
-  spared_stays time true a =
-      let why : Close = Connection (record { error_code = key_limit_error.code; frame_type = key_limit_error.frame; reason = [] }) in
-      stopped_by time why (lost.TransportError key_limit_error) a (is_open a.state.life.state) (is_none (move_to (Shut time why) a).state.life.reason)
-  spared_stays time false a = (λ p. p, λ h. h, refl, refl)
-
-  -- what a transmit does
-  sealed_plain : (time : ℕ) (id : SpaceId) (fs : List FrameValue) (begun : At t) → Carries time begun.state id fs → IsBelowLimit begun.state.waiting
-      → (All IsDeedPlain begun.did → All IsDeedPlain (sealed_in time id fs begun).did) × IsBelowLimit (sealed_in time id fs begun).state.waiting
-  unfolding sealed_in move_to state_move deeds_move waiting_move keys_move
-  sealed_plain time id fs begun carries h =
-      let s : View t = begun.state in
-      let frames = carried_plain time s id fs carries (space_below s.waiting id h) in
-      let taken : At t = move_to (Take id fs) begun in
-      let a : At t = move_to (Seal time id (next_number s.numbers id) (packet_size s id fs) fs) taken in
-      let flown = flown_stays time (is_flown s fs) a in
-      let left = initial_stays time id (flown_after time (is_flown s fs) a) in
-      let one : Did = deed.Sealed id (next_number s.numbers id) 0 false fs in
-      let below : IsBelowLimit a.state.waiting = sealed_below s.waiting id fs (is_space id s.keys.highest) _ h frames.1 in
-      (λ p. subst (All IsDeedPlain) (sym (left.0 ∙ flown.0)) (one_more begun.did one ((λ e. refl), frames.0) p), left.1 (subst IsBelowLimit (sym flown.1) below))
-
-  -- a datagram is begun
-  begun_stays : (id : SpaceId) (a : At t) → IsBelowLimit a.state.waiting → IsBelowLimit (begun_after id a).state.waiting
-  unfolding move_to state_move waiting_move
-  begun_stays id a =
-      holds_begun (λ (x y : At t). IsBelowLimit x.state.waiting → IsBelowLimit y.state.waiting) (λ x h. h) (λ x y z f g h. g (f h)) id a
-      (λ x h. datagram_below x.state.waiting id (first_of (recovery.space_of id x.state.lower.recovery).flight) h) (λ x may h. h)
-
-  transmit_plain : (time : ℕ) (ds : List Did) (ps : List (List FrameValue)) (s : View t) → packets_of ds ≡ ps → MayTransmit time s ps → ds ≡ (transmit_after time ps (at s [])).did
-      → IsBelowLimit s.waiting → All IsDeedPlain ds × IsBelowLimit (transmit_after time ps (at s [])).state.waiting
-  unfolding MayTransmit transmit_after packet_after begun_view
-  transmit_plain time ds [] s names may told h = (unsealed_plain ds names, subst IsBelowLimit (sym (quiet_stays (at s [])).0) h)
-  transmit_plain time ds (fs ∷ []) s names may told h =
-      let id : SpaceId = sending_space s in
-      let begun : At t = begun_after id (at s []) in
-      let sealed = sealed_plain time id fs begun may.carries (begun_stays id (at s []) h) in
-      let stays = spared_stays time (is_key_nearly_used_up s) (sealed_in time id fs begun) in
-      let none : All IsDeedPlain begun.did = subst (All IsDeedPlain) (sym (begun_did id (at s []))) (All-nil IsDeedPlain) in
-      (subst (All IsDeedPlain) (sym told) (stays.0 (sealed.0 none)), stays.1 sealed.1)
-  transmit_plain time ds (fs ∷ gs ∷ rest) s names may told h = absurd may
-
-  transmit_path : (time : ℕ) (ps : List (List FrameValue)) (a : At t) → (transmit_after time ps a).state.paths.remote ≡ a.state.paths.remote
-  unfolding transmit_after packet_after sealed_in move_to state_move paths_move path_sent
-  transmit_path time [] a = (quiet_stays a).1
-  transmit_path time (fs ∷ _) a =
-      let id : SpaceId = sending_space a.state in
-      let begun : At t = begun_after id a in
-      let b : At t = move_to (Seal time id (next_number begun.state.numbers id) (packet_size begun.state id fs) fs) (move_to (Take id fs) begun) in
-      let c : At t = flown_after time (is_flown begun.state fs) b in
-      (spared_stays time (is_key_nearly_used_up a.state) (initial_left Client false time id c)).2 ∙ ap (λ (p : Paths). p.remote) ((initial_stays time id c).2 ∙ (flown_stays time (is_flown begun.state fs) b).2)
-      ∙ ap (λ (p : Paths). p.remote) (begun_paths id a)
-
-  transmit_token : (time : ℕ) (ps : List (List FrameValue)) (a : At t) → (transmit_after time ps a).state.life.reset_token ≡ a.state.life.reset_token
-  unfolding transmit_after packet_after sealed_in move_to state_move life_move
-  transmit_token time [] a = (quiet_stays a).2
-  transmit_token time (fs ∷ _) a =
-      let id : SpaceId = sending_space a.state in
-      let begun : At t = begun_after id a in
-      let b : At t = move_to (Seal time id (next_number begun.state.numbers id) (packet_size begun.state id fs) fs) (move_to (Take id fs) begun) in
-      let c : At t = flown_after time (is_flown begun.state fs) b in
-      (spared_stays time (is_key_nearly_used_up a.state) (initial_left Client false time id c)).3 ∙ ap (λ (v : Life). v.reset_token) ((initial_stays time id c).3 ∙ (flown_stays time (is_flown begun.state fs) b).3 ∙ begun_life id a)
-
-  shut_plain : (time : ℕ) (close : Close) (ds : List Did) (s : View t) (b : Bool) → ds ≡ (if b then move_to (Shut time close) (at s []) else at s []).did
-      → IsBelowLimit s.waiting → All IsDeedPlain ds × IsBelowLimit (if b then move_to (Shut time close) (at s []) else at s []).state.waiting
-  unfolding move_to state_move deeds_move waiting_move close_begun
-  shut_plain time close ds s true told h = (subst (All IsDeedPlain) (sym told) (All-cons IsDeedPlain (deed.Rose 2) [] tt (All-nil IsDeedPlain)), begun_below s.waiting s.waiting.close_owed h)
-  shut_plain time close ds s false told h = (subst (All IsDeedPlain) (sym told) (All-nil IsDeedPlain), h)
-
-  shut_path : (time : ℕ) (close : Close) (a : At t) (b : Bool) → (if b then move_to (Shut time close) a else a).state.paths.remote ≡ a.state.paths.remote
-  unfolding move_to state_move paths_move
-  shut_path time close a true = refl
-  shut_path time close a false = refl
-
-  shut_token : (time : ℕ) (close : Close) (a : At t) (b : Bool) → (if b then move_to (Shut time close) a else a).state.life.reset_token ≡ a.state.life.reset_token
-  unfolding move_to state_move life_move life_closed
-  shut_token time close a true = refl
-  shut_token time close a false = refl
-
-  -- what receiving keeps, from one moment to another: the deeds leave nothing out, what waits lies below the limit, and
+  -- what receiving and sending keep, from one moment to another: the deeds leave nothing out, what waits lies below the limit, and
   -- datagrams go to the same address
   record Keeps (a b : At t) : Type 0 where
-    pub deeds : All IsDeedPlain a.did → All IsDeedPlain b.did
+    pub deeds : IsBelowLimit a.state.waiting → All IsDeedPlain a.did → All IsDeedPlain b.did
     pub crypto : IsBelowLimit a.state.waiting → IsBelowLimit b.state.waiting
     pub path : b.state.paths.remote ≡ a.state.paths.remote
     pub token : IsPlainAddress a.state.paths.remote → IsTokenPlain a.state.life → IsTokenPlain b.state.life
 
   keeps_here : (a : At t) → Keeps a a
-  keeps_here a = record { deeds = λ p. p; crypto = λ p. p; path = refl; token = λ p k. k }
+  keeps_here a = record { deeds = λ b p. p; crypto = λ p. p; path = refl; token = λ p k. k }
 
   keeps_next : (a b c : At t) → Keeps a b → Keeps b c → Keeps a c
-  keeps_next a b c g h = record { deeds = λ p. h.deeds (g.deeds p); crypto = λ p. h.crypto (g.crypto p); path = h.path ∙ g.path; token = λ p k. h.token (subst IsPlainAddress (sym g.path) p) (g.token p k) }
+  keeps_next a b c g h = record { deeds = λ b p. h.deeds (g.crypto b) (g.deeds b p); crypto = λ p. h.crypto (g.crypto p); path = h.path ∙ g.path; token = λ p k. h.token (subst IsPlainAddress (sym g.path) p) (g.token p k) }
 
   keeps_move : (x : Move t) → IsReceived x → (a : At t) → MayMove x a.state → Keeps a (move_to x a)
   unfolding MayMove move_to state_move deeds_move waiting_move close_begun space_left packet_came came_in crypto_written done_asked paths_move path_received path_accepted peer_fixed life_move data_ready life_established life_drained life_closed life_raised token_learned identifiers_wanted
-  keeps_move (Forget id) r a h = record { deeds = λ p. p; crypto = set_below a.state.waiting id _ (nothing_below (space_of a.state.waiting.spaces id)); path = refl; token = λ p k. k }
-  keeps_move (Enter id n v) r a h = record { deeds = one_more a.did _ tt; crypto = λ p. p; path = refl; token = λ p k. k }
-  keeps_move (Expect token) r a h = record { deeds = λ p. p; crypto = λ p. p; path = refl; token = λ p k. k }
-  keeps_move Fail r a h = record { deeds = λ p. p; crypto = λ p. p; path = refl; token = λ p k. k }
+  keeps_move (Forget id) r a h = record { deeds = λ b p. p; crypto = set_below a.state.waiting id _ (nothing_below (space_of a.state.waiting.spaces id)); path = refl; token = λ p k. k }
+  keeps_move (Enter id n v) r a h = record { deeds = λ b. one_more a.did _ tt; crypto = λ p. p; path = refl; token = λ p k. k }
+  keeps_move (Expect token) r a h = record { deeds = λ b p. p; crypto = λ p. p; path = refl; token = λ p k. k }
+  keeps_move Fail r a h = record { deeds = λ b p. p; crypto = λ p. p; path = refl; token = λ p k. k }
   keeps_move (Accept time id n e g v) r a h = record {
-    deeds = one_more a.did _ tt;
+    deeds = λ b. one_more a.did _ tt;
     crypto = set_below a.state.waiting id _ (λ p. p);
     path = spun_remote (path_accepted a.state.paths id v) a.state.setup.fixed.side (nat_le (received_number a.state.numbers id) n) g.spin ∙ accepted_remote a.state.paths id v;
     token = λ p k. k;
   }
-  keeps_move (Fix cid) r a h = record { deeds = λ p. p; crypto = λ p. p; path = refl; token = λ p k. k }
-  keeps_move (Hear bytes) r a h = record { deeds = λ p. p; crypto = λ p. p; path = refl; token = λ p k. k }
-  keeps_move (Ack id n after) r a h = record { deeds = λ p. p; crypto = settled_below a.state.waiting id after.acked after.lost; path = refl; token = λ p k. k }
-  keeps_move (Arm time) r a h = record { deeds = λ p. p; crypto = λ p. p; path = refl; token = λ p k. k }
-  keeps_move (Come id offset bytes) r a h = record { deeds = λ p. p; crypto = λ p. p; path = refl; token = λ p k. k }
-  keeps_move (Read id count session) r a h = record { deeds = λ p. p; crypto = λ p. p; path = refl; token = λ p k. k }
-  keeps_move (Write bytes keys session) r a h = record { deeds = λ p. p; crypto = set_below a.state.waiting a.state.keys.highest _ (more_below (space_of a.state.waiting.spaces a.state.keys.highest) bytes); path = refl; token = λ p k. k }
-  keeps_move Ready r a h = record { deeds = λ p. p; crypto = λ p. p; path = refl; token = λ p k. k }
-  keeps_move (Token token) r a h = record { deeds = λ p. p; crypto = λ p. p; path = refl; token = λ p k. p }
-  keeps_move (Learn parameters) r a h = record { deeds = λ p. p; crypto = λ p. p; path = refl; token = λ p k. k }
-  keeps_move (Want time count) r a h = record { deeds = λ p. p; crypto = λ p. p; path = refl; token = λ p k. k }
-  keeps_move Confirm r a h = record { deeds = λ p. p; crypto = set_below a.state.waiting «Data» (record (space_of a.state.waiting.spaces «Data») { done = true }) (λ p. p); path = refl; token = λ p k. k }
-  keeps_move Establish r a h = record { deeds = one_more a.did _ tt; crypto = λ p. p; path = refl; token = λ p k. k }
-  keeps_move (Tell d) r a h = record { deeds = one_more a.did d (told_plain d h); crypto = λ p. p; path = refl; token = λ p k. k }
-  keeps_move Drain r a h = record { deeds = one_more a.did _ tt; crypto = λ p. p; path = refl; token = λ p k. k }
-  keeps_move (Leave time) r a h = record { deeds = one_more a.did _ tt; crypto = λ p. p; path = refl; token = λ p k. k }
-  keeps_move Owe r a h = record { deeds = λ p. p; crypto = begun_below a.state.waiting a.state.waiting.close_owed; path = refl; token = λ p k. k }
-  keeps_move (Shut time close) r a h = record { deeds = one_more a.did _ tt; crypto = begun_below a.state.waiting a.state.waiting.close_owed; path = refl; token = λ p k. k }
-  keeps_move (Raise to) r a h = record { deeds = one_more a.did _ tt; crypto = λ p. p; path = refl; token = λ p k. k }
-  keeps_move (Give why) r a h = record { deeds = one_more a.did _ tt; crypto = λ p. p; path = refl; token = λ p k. same_token a.state.life (reason_given a.state.life why) (given_token a.state.life why) k }
+  keeps_move (Fix cid) r a h = record { deeds = λ b p. p; crypto = λ p. p; path = refl; token = λ p k. k }
+  keeps_move (Hear bytes) r a h = record { deeds = λ b p. p; crypto = λ p. p; path = refl; token = λ p k. k }
+  keeps_move (Ack id n after) r a h = record { deeds = λ b p. p; crypto = settled_below a.state.waiting id after.acked after.lost; path = refl; token = λ p k. k }
+  keeps_move (Arm time) r a h = record { deeds = λ b p. p; crypto = λ p. p; path = refl; token = λ p k. k }
+  keeps_move (Come id offset bytes) r a h = record { deeds = λ b p. p; crypto = λ p. p; path = refl; token = λ p k. k }
+  keeps_move (Read id count session) r a h = record { deeds = λ b p. p; crypto = λ p. p; path = refl; token = λ p k. k }
+  keeps_move (Write bytes keys session) r a h = record { deeds = λ b p. p; crypto = set_below a.state.waiting a.state.keys.highest _ (more_below (space_of a.state.waiting.spaces a.state.keys.highest) bytes); path = refl; token = λ p k. k }
+  keeps_move Ready r a h = record { deeds = λ b p. p; crypto = λ p. p; path = refl; token = λ p k. k }
+  keeps_move (Token token) r a h = record { deeds = λ b p. p; crypto = λ p. p; path = refl; token = λ p k. p }
+  keeps_move (Learn parameters) r a h = record { deeds = λ b p. p; crypto = λ p. p; path = refl; token = λ p k. k }
+  keeps_move (Want time count) r a h = record { deeds = λ b p. p; crypto = λ p. p; path = refl; token = λ p k. k }
+  keeps_move Confirm r a h = record { deeds = λ b p. p; crypto = set_below a.state.waiting «Data» (record (space_of a.state.waiting.spaces «Data») { done = true }) (λ p. p); path = refl; token = λ p k. k }
+  keeps_move Establish r a h = record { deeds = λ b. one_more a.did _ tt; crypto = λ p. p; path = refl; token = λ p k. k }
+  keeps_move (Tell d) r a h = record { deeds = λ b. one_more a.did d (told_plain d h); crypto = λ p. p; path = refl; token = λ p k. k }
+  keeps_move Drain r a h = record { deeds = λ b. one_more a.did _ tt; crypto = λ p. p; path = refl; token = λ p k. k }
+  keeps_move (Leave time) r a h = record { deeds = λ b. one_more a.did _ tt; crypto = λ p. p; path = refl; token = λ p k. k }
+  keeps_move Owe r a h = record { deeds = λ b p. p; crypto = begun_below a.state.waiting a.state.waiting.close_owed; path = refl; token = λ p k. k }
+  keeps_move (Shut time close) r a h = record { deeds = λ b. one_more a.did _ tt; crypto = begun_below a.state.waiting a.state.waiting.close_owed; path = refl; token = λ p k. k }
+  keeps_move (Raise to) r a h = record { deeds = λ b. one_more a.did _ tt; crypto = λ p. p; path = refl; token = λ p k. k }
+  keeps_move (Give why) r a h = record { deeds = λ b. one_more a.did _ tt; crypto = λ p. p; path = refl; token = λ p k. same_token a.state.life (reason_given a.state.life why) (given_token a.state.life why) k }
   keeps_move _ r a h = absurd r
 
   keeps_datagram : (m : Meaning t) (time : ℕ) (mark : Option EcnCodepoint) (remote : SocketAddr) (bytes : List ℕ) (a : At t) → Keeps a (datagram_after m time mark remote bytes a)
   keeps_datagram m time mark remote bytes a = holds_datagram Keeps keeps_here keeps_next keeps_move m time mark remote bytes a
 
-  datagram_plain : (m : Meaning t) (time : ℕ) (mark : Option EcnCodepoint) (remote : SocketAddr) (bytes : List ℕ) (ds : List Did) (s : View t) → ds ≡ (datagram_after m time mark remote bytes (at s [])).did
-      → IsBelowLimit s.waiting → All IsDeedPlain ds × IsBelowLimit (datagram_after m time mark remote bytes (at s [])).state.waiting
-  datagram_plain m time mark remote bytes ds s told h =
-      let keeps = keeps_datagram m time mark remote bytes (at s []) in
-      (subst (All IsDeedPlain) (sym told) (keeps.deeds (All-nil IsDeedPlain)), keeps.crypto h)
-
   -- what a timer does keeps the same
   keeps_timed : (x : Move t) → IsTimed x → (a : At t) → MayMove x a.state → Keeps a (move_to x a)
   unfolding MayMove move_to state_move deeds_move waiting_move ack_released paths_move life_move life_raised
-  keeps_timed (Fire after) r a h = record { deeds = λ p. p; crypto = fired_below a.state.waiting after.fired; path = refl; token = λ p k. k }
-  keeps_timed (Arm time) r a h = record { deeds = λ p. p; crypto = λ p. p; path = refl; token = λ p k. k }
-  keeps_timed Pace r a h = record { deeds = λ p. p; crypto = λ p. p; path = refl; token = λ p k. k }
-  keeps_timed Release r a h = record { deeds = λ p. p; crypto = λ p. p; path = refl; token = λ p k. k }
-  keeps_timed (Raise to) r a h = record { deeds = one_more a.did _ tt; crypto = λ p. p; path = refl; token = λ p k. k }
-  keeps_timed (Give why) r a h = record { deeds = one_more a.did _ tt; crypto = λ p. p; path = refl; token = λ p k. same_token a.state.life (reason_given a.state.life why) (given_token a.state.life why) k }
+  keeps_timed (Fire after) r a h = record { deeds = λ b p. p; crypto = fired_below a.state.waiting after.fired; path = refl; token = λ p k. k }
+  keeps_timed (Arm time) r a h = record { deeds = λ b p. p; crypto = λ p. p; path = refl; token = λ p k. k }
+  keeps_timed Pace r a h = record { deeds = λ b p. p; crypto = λ p. p; path = refl; token = λ p k. k }
+  keeps_timed Release r a h = record { deeds = λ b p. p; crypto = λ p. p; path = refl; token = λ p k. k }
+  keeps_timed (Raise to) r a h = record { deeds = λ b. one_more a.did _ tt; crypto = λ p. p; path = refl; token = λ p k. k }
+  keeps_timed (Give why) r a h = record { deeds = λ b. one_more a.did _ tt; crypto = λ p. p; path = refl; token = λ p k. same_token a.state.life (reason_given a.state.life why) (given_token a.state.life why) k }
   keeps_timed _ r a h = absurd r
 
   keeps_timeout : (m : Meaning t) (time : ℕ) (a : At t) → Keeps a (timeout_after m time a)
   keeps_timeout m time a = holds_timeout Keeps keeps_here keeps_next keeps_timed m time a
 
-  timeout_plain : (m : Meaning t) (time : ℕ) (ds : List Did) (s : View t) → ds ≡ (timeout_after m time (at s [])).did
-      → IsBelowLimit s.waiting → All IsDeedPlain ds × IsBelowLimit (timeout_after m time (at s [])).state.waiting
-  timeout_plain m time ds s told h =
-      let keeps = keeps_timeout m time (at s []) in
-      (subst (All IsDeedPlain) (sym told) (keeps.deeds (All-nil IsDeedPlain)), keeps.crypto h)
+  -- what a transmit does keeps the same: each of its moves but those that take and seal
+  keeps_sending : (x : Move t) → IsSending x → (a : At t) → MayMove x a.state → Keeps a (move_to x a)
+  unfolding MayMove move_to state_move deeds_move waiting_move close_begun space_left paths_move path_idle life_move life_closed life_raised
+  keeps_sending (Begin id) r a h = record { deeds = λ b p. p; crypto = datagram_below a.state.waiting id (first_of (recovery.space_of id a.state.lower.recovery).flight); path = refl; token = λ p k. k }
+  keeps_sending Skip r a h = record { deeds = λ b p. p; crypto = λ p. p; path = refl; token = λ p k. k }
+  keeps_sending (Arm time) r a h = record { deeds = λ b p. p; crypto = λ p. p; path = refl; token = λ p k. k }
+  keeps_sending (Forget id) r a h = record { deeds = λ b p. p; crypto = set_below a.state.waiting id _ (nothing_below (space_of a.state.waiting.spaces id)); path = refl; token = λ p k. k }
+  keeps_sending (Shut time close) r a h = record { deeds = λ b. one_more a.did _ tt; crypto = begun_below a.state.waiting a.state.waiting.close_owed; path = refl; token = λ p k. k }
+  keeps_sending (Raise to) r a h = record { deeds = λ b. one_more a.did _ tt; crypto = λ p. p; path = refl; token = λ p k. k }
+  keeps_sending (Give why) r a h = record { deeds = λ b. one_more a.did _ tt; crypto = λ p. p; path = refl; token = λ p k. same_token a.state.life (reason_given a.state.life why) (given_token a.state.life why) k }
+  keeps_sending (Say q) r a h = record { deeds = λ b. one_more a.did _ tt; crypto = λ p. p; path = refl; token = λ p k. k }
+  keeps_sending _ r a h = absurd r
+
+  -- and those, as its frames leave nothing out
+  keeps_sealed : (time : ℕ) (id : SpaceId) (fs : List FrameValue) (a : At t) → IsSealable time a.state id fs → Keeps a (move_to (Seal time id (next_number a.state.numbers id) (packet_size a.state id fs) fs) (move_to (Take id fs) a))
+  unfolding move_to state_move deeds_move waiting_move keys_move paths_move path_sent life_move
+  keeps_sealed time id fs a may = record {
+    deeds = λ b. one_more a.did (deed.Sealed id (next_number a.state.numbers id) 0 false fs) ((λ e. refl), (carried_plain time a.state id fs may.carries (space_below a.state.waiting id b)).0);
+    crypto = λ h. sealed_below a.state.waiting id fs (is_space id a.state.keys.highest) _ h (carried_plain time a.state id fs may.carries (space_below a.state.waiting id h)).1;
+    path = refl;
+    token = λ p k. k;
+  }
+
+  keeps_transmit : (time : ℕ) (choice : Choice) (a : At t) → MayTransmit time a.state choice → Keeps a (transmit_after time choice a)
+  keeps_transmit time choice a may = holds_transmit Keeps keeps_here keeps_next keeps_sending keeps_sealed time choice a may
+
+  -- the application closes, or has closed before
+  keeps_closed : (time : ℕ) (close : Close) (a : At t) (b : Bool) → Keeps a (if b then move_to (Shut time close) a else a)
+  unfolding move_to state_move deeds_move waiting_move close_begun paths_move life_move life_closed
+  keeps_closed time close a true = record { deeds = λ b. one_more a.did _ tt; crypto = begun_below a.state.waiting a.state.waiting.close_owed; path = refl; token = λ p k. k }
+  keeps_closed time close a false = keeps_here a
 
   -- what an input does
-  input_plain : (m : Meaning t) (i : Input) (ds : List Did) (s : View t) → IsAllowed i ds s → ds ≡ (input_after m i ds (at s [])).did
-      → IsBelowLimit s.waiting → All IsDeedPlain ds × IsBelowLimit (input_after m i ds (at s [])).state.waiting
-  unfolding IsAllowed input_after close_after move_to state_move deeds_move waiting_move ping_asked
-  input_plain m (input.Datagram time remote ecn bytes) ds s may told h = datagram_plain m time ecn remote bytes ds s told h
-  input_plain m (input.Timeout time) ds s may told h = timeout_plain m time ds s told h
-  input_plain m (input.Transmit time max) ds s may told h = transmit_plain time ds (packets_of ds) s refl may told h
-  input_plain m (input.Close time code reason) ds s may told h = shut_plain time _ ds s _ told h
-  input_plain m (input.Ping time) ds s may told h = (subst (All IsDeedPlain) (sym told) (All-nil IsDeedPlain), set_below s.waiting s.keys.highest _ (λ p. p) h)
-
-  input_path : (m : Meaning t) (i : Input) (ds : List Did) (a : At t) → (input_after m i ds a).state.paths.remote ≡ a.state.paths.remote
-  unfolding input_after close_after move_to state_move paths_move
-  input_path m (input.Datagram time remote ecn bytes) ds a = (keeps_datagram m time ecn remote bytes a).path
-  input_path m (input.Timeout time) ds a = (keeps_timeout m time a).path
-  input_path m (input.Transmit time max) ds a = transmit_path time (packets_of ds) a
-  input_path m (input.Close time code reason) ds a = shut_path time _ a _
-  input_path m (input.Ping time) ds a = refl
-
-  input_token : (m : Meaning t) (i : Input) (ds : List Did) (a : At t) → IsPlainAddress a.state.paths.remote → IsTokenPlain a.state.life → IsTokenPlain (input_after m i ds a).state.life
-  unfolding input_after close_after move_to state_move life_move
-  input_token m (input.Datagram time remote ecn bytes) ds a p k = (keeps_datagram m time ecn remote bytes a).token p k
-  input_token m (input.Timeout time) ds a p k = (keeps_timeout m time a).token p k
-  input_token m (input.Transmit time max) ds a p k = same_token a.state.life (transmit_after time (packets_of ds) a).state.life (transmit_token time (packets_of ds) a) k
-  input_token m (input.Close time code reason) ds a p k = same_token a.state.life (close_after time code reason a).state.life (shut_token time _ a _) k
-  input_token m (input.Ping time) ds a p k = k
+  keeps_input : (m : Meaning t) (i : Input) (choice : Choice) (a : At t) → IsAllowed i choice a.state → Keeps a (input_after m i choice a)
+  unfolding IsAllowed input_after close_after move_to state_move deeds_move waiting_move ping_asked paths_move life_move
+  keeps_input m (input.Datagram time remote ecn bytes) choice a may = keeps_datagram m time ecn remote bytes a
+  keeps_input m (input.Timeout time) choice a may = keeps_timeout m time a
+  keeps_input m (input.Transmit time max) choice a may = keeps_transmit time choice a may
+  keeps_input m (input.Close time code reason) choice a may = keeps_closed time _ a (is_open a.state.life.state)
+  keeps_input m (input.Ping time) choice a may = record { deeds = λ b p. p; crypto = set_below a.state.waiting a.state.keys.highest _ (λ p. p); path = refl; token = λ p k. k }
 
   -- what it answers
-  out_plain : (m : Meaning t) (ps : List (List FrameValue)) (s : View t) → IsPlainAddress s.paths.remote → IsAnswerPlain (out_of (transmit_of ps s) (transmit_bytes m ps s))
+  out_plain : (m : Meaning t) (choice : Choice) (s : View t) → IsPlainAddress s.paths.remote → IsAnswerPlain (out_of (transmit_of choice s) (transmit_bytes m choice s))
   unfolding transmit_of transmit_with
   out_plain m [] s h = tt
   out_plain m (fs ∷ _) s h = h
 
-  answer_plain : (m : Meaning t) (i : Input) (ds : List Did) (s : View t) → IsPlainAddress s.paths.remote → IsAnswerPlain (answer_of m i ds s)
+  answer_plain : (m : Meaning t) (i : Input) (choice : Choice) (s : View t) → IsPlainAddress s.paths.remote → IsAnswerPlain (answer_of m i choice s)
   unfolding answer_of
-  answer_plain m (input.Datagram time remote ecn bytes) ds s h = done_plain (is_taken m s remote bytes)
-  answer_plain m (input.Timeout time) ds s h = tt
-  answer_plain m (input.Transmit time max) ds s h = out_plain m (packets_of ds) s h
-  answer_plain m (input.Close time code reason) ds s h = tt
-  answer_plain m (input.Ping time) ds s h = tt
+  answer_plain m (input.Datagram time remote ecn bytes) choice s h = done_plain (is_taken m s remote bytes)
+  answer_plain m (input.Timeout time) choice s h = tt
+  answer_plain m (input.Transmit time max) choice s h = out_plain m choice s h
+  answer_plain m (input.Close time code reason) choice s h = tt
+  answer_plain m (input.Ping time) choice s h = tt
+
+  -- what a step does before anything is reported
+  keeps_step : (m : Meaning t) (k : ℕ) (s : View t) (i : Input) (x : Step) (s' : View t) (e : IsStep m k s i x s') → Keeps (began s (time_of i)) (called m s i e.choice)
+  unfolding called
+  keeps_step m k s i x s' e = keeps_input m i e.choice (began s (time_of i)) e.allowed
 
   -- the deeds of a step
   step_deeds : (m : Meaning t) (k : ℕ) (s : View t) (i : Input) (x : Step) (s' : View t) → IsStep m k s i x s' → IsBelowLimit s.waiting → All IsDeedPlain x.did × IsBelowLimit s'.waiting
-  unfolding called began step_after reported move_to state_move waiting_move
+  unfolding began step_after reported state_move waiting_move
   step_deeds m k s i x s' e h =
-      let there = input_plain m i x.did (state_move (Clock (time_of i)) s) e.allowed e.deeds h in
-      (there.0, subst IsBelowLimit (sym e.waiting) there.1)
+      let there : Keeps (began s (time_of i)) (called m s i e.choice) = keeps_step m k s i x s' e in
+      (subst (All IsDeedPlain) (sym e.deeds) (there.deeds h (All-nil IsDeedPlain)), subst IsBelowLimit (sym e.waiting) (there.crypto h))
 
   -- its answer
   step_answer : (m : Meaning t) (k : ℕ) (s : View t) (i : Input) (x : Step) (s' : View t) → IsStep m k s i x s' → IsPlainAddress s.paths.remote → IsAnswerPlain x.answer × IsPlainAddress s'.paths.remote
-  unfolding called began step_after reported move_to state_move paths_move
+  unfolding began step_after reported state_move paths_move
   step_answer m k s i x s' e h =
-      let clock : View t = state_move (Clock (time_of i)) s in
-      let same : s'.paths.remote ≡ s.paths.remote = ap (λ (p : Paths). p.remote) e.paths ∙ input_path m i x.did (at clock []) in
-      (subst IsAnswerPlain (sym e.answer) (answer_plain m i x.did clock h), subst IsPlainAddress (sym same) h)
+      let same : s'.paths.remote ≡ s.paths.remote = ap (λ (p : Paths). p.remote) e.paths ∙ (keeps_step m k s i x s' e).path in
+      (subst IsAnswerPlain (sym e.answer) (answer_plain m i e.choice (began s (time_of i)).state h), subst IsPlainAddress (sym same) h)
 
   -- what it tells the endpoint
   step_endpoint : (m : Meaning t) (k : ℕ) (s : View t) (i : Input) (x : Step) (s' : View t) → IsStep m k s i x s' → IsPlainAddress s.paths.remote → IsTokenPlain s.life → All IsEndpointPlain x.endpoint × IsTokenPlain s'.life
-  unfolding called began step_after reported move_to state_move life_move token_reported wanted_reported drained_reported lost_reported connected_reported ready_reported paths_move
+  unfolding began step_after reported state_move life_move token_reported wanted_reported drained_reported lost_reported connected_reported ready_reported paths_move
   step_endpoint m k s i x s' e p h =
-      let clock : View t = state_move (Clock (time_of i)) s in
-      let there : IsTokenPlain (called m s i x.did).state.life = input_token m i x.did (at clock []) p h in
-      (subst (All IsEndpointPlain) (sym e.endpoint) (endpoint_plain (called m s i x.did).state.life there), subst IsTokenPlain (sym e.life) tt)
+      let there : IsTokenPlain (called m s i e.choice).state.life = (keeps_step m k s i x s' e).token p h in
+      (subst (All IsEndpointPlain) (sym e.endpoint) (endpoint_plain (called m s i e.choice).state.life there), subst IsTokenPlain (sym e.life) tt)
 
   -- ---- runs
 

@@ -1,11 +1,9 @@
 -- Each number that a run acknowledges is that of a packet which was accepted before.
 use Rattle.std.proofs.Common.{◌≡◌, ℕ, ◌+◌, ◌⊎◌, inl, inr, List, [], ◌∷◌, ◌++◌, length, take, refl, ap, sym, ◌∙◌, subst, Bool, true, false, Option, Some, None, if◌then◌else◌, append_assoc, append-nil}
-use Rattle.std.specs.Prelude.{is_none}
 use Rattle.std.specs.List.{list_any}
 use Rattle.std.specs.declared.net.SocketAddr.{SocketAddr}
 use Rattle.qc_base.specs.RangeSet.{Member}
 use Rattle.qc_base.specs.declared.ecn.EcnCodepoint.{EcnCodepoint}
-use Rattle.qc_base.specs.declared.side.Side.TheVariants.{Client}
 use Rattle.qc_base.specs.declared.side.SpaceId.{SpaceId}
 use Rattle.qc_base.specs.declared.side.SpaceId.TheVariants.{Initial, Handshake, «Data»}
 use Rattle.qc_frame.specs.Frame.{FrameValue}
@@ -15,26 +13,21 @@ use Rattle.qc_path.specs.Arrived.{Window, arrived}
 use Rattle.qc_path.specs.declared.pending_acks.Arrival.{Arrival}
 use Rattle.qc_state.specs.declared.deeds.Did.{Did}
 use Rattle.qc_state.specs.declared.deeds.Did.TheVariants as did
-use Rattle.qc_state.specs.declared.deeds.Quiet.TheVariants.{NothingOwed, Silent, Killed, Amplification}
 use Rattle.qc_state.specs.declared.deeds.Verdict.{Verdict}
 use Rattle.qc_state.specs.declared.input.Input.{Input}
 use Rattle.qc_state.specs.declared.input.Input.TheVariants as input
 use Rattle.qc_state.specs.declared.life.Close.{Close}
-use Rattle.qc_state.specs.declared.life.ConnectionError.{ConnectionError}
-use Rattle.qc_state.specs.declared.life.Life.{Life}
 use Rattle.qc_state.specs.declared.life.State.TheVariants as state
 use Rattle.qc_state.specs.declared.trace.Step.{Step}
 use Rattle.qc_state.specs.declared.waiting.SpaceWaiting.{SpaceWaiting}
 use Rattle.qc_state.specs.declared.waiting.Waiting.{Waiting}
 use Rattle.qc_state.specs.Headline.{deeds_of, KnownBehind, AcksOnly, SealsKnown, AcksKnown, IsKept, EachAcksKnown}
-use Rattle.qc_state.specs.Life.{is_open, is_drained, rank_of}
-use Rattle.qc_state.specs.Moves.{Move, ClosesOnly, Clock, Ask, Take, Seal, Forget, Enter, Expect, Fail, Accept, Fix, Hear, Ack, Fire, Arm, Pace, Release, Begin, Skip, Come, Read, Write, Ready, Token, Learn, Want, Confirm, Establish, Tell, Drain, Leave, Owe, Shut, Raise, Give, Say, ReportReady, ReportConnected, ReportLost, ReportToken, ReportWanted, ReportDrained, accepts, state_move, move_to, deeds_move, waiting_move, numbers_move, life_move, MayMove, IsTold, told, arrival_of}
+use Rattle.qc_state.specs.Life.{is_open}
+use Rattle.qc_state.specs.Moves.{Move, Clock, Ask, Take, Seal, Forget, Enter, Expect, Fail, Accept, Fix, Hear, Ack, Fire, Arm, Pace, Release, Begin, Skip, Come, Read, Write, Ready, Token, Learn, Want, Confirm, Establish, Tell, Drain, Leave, Owe, Shut, Raise, Give, Say, ReportReady, ReportConnected, ReportLost, ReportToken, ReportWanted, ReportDrained, accepts, state_move, move_to, deeds_move, waiting_move, numbers_move, life_move, MayMove, IsTold, told, arrival_of}
 use Rattle.qc_state.specs.Numbers.{next_number}
 use Rattle.qc_state.specs.Numbers as numbers
-use Rattle.qc_state.specs.Run.{time_of, packets_of, began, close_after, input_after, called, reported, step_after, IsAllowed, IsStep, Run, Ran}
-use Rattle.qc_state.specs.Paths.{is_blocked}
-use Rattle.qc_state.specs.Sending.{is_silent, owes, sending_space, is_key_nearly_used_up, limit_met, quiet_after, begun_after, begun_view, is_flown, flown_after, packet_size, sealed_in, spared_after, packet_after, transmit_after, MaySeal, MayTransmit, owed_quiet_after}
-use Rattle.qc_state.specs.Stopping.{given_after, key_limit_error, killed_after}
+use Rattle.qc_state.specs.Run.{time_of, began, close_after, input_after, called, reported, step_after, IsAllowed, IsStep, Run, Ran}
+use Rattle.qc_state.specs.Sending.{packet_size, transmit_after, MayTransmit, Choice}
 use Rattle.qc_state.specs.Spaces.{space_of, with_space, is_space}
 use Rattle.qc_state.specs.Receiving.{datagram_after}
 use Rattle.qc_state.specs.Timeouts.{timeout_after}
@@ -49,13 +42,11 @@ use Rattle.qc_path.specs.Acks.{PendingValues, next_bundle}
 use Rattle.qc_path.specs.RoundTrips.{estimate}
 use Rattle.qc_state.specs.Acks.{is_ack}
 use Rattle.qc_state.specs.Setup.{peer_delay}
-use Rattle.qc_state.proofs.Begun.{begun_life, begun_same, holds_begun}
-use Rattle.qc_state.proofs.Ends.{holds_armed, holds_initial, holds_stopped}
-use Rattle.qc_state.proofs.ReceivedMoves.{IsReceived, in_packet_received}
+use Rattle.qc_state.proofs.ReceivedMoves.{IsReceived}
 use Rattle.qc_state.proofs.Receives.{holds_datagram}
 use Rattle.qc_state.proofs.Expired.{IsTimed, holds_timeout}
-use Rattle.qc_state.proofs.Telling.{is_none_none, low_rank, open_rank}
-use Rattle.qc_state.proofs.Told.{loud_alive, closes_only}
+use Rattle.qc_state.proofs.Telling.{open_rank}
+use Rattle.qc_state.proofs.Transmitted.{IsSealable, IsSending, holds_transmit}
 
 -- ---- what is kept in a space, where one space changes
 
@@ -267,25 +258,6 @@ module _ {t : Types} where
 
   -- ---- inputs
 
-  -- a reason is given, or not
-  given_by : (id : SpaceId) (why : ConnectionError) (a : At t) (b : Bool) → is_none a.state.life.reason ≡ b → Knows id a (if b then move_to (Give why) a else a)
-  unfolding MayMove
-  given_by id why a true h = knows_move id (Give why) a (is_none_none a.state.life.reason h) tt
-  given_by id why a false h = knows_here id a
-
-  -- the connection ends at once
-  knows_killed : (id : SpaceId) (why : ConnectionError) (a : At t) → is_drained a.state.life.state ≡ false → Knows id a (killed_after why a)
-  unfolding killed_after given_after MayMove
-  knows_killed id why a h = knows_next id a (move_to (Raise state.Drained) a) _ (knows_move id (Raise state.Drained) a (low_rank a.state.life.state h) tt) (given_by id why (move_to (Raise state.Drained) a) _ refl)
-
-  -- nothing is sealed
-  quiet_by : (id : SpaceId) (why : ConnectionError) (a : At t) (x y z : Bool) → is_silent a.state ≡ x → Knows id a (if x then move_to (Say Silent) a else if y then (if z then move_to (Say Amplification) a else move_to (Say Killed) (killed_after why a)) else move_to (Say NothingOwed) a)
-  unfolding MayMove is_silent
-  quiet_by id why a true y z h = knows_move id (Say Silent) a tt tt
-  quiet_by id why a false true true h = knows_move id (Say Amplification) a tt tt
-  quiet_by id why a false true false h = knows_next id a (killed_after why a) _ (knows_killed id why a (loud_alive a.state.life.state a.state.waiting.close_owed h)) (knows_move id (Say Killed) (killed_after why a) tt tt)
-  quiet_by id why a false false z h = knows_move id (Say NothingOwed) a tt tt
-
   -- what is received seals nothing, and accepts what it says that it accepts
   received_knows : (x : Move t) (s : View t) → IsReceived x → IsKnowing x s
   received_knows (Forget id) s r = tt
@@ -315,50 +287,34 @@ module _ {t : Types} where
   received_knows (Give why) s r = tt
   received_knows _ s r = absurd r
 
-  -- this end closes behind a packet, or not
-  knows_spared : (id : SpaceId) (time : ℕ) (nearly : Bool) (a : At t) → Knows id a (spared_after time nearly a)
-  unfolding spared_after
-  knows_spared id time true a = holds_stopped (Knows id) (knows_here id) (knows_next id) (λ x r b may. knows_move id x b may (received_knows x b.state (in_packet_received x r))) time key_limit_error a
-  knows_spared id time false a = knows_here id a
+  -- what a transmit does beside sealing accepts nothing
+  sending_knows : (x : Move t) (s : View t) → IsSending x → IsKnowing x s
+  sending_knows (Begin id) s r = tt
+  sending_knows Skip s r = tt
+  sending_knows (Arm at) s r = tt
+  sending_knows (Forget id) s r = tt
+  sending_knows (Shut time close) s r = tt
+  sending_knows (Raise to) s r = tt
+  sending_knows (Give why) s r = tt
+  sending_knows (Say q) s r = tt
+  sending_knows _ s r = absurd r
 
-  -- the loss timer is set anew behind a packet in flight, or not
-  knows_flown : (id : SpaceId) (time : ℕ) (counts : Bool) (a : At t) → Knows id a (flown_after time counts a)
-  knows_flown id time true a = holds_armed (Knows id) (knows_here id) (knows_next id) (λ x r b may. knows_move id x b may (received_knows x b.state (in_packet_received x r))) false time a
-  knows_flown id time false a = knows_here id a
-
-  -- a packet is sealed
-  knows_sealed : (id space : SpaceId) (time : ℕ) (fs : List FrameValue) (a : At t) → ClosesOnly (rank_of a.state.life.state) fs → AcksOnly (IsKept space a.state.waiting) fs → Knows id a (sealed_in time space fs a)
-  unfolding sealed_in MayMove move_to state_move numbers_move life_move waiting_move
-  knows_sealed id space time fs a closes_now known =
+  -- a packet is taken and sealed
+  knows_packet : (id : SpaceId) (time : ℕ) (space : SpaceId) (fs : List FrameValue) (a : At t) → IsSealable time a.state space fs →
+      Knows id a (move_to (Seal time space (next_number a.state.numbers space) (packet_size a.state space fs) fs) (move_to (Take space fs) a))
+  unfolding MayMove move_to state_move numbers_move life_move waiting_move
+  knows_packet id time space fs a may =
       let b : At t = move_to (Take space fs) a in
-      let n : ℕ = next_number a.state.numbers space in
-      let size : ℕ = packet_size a.state space fs in
-      let c : At t = move_to (Seal time space n size fs) b in
-      let d : At t = flown_after time (is_flown a.state fs) c in
       let said : AcksOnly (IsKept space (waiting_without a.state.waiting space fs)) fs =
-      only_more (IsKept space a.state.waiting) (IsKept space (waiting_without a.state.waiting space fs)) (taken_kept space a.state.waiting fs) fs known in
+      only_more (IsKept space a.state.waiting) (IsKept space (waiting_without a.state.waiting space fs)) (taken_kept space a.state.waiting fs) fs (carries_known time a.state space fs may.carries) in
       knows_next id a b _ (knows_move id (Take space fs) a tt tt)
-      (knows_next id b c _ (knows_move id (Seal time space n size fs) b (refl, closes_now) said)
-      (knows_next id c d _ (knows_flown id time (is_flown a.state fs) c)
-      (holds_initial (Knows id) (knows_here id) (knows_next id) (λ x r e may. knows_move id x e may (received_knows x e.state (in_packet_received x r))) Client false time space d)))
+      (knows_move id (Seal time space (next_number a.state.numbers space) (packet_size a.state space fs) fs) b (refl, may.closes) said)
 
-  knows_packet : (id : SpaceId) (time : ℕ) (fs : List FrameValue) (a : At t) → MaySeal time a.state fs → Knows id a (packet_after time fs a)
-  unfolding packet_after MayMove
-  knows_packet id time fs a may =
-      let space : SpaceId = sending_space a.state in
-      let b : At t = begun_after space a in
-      let c : At t = sealed_in time space fs b in
-      let closes_now : ClosesOnly (rank_of b.state.life.state) fs = subst (λ (l : Life). ClosesOnly (rank_of l.state) fs) (sym (begun_life space a)) (closes_only time a.state fs may) in
-      let known : AcksOnly (IsKept space b.state.waiting) fs = subst (λ (s : View t). AcksOnly (IsKept space s.waiting) fs) (sym (begun_same a)) (carries_known time (begun_view a.state) space fs may.carries) in
-      knows_next id a b _ (holds_begun (Knows id) (knows_here id) (knows_next id) space a (λ x. knows_move id (Begin space) x tt tt) (λ x may_skip. knows_move id Skip x may_skip tt))
-      (knows_next id b c _ (knows_sealed id space time fs b closes_now known) (knows_spared id time (is_key_nearly_used_up a.state) c))
-
-  -- a transmit seals a packet or none
-  knows_transmit : (id : SpaceId) (time : ℕ) (ps : List (List FrameValue)) (a : At t) → MayTransmit time a.state ps → Knows id a (transmit_after time ps a)
-  unfolding MayTransmit transmit_after quiet_after owed_quiet_after
-  knows_transmit id time [] a may = quiet_by id (limit_met a.state) a (is_silent a.state) (owes a.state) (is_blocked a.state.paths) refl
-  knows_transmit id time (fs ∷ []) a may = knows_packet id time fs a may
-  knows_transmit id time (fs ∷ gs ∷ rest) a may = absurd may
+  -- a transmit
+  knows_transmit : (id : SpaceId) (time : ℕ) (choice : Choice) (a : At t) → MayTransmit time a.state choice → Knows id a (transmit_after time choice a)
+  knows_transmit id time choice a may =
+      holds_transmit (Knows id) (knows_here id) (knows_next id) (λ x sends b h. knows_move id x b h (sending_knows x b.state sends))
+      (λ at_time space fs b h. knows_packet id at_time space fs b h) time choice a may
 
   -- the application closes, or has closed before
   closed_by : (id : SpaceId) (time : ℕ) (close : Close) (a : At t) (b : Bool) → is_open a.state.life.state ≡ b → Knows id a (if b then move_to (Shut time close) a else a)
@@ -386,13 +342,13 @@ module _ {t : Types} where
   knows_timeout id m time a = holds_timeout (Knows id) (knows_here id) (knows_next id) (λ x timed b may. knows_move id x b may (timed_knows x b.state timed)) m time a
 
   -- each input
-  knows_input : (id : SpaceId) (m : Meaning t) (i : Input) (ds : List Did) (a : At t) → IsAllowed i ds a.state → Knows id a (input_after m i ds a)
+  knows_input : (id : SpaceId) (m : Meaning t) (i : Input) (choice : Choice) (a : At t) → IsAllowed i choice a.state → Knows id a (input_after m i choice a)
   unfolding IsAllowed input_after close_after MayMove
-  knows_input id m (input.Datagram time remote ecn bytes) ds a h = knows_datagram id m time ecn remote bytes a
-  knows_input id m (input.Timeout time) ds a h = knows_timeout id m time a
-  knows_input id m (input.Transmit time max) ds a h = knows_transmit id time (packets_of ds) a h
-  knows_input id m (input.Close time code reason) ds a h = closed_by id time _ a _ refl
-  knows_input id m (input.Ping time) ds a h = knows_move id (Ask a.state.keys.highest) a tt tt
+  knows_input id m (input.Datagram time remote ecn bytes) choice a h = knows_datagram id m time ecn remote bytes a
+  knows_input id m (input.Timeout time) choice a h = knows_timeout id m time a
+  knows_input id m (input.Transmit time max) choice a h = knows_transmit id time choice a h
+  knows_input id m (input.Close time code reason) choice a h = closed_by id time _ a _ refl
+  knows_input id m (input.Ping time) choice a h = knows_move id (Ask a.state.keys.highest) a tt tt
 
   -- ---- runs
 
@@ -406,8 +362,8 @@ module _ {t : Types} where
   unfolding called began step_after reported state_move waiting_move
   step_knows id m k s i x s' h =
       let a : At t = began s (time_of i) in
-      let b : At t = input_after m i x.did a in
-      let knows : Knows id a b = knows_input id m i x.did a h.allowed in
+      let b : At t = input_after m i h.choice a in
+      let knows : Knows id a b = knows_input id m i h.choice a h.allowed in
       let deeds : x.did ≡ knows.since = h.deeds ∙ knows.appended in
       let waiting : s'.waiting ≡ b.state.waiting = h.waiting in
       record {

@@ -5,11 +5,11 @@ use Rattle.std.specs.declared.net.SocketAddr.{SocketAddr}
 use Rattle.qc_base.specs.declared.ecn.EcnCodepoint.{EcnCodepoint}
 use Rattle.qc_base.specs.declared.side.SpaceId.TheVariants.{Initial}
 use Rattle.qc_header.specs.HeaderGrammar.{DatagramItem}
-use Rattle.qc_header.specs.Piece.{Piece, space_of}
+use Rattle.qc_header.specs.Piece.{Piece}
 use Rattle.qc_state.specs.declared.life.Close.{Close}
 use Rattle.qc_state.specs.declared.transmit.Transmit.{Transmit}
-use Rattle.qc_state.specs.Life.{is_open, is_over}
-use Rattle.qc_state.specs.Moves.{Move, Clock, Expect, Shut, MayMove, move_to, state_move, timers_move}
+use Rattle.qc_state.specs.Life.{is_open}
+use Rattle.qc_state.specs.Moves.{Move, Expect, Shut, MayMove, move_to, state_move, timers_move}
 use Rattle.qc_state.specs.Paths.{is_blocked}
 use Rattle.qc_state.specs.Receiving.{counted_after, cut_of, datagram_after, event_after, first_packet_after, lets_in, opened_first, piece_after, pieces_after}
 use Rattle.qc_state.specs.Run.{began, close_after}
@@ -17,7 +17,7 @@ use Rattle.qc_state.specs.Sending.{Transmits}
 use Rattle.qc_state.specs.Timeouts.{timeout_after}
 use Rattle.qc_state.specs.Timers.{clock_set}
 use Rattle.qc_state.specs.Types.{Types, Meaning}
-use Rattle.qc_state.specs.View.{View, At, at}
+use Rattle.qc_state.specs.View.{View, At}
 use Rattle.qc_state.proofs.Expired.{holds_timeout}
 use Rattle.qc_state.proofs.Receives.{holds_counted, holds_datagram, holds_pieces, holds_received}
 use Rattle.qc_state.proofs.Telling.{clock_kept, open_rank}
@@ -103,7 +103,7 @@ module _ {t : Types} where
   -- a transmit
   pub transmit_clock : (m : Meaning t) (time : ℕ) (s : View t) (b : At t) (sent : Option Transmit) (buffer : List ℕ) → Transmits m time (began s time) b sent buffer → b.state.timers.greatest ≡ max s.timers.greatest time
   transmit_clock m time s b sent buffer h =
-      ap (λ (x : At t). x.state.timers.greatest) h.leads ∙ (told_transmit Initial time h.packets (began s time) h.may).clock ∙ began_clock s time
+      ap (λ (x : At t). x.state.timers.greatest) h.leads ∙ (told_transmit Initial time h.choice (began s time) h.may).clock ∙ began_clock s time
 
   -- a close
   pub close_clock : (time code : ℕ) (reason : List ℕ) (s s' : View t) → s' ≡ (close_after time code reason (began s time)).state → s'.timers.greatest ≡ max s.timers.greatest time

@@ -247,8 +247,8 @@ module _ {t : Types} where
   unfolding called began state_move life_move
   step_tells m k s i x s' h w =
       let a : At t = began s (time_of i) in
-      let b : At t = input_after m i x.did a in
-      let kept : Keeps a b = holds_input Keeps here next move_keeps m i x.did a h.allowed in
+      let b : At t = input_after m i h.choice a in
+      let kept : Keeps a b = holds_input Keeps here next move_keeps m i h.choice a h.allowed in
       let deeds : kept.since ≡ x.did = sym (h.deeds ∙ kept.appended) in
       let waits : Waits x.did s.life b.state.life = subst (λ (ds : List Did). Waits ds s.life b.state.life) deeds (kept.waits w) in
       record {
@@ -260,7 +260,7 @@ module _ {t : Types} where
   -- and behind it nothing waits
   step_told : (m : Meaning t) (k : ℕ) (s : View t) (i : Input) (x : Step) (s' : View t) → IsStep m k s i x s' → untold_of s'.life ≡ all_told
   unfolding step_after
-  step_told m k s i x s' h = ap untold_of h.life ∙ reported_told (called m s i x.did).state
+  step_told m k s i x s' h = ap untold_of h.life ∙ reported_told (called m s i h.choice).state
 
 -- where nothing waits, only what came to pass does
 told_done : (v : Life) → untold_of v ≡ all_told → OnlyDoneWaits v

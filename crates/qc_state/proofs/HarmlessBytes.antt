@@ -57,6 +57,7 @@ use Rattle.qc_state.proofs.OpenPackets.{holds_fixed, holds_payload}
 use Rattle.qc_state.proofs.ReceivedMoves.{OpenPacket}
 use Rattle.qc_state.proofs.Receives.{holds_counted}
 use Rattle.qc_state.proofs.Telling.{told_appends}
+use Rattle.qc_state.specs.Sending.{Choice}
 
 -- of two tests that hold each holds
 first_holds : (a b : Bool) → (a && b) ≡ true → a ≡ true
@@ -562,24 +563,24 @@ module _ {t : Types} where
   tame_datagram m time mark remote bytes a = datagram_by m time mark remote bytes a (is_first_awaited a.state.setup)
 
   -- a call, before anything is reported
-  same_called : (m : Meaning t) (i : Input) (s : View t) (ds : List Did) → is_datagram i ≡ true → ds ≡ (called m s i ds).did → list_all is_harmless ds ≡ true → Same s (called m s i ds).state
+  same_called : (m : Meaning t) (i : Input) (s : View t) (choice : Choice) (ds : List Did) → is_datagram i ≡ true → ds ≡ (called m s i choice).did → list_all is_harmless ds ≡ true → Same s (called m s i choice).state
   unfolding called began input_after
-  same_called m (input.Datagram time remote ecn bytes) s ds is_one is_did h =
+  same_called m (input.Datagram time remote ecn bytes) s choice ds is_one is_did h =
       let a : At t = began s time in
       let b : At t = datagram_after m time ecn remote bytes a in
       let tame = tame_datagram m time ecn remote bytes a in
       same_next s a.state b.state (same_clock time s) (tame.same (subst (λ (es : List Did). list_all is_harmless es ≡ true) (is_did ∙ tame.appended) h))
-  same_called m (input.Timeout time) s ds is_one is_did h = cc
-  same_called m (input.Transmit time max) s ds is_one is_did h = cc
-  same_called m (input.Close time code reason) s ds is_one is_did h = cc
-  same_called m (input.Ping time) s ds is_one is_did h = cc
+  same_called m (input.Timeout time) s choice ds is_one is_did h = cc
+  same_called m (input.Transmit time max) s choice ds is_one is_did h = cc
+  same_called m (input.Close time code reason) s choice ds is_one is_did h = cc
+  same_called m (input.Ping time) s choice ds is_one is_did h = cc
 
   -- a step
   step_counts : (m : Meaning t) (k : ℕ) (s : View t) (i : Input) (x : Step) (s' : View t) → IsStep m k s i x s' → is_datagram i ≡ true → list_all is_harmless x.did ≡ true → OnlyCounts s s'
   unfolding step_after reported state_move numbers_move keys_move life_move paths_move timers_move waiting_move setup_move lower_move
   step_counts m k s i x s' h is_one harmless =
-      let b : At t = called m s i x.did in
-      let same = same_called m i s x.did is_one h.deeds harmless in
+      let b : At t = called m s i h.choice in
+      let same = same_called m i s h.choice x.did is_one h.deeds harmless in
       record {
         numbers = h.numbers ∙ same.numbers;
         keys = h.keys ∙ same.keys ∙ ap (λ (y : KeyGroup t.H t.P). record s.keys { failures = y.failures }) (sym h.keys);

@@ -10,6 +10,7 @@ module _ {t : Types} where
   -- a step at a later place
   step_behind : (m : Meaning t) (n k : ℕ) (s : View t) (i : Input) (x : Step) (s' : View t) → IsStep m k s i x s' → IsStep m (n + k) s i (record x { at = n + x.at }) s'
   step_behind m n k s i x s' h = record {
+    choice = h.choice;
     numbers = h.numbers;
     keys = h.keys;
     life = h.life;

@@ -1,41 +1,33 @@
 -- Over a run no key seals more packets than it may.
-use Rattle.std.proofs.Common.{◌≡◌, ℕ, ◌+◌, ◌≤◌, List, [], ◌∷◌, refl, sym, subst, Bool, true, false, Option, Some, None, if◌then◌else◌, arith}
+use Rattle.std.proofs.Common.{◌≡◌, ℕ, ◌+◌, ◌≤◌, List, [], ◌∷◌, sym, subst, Bool, true, false, Option, Some, None, if◌then◌else◌, arith}
 use Rattle.std.proofs.lemmas.Bool.Decides.{nat_tests}
-use Rattle.std.specs.Prelude.{is_none, nat_le}
+use Rattle.std.specs.Prelude.{nat_le}
 use Rattle.std.specs.Option.{option_map}
 use Rattle.qc_base.specs.Time.{plus}
-use Rattle.qc_base.specs.declared.side.Side.TheVariants.{Client}
 use Rattle.qc_base.specs.declared.side.SpaceId.{SpaceId}
 use Rattle.qc_base.specs.declared.side.SpaceId.TheVariants.{Initial, Handshake, «Data»}
 use Rattle.qc_frame.specs.Frame.{FrameValue}
 use Rattle.qc_rings.specs.Keyed.{keyed_sealed}
-use Rattle.qc_state.specs.declared.deeds.Did.{Did}
-use Rattle.qc_state.specs.declared.deeds.Quiet.TheVariants.{NothingOwed, Silent, Killed, Amplification}
 use Rattle.qc_state.specs.declared.input.Input.{Input}
 use Rattle.qc_state.specs.declared.input.Input.TheVariants as input
 use Rattle.qc_state.specs.declared.keys.KeyGroup.{KeyGroup}
 use Rattle.qc_state.specs.declared.keys.OneRttKeys.{OneRttKeys}
 use Rattle.qc_state.specs.declared.keys.SpaceKeys.{SpaceKeys}
 use Rattle.qc_state.specs.declared.life.Close.{Close}
-use Rattle.qc_state.specs.declared.life.ConnectionError.{ConnectionError}
-use Rattle.qc_state.specs.declared.life.State.TheVariants.{Drained}
 use Rattle.qc_state.specs.declared.trace.Step.{Step}
 use Rattle.qc_state.specs.KeyLaws.{IsWithinLimit, KeysHold}
 use Rattle.qc_state.specs.Keys.{NewKeys, NoKeys, HandshakeKeys, DataKeys, count_one, failure_counted, key_used, keys_dropped, keys_given, plain_usage, reaches_limit, ring_usage, ring_used, usage_of}
 use Rattle.qc_state.specs.Life.{is_open}
-use Rattle.qc_state.specs.Moves.{Move, Ask, Begin, Fail, Forget, Give, Raise, Say, Seal, Shut, Skip, Take, Write, keys_move, move_to, state_move}
+use Rattle.qc_state.specs.Moves.{Move, Ask, Fail, Forget, Seal, Shut, Take, Write, keys_move, move_to, state_move}
 use Rattle.qc_state.specs.Numbers.{next_number}
-use Rattle.qc_state.specs.Paths.{is_blocked}
-use Rattle.qc_state.specs.Run.{IsAllowed, IsStep, Run, began, called, close_after, input_after, packets_of, reported, step_after, time_of}
-use Rattle.qc_state.specs.Sending.{MayTransmit, begun_after, flown_after, initial_left, is_flown, is_key_nearly_used_up, is_key_used_up, is_silent, limit_met, owed_quiet_after, owes, packet_after, packet_size, quiet_after, sealed_in, sending_space, spared_after, transmit_after}
-use Rattle.qc_state.specs.Stopping.{given_after, key_limit_error, killed_after}
+use Rattle.qc_state.specs.Run.{IsAllowed, IsStep, Run, began, called, close_after, input_after, reported, step_after, time_of}
+use Rattle.qc_state.specs.Sending.{MayTransmit, packet_size, transmit_after, Choice}
 use Rattle.qc_state.specs.Types.{Types, Meaning}
 use Rattle.qc_state.specs.View.{View, At}
-use Rattle.qc_state.proofs.Begun.{begun_keys, holds_begun}
 use Rattle.qc_state.proofs.Expired.{IsTimed, holds_timeout}
-use Rattle.qc_state.proofs.Ends.{holds_armed, holds_initial, holds_stopped}
-use Rattle.qc_state.proofs.ReceivedMoves.{AreUnused, IsReceived, in_packet_received}
+use Rattle.qc_state.proofs.ReceivedMoves.{AreUnused, IsReceived}
 use Rattle.qc_state.proofs.Receives.{holds_datagram}
+use Rattle.qc_state.proofs.Transmitted.{IsSealable, IsSending, holds_transmit}
 
 -- a key that may seal one packet more has sealed no more than it may behind it
 once_more : (sealed limit : ℕ) → nat_le limit (sealed + 0) ≡ false → plus sealed 1 ≤ limit
@@ -103,10 +95,6 @@ module _ {t : Types} where
   IsSpare (Write bytes keys session) s = AreUnused keys
   IsSpare _ s = Unit {0}
 
-  -- the limit of a key is that of the keys alone
-  same_limit : (id : SpaceId) (s s' : View t) → s'.keys ≡ s.keys → reaches_limit 0 (usage_of s.keys id) ≡ false → reaches_limit 0 (usage_of s'.keys id) ≡ false
-  same_limit id s s' e h = subst (λ (k : KeyGroup t.H t.P). reaches_limit 0 (usage_of k id) ≡ false) (sym e) h
-
   -- what holds of the keys at one moment holds at another
   abbrev Keeps : At t → At t → Type 0
   Keeps a b = KeysHold a.state.keys → KeysHold b.state.keys
@@ -137,56 +125,24 @@ module _ {t : Types} where
   timed_spare (Seal time id n size fs) s r = absurd r
   timed_spare _ s r = tt
 
-  -- a transmit that seals nothing
-  quiet_by : (why : ConnectionError) (a : At t) (x y u z : Bool) →
-      let b : At t = move_to (Raise Drained) a in
-      (if x then move_to (Say Silent) a else if y then (if u then move_to (Say Amplification) a else move_to (Say Killed) (if z then move_to (Give why) b else b)) else move_to (Say NothingOwed) a).state.keys ≡ a.state.keys
+  sending_spare : (x : Move t) (s : View t) → IsSending x → IsSpare x s
+  sending_spare (Write bytes keys session) s r = absurd r
+  sending_spare (Seal time id n size fs) s r = absurd r
+  sending_spare _ s r = tt
+
+  -- a packet is taken and sealed
+  packet_keeps : (time : ℕ) (id : SpaceId) (fs : List FrameValue) (a : At t) → IsSealable time a.state id fs →
+      Keeps a (move_to (Seal time id (next_number a.state.numbers id) (packet_size a.state id fs) fs) (move_to (Take id fs) a))
   unfolding move_to state_move keys_move
-  quiet_by why a true y u z = refl
-  quiet_by why a false true true z = refl
-  quiet_by why a false true false true = refl
-  quiet_by why a false true false false = refl
-  quiet_by why a false false u z = refl
-
-  quiet_keeps : (a : At t) → Keeps a (quiet_after a)
-  unfolding quiet_after owed_quiet_after killed_after given_after
-  quiet_keeps a = λ h. subst KeysHold (sym (quiet_by (limit_met a.state) a (is_silent a.state) (owes a.state) (is_blocked a.state.paths) (is_none (move_to (Raise Drained) a).state.life.reason))) h
-
-  -- the loss timer is set anew behind a packet in flight, or not
-  flown_keeps : (time : ℕ) (counts : Bool) (a : At t) → Keeps a (flown_after time counts a)
-  flown_keeps time true a = holds_armed Keeps here next (λ x r d k. move_keeps x d (received_spare x d.state (in_packet_received x r))) false time a
-  flown_keeps time false a = here a
-
-  -- a packet is sealed
-  sealed_keeps : (time : ℕ) (id : SpaceId) (fs : List FrameValue) (a : At t) → reaches_limit 0 (usage_of a.state.keys id) ≡ false → Keeps a (sealed_in time id fs a)
-  unfolding sealed_in move_to state_move keys_move
-  sealed_keeps time id fs a fresh =
+  packet_keeps time id fs a may =
       let b : At t = move_to (Take id fs) a in
       let seal : Move t = Seal time id (next_number a.state.numbers id) (packet_size a.state id fs) fs in
-      let c : At t = move_to seal b in
-      let d : At t = flown_after time (is_flown a.state fs) c in
-      let e : At t = initial_left Client false time id d in
-      next a b e (move_keeps (Take id fs) a tt)
-      (next b c e (move_keeps seal b (same_limit id a.state b.state refl fresh))
-      (next c d e (flown_keeps time (is_flown a.state fs) c) (holds_initial Keeps here next (λ x r f k. move_keeps x f (received_spare x f.state (in_packet_received x r))) Client false time id d)))
+      next a b (move_to seal b) (move_keeps (Take id fs) a tt) (move_keeps seal b may.fresh)
 
-  -- this end closes behind a packet, or not
-  spared_keeps : (time : ℕ) (nearly : Bool) (a : At t) → Keeps a (spared_after time nearly a)
-  unfolding spared_after
-  spared_keeps time true a = holds_stopped Keeps here next (λ x r d k. move_keeps x d (received_spare x d.state (in_packet_received x r))) time key_limit_error a
-  spared_keeps time false a = here a
-
-  transmit_keeps : (time : ℕ) (ps : List (List FrameValue)) (a : At t) → MayTransmit time a.state ps → Keeps a (transmit_after time ps a)
-  unfolding MayTransmit transmit_after packet_after is_key_used_up
-  transmit_keeps time [] a may = quiet_keeps a
-  transmit_keeps time (fs ∷ []) a may =
-      let id : SpaceId = sending_space a.state in
-      let b : At t = begun_after id a in
-      let c : At t = sealed_in time id fs b in
-      let d : At t = spared_after time (is_key_nearly_used_up a.state) c in
-      next a b d (holds_begun Keeps here next id a (λ x. move_keeps (Begin id) x tt) (λ x k. move_keeps Skip x tt))
-      (next b c d (sealed_keeps time id fs b (same_limit id a.state b.state (begun_keys id a) may.fresh)) (spared_keeps time (is_key_nearly_used_up a.state) c))
-  transmit_keeps time (fs ∷ gs ∷ rest) a may = absurd may
+  -- a transmit
+  transmit_keeps : (time : ℕ) (choice : Choice) (a : At t) → MayTransmit time a.state choice → Keeps a (transmit_after time choice a)
+  transmit_keeps time choice a may =
+      holds_transmit Keeps here next (λ x r d k. move_keeps x d (sending_spare x d.state r)) (λ at_time id fs d k. packet_keeps at_time id fs d k) time choice a may
 
   -- the application closes, or has closed before
   closed_by : (time : ℕ) (close : Close) (a : At t) (b : Bool) → Keeps a (if b then move_to (Shut time close) a else a)
@@ -194,18 +150,18 @@ module _ {t : Types} where
   closed_by time close a false = here a
 
   -- each input
-  input_keeps : (m : Meaning t) (i : Input) (ds : List Did) (a : At t) → IsAllowed i ds a.state → Keeps a (input_after m i ds a)
+  input_keeps : (m : Meaning t) (i : Input) (choice : Choice) (a : At t) → IsAllowed i choice a.state → Keeps a (input_after m i choice a)
   unfolding IsAllowed input_after close_after
-  input_keeps m (input.Datagram time remote ecn bytes) ds a may = holds_datagram Keeps here next (λ x r d k. move_keeps x d (received_spare x d.state r)) m time ecn remote bytes a
-  input_keeps m (input.Timeout time) ds a may = holds_timeout Keeps here next (λ x r d k. move_keeps x d (timed_spare x d.state r)) m time a
-  input_keeps m (input.Transmit time max) ds a may = transmit_keeps time (packets_of ds) a may
-  input_keeps m (input.Close time code reason) ds a may = closed_by time _ a (is_open a.state.life.state)
-  input_keeps m (input.Ping time) ds a may = move_keeps (Ask a.state.keys.highest) a tt
+  input_keeps m (input.Datagram time remote ecn bytes) choice a may = holds_datagram Keeps here next (λ x r d k. move_keeps x d (received_spare x d.state r)) m time ecn remote bytes a
+  input_keeps m (input.Timeout time) choice a may = holds_timeout Keeps here next (λ x r d k. move_keeps x d (timed_spare x d.state r)) m time a
+  input_keeps m (input.Transmit time max) choice a may = transmit_keeps time choice a may
+  input_keeps m (input.Close time code reason) choice a may = closed_by time _ a (is_open a.state.life.state)
+  input_keeps m (input.Ping time) choice a may = move_keeps (Ask a.state.keys.highest) a tt
 
   -- a step
   step_keeps : (m : Meaning t) (k : ℕ) (s : View t) (i : Input) (x : Step) (s' : View t) → IsStep m k s i x s' → KeysHold s.keys → KeysHold s'.keys
   unfolding called began step_after reported state_move keys_move
-  step_keeps m k s i x s' h kept = subst KeysHold (sym h.keys) (input_keeps m i x.did (began s (time_of i)) h.allowed kept)
+  step_keeps m k s i x s' h kept = subst KeysHold (sym h.keys) (input_keeps m i h.choice (began s (time_of i)) h.allowed kept)
 
   -- a run, one step after the other
   pub run_keys_hold : (m : Meaning t) (k : ℕ) (s : View t) (is : List Input) (xs : List Step) (s' : View t) → Run m k s is xs s' → KeysHold s.keys → KeysHold s'.keys

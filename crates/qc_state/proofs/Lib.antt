@@ -32,5 +32,6 @@ mod ToldReceiving
 pub mod WaitingLemmas
 pub mod Skipping
 pub mod Taking
+pub mod Transmitted
 pub mod Ready
 pub mod WholeDatagrams

@@ -35,8 +35,8 @@ use Rattle.qc_state.specs.Headline.{deeds_of}
 use Rattle.qc_state.specs.PathLaws.{PathHolds, all_from, bytes_from, is_handshake_admitted}
 use Rattle.qc_state.specs.Paths.{is_blocked, path_accepted, path_idle, path_received, path_sent, path_spun, peer_fixed, same_address, spun_by}
 use Rattle.qc_state.specs.Receiving.{counted_after, cut_of, datagram_after, first_after, first_token, heard_after, is_readable, lets_in, pieces_after}
-use Rattle.qc_state.specs.Run.{IsAllowed, IsStep, Run, began, called, close_after, input_after, packets_of, reported, step_after, time_of}
-use Rattle.qc_state.specs.Sending.{MaySeal, MayTransmit, begun_after, drops_initial, flown_after, initial_left, is_flown, is_key_nearly_used_up, is_silent, limit_met, owed_quiet_after, owes, packet_after, packet_size, quiet_after, sealed_in, sending_space, spared_after, transmit_after}
+use Rattle.qc_state.specs.Run.{IsAllowed, IsStep, Run, began, called, close_after, input_after, reported, step_after, time_of}
+use Rattle.qc_state.specs.Sending.{MaySeal, MayTransmit, begun_after, drops_initial, flown_after, initial_left, is_flown, is_key_nearly_used_up, is_silent, limit_met, owed_quiet_after, owes, packet_after, packet_size, quiet_after, sealed_in, sending_space, spared_after, transmit_after, Choice}
 use Rattle.qc_state.specs.Stopping.{given_after, key_limit_error, killed_after, stopped_after}
 use Rattle.qc_state.specs.Setup.{is_first_awaited}
 use Rattle.qc_state.specs.Timeouts.{timeout_after}
@@ -383,7 +383,7 @@ module _ {t : Types} where
       (sym (path_spared time (is_key_nearly_used_up a.state) c ∙ path_sealed time id fs b ∙ ap (λ (p : Paths). path_sent p (packet_size b.state id fs)) (begun_paths id a)))
       (sent_path 0 ds a.state.paths (packet_size b.state id fs) small may.free)
 
-  path_transmit : (time : ℕ) (ps : List (List FrameValue)) (ds : List Did) (a : At t) → MayTransmit time a.state ps → PathHolds 0 ds a.state.paths (transmit_after time ps a).state.paths
+  path_transmit : (time : ℕ) (choice : Choice) (ds : List Did) (a : At t) → MayTransmit time a.state choice → PathHolds 0 ds a.state.paths (transmit_after time choice a).state.paths
   unfolding MayTransmit transmit_after
   path_transmit time [] ds a may = subst (λ (p : Paths). PathHolds 0 ds a.state.paths p) (sym (path_quiet a)) (idle_path 0 ds a.state.paths)
   path_transmit time (fs ∷ []) ds a may = path_packet time fs ds a may
@@ -412,21 +412,21 @@ module _ {t : Types} where
       subst (λ (p : Paths). PathHolds 0 ds a.state.paths p) (sym (holds_timeout (λ (b c : At t). c.state.paths ≡ b.state.paths) (λ b. refl) (λ b c d g h. h ∙ g) timed_paths m time a)) (unchanged 0 ds a.state.paths)
 
   -- each input
-  path_input : (m : Meaning t) (i : Input) (ds : List Did) (s : View t) → IsAllowed i ds s → let r : At t = input_after m i ds (at s []) in PathHolds (bytes_from s.paths.remote i) r.did s.paths r.state.paths
+  path_input : (m : Meaning t) (i : Input) (choice : Choice) (s : View t) → IsAllowed i choice s → let r : At t = input_after m i choice (at s []) in PathHolds (bytes_from s.paths.remote i) r.did s.paths r.state.paths
   unfolding IsAllowed input_after close_after move_to state_move paths_move
-  path_input m (input.Datagram time from ecn bytes) ds s may = path_datagram m time ecn from bytes s
-  path_input m (input.Timeout time) ds s may = path_timeout m time _ (at s [])
-  path_input m (input.Transmit time max) ds s may = path_transmit time (packets_of ds) _ (at s []) may
-  path_input m (input.Close time code reason) ds s may = path_close time _ _ (at s []) (is_open s.life.state)
-  path_input m (input.Ping time) ds s may = unchanged 0 _ s.paths
+  path_input m (input.Datagram time from ecn bytes) choice s may = path_datagram m time ecn from bytes s
+  path_input m (input.Timeout time) choice s may = path_timeout m time _ (at s [])
+  path_input m (input.Transmit time max) choice s may = path_transmit time choice _ (at s []) may
+  path_input m (input.Close time code reason) choice s may = path_close time _ _ (at s []) (is_open s.life.state)
+  path_input m (input.Ping time) choice s may = unchanged 0 _ s.paths
 
   -- a step
   path_step : (m : Meaning t) (k : ℕ) (s : View t) (i : Input) (x : Step) (s' : View t) → IsStep m k s i x s' → PathHolds (bytes_from s.paths.remote i) x.did s.paths s'.paths
   unfolding called began step_after reported state_move paths_move
   path_step m k s i x s' h =
-      let r : At t = input_after m i x.did (began s (time_of i)) in
+      let r : At t = input_after m i h.choice (began s (time_of i)) in
       subst (λ (ds : List Did). PathHolds (bytes_from s.paths.remote i) ds s.paths s'.paths) (sym h.deeds)
-      (subst (λ (p : Paths). PathHolds (bytes_from s.paths.remote i) r.did s.paths p) (sym h.paths) (path_input m i x.did (began s (time_of i)).state h.allowed))
+      (subst (λ (p : Paths). PathHolds (bytes_from s.paths.remote i) r.did s.paths p) (sym h.paths) (path_input m i h.choice (began s (time_of i)).state h.allowed))
 
   -- a run
   pub path_run : (m : Meaning t) (k : ℕ) (s : View t) (is : List Input) (xs : List Step) (s' : View t) → Run m k s is xs s' → PathHolds (all_from s.paths.remote is) (deeds_of xs) s.paths s'.paths

@@ -458,7 +458,7 @@ module _ {t : Types} where
   unfolding MayTransmit transmit_after transmit_of transmit_bytes transmit_with
   transmits_one m time a b sent buffer h e =
       record {
-        packets = h.frames ∷ [];
+        choice = h.frames ∷ [];
         may = h.may;
         leads = h.leads;
         answer = ap Some (e ∙ ap (λ (size : ℕ). transmit_with a.state size) h.full);
@@ -469,7 +469,7 @@ module _ {t : Types} where
   -- a transmit that seals none
   pub transmits_quiet : (m : Meaning t) (time : ℕ) (a b : At t) (buffer : List ℕ) → may_be_quiet a.state ≡ true → b ≡ quiet_after a → buffer ≡ [] → Transmits m time a b None buffer
   unfolding MayTransmit transmit_after transmit_of transmit_bytes
-  transmits_quiet m time a b buffer q l e = record { packets = []; may = q; leads = l; answer = refl; bytes = e; full = ap length e }
+  transmits_quiet m time a b buffer q l e = record { choice = []; may = q; leads = l; answer = refl; bytes = e; full = ap length e }
 
   -- once a datagram is begun, the next number is the one that was to come
   skip_number : (id : SpaceId) (a : At t) (b : Bool) → is_skipped a.state.numbers id ≡ b → next_number (if b then move_to Skip a else a).state.numbers id ≡ (if b then next_number a.state.numbers id + 1 else next_number a.state.numbers id)

@@ -1,128 +1,45 @@
 -- From a call and the reports after it to a step.
-use Rattle.std.specs.Prelude.{is_none}
-use Rattle.std.proofs.Common.{◌≡◌, ℕ, ◌+◌, ◌≤◌, List, [], ◌∷◌, ◌++◌, length, take, get_or, ◌<◌, refl, ap, sym, ◌∙◌, subst, Bool, true, false, Option, if◌then◌else◌, arith, length-append}
+use Rattle.std.proofs.Common.{◌≡◌, ℕ, ◌+◌, ◌≤◌, List, [], ◌∷◌, ◌++◌, length, take, get_or, ◌<◌, refl, ap, sym, ◌∙◌, subst, Bool, Option, if◌then◌else◌, arith, length-append}
 use Rattle.std.proofs.lemmas.List.{take_more}
 use Rattle.std.specs.Prelude.{option_to_list}
 use Rattle.std.specs.declared.net.SocketAddr.{SocketAddr}
 use Rattle.qc_base.specs.declared.ecn.EcnCodepoint.{EcnCodepoint}
-use Rattle.qc_frame.specs.Frame.{FrameValue}
 use Rattle.qc_state.specs.declared.deeds.Did.{Did}
-use Rattle.qc_state.specs.declared.deeds.Did.TheVariants as did
-use Rattle.qc_state.specs.declared.deeds.Quiet.TheVariants.{NothingOwed, Silent, Killed, Amplification}
-use Rattle.qc_state.specs.declared.life.State.TheVariants.{Drained}
-use Rattle.qc_base.specs.declared.side.Side.TheVariants.{Client}
-use Rattle.qc_base.specs.declared.side.SpaceId.{SpaceId}
-use Rattle.qc_base.specs.declared.side.SpaceId.TheVariants.{Initial}
 use Rattle.qc_state.specs.declared.events.EndpointEvent.{EndpointEvent}
 use Rattle.qc_state.specs.declared.events.Event.{Event}
 use Rattle.qc_state.specs.declared.input.Input.{Input}
 use Rattle.qc_state.specs.declared.input.Input.TheVariants as input
 use Rattle.qc_state.specs.declared.life.Close.{Close}
-use Rattle.qc_state.specs.declared.life.Close.TheVariants as close
-use Rattle.qc_state.specs.declared.life.ConnectionError.{ConnectionError}
-use Rattle.qc_state.specs.declared.life.ConnectionError.TheVariants as lost
 use Rattle.qc_state.specs.declared.trace.Answer.{Answer}
 use Rattle.qc_state.specs.declared.trace.Answer.TheVariants.{Done, Dropped}
 use Rattle.qc_state.specs.declared.trace.Step.{Step}
 use Rattle.qc_state.specs.declared.transmit.Transmit.{Transmit}
-use Rattle.qc_state.specs.Life.{is_open, ready_event, connected_event, lost_event, waiting_events, ready_reported, connected_reported, lost_reported, token_event, wanted_event, drained_event, token_reported, wanted_reported, endpoint_events}
-use Rattle.qc_state.specs.Moves.{Ask, Clock, Take, Seal, Forget, Shut, Raise, Give, Say, ReportReady, ReportConnected, ReportLost, ReportToken, ReportWanted, ReportDrained, state_move, move_to, deeds_move, life_move, armed_with}
-use Rattle.qc_state.specs.Run.{time_of, word_of, packets_of, began, close_after, input_after, called, reported, step_after, IsAllowed, out_of, answer_of, IsStep, Run, Calls, Ran, Adds}
-use Rattle.qc_state.specs.Numbers.{next_number}
+use Rattle.qc_state.specs.Life.{ready_event, connected_event, lost_event, waiting_events, ready_reported, connected_reported, lost_reported, token_event, wanted_event, drained_event, token_reported, wanted_reported, endpoint_events}
+use Rattle.qc_state.specs.Moves.{Ask, Clock, ReportReady, ReportConnected, ReportLost, ReportToken, ReportWanted, ReportDrained, state_move, move_to, deeds_move, life_move}
+use Rattle.qc_state.specs.Run.{time_of, word_of, began, close_after, input_after, called, reported, step_after, IsAllowed, out_of, answer_of, IsStep, Run, Calls, Ran, Adds}
 use Rattle.qc_state.specs.Receiving.{is_taken, datagram_after}
-use Rattle.qc_state.specs.Paths.{is_blocked}
-use Rattle.qc_state.specs.Sending.{is_key_nearly_used_up, limit_met, spared_after, quiet_after, packet_size, sending_space, begun_after, drops_initial, initial_left, is_flown, flown_after, sealed_in, packet_after, transmit_after, MayTransmit, transmit_bytes, transmit_of, Transmits, owed_quiet_after, is_silent, owes}
-use Rattle.qc_state.specs.Stopping.{given_after, key_limit_error, killed_after, stopped_after}
+use Rattle.qc_state.specs.Sending.{transmit_of, Transmits}
 use Rattle.qc_state.specs.Timeouts.{timeout_after}
 use Rattle.qc_state.specs.Timers.{next_timeout}
 use Rattle.qc_state.specs.Types.{Types, Meaning}
 use Rattle.qc_state.specs.View.{View, At, at}
-use Rattle.qc_state.proofs.Begun.{begun_did}
-
--- a deed behind others that seals nothing names no packet
-packets_behind : (ds : List Did) (d : Did) → packets_of (d ∷ []) ≡ [] → packets_of (ds ++ d ∷ []) ≡ packets_of ds
-packets_behind [] d h = h
-packets_behind (did.Sealed id n epoch early fs ∷ ds) d h = ap (λ (x : List (List FrameValue)). fs ∷ x) (packets_behind ds d h)
-packets_behind (did.Piece space number v ∷ ds) d h = packets_behind ds d h
-packets_behind (did.Gave layer body ∷ ds) d h = packets_behind ds d h
-packets_behind (did.Rose life ∷ ds) d h = packets_behind ds d h
-packets_behind (did.Lost why ∷ ds) d h = packets_behind ds d h
-packets_behind (did.Quiet why ∷ ds) d h = packets_behind ds d h
 
 module _ {t : Types} where
-  -- deeds that seal nothing name no packets, whichever they are
-  quiet_told : (s : View t) (why : ConnectionError) (x y u z : Bool) →
-      let b : At t = move_to (Raise Drained) (at s []) in
-      packets_of (if x then move_to (Say Silent) (at s []) else if y then (if u then move_to (Say Amplification) (at s []) else move_to (Say Killed) (if z then move_to (Give why) b else b)) else move_to (Say NothingOwed) (at s [])).did ≡ []
-  unfolding move_to deeds_move
-  quiet_told s why true y u z = refl
-  quiet_told s why false true true z = refl
-  quiet_told s why false true false true = refl
-  quiet_told s why false true false false = refl
-  quiet_told s why false false u z = refl
-
-  -- setting the loss timer tells nothing
-  flown_did : (time : ℕ) (b : Bool) (a : At t) → (flown_after time b a).did ≡ a.did
-  unfolding armed_with move_to deeds_move
-  flown_did time true a = refl
-  flown_did time false a = refl
-
-  -- nor does dropping keys
-  left_did : (time : ℕ) (a : At t) (b : Bool) → (if b then armed_with false time (move_to (Forget Initial) a) else a).did ≡ a.did
-  unfolding armed_with move_to deeds_move
-  left_did time a true = refl
-  left_did time a false = refl
-
-  -- that this end closes behind a packet names none
-  stopped_told : (time : ℕ) (as_told : Close) (why : ConnectionError) (a : At t) (x y : Bool) → let b : At t = move_to (Shut time as_told) a in
-      packets_of (if x then (if y then move_to (Give why) b else b) else a).did ≡ packets_of a.did
-  unfolding move_to deeds_move
-  stopped_told time as_told why a true true = packets_behind (a.did ++ did.Rose 2 ∷ []) (did.Lost why) refl ∙ packets_behind a.did (did.Rose 2) refl
-  stopped_told time as_told why a true false = packets_behind a.did (did.Rose 2) refl
-  stopped_told time as_told why a false y = refl
-
-  spared_told : (time : ℕ) (nearly : Bool) (a : At t) → packets_of (spared_after time nearly a).did ≡ packets_of a.did
-  unfolding spared_after stopped_after given_after
-  spared_told time true a =
-      let why : Close = close.Connection (record { error_code = key_limit_error.code; frame_type = key_limit_error.frame; reason = [] }) in
-      stopped_told time why (lost.TransportError key_limit_error) a (is_open a.state.life.state) (is_none (move_to (Shut time why) a).state.life.reason)
-  spared_told time false a = refl
-
-  -- a packet's deeds name it alone
-  packet_told : (time : ℕ) (s : View t) (id : SpaceId) (fs : List FrameValue) → packets_of (sealed_in time id fs (at s [])).did ≡ fs ∷ []
-  unfolding sealed_in initial_left move_to deeds_move
-  packet_told time s id fs =
-      let b : At t = move_to (Seal time id (next_number s.numbers id) (packet_size s id fs) fs) (move_to (Take id fs) (at s [])) in
-      let c : At t = flown_after time (is_flown s fs) b in
-      ap packets_of (left_did time c (drops_initial Client c.state id) ∙ flown_did time (is_flown s fs) b)
-
-  -- a transmit's deeds name the packets that it sealed
-  packets_told : (time : ℕ) (s : View t) (packets : List (List FrameValue)) → MayTransmit time s packets → packets_of (transmit_after time packets (at s [])).did ≡ packets
-  unfolding MayTransmit transmit_after quiet_after owed_quiet_after killed_after given_after packet_after move_to state_move deeds_move
-  packets_told time s [] may = quiet_told s (limit_met s) (is_silent s) (owes s) (is_blocked s.paths) (is_none (state_move (Raise Drained) s).life.reason)
-  packets_told time s (fs ∷ []) may =
-      let id : SpaceId = sending_space s in
-      let b : At t = begun_after id (at s []) in
-      spared_told time (is_key_nearly_used_up s) (sealed_in time id fs b)
-      ∙ subst (λ (ds : List Did). packets_of (sealed_in time id fs (at b.state ds)).did ≡ fs ∷ []) (sym (begun_did id (at s []))) (packet_told time b.state id fs)
-  packets_told time s (fs ∷ gs ∷ rest) may = absurd may
-
   pub calls_transmit : (m : Meaning t) (s : View t) (time max : ℕ) (b : At t) (sent : Option Transmit) (buffer : List ℕ) (answer : Answer) →
       Transmits m time (began s time) b sent buffer → answer ≡ out_of sent buffer → Calls m s (input.Transmit time max) b answer
   unfolding began input_after called IsAllowed answer_of
-  calls_transmit m s time max b sent buffer answer h e =
-      let names : packets_of b.did ≡ h.packets = ap (λ (x : At t). packets_of x.did) h.leads ∙ packets_told time (state_move (Clock time) s) h.packets h.may in
-      record {
-        leads = h.leads ∙ ap (λ (ps : List (List FrameValue)). transmit_after time ps (began s time)) (sym names);
-        allowed = subst (λ (ps : List (List FrameValue)). MayTransmit time (began s time).state ps) (sym names) h.may;
-        answers = e ∙ ap (λ (x : Option Transmit). out_of x buffer) h.answer ∙ ap (λ (x : List ℕ). out_of (transmit_of h.packets (began s time).state) x) h.bytes
-            ∙ ap (λ (ps : List (List FrameValue)). out_of (transmit_of ps (began s time).state) (transmit_bytes m ps (began s time).state)) (sym names);
-      }
+  calls_transmit m s time max b sent buffer answer h e = record {
+    choice = h.choice;
+    leads = h.leads;
+    allowed = h.may;
+    answers = e ∙ ap (λ (x : Option Transmit). out_of x buffer) h.answer ∙ ap (λ (x : List ℕ). out_of (transmit_of h.choice (began s time).state) x) h.bytes;
+  }
 
   pub calls_timeout : (m : Meaning t) (s mid : View t) (time : ℕ) (ds : List Did) (b : At t) (answer : Answer) →
       mid ≡ state_move (Clock time) s → ds ≡ [] → b ≡ timeout_after m time (at mid ds) → answer ≡ Done → Calls m s (input.Timeout time) b answer
   unfolding began input_after called IsAllowed answer_of
   calls_timeout m s mid time ds b answer is_mid is_ds is_b e = record {
+    choice = [];
     leads = is_b ∙ ap (λ (x : List Did). timeout_after m time (at mid x)) is_ds ∙ ap (λ (x : View t). timeout_after m time (at x [])) is_mid;
     allowed = tt;
     answers = e;
@@ -132,6 +49,7 @@ module _ {t : Types} where
       mid ≡ state_move (Clock time) s → b ≡ state_move (Ask mid.keys.highest) mid → ds ≡ [] → answer ≡ Done → Calls m s (input.Ping time) (at b ds) answer
   unfolding began input_after called IsAllowed answer_of move_to deeds_move
   calls_ping m s mid time b ds answer is_mid is_b is_ds e = record {
+    choice = [];
     leads = ap (λ (x : List Did). at b x) is_ds ∙ ap (λ (x : View t). at x []) (is_b ∙ ap (λ (x : View t). state_move (Ask x.keys.highest) x) is_mid);
     allowed = tt;
     answers = e;
@@ -141,6 +59,7 @@ module _ {t : Types} where
       mid ≡ state_move (Clock time) s → ds ≡ [] → copy ≡ reason → b ≡ close_after time code copy (at mid ds) → answer ≡ Done → Calls m s (input.Close time code reason) b answer
   unfolding began input_after called IsAllowed answer_of
   calls_close m s mid time code reason copy ds b answer is_mid is_ds is_copy is_b e = record {
+    choice = [];
     leads = is_b ∙ ap (λ (x : List ℕ). close_after time code x (at mid ds)) is_copy ∙ ap (λ (x : List Did). close_after time code reason (at mid x)) is_ds ∙ ap (λ (x : View t). close_after time code reason (at x [])) is_mid;
     allowed = tt;
     answers = e;
@@ -150,6 +69,7 @@ module _ {t : Types} where
       mid ≡ state_move (Clock time) s → ds ≡ [] → copy ≡ bytes → b ≡ datagram_after m time ecn remote copy (at mid ds) → begins ≡ is_taken m mid remote copy → answer ≡ (if begins then Done else Dropped) → Calls m s (input.Datagram time remote ecn bytes) b answer
   unfolding began input_after called IsAllowed answer_of
   calls_datagram m s mid time remote ecn bytes copy ds b begins answer is_mid is_ds is_copy is_b is_begins e = record {
+    choice = [];
     leads = is_b ∙ ap (λ (x : List ℕ). datagram_after m time ecn remote x (at mid ds)) is_copy ∙ ap (λ (x : List Did). datagram_after m time ecn remote bytes (at mid x)) is_ds ∙ ap (λ (x : View t). datagram_after m time ecn remote bytes (at x [])) is_mid;
     allowed = tt;
     answers = e ∙ ap (λ (x : Bool). if x then Done else Dropped) (is_begins ∙ ap (is_taken m mid remote) is_copy ∙ ap (λ (x : View t). is_taken m x remote bytes) is_mid);
@@ -188,9 +108,10 @@ module _ {t : Types} where
       x.timeout ≡ next_timeout s'.timers → x.at ≡ k → x.word ≡ word_of i → x.now ≡ time_of i → IsStep m k s i x s'
   unfolding step_after
   is_step m k s i x b s' forward h is_did is_s' is_events is_endpoint is_timeout is_at is_word is_now =
-      let same : b ≡ called m s i x.did = h.leads ∙ ap (λ (ds : List Did). called m s i ds) (sym is_did) in
-      let state : s' ≡ step_after m s i x.did = is_s' ∙ ap (λ (y : At t). reported y.state) same in
+      let same : b ≡ called m s i h.choice = h.leads in
+      let state : s' ≡ step_after m s i h.choice = is_s' ∙ ap (λ (y : At t). reported y.state) same in
       record {
+        choice = h.choice;
         numbers = ap (λ (v : View t). v.numbers) state;
         keys = ap (λ (v : View t). v.keys) state;
         life = ap (λ (v : View t). v.life) state;
@@ -201,8 +122,8 @@ module _ {t : Types} where
         lower = ap (λ (v : View t). v.lower) state;
         forward = forward;
         deeds = is_did ∙ ap (λ (y : At t). y.did) same;
-        allowed = subst (λ (ds : List Did). IsAllowed i ds (began s (time_of i)).state) (sym is_did) h.allowed;
-        answer = h.answers ∙ ap (λ (ds : List Did). answer_of m i ds (began s (time_of i)).state) (sym is_did);
+        allowed = h.allowed;
+        answer = h.answers;
         events = is_events ∙ ap (λ (y : At t). waiting_events y.state.life) same;
         endpoint = is_endpoint ∙ ap (λ (y : At t). endpoint_events y.state.life) same;
         timeout = is_timeout;

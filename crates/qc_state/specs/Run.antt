@@ -1,8 +1,5 @@
 -- The steps of a driven connection, and its runs: lists of steps, each beginning where the one before ended.
 use Rattle.std.specs.Prelude.{◌≡◌, ℕ, ◌+◌, ◌≤◌, List, [], ◌∷◌, ◌++◌, length, take, if◌then◌else◌, Option, Some, None}
-use Rattle.qc_frame.specs.Frame.{FrameValue}
-use Rattle.qc_state.specs.declared.deeds.Did.{Did}
-use Rattle.qc_state.specs.declared.deeds.Did.TheVariants as did
 use Rattle.qc_state.specs.declared.life.Close.TheVariants.{Application}
 use Rattle.qc_state.specs.declared.input.Input.{Input}
 use Rattle.qc_state.specs.declared.input.Input.TheVariants.{Datagram, Timeout, Transmit, Close, Ping}
@@ -15,7 +12,7 @@ use Rattle.qc_state.specs.declared.transmit.Transmit as transmit
 use Rattle.qc_state.specs.Life.{is_open, waiting_events, endpoint_events}
 use Rattle.qc_state.specs.Moves.{Clock, Ask, Shut, ReportReady, ReportConnected, ReportLost, ReportToken, ReportWanted, ReportDrained, move_to, state_move}
 use Rattle.qc_state.specs.Receiving.{is_taken, datagram_after}
-use Rattle.qc_state.specs.Sending.{MayTransmit, transmit_after, transmit_bytes, transmit_of}
+use Rattle.qc_state.specs.Sending.{Choice, MayTransmit, transmit_after, transmit_bytes, transmit_of}
 use Rattle.qc_state.specs.Timeouts.{timeout_after}
 use Rattle.qc_state.specs.Timers.{next_timeout}
 use Rattle.qc_state.specs.Types.{Types, Meaning}
@@ -37,12 +34,6 @@ word_of (Transmit time max) = word.Transmit
 word_of (Close time code reason) = word.Close
 word_of (Ping time) = word.Ping
 
--- the frames of the packets that the deeds name
-abbrev pub packets_of : List Did → List (List FrameValue)
-packets_of [] = []
-packets_of (did.Sealed id n epoch early fs ∷ ds) = fs ∷ packets_of ds
-packets_of (_ ∷ ds) = packets_of ds
-
 -- what a transmit answers
 abbrev pub out_of : Option transmit.Transmit → List ℕ → Answer
 out_of None bytes = Nothing
@@ -57,58 +48,60 @@ module _ {t : Types} where
   unfoldable pub close_after : ℕ → ℕ → List ℕ → At t → At t
   close_after time code reason a = if is_open a.state.life.state then move_to (Shut time (Application (record { error_code = code; reason = reason }))) a else a
 
-  -- what an input leaves before anything is reported: a function of the view and, for a transmit, of the packets that
+  -- what an input leaves before anything is reported: a function of the view and, for a transmit, of its choice, whose packets
   -- the deeds name
-  unfoldable pub input_after : Meaning t → Input → List Did → At t → At t
-  input_after m (Datagram time remote ecn bytes) ds a = datagram_after m time ecn remote bytes a
-  input_after m (Timeout time) ds a = timeout_after m time a
-  input_after m (Transmit time max) ds a = transmit_after time (packets_of ds) a
-  input_after m (Close time code reason) ds a = close_after time code reason a
-  input_after m (Ping time) ds a = move_to (Ask a.state.keys.highest) a
+  unfoldable pub input_after : Meaning t → Input → Choice → At t → At t
+  input_after m (Datagram time remote ecn bytes) choice a = datagram_after m time ecn remote bytes a
+  input_after m (Timeout time) choice a = timeout_after m time a
+  input_after m (Transmit time max) choice a = transmit_after time choice a
+  input_after m (Close time code reason) choice a = close_after time code reason a
+  input_after m (Ping time) choice a = move_to (Ask a.state.keys.highest) a
 
-  unfoldable pub called : Meaning t → View t → Input → List Did → At t
-  called m s i ds = input_after m i ds (began s (time_of i))
+  unfoldable pub called : Meaning t → View t → Input → Choice → At t
+  called m s i choice = input_after m i choice (began s (time_of i))
 
   -- whatever waited to be reported was reported
   unfoldable pub reported : View t → View t
   reported s = state_move ReportDrained (state_move ReportWanted (state_move ReportToken (state_move ReportLost (state_move ReportConnected (state_move ReportReady s)))))
 
   -- the view after a step
-  unfoldable pub step_after : Meaning t → View t → Input → List Did → View t
-  step_after m s i ds = reported (called m s i ds).state
+  unfoldable pub step_after : Meaning t → View t → Input → Choice → View t
+  step_after m s i choice = reported (called m s i choice).state
 
   -- what an input may do
-  unfoldable pub IsAllowed : Input → List Did → View t → Type 0
-  IsAllowed (Datagram time remote ecn bytes) ds s = Unit {0}
-  IsAllowed (Timeout time) ds s = Unit {0}
-  IsAllowed (Transmit time max) ds s = MayTransmit time s (packets_of ds)
-  IsAllowed (Close time code reason) ds s = Unit {0}
-  IsAllowed (Ping time) ds s = Unit {0}
+  unfoldable pub IsAllowed : Input → Choice → View t → Type 0
+  IsAllowed (Datagram time remote ecn bytes) choice s = Unit {0}
+  IsAllowed (Timeout time) choice s = Unit {0}
+  IsAllowed (Transmit time max) choice s = MayTransmit time s choice
+  IsAllowed (Close time code reason) choice s = Unit {0}
+  IsAllowed (Ping time) choice s = Unit {0}
 
   -- what an input answers
-  unfoldable pub answer_of : Meaning t → Input → List Did → View t → Answer
-  answer_of m (Datagram time remote ecn bytes) ds s = if is_taken m s remote bytes then Done else Dropped
-  answer_of m (Timeout time) ds s = Done
-  answer_of m (Transmit time max) ds s = out_of (transmit_of (packets_of ds) s) (transmit_bytes m (packets_of ds) s)
-  answer_of m (Close time code reason) ds s = Done
-  answer_of m (Ping time) ds s = Done
+  unfoldable pub answer_of : Meaning t → Input → Choice → View t → Answer
+  answer_of m (Datagram time remote ecn bytes) choice s = if is_taken m s remote bytes then Done else Dropped
+  answer_of m (Timeout time) choice s = Done
+  answer_of m (Transmit time max) choice s = out_of (transmit_of choice s) (transmit_bytes m choice s)
+  answer_of m (Close time code reason) choice s = Done
+  answer_of m (Ping time) choice s = Done
 
-  -- one step: how each group of the view changes, and what is told
+  -- one step: how each group of the view changes, and what is told. A transmit has its choice, one for all that is said here; no other
+  -- input reads it.
   pub record IsStep (m : Meaning t) (k : ℕ) (s : View t) (i : Input) (x : Step) (s' : View t) : Type 0 where
-    pub numbers : s'.numbers ≡ (step_after m s i x.did).numbers
-    pub keys : s'.keys ≡ (step_after m s i x.did).keys
-    pub life : s'.life ≡ (step_after m s i x.did).life
-    pub paths : s'.paths ≡ (step_after m s i x.did).paths
-    pub timers : s'.timers ≡ (step_after m s i x.did).timers
-    pub waiting : s'.waiting ≡ (step_after m s i x.did).waiting
-    pub setup : s'.setup ≡ (step_after m s i x.did).setup
-    pub lower : s'.lower ≡ (step_after m s i x.did).lower
+    pub choice : Choice
+    pub numbers : s'.numbers ≡ (step_after m s i choice).numbers
+    pub keys : s'.keys ≡ (step_after m s i choice).keys
+    pub life : s'.life ≡ (step_after m s i choice).life
+    pub paths : s'.paths ≡ (step_after m s i choice).paths
+    pub timers : s'.timers ≡ (step_after m s i choice).timers
+    pub waiting : s'.waiting ≡ (step_after m s i choice).waiting
+    pub setup : s'.setup ≡ (step_after m s i choice).setup
+    pub lower : s'.lower ≡ (step_after m s i choice).lower
     pub forward : s.timers.greatest ≤ time_of i
-    pub deeds : x.did ≡ (called m s i x.did).did
-    pub allowed : IsAllowed i x.did (began s (time_of i)).state
-    pub answer : x.answer ≡ answer_of m i x.did (began s (time_of i)).state
-    pub events : x.events ≡ waiting_events (called m s i x.did).state.life
-    pub endpoint : x.endpoint ≡ endpoint_events (called m s i x.did).state.life
+    pub deeds : x.did ≡ (called m s i choice).did
+    pub allowed : IsAllowed i choice (began s (time_of i)).state
+    pub answer : x.answer ≡ answer_of m i choice (began s (time_of i)).state
+    pub events : x.events ≡ waiting_events (called m s i choice).state.life
+    pub endpoint : x.endpoint ≡ endpoint_events (called m s i choice).state.life
     pub timeout : x.timeout ≡ next_timeout s'.timers
     pub place : x.at ≡ k
     pub word : x.word ≡ word_of i
@@ -128,9 +121,10 @@ placed_behind n (x ∷ xs) = record x { at = n + x.at } ∷ placed_behind n xs
 module _ {t : Types} where
   -- what a call makes of an input, before anything is reported, and its answer
   pub record Calls (m : Meaning t) (s : View t) (i : Input) (b : At t) (answer : Answer) : Type 0 where
-    pub leads : b ≡ called m s i b.did
-    pub allowed : IsAllowed i b.did (began s (time_of i)).state
-    pub answers : answer ≡ answer_of m i b.did (began s (time_of i)).state
+    pub choice : Choice
+    pub leads : b ≡ called m s i choice
+    pub allowed : IsAllowed i choice (began s (time_of i)).state
+    pub answers : answer ≡ answer_of m i choice (began s (time_of i)).state
 
   -- a run over the first inputs, as many as there are steps
   pub record Ran (m : Meaning t) (k : ℕ) (s : View t) (is : List Input) (xs : List Step) : Type 0 where

@@ -86,6 +86,10 @@ abbrev pub IsKeptReason : ℕ → (kept : List ℕ) → Option Close → Type 0
 IsKeptReason room kept (Some (Application c)) = IsLongestReason (frames.ApplicationClose (told_application_code c.error_code)) c.reason room kept
 IsKeptReason room kept _ = kept ≡ []
 
+-- the choice of a transmit: the frames of the packets that it seals
+abbrev pub Choice : Type 0
+Choice = List (List FrameValue)
+
 -- how many bytes a transmit gives
 abbrev pub sent_size : Option Transmit → ℕ
 sent_size None = 0
@@ -307,19 +311,19 @@ module _ {t : Types} where
       else move_to (Say NothingOwed) a
 
   -- what a transmit leaves that seals these packets
-  unfoldable pub transmit_after : ℕ → List (List FrameValue) → At t → At t
+  unfoldable pub transmit_after : ℕ → Choice → At t → At t
   transmit_after time [] a = quiet_after a
   transmit_after time (fs ∷ _) a = packet_after time fs a
 
   -- which packets a transmit may seal: one with something owed, and none only where the end came before, nothing is owed, the path
   -- is blocked, or a limit stands
-  unfoldable pub MayTransmit : ℕ → View t → List (List FrameValue) → Type 0
+  unfoldable pub MayTransmit : ℕ → View t → Choice → Type 0
   MayTransmit time s [] = may_be_quiet s ≡ true
   MayTransmit time s (fs ∷ []) = MaySeal time s fs
   MayTransmit time s _ = ⊥
 
   -- the bytes of the datagrams
-  unfoldable pub transmit_bytes : Meaning t → List (List FrameValue) → View t → List ℕ
+  unfoldable pub transmit_bytes : Meaning t → Choice → View t → List ℕ
   transmit_bytes m [] s = []
   transmit_bytes m (fs ∷ _) s = packet_bytes m (begun_view s) (sending_space s) fs
 
@@ -334,7 +338,7 @@ module _ {t : Types} where
   }
 
   -- where the datagrams go, and how; none where nothing was sealed
-  unfoldable pub transmit_of : List (List FrameValue) → View t → Option Transmit
+  unfoldable pub transmit_of : Choice → View t → Option Transmit
   transmit_of [] s = None
   transmit_of (fs ∷ _) s = Some (transmit_with s (packet_size (begun_view s) (sending_space s) fs))
 
@@ -348,9 +352,9 @@ module _ {t : Types} where
 
   -- a transmit into an empty buffer
   pub record Transmits (m : Meaning t) (time : ℕ) (a b : At t) (sent : Option Transmit) (buffer : List ℕ) : Type 0 where
-    pub packets : List (List FrameValue)
-    pub may : MayTransmit time a.state packets
-    pub leads : b ≡ transmit_after time packets a
-    pub answer : sent ≡ transmit_of packets a.state
-    pub bytes : buffer ≡ transmit_bytes m packets a.state
+    pub choice : Choice
+    pub may : MayTransmit time a.state choice
+    pub leads : b ≡ transmit_after time choice a
+    pub answer : sent ≡ transmit_of choice a.state
+    pub bytes : buffer ≡ transmit_bytes m choice a.state
     pub full : length buffer ≡ sent_size sent
