@@ -13,6 +13,7 @@ pub mod EventsTold
 pub mod Expansions
 pub mod Ends
 pub mod Expired
+mod Gifts
 pub mod HarmlessBytes
 pub mod Inputs
 pub mod Joins

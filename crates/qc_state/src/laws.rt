@@ -17,13 +17,14 @@ ghost use Rattle.qc_state.specs.PathLaws.{PathHolds, all_from};
 ghost use Rattle.qc_state.specs.Paths.{same_address};
 ghost use Rattle.qc_state.specs.PieceLaws.{TellsDatagram, TellsPiece, piece_deed, piece_gifts};
 ghost use Rattle.qc_state.specs.Receiving.{datagram_after, event_after, first_packet_after, first_token, piece_after};
-ghost use Rattle.qc_state.specs.Run.{Run, placed_behind};
+ghost use Rattle.qc_state.specs.Run.{IsStep, Run, began, placed_behind};
 ghost use Rattle.qc_state.specs.Setup.{is_first_awaited};
 ghost use Rattle.qc_state.specs.Types.{meaning};
 ghost use Rattle.qc_state.specs.View.{View, At, at};
 ghost use Rattle.qc_state.specs.declared.deeds.Did.{Did};
 ghost use Rattle.qc_state.specs.declared.deeds.Did.TheVariants as did;
 ghost use Rattle.qc_state.specs.declared.input.Input.{Input};
+ghost use Rattle.qc_state.specs.declared.input.Input.TheVariants as input;
 ghost use Rattle.qc_state.specs.declared.opening.Opening.TheVariants.{Opened};
 ghost use Rattle.qc_state.specs.declared.trace.Step.{Step};
 
@@ -100,6 +101,13 @@ pub fn packets_tell<U: Suite>()
 /// A law, which runs no code. What a datagram tells is what its packets tell, one after the other, or nothing where it is dropped.
 pub fn datagrams_tell<U: Suite>()
     ensures { (a : At (record { S = U.Session; H = U.Session.HeaderKey; P = U.Session.PacketKey; D = U.Session.HandshakeData; I = U.Session.PeerIdentity; C = U.Control.Controller })) (time : ℕ) (mark : Option EcnCodepoint) (remote : SocketAddr) (bytes : List ℕ) → TellsDatagram (meaning U.Session.Session U.Session.HeaderKey.HeaderMask U.Session.PacketKey.PacketKey U.Control.Controller.Controller) time mark bytes a (datagram_after (meaning U.Session.Session U.Session.HeaderKey.HeaderMask U.Session.PacketKey.PacketKey U.Control.Controller.Controller) time mark remote bytes a) }
+{}
+
+/// A law, which runs no code. So it is in a run: the deeds of a step over a datagram are what the datagram tells, from where the call
+/// began. Each number that the step accepts is that of a packet of this datagram which opened, and each frame that is told as
+/// given stands behind such a packet, and in its payload.
+pub fn steps_tell<U: Suite>()
+    ensures { (s s' : View (record { S = U.Session; H = U.Session.HeaderKey; P = U.Session.PacketKey; D = U.Session.HandshakeData; I = U.Session.PeerIdentity; C = U.Control.Controller })) (k time : ℕ) (remote : SocketAddr) (mark : Option EcnCodepoint) (bytes : List ℕ) (x : Step) → IsStep (meaning U.Session.Session U.Session.HeaderKey.HeaderMask U.Session.PacketKey.PacketKey U.Control.Controller.Controller) k s (input.Datagram time remote mark bytes) x s' → TellsDatagram (meaning U.Session.Session U.Session.HeaderKey.HeaderMask U.Session.PacketKey.PacketKey U.Control.Controller.Controller) time mark bytes (began s time) (at s' x.did) }
 {}
 
 /// A law, which runs no code. A datagram whose first packet was cut from it, as the connection cuts it, does what it does as a

@@ -34,7 +34,7 @@ pub use keys::{KeyGroup, KeyUse, OneRttKeys, SpaceKeys};
 pub use laws::{
     acks_were_accepted, datagrams_keep, datagrams_tell, events_are_datagrams, events_told,
     first_packets_are_datagrams, harmless_bytes, keys_hold, numbers_count_once, packets_tell,
-    paths_hold, runs_join,
+    paths_hold, runs_join, steps_tell,
 };
 pub use life::{
     ApplicationClose, Close, ConnectionClose, ConnectionError, Life, PeerToken, State, Wanted,
