@@ -88,24 +88,26 @@ pub fn datagrams_keep<U: Suite>()
     ensures { (s : View (record { S = U.Session; H = U.Session.HeaderKey; P = U.Session.PacketKey; D = U.Session.HandshakeData; I = U.Session.PeerIdentity; C = U.Control.Controller })) (time : ℕ) (mark : Option EcnCodepoint) (from : SocketAddr) (bytes : List ℕ) → let r : At (record { S = U.Session; H = U.Session.HeaderKey; P = U.Session.PacketKey; D = U.Session.HandshakeData; I = U.Session.PeerIdentity; C = U.Control.Controller }) = datagram_after (meaning U.Session.Session U.Session.HeaderKey.HeaderMask U.Session.PacketKey.PacketKey U.Control.Controller.Controller) time mark from bytes (at s []) in DatagramHolds (if same_address s.paths.remote from then length bytes else 0) r.did s r.state }
 {}
 
-/// A law, which runs no code. The deeds of a packet that came begin with the one that tells of it, and no other tells of a packet: it has
-/// a number only where the packet opened, and that is the packet's, with the first verdict whose row holds. Behind it, what is
-/// given to the layers is what the applied frames of the packet's payload give, in order, if it is admitted, and nothing else:
-/// those are its frames up to the first that stops it, or outside of 1-RTT packets up to and with the first close (RFC 9000,
-/// 10.2.2 and 12.4). The session is given, in one call a CRYPTO frame, the bytes of the space's stream that can be read in order
-/// once that frame's came; any other layer the frame as it is spelled.
+/// A law, which runs no code. The deeds of a packet that came begin with the one that tells of it, and no other
+/// tells of a packet: it has a number only where the packet opened, and that is the packet's, with the first
+/// verdict whose row holds. Behind it, what is given to the layers is what the applied frames of the packet's
+/// payload give, in order, if it is admitted, and nothing else: those are its frames up to the first that stops it,
+/// or outside of 1-RTT packets up to and with the first close (RFC 9000, 10.2.2 and 12.4). The session is given, in
+/// one call a CRYPTO frame, the bytes of the space's stream that can be read in order once that frame's came; any
+/// other layer the frame as it is spelled.
 pub fn packets_tell<U: Suite>()
     ensures { (a : At (record { S = U.Session; H = U.Session.HeaderKey; P = U.Session.PacketKey; D = U.Session.HandshakeData; I = U.Session.PeerIdentity; C = U.Control.Controller })) (time : ℕ) (mark : Option EcnCodepoint) (p : Piece) → TellsPiece (piece_deed (meaning U.Session.Session U.Session.HeaderKey.HeaderMask U.Session.PacketKey.PacketKey U.Control.Controller.Controller) a.state p) (piece_gifts (meaning U.Session.Session U.Session.HeaderKey.HeaderMask U.Session.PacketKey.PacketKey U.Control.Controller.Controller) a.state p) a (piece_after (meaning U.Session.Session U.Session.HeaderKey.HeaderMask U.Session.PacketKey.PacketKey U.Control.Controller.Controller) time mark p a) }
 {}
 
-/// A law, which runs no code. What a datagram tells is what its packets tell, one after the other, or nothing where it is dropped.
+/// A law, which runs no code. What a datagram tells is what its packets tell, one after the other, or nothing where
+/// it is dropped.
 pub fn datagrams_tell<U: Suite>()
     ensures { (a : At (record { S = U.Session; H = U.Session.HeaderKey; P = U.Session.PacketKey; D = U.Session.HandshakeData; I = U.Session.PeerIdentity; C = U.Control.Controller })) (time : ℕ) (mark : Option EcnCodepoint) (remote : SocketAddr) (bytes : List ℕ) → TellsDatagram (meaning U.Session.Session U.Session.HeaderKey.HeaderMask U.Session.PacketKey.PacketKey U.Control.Controller.Controller) time mark bytes a (datagram_after (meaning U.Session.Session U.Session.HeaderKey.HeaderMask U.Session.PacketKey.PacketKey U.Control.Controller.Controller) time mark remote bytes a) }
 {}
 
-/// A law, which runs no code. So it is in a run: the deeds of a step over a datagram are what the datagram tells, from where the call
-/// began. Each number that the step accepts is that of a packet of this datagram which opened, and each frame that is told as
-/// given stands behind such a packet, and in its payload.
+/// A law, which runs no code. So it is in a run: the deeds of a step over a datagram are what the datagram tells,
+/// from where the call began. Each number that the step accepts is that of a packet of this datagram which opened,
+/// and each frame that is told as given stands behind such a packet, and in its payload.
 pub fn steps_tell<U: Suite>()
     ensures { (s s' : View (record { S = U.Session; H = U.Session.HeaderKey; P = U.Session.PacketKey; D = U.Session.HandshakeData; I = U.Session.PeerIdentity; C = U.Control.Controller })) (k time : ℕ) (remote : SocketAddr) (mark : Option EcnCodepoint) (bytes : List ℕ) (x : Step) → IsStep (meaning U.Session.Session U.Session.HeaderKey.HeaderMask U.Session.PacketKey.PacketKey U.Control.Controller.Controller) k s (input.Datagram time remote mark bytes) x s' → TellsDatagram (meaning U.Session.Session U.Session.HeaderKey.HeaderMask U.Session.PacketKey.PacketKey U.Control.Controller.Controller) time mark bytes (began s time) (at s' x.did) }
 {}
