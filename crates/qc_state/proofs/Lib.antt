@@ -18,6 +18,8 @@ pub mod HarmlessBytes
 pub mod Inputs
 pub mod Joins
 pub mod KeysHold
+pub mod MarksKept
+pub mod MarksTold
 pub mod OnlyOnce
 pub mod PathsHold
 pub mod PieceLaws

@@ -252,7 +252,7 @@ module _ {t : Types} (m : Meaning t) (o : OpenPacket) (R : At t → At t → Typ
   unfolding read_for_close MayMove move_to state_move life_move
   holds_closing a judged new closed =
       let b : At t = move_to (Enter o.space o.number verdict.ReadForClose) a in
-      next a b _ (move (Enter o.space o.number verdict.ReadForClose) a (record { space = refl; same = refl; judged = judged }) (new, refl))
+      next a b _ (move (Enter o.space o.number verdict.ReadForClose) a (refl, record { space = refl; same = refl; judged = judged }) (new, refl))
       (closing_by b (list_any is_close_item (items_of o.payload)) (closed_rank a.state.life.state closed))
 
   -- it is accepted
@@ -280,7 +280,7 @@ module _ {t : Types} (m : Meaning t) (o : OpenPacket) (R : At t → At t → Typ
   verdict_by verdict.BadBits a judged new closed = here a
   verdict_by verdict.Seen a judged new closed = move (Tell (did.Piece (Some o.space) (Some o.number) verdict.Seen)) a (refl, refl, refl, sym judged) refl
   verdict_by verdict.ReadForClose a judged new closed = holds_closing a judged (new refl) (closed refl)
-  verdict_by verdict.NumberOnly a judged new closed = move (Enter o.space o.number verdict.NumberOnly) a (record { space = refl; same = refl; judged = judged }) (new refl, refl)
+  verdict_by verdict.NumberOnly a judged new closed = move (Enter o.space o.number verdict.NumberOnly) a (refl, record { space = refl; same = refl; judged = judged }) (new refl, refl)
   verdict_by verdict.AckOnly a judged new closed = holds_accepted false verdict.AckOnly a judged (new refl) refl refl
   verdict_by verdict.Admitted a judged new closed = holds_admitted a judged (new refl)
 

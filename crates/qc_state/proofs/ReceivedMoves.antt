@@ -246,7 +246,7 @@ module _ {t : Types} where
 
   -- the moves that this packet makes, where it makes them
   abbrev pub IsInPacket : Meaning t → OpenPacket → Move t → View t → Type 0
-  IsInPacket m o (Enter id n v) s = IsJudged o id n v s
+  IsInPacket m o (Enter id n v) s = (accepts v ≡ false) × IsJudged o id n v s
   IsInPacket m o (Accept time id n e g v) s = (time ≡ o.time) × (g ≡ o.signs) × (accepts v ≡ true) × IsJudged o id n v s
   IsInPacket m o (Fix cid) s = cid ≡ o.source
   IsInPacket m o (Ack id n r) s = IsSettledOf m o id n r s

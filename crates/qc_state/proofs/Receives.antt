@@ -45,11 +45,12 @@ IsPieceOf p (Ok q ∷ items) = (q ≡ p) ⊎ IsPieceOf p items
 IsPieceOf p (Err fault ∷ items) = ⊥
 
 module _ {t : Types} where
-  -- a packet that came opened: its form has this space, and its protection came off with this source id, token, number and payload
-  pub record IsOpened (m : Meaning t) (s : View t) (p : Piece) (o : OpenPacket) : Type 0 where
+  -- a packet of a datagram with this mark opened: its form has this space, and its protection came off with this source id, token,
+  -- number and payload
+  pub record IsOpened (m : Meaning t) (mark : Option EcnCodepoint) (s : View t) (p : Piece) (o : OpenPacket) : Type 0 where
     pub form : space_of p.header ≡ Some o.space
     pub spin : Bool
-    pub shown : o.signs.spin ≡ spin
+    pub shown : o.signs ≡ record { mark = mark; spin = spin }
     pub opened : opening_of m s p ≡ Opened o.source o.token spin o.number o.payload
     pub lively : is_over s.life.state ≡ false
 
@@ -75,9 +76,9 @@ module _ {t : Types} (R : At t → At t → Type 0) (here : (a : At t) → R a a
 
 -- what holds of no move, of two moves one after the other, of each move that a packet makes which doesn't open, where it may be made, and
 -- of each packet that came and opened, holds of packets all of which come
-module _ {t : Types} (m : Meaning t) (Comes : Piece → Type 0) (R : At t → At t → Type 0) (here : (a : At t) → R a a) (next : (a b c : At t) → R a b → R b c → R a c)
+module _ {t : Types} (m : Meaning t) (Comes : Option EcnCodepoint → Piece → Type 0) (R : At t → At t → Type 0) (here : (a : At t) → R a a) (next : (a b c : At t) → R a b → R b c → R a c)
     (move : (x : Move t) → IsUnopened x → (a : At t) → MayMove x a.state → R a (move_to x a))
-    (packet : (p : Piece) → Comes p → (o : OpenPacket) (a : At t) → IsOpened m a.state p o → R a (packet_received m o a)) where
+    (packet : (mark : Option EcnCodepoint) (p : Piece) → Comes mark p → (o : OpenPacket) (a : At t) → IsOpened m mark a.state p o → R a (packet_received m o a)) where
   -- the connection ends at once, or not
   killed_by : (why : ConnectionError) (a : At t) (b : Bool) → rank_of a.state.life.state < 4 → R a (if b then killed_after why a else a)
   unfolding killed_after MayMove
@@ -96,7 +97,7 @@ module _ {t : Types} (m : Meaning t) (Comes : Piece → Type 0) (R : At t → At
       (next b c _ (move (Tell (did.Piece space None verdict.Failure)) tt b refl) (killed_by (lost.TransportError key_limit_error) c (fails_too_often c.state.keys) low))
 
   -- a packet by what came of taking its protection off
-  opening_by : (time : ℕ) (mark : Option EcnCodepoint) (p : Piece) (space : Option SpaceId) (o : Opening) (a : At t) → Comes p → space_of p.header ≡ space → opening_of m a.state p ≡ o → is_over a.state.life.state ≡ false
+  opening_by : (time : ℕ) (mark : Option EcnCodepoint) (p : Piece) (space : Option SpaceId) (o : Opening) (a : At t) → Comes mark p → space_of p.header ≡ space → opening_of m a.state p ≡ o → is_over a.state.life.state ≡ false
       → R a (opening_after m time mark space o a)
   unfolding MayMove
   opening_by time mark p space Unreadable a comes form opened lively = move (Tell (did.Piece space None verdict.Ignored)) tt a refl
@@ -106,22 +107,22 @@ module _ {t : Types} (m : Meaning t) (Comes : Piece → Type 0) (R : At t → At
       next a b _ (move (Tell (did.Piece space (Some number) verdict.BadBits)) tt a refl)
       (holds_stopped R here next (λ x e c may. move x (ending_unopened x e) c may) time (violation_at None) b)
   opening_by time mark p (Some space) (Opened source token spin number payload) a comes form opened lively =
-      packet p comes (record { time = time; space = space; signs = record { mark = mark; spin = spin }; source = source; token = token; number = number; payload = payload }) a
+      packet mark p comes (record { time = time; space = space; signs = record { mark = mark; spin = spin }; source = source; token = token; number = number; payload = payload }) a
       (record { form = form; spin = spin; shown = refl; opened = opened; lively = lively })
   opening_by time mark p None (Opened source token spin number payload) a comes form opened lively = move (Tell (did.Piece None None verdict.Ignored)) tt a refl
 
-  piece_by : (time : ℕ) (mark : Option EcnCodepoint) (p : Piece) (a : At t) (b : Bool) → Comes p → is_over a.state.life.state ≡ b → R a (if b then piece_told (space_of p.header) None verdict.Ignored a else opening_after m time mark (space_of p.header) (opening_of m a.state p) a)
+  piece_by : (time : ℕ) (mark : Option EcnCodepoint) (p : Piece) (a : At t) (b : Bool) → Comes mark p → is_over a.state.life.state ≡ b → R a (if b then piece_told (space_of p.header) None verdict.Ignored a else opening_after m time mark (space_of p.header) (opening_of m a.state p) a)
   unfolding MayMove
   piece_by time mark p a true comes h = move (Tell (did.Piece (space_of p.header) None verdict.Ignored)) tt a refl
   piece_by time mark p a false comes h = opening_by time mark p (space_of p.header) (opening_of m a.state p) a comes refl refl h
 
   -- a packet
-  pub piece_holds : (time : ℕ) (mark : Option EcnCodepoint) (p : Piece) (a : At t) → Comes p → R a (piece_after m time mark p a)
+  pub piece_holds : (time : ℕ) (mark : Option EcnCodepoint) (p : Piece) (a : At t) → Comes mark p → R a (piece_after m time mark p a)
   unfolding piece_after
   piece_holds time mark p a comes = piece_by time mark p a _ comes refl
 
   -- the packets of a datagram
-  pub pieces_hold : (time : ℕ) (mark : Option EcnCodepoint) (items : List DatagramItem) (a : At t) → ((p : Piece) → IsPieceOf p items → Comes p) → R a (pieces_after m time mark items a)
+  pub pieces_hold : (time : ℕ) (mark : Option EcnCodepoint) (items : List DatagramItem) (a : At t) → ((p : Piece) → IsPieceOf p items → Comes mark p) → R a (pieces_after m time mark items a)
   pieces_hold time mark [] a come = here a
   pieces_hold time mark (Err fault ∷ items) a come = here a
   pieces_hold time mark (Ok p ∷ items) a come =
@@ -129,35 +130,35 @@ module _ {t : Types} (m : Meaning t) (Comes : Piece → Type 0) (R : At t → At
 
 -- what holds of these, of each move that receiving makes for no packet that opened, and of each packet that came and opened, holds of a
 -- datagram all of whose packets come
-module _ {t : Types} (m : Meaning t) (Comes : Piece → Type 0) (R : At t → At t → Type 0) (here : (a : At t) → R a a) (next : (a b c : At t) → R a b → R b c → R a c)
+module _ {t : Types} (m : Meaning t) (Comes : Option EcnCodepoint → Piece → Type 0) (R : At t → At t → Type 0) (here : (a : At t) → R a a) (next : (a b c : At t) → R a b → R b c → R a c)
     (move : (x : Move t) → IsOutside x → (a : At t) → MayMove x a.state → R a (move_to x a))
-    (packet : (p : Piece) → Comes p → (o : OpenPacket) (a : At t) → IsOpened m a.state p o → R a (packet_received m o a)) where
-  heard_by : (time : ℕ) (mark : Option EcnCodepoint) (items : List DatagramItem) (a : At t) (b : Bool) (n : ℕ) → ((p : Piece) → IsPieceOf p items → Comes p) →
+    (packet : (mark : Option EcnCodepoint) (p : Piece) → Comes mark p → (o : OpenPacket) (a : At t) → IsOpened m mark a.state p o → R a (packet_received m o a)) where
+  heard_by : (time : ℕ) (mark : Option EcnCodepoint) (items : List DatagramItem) (a : At t) (b : Bool) (n : ℕ) → ((p : Piece) → IsPieceOf p items → Comes mark p) →
       R a (if b then counted_after time (is_blocked a.state.paths) n (pieces_after m time mark items a) else a)
   heard_by time mark items a true n come =
       let b : At t = pieces_after m time mark items a in
       next a b _ (pieces_hold m Comes R here next (λ x h. move x (unopened_outside x h)) packet time mark items a come) (counted_holds R here next move time (is_blocked a.state.paths) n b)
   heard_by time mark items a false n come = here a
 
-  heard_holds : (time : ℕ) (mark : Option EcnCodepoint) (remote : SocketAddr) (bytes : List ℕ) (a : At t) → ((p : Piece) → IsPieceOf p (cut_of a.state bytes) → Comes p) → R a (heard_after m time mark remote bytes a)
+  heard_holds : (time : ℕ) (mark : Option EcnCodepoint) (remote : SocketAddr) (bytes : List ℕ) (a : At t) → ((p : Piece) → IsPieceOf p (cut_of a.state bytes) → Comes mark p) → R a (heard_after m time mark remote bytes a)
   unfolding heard_after
   heard_holds time mark remote bytes a come = heard_by time mark (cut_of a.state bytes) a _ _ come
 
   -- a datagram that may be a server's first one, or not
-  first_holds : (time : ℕ) (mark : Option EcnCodepoint) (remote : SocketAddr) (bytes : List ℕ) (token : Option (List ℕ)) (a : At t) → ((p : Piece) → IsPieceOf p (cut_of a.state bytes) → Comes p) → R a (first_after m time mark remote bytes token a)
+  first_holds : (time : ℕ) (mark : Option EcnCodepoint) (remote : SocketAddr) (bytes : List ℕ) (token : Option (List ℕ)) (a : At t) → ((p : Piece) → IsPieceOf p (cut_of a.state bytes) → Comes mark p) → R a (first_after m time mark remote bytes token a)
   unfolding MayMove
   first_holds time mark remote bytes None a come = here a
   first_holds time mark remote bytes (Some token) a come =
       let b : At t = move_to (Expect token) a in
       next a b _ (move (Expect token) tt a tt) (heard_holds time mark remote bytes b (λ p among. come p (subst (IsPieceOf p) (same_cut token bytes a) among)))
 
-  datagram_by : (time : ℕ) (mark : Option EcnCodepoint) (remote : SocketAddr) (bytes : List ℕ) (token : Option (List ℕ)) (a : At t) (b : Bool) → ((p : Piece) → IsPieceOf p (cut_of a.state bytes) → Comes p) →
+  datagram_by : (time : ℕ) (mark : Option EcnCodepoint) (remote : SocketAddr) (bytes : List ℕ) (token : Option (List ℕ)) (a : At t) (b : Bool) → ((p : Piece) → IsPieceOf p (cut_of a.state bytes) → Comes mark p) →
       R a (if b then first_after m time mark remote bytes token a else heard_after m time mark remote bytes a)
   datagram_by time mark remote bytes token a true come = first_holds time mark remote bytes token a come
   datagram_by time mark remote bytes token a false come = heard_holds time mark remote bytes a come
 
   -- a datagram, which is cut as the connection cuts it
-  pub datagram_holds : (time : ℕ) (mark : Option EcnCodepoint) (remote : SocketAddr) (bytes : List ℕ) (a : At t) → ((p : Piece) → IsPieceOf p (cut_of a.state bytes) → Comes p) → R a (datagram_after m time mark remote bytes a)
+  pub datagram_holds : (time : ℕ) (mark : Option EcnCodepoint) (remote : SocketAddr) (bytes : List ℕ) (a : At t) → ((p : Piece) → IsPieceOf p (cut_of a.state bytes) → Comes mark p) → R a (datagram_after m time mark remote bytes a)
   unfolding datagram_after
   datagram_holds time mark remote bytes a come = datagram_by time mark remote bytes (first_token m a.state remote bytes) a _ come
 
@@ -175,7 +176,7 @@ module _ {t : Types} (R : At t → At t → Type 0) (here : (a : At t) → R a a
 
   -- the packets of a datagram
   pub holds_pieces : (m : Meaning t) (time : ℕ) (mark : Option EcnCodepoint) (items : List DatagramItem) (a : At t) → R a (pieces_after m time mark items a)
-  holds_pieces m time mark items a = pieces_hold m (λ p. Unit {0}) R here next (λ x h. move x (unopened_piece x h)) (λ p comes o b opened. packet_holds m o b) time mark items a (λ p among. tt)
+  holds_pieces m time mark items a = pieces_hold m (λ mark p. Unit {0}) R here next (λ x h. move x (unopened_piece x h)) (λ mark p comes o b opened. packet_holds m o b) time mark items a (λ p among. tt)
 
 -- and what holds of each move that receiving makes, holds of a datagram
 module _ {t : Types} (R : At t → At t → Type 0) (here : (a : At t) → R a a) (next : (a b c : At t) → R a b → R b c → R a c)
@@ -192,4 +193,4 @@ module _ {t : Types} (R : At t → At t → Type 0) (here : (a : At t) → R a a
 
   -- a datagram
   pub holds_datagram : (m : Meaning t) (time : ℕ) (mark : Option EcnCodepoint) (remote : SocketAddr) (bytes : List ℕ) (a : At t) → R a (datagram_after m time mark remote bytes a)
-  holds_datagram m time mark remote bytes a = datagram_holds m (λ p. Unit {0}) R here next outside (λ p comes o b opened. packet_of m o b) time mark remote bytes a (λ p among. tt)
+  holds_datagram m time mark remote bytes a = datagram_holds m (λ mark p. Unit {0}) R here next outside (λ mark p comes o b opened. packet_of m o b) time mark remote bytes a (λ p among. tt)

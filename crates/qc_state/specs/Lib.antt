@@ -10,6 +10,7 @@ pub mod KeyLaws
 pub mod Keys
 pub mod Life
 pub mod Lower
+pub mod MarkLaws
 pub mod Moves
 pub mod Numbers
 pub mod Opening

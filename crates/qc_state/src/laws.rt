@@ -12,6 +12,7 @@ ghost use Rattle.qc_state.specs.DatagramLaws.{DatagramHolds};
 ghost use Rattle.qc_state.specs.EventLaws.{EachTells, OnlyDoneWaits, TellsOnce, untold_of};
 ghost use Rattle.qc_state.specs.Headline.{deeds_of, accepted_in, AcksOnly, EachAcksKnown, EachNew, Harmless, IsKept, NoneTwice};
 ghost use Rattle.qc_state.specs.KeyLaws.{KeysHold};
+ghost use Rattle.qc_state.specs.MarkLaws.{EachTold};
 ghost use Rattle.qc_state.specs.Opening.{opening_of};
 ghost use Rattle.qc_state.specs.PathLaws.{PathHolds, all_from};
 ghost use Rattle.qc_state.specs.Paths.{same_address};
@@ -71,6 +72,13 @@ pub fn events_told<U: Suite>()
     ensures done { (s last : View (record { S = U.Session; H = U.Session.HeaderKey; P = U.Session.PacketKey; D = U.Session.HandshakeData; I = U.Session.PeerIdentity; C = U.Control.Controller })) (k : ℕ) (is : List Input) (xs : List Step) → Run (meaning U.Session.Session U.Session.HeaderKey.HeaderMask U.Session.PacketKey.PacketKey U.Control.Controller.Controller) k s is xs last → OnlyDoneWaits s.life → EachTells (untold_of s.life) xs }
     ensures once { (s last : View (record { S = U.Session; H = U.Session.HeaderKey; P = U.Session.PacketKey; D = U.Session.HandshakeData; I = U.Session.PeerIdentity; C = U.Control.Controller })) (k : ℕ) (is : List Input) (xs : List Step) → Run (meaning U.Session.Session U.Session.HeaderKey.HeaderMask U.Session.PacketKey.PacketKey U.Control.Controller.Controller) k s is xs last → OnlyDoneWaits s.life → TellsOnce s.life xs }
     ensures stays { (s last : View (record { S = U.Session; H = U.Session.HeaderKey; P = U.Session.PacketKey; D = U.Session.HandshakeData; I = U.Session.PeerIdentity; C = U.Control.Controller })) (k : ℕ) (is : List Input) (xs : List Step) → Run (meaning U.Session.Session U.Session.HeaderKey.HeaderMask U.Session.PacketKey.PacketKey U.Control.Controller.Controller) k s is xs last → OnlyDoneWaits s.life → OnlyDoneWaits last.life }
+{}
+
+/// A law, which runs no code. Over a run each ACK that is sealed in a space has counts of ECN marks exactly where a packet of the
+/// connection was accepted before whose datagram carried one, and they say how many packets of the space were accepted with each
+/// mark, as the inputs' datagrams carried them (RFC 9000, 13.4.1 and 19.3.2); what the space had counted at the start counts too.
+pub fn marks_are_told<U: Suite>()
+    ensures { (s last : View (record { S = U.Session; H = U.Session.HeaderKey; P = U.Session.PacketKey; D = U.Session.HandshakeData; I = U.Session.PeerIdentity; C = U.Control.Controller })) (k : ℕ) (is : List Input) (xs : List Step) → Run (meaning U.Session.Session U.Session.HeaderKey.HeaderMask U.Session.PacketKey.PacketKey U.Control.Controller.Controller) k s is xs last → EachTold s is xs }
 {}
 
 /// A law, which runs no code. Where all inputs of a run are datagrams, and each of its deeds tells of a packet that was ignored

@@ -33,8 +33,8 @@ pub use input::{Input, Word};
 pub use keys::{KeyGroup, KeyUse, OneRttKeys, SpaceKeys};
 pub use laws::{
     acks_were_accepted, datagrams_keep, datagrams_tell, events_are_datagrams, events_told,
-    first_packets_are_datagrams, harmless_bytes, keys_hold, numbers_count_once, packets_tell,
-    paths_hold, runs_join, steps_tell,
+    first_packets_are_datagrams, harmless_bytes, keys_hold, marks_are_told, numbers_count_once,
+    packets_tell, paths_hold, runs_join, steps_tell,
 };
 pub use life::{
     ApplicationClose, Close, ConnectionClose, ConnectionError, Life, PeerToken, State, Wanted,
