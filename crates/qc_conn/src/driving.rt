@@ -6,6 +6,7 @@ ghost use Rattle.qc_text.specs.OneText.{IsPlain, IsPlainStart};
 ghost use Rattle.qc_conn.specs.Refusal.{bad_call, refusal_of, first_refusal, NamesInput, RefusedAt};
 ghost use Rattle.qc_state.specs.EventLaws.{EachTells, OnlyDoneWaits, TellsOnce, untold_of};
 ghost use Rattle.qc_state.specs.KeyLaws.{KeysHold};
+ghost use Rattle.qc_state.specs.MarkLaws.{EachTold};
 ghost use Rattle.qc_state.specs.PathLaws.{PathHolds, all_from};
 ghost use Rattle.qc_state.specs.Headline.{deeds_of, EachRises, EachAdmitted, EachAcksKnown, Harmless, LifeRises, OnlyCloses, LosesOnce};
 ghost use Rattle.qc_state.specs.Run.{time_of, Adds, Run, Ran};
@@ -167,7 +168,7 @@ fn drive_all<U: Suite>(
 /// name the first input whose time lies before the greatest so far, or which asks for a call that can't be made; the
 /// connection is as the inputs before left it, and their steps are carried. `OutOfMemory` for want of memory; the steps
 /// of the inputs before are carried, and the connection is marked as failed.
-#[tactic(auto, using(qc_state::proofs::PathsHold::path_run, qc_state::proofs::EventsTold::run_tells_done, qc_state::proofs::EventsTold::ran_tells_done, qc_state::proofs::EventsTold::run_tells_once, qc_state::proofs::EventsTold::ran_tells_once, qc_state::proofs::EventsTold::run_stays_done, qc_state::proofs::KeysHold::run_keys_hold, qc_state::proofs::HarmlessBytes::run_harmless, qc_state::proofs::Told::run_rises, qc_state::proofs::Told::run_admits, qc_state::proofs::Told::ran_admits, qc_state::proofs::AcksAccepted::run_acks_known, qc_state::proofs::AcksAccepted::ran_acks_known, qc_state::proofs::Told::run_life_rises, qc_state::proofs::Told::run_closes, qc_state::proofs::Told::run_loses_once, qc_state::proofs::Told::ran_rises, qc_state::proofs::Told::ran_life_rises, qc_state::proofs::Told::ran_closes, qc_state::proofs::Told::ran_loses_once, crate::proofs::RunsPlain::run_plain, crate::proofs::RunsPlain::run_stays, crate::proofs::RunsPlain::ran_plain))]
+#[tactic(auto, using(qc_state::proofs::PathsHold::path_run, qc_state::proofs::EventsTold::run_tells_done, qc_state::proofs::EventsTold::ran_tells_done, qc_state::proofs::EventsTold::run_tells_once, qc_state::proofs::EventsTold::ran_tells_once, qc_state::proofs::EventsTold::run_stays_done, qc_state::proofs::KeysHold::run_keys_hold, qc_state::proofs::HarmlessBytes::run_harmless, qc_state::proofs::Told::run_rises, qc_state::proofs::Told::run_admits, qc_state::proofs::Told::ran_admits, qc_state::proofs::AcksAccepted::run_acks_known, qc_state::proofs::AcksAccepted::ran_acks_known, qc_state::proofs::MarksTold::run_each_told, qc_state::proofs::MarksTold::ran_each_told, qc_state::proofs::Told::run_life_rises, qc_state::proofs::Told::run_closes, qc_state::proofs::Told::run_loses_once, qc_state::proofs::Told::ran_rises, qc_state::proofs::Told::ran_life_rises, qc_state::proofs::Told::ran_closes, qc_state::proofs::Told::ran_loses_once, crate::proofs::RunsPlain::run_plain, crate::proofs::RunsPlain::run_stays, crate::proofs::RunsPlain::ran_plain))]
 pub fn drive<U: Suite, G: TokenStore>(
     alloc: Global,
     connection: &mut Connection<U>,
@@ -178,14 +179,17 @@ pub fn drive<U: Suite, G: TokenStore>(
     ensures run { IfOk result (λ trace. Run (meaning U.Session.Session U.Session.HeaderKey.HeaderMask U.Session.PacketKey.PacketKey U.Control.Controller.Controller) 0 (ideal U.Random.stream connection.old.core) inputs.now trace (ideal U.Random.stream connection.new.core)) }
     ensures part { IfErr result (λ e. Ran (meaning U.Session.Session U.Session.HeaderKey.HeaderMask U.Session.PacketKey.PacketKey U.Control.Controller.Controller) 0 (ideal U.Random.stream connection.old.core) inputs.now e.done) }
 
-    // No packet number is used twice, only packets that were accepted are acknowledged, the life never falls, all that is
-    // sent after a close is the close, no key seals more than it may, and at most one reason for the end is given.
+    // No packet number is used twice, only packets that were accepted are acknowledged, and ACKs tell how many of them came with
+    // each mark of ECN; the life never falls, all that is sent after a close is the close, no key seals more than it may, and at
+    // most one reason for the end is given.
     ensures rising { IfOk result (λ trace. EachRises (ideal U.Random.stream connection.old.core) trace) }
     ensures rising_part { IfErr result (λ e. EachRises (ideal U.Random.stream connection.old.core) e.done) }
     ensures admitted { IfOk result (λ trace. EachAdmitted (ideal U.Random.stream connection.old.core) trace) }
     ensures admitted_part { IfErr result (λ e. EachAdmitted (ideal U.Random.stream connection.old.core) e.done) }
     ensures acknowledged { IfOk result (λ trace. EachAcksKnown (ideal U.Random.stream connection.old.core) trace) }
     ensures acknowledged_part { IfErr result (λ e. EachAcksKnown (ideal U.Random.stream connection.old.core) e.done) }
+    ensures marks { IfOk result (λ trace. EachTold (ideal U.Random.stream connection.old.core) inputs.now trace) }
+    ensures marks_part { IfErr result (λ e. EachTold (ideal U.Random.stream connection.old.core) inputs.now e.done) }
     ensures life { IfOk result (λ trace. LifeRises (ideal U.Random.stream connection.old.core) trace) }
     ensures life_part { IfErr result (λ e. LifeRises (ideal U.Random.stream connection.old.core) e.done) }
     ensures closing { IfOk result (λ trace. OnlyCloses (ideal U.Random.stream connection.old.core) trace) }

@@ -2,6 +2,7 @@ use Rattle.std.specs.Prelude.{List, Result, Ok, Err, IfOk, OnOk}
 use Rattle.qc_state.proofs.AcksAccepted.{none_acks_known}
 use Rattle.qc_state.proofs.EventsTold.{none_tells_done, none_tells_once}
 use Rattle.qc_state.proofs.KeysHold.{run_keys_hold}
+use Rattle.qc_state.proofs.MarksTold.{none_each_told}
 use Rattle.qc_state.proofs.Steps.{ran_none}
 use Rattle.qc_state.proofs.Told.{none_rises, none_admits, none_life_rises, none_closes, none_loses_once}
 use Rattle.qc_state.specs.declared.input.Input.{Input}
@@ -47,3 +48,6 @@ returns-then-is_failed-clause-told_part g c = λ _. none_tells_done _ _ c.new.en
 
 pub returns-then-is_failed-clause-once_part : goal.returns-then-is_failed-clause-once_part
 returns-then-is_failed-clause-once_part g c = λ _. none_tells_once _ _ c.new.ensures
+
+pub returns-then-is_failed-clause-marks_part : goal.returns-then-is_failed-clause-marks_part
+returns-then-is_failed-clause-marks_part g c = none_each_told _ _ _ c.new.ensures
