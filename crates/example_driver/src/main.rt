@@ -24,7 +24,7 @@ fn hand(
     datagram: &[u8],
 ) -> Result<()> {
     let bytes = BytesMut::copy_from_slice(rt.alloc(), datagram)?;
-    if end.connection.is_first_awaited() {
+    if end.connection.awaits_first() {
         let taken = made(
             end.connection
                 .first_datagram(rt.alloc(), now, from, None, bytes),

@@ -1,4 +1,5 @@
 mod Clocks
+mod Counting
 pub mod Refusals
 pub mod RunsPlain
 pub mod Reports

@@ -3,7 +3,7 @@
 ghost use Rattle.std.specs.Prelude.{◌≡◌, ◌<◌, ◌≤◌, [], true, false, length, None, Err, OnOk, OnErr, IfOk, IfSome, max, unwrap_or, string_bytes};
 ghost use Rattle.qc_text.specs.OneText.{IsPlainAddress, IsPlainStart};
 ghost use Rattle.qc_conn.specs.Opened.{OnDone, lost_of};
-ghost use Rattle.qc_conn.specs.Seen.{Sends};
+ghost use Rattle.qc_conn.specs.Seen.{Sends, counted};
 ghost use Rattle.qc_receive.specs.Cutting.{rest_of};
 ghost use Rattle.qc_receive.specs.Events.{LeavesBytes, handed_after, time_of_event};
 ghost use Rattle.qc_receive.specs.FirstPacket.{IsFirstPacket, first_reason, size_of};
@@ -42,6 +42,7 @@ use std::net::SocketAddr;
 pub struct Connection<U: Suite> {
     core: Core<U>,
     failed: bool,
+    steps: u64,
 }
 
 /// Why a server that was handed its first packet doesn't go on.
@@ -58,7 +59,7 @@ impl<U: Suite> Model for Connection<U> {
 
     ghost Value = { Seen (record { S = U.Session; H = U.Session.HeaderKey; P = U.Session.PacketKey; D = U.Session.HandshakeData; I = U.Session.PeerIdentity; C = U.Control.Controller }) U.Random };
 
-    ghost view = { λ c. record { core = c.core; failed = c.failed } };
+    ghost view = { λ c. record { core = c.core; failed = c.failed; steps = c.steps } };
 }
 
 /// A token of this server, taken out of the store; one without bytes where the store has none.
@@ -99,6 +100,7 @@ impl<U: Suite> Connection<U> {
         Ok(Connection {
             core,
             failed: false,
+            steps: 0,
         })
     }
 
@@ -123,11 +125,12 @@ impl<U: Suite> Connection<U> {
         Ok(Connection {
             core,
             failed: false,
+            steps: 0,
         })
     }
 
     /// Whether this is a server that waits for its first packet: then `first_datagram` takes what comes, and else `handle_event`.
-    pub fn is_first_awaited(&self) -> bool
+    pub fn awaits_first(&self) -> bool
         ensures { result ≡ is_first_awaited self.now.core.setup }
     {
         self.core.setup.is_first_awaited()
@@ -173,8 +176,9 @@ impl<U: Suite> Connection<U> {
     }
 
     /// An endpoint hands over what came: a datagram that it cut with this connection's version, the length of its ids and its
-    /// word on the fixed bit, as `PartialDecode::new` gave its first packet and what is behind it. The datagram does what it does
-    /// whole at an end that doesn't wait for its first packet. So far nothing goes into the store.
+    /// word on the fixed bit, as `PartialDecode::new` gave its first packet and what is behind it: `remaining` is None where
+    /// nothing is, and never has no bytes. The datagram does what it does whole at an end that doesn't wait for its first packet.
+    /// So far nothing goes into the store.
     ///
     /// # Errors
     ///
@@ -210,9 +214,10 @@ impl<U: Suite> Connection<U> {
     }
 
     /// An endpoint hands a server its first packet, which it opened itself: the packet came from `remote` at `now` in front of
-    /// `remaining`. The endpoint has seen that it opens under the Initial keys of the packet's destination id, with this whole number,
-    /// and that its reserved bits are 0: of an opened packet this can't be seen any more. Its token is then expected of the
-    /// client's other Initial packets, it does what a packet does that opened, and so do the packets behind it.
+    /// `remaining`, which is None where nothing is behind it, and never has no bytes. The endpoint has seen that it opens under
+    /// the Initial keys of the packet's destination id, with this whole number, and that its reserved bits are 0: of an opened
+    /// packet this can't be seen any more. Its token is then expected of the client's other Initial packets, it does what a packet
+    /// does that opened, and so do the packets behind it.
     ///
     /// # Errors
     ///
@@ -387,7 +392,11 @@ impl<U: Suite> Connection<U> {
         ensures core { result.core ≡ core }
         ensures mark { result.failed ≡ failed }
     {
-        Connection { core, failed }
+        Connection {
+            core,
+            failed,
+            steps: 0,
+        }
     }
 
     /// One input of `drive`: the call, and the reports after it.
@@ -398,6 +407,7 @@ impl<U: Suite> Connection<U> {
         ensures failed { self.old.failed ≡ true → (result ≡ Err Fault.Failed) × (self.new ≡ self.old) }
         ensures cause { result ≡ Err Fault.Failed → self.old.failed ≡ true }
         ensures memory { result ≡ Err Fault.OutOfMemory → self.new.failed ≡ true }
+        ensures count { self.new.steps ≡ self.old.steps }
     {
         if self.failed {
             return Err(Fault::Failed);
@@ -418,8 +428,8 @@ impl<U: Suite> Connection<U> {
         self.core.greatest()
     }
 
-    /// Whether a call met want of memory.
-    pub(crate) fn is_failed(&self) -> bool
+    /// Whether a call met want of memory: each call that can want memory then answers `Failed`.
+    pub fn is_failed(&self) -> bool
         ensures { result ≡ self.now.failed }
     {
         self.failed
@@ -429,7 +439,25 @@ impl<U: Suite> Connection<U> {
     pub(crate) fn fail(&mut self)
         ensures mark { self.new.failed ≡ true }
         ensures core { self.new.core ≡ self.old.core }
+        ensures count { self.new.steps ≡ self.old.steps }
     {
         self.failed = true;
+    }
+
+    /// How many steps `drive` gave of this connection, as far as the type counts.
+    pub(crate) fn steps(&self) -> u64
+        ensures steps { result ≡ self.now.steps }
+        ensures fits { self.now.steps ≤ 18446744073709551615 }
+    {
+        self.steps
+    }
+
+    /// `drive` gave one step more of it.
+    pub(crate) fn count(&mut self)
+        ensures count { self.new.steps ≡ counted self.old.steps 1 }
+        ensures mark { self.new.failed ≡ self.old.failed }
+        ensures core { self.new.core ≡ self.old.core }
+    {
+        self.steps = self.steps.saturating_add(1);
     }
 }

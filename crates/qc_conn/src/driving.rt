@@ -1,9 +1,10 @@
 //! Driving a connection: inputs in, the trace out.
 
-ghost use Rattle.std.specs.Prelude.{◌≡◌, ◌≢◌, ◌≤◌, [], true, false, None, OnOk, OnErr, IfOk, IfErr, IsErr};
+ghost use Rattle.std.specs.Prelude.{◌≡◌, ◌≢◌, ◌≤◌, ◌<◌, [], length, true, false, None, OnOk, OnErr, IfOk, IfErr, IsErr};
 ghost use Rattle.std.specs.List.{All};
 ghost use Rattle.qc_text.specs.OneText.{IsPlain, IsPlainStart};
 ghost use Rattle.qc_conn.specs.Refusal.{bad_call, refusal_of, first_refusal, NamesInput, RefusedAt};
+ghost use Rattle.qc_conn.specs.Seen.{counted};
 ghost use Rattle.qc_state.specs.EventLaws.{EachTells, OnlyDoneWaits, TellsOnce, untold_of};
 ghost use Rattle.qc_state.specs.KeyLaws.{KeysHold};
 ghost use Rattle.qc_state.specs.MarkLaws.{EachTold};
@@ -77,10 +78,15 @@ fn add_step<U: Suite>(
     ensures alive { OnOk result (connection.new.failed ≡ false) }
     ensures mark { OnErr result (connection.new.failed ≡ true) }
     ensures kept { OnErr result (trace.new ≡ trace.old) }
+    ensures count { OnOk result (connection.new.steps ≡ counted connection.old.steps 1) }
+    ensures uncounted { OnErr result (connection.new.steps ≡ connection.old.steps) }
 {
     match connection.call(alloc, at, input) {
         Ok(step) => match trace.push(step) {
-            Ok(()) => Ok(()),
+            Ok(()) => {
+                connection.count();
+                Ok(())
+            }
             Err(e) => {
                 connection.fail();
                 Err(e)
@@ -138,7 +144,10 @@ fn drive_all<U: Suite>(
     ensures memory { IfErr result (λ e. e.kind ≡ DriveKind.OutOfMemory → connection.new.failed ≡ true) }
     ensures refused { IfErr result (λ e. NamesInput e.kind → RefusedAt (meaning U.Session.Session U.Session.HeaderKey.HeaderMask U.Session.PacketKey.PacketKey U.Control.Controller.Controller) (ideal U.Random.stream connection.old.core) inputs.now e.kind e.done (ideal U.Random.stream connection.new.core) connection.new.failed) }
     ensures failed { IfErr result (λ e. e.kind ≢ DriveKind.Failed) }
+    ensures count { IfOk result (λ trace. connection.new.steps ≡ counted connection.old.steps (length trace)) }
+    ensures count_part { IfErr result (λ e. (connection.new.steps ≡ counted connection.old.steps (length e.done)) × (length e.done < length inputs.now)) }
 {
+    let _before = connection.steps();
     let mut trace = Trace::new(alloc);
     let mut at = 0;
     for input in inputs {
@@ -178,6 +187,11 @@ pub fn drive<U: Suite, G: TokenStore>(
     // The trace is a run from the connection's view at entry to its view at exit.
     ensures run { IfOk result (λ trace. Run (meaning U.Session.Session U.Session.HeaderKey.HeaderMask U.Session.PacketKey.PacketKey U.Control.Controller.Controller) 0 (ideal U.Random.stream connection.old.core) inputs.now trace (ideal U.Random.stream connection.new.core)) }
     ensures part { IfErr result (λ e. Ran (meaning U.Session.Session U.Session.HeaderKey.HeaderMask U.Session.PacketKey.PacketKey U.Control.Controller.Controller) 0 (ideal U.Random.stream connection.old.core) inputs.now e.done) }
+
+    // No step is lost: the connection counts the steps that were given of it, and the trace has them all. So want of memory leaves
+    // one for each input before the one that met it.
+    ensures count { IfOk result (λ trace. connection.new.steps ≡ counted connection.old.steps (length trace)) }
+    ensures count_part { IfErr result (λ e. e.kind ≢ DriveKind.Failed → (connection.new.steps ≡ counted connection.old.steps (length e.done)) × (length e.done < length inputs.now)) }
 
     // No packet number is used twice, only packets that were accepted are acknowledged, and ACKs tell how many of them came with
     // each mark of ECN; the life never falls, all that is sent after a close is the close, no key seals more than it may, and at

@@ -10,6 +10,13 @@ pub mod text;
 pub use connection::{Connection, FirstError};
 pub use driving::{BadWhy, DriveError, DriveKind, drive};
 pub use laws::text_tells_run;
+pub use qc_base::{EcnCodepoint, Fault, Instant, VarInt};
+pub use qc_config::TokenStore;
+pub use qc_core::Core;
+pub use qc_header::{InitialPacket, PartialDecode};
 pub use qc_making::{ClientSetup, ServerSetup};
 pub use qc_receive::ConnectionEvent;
-pub use qc_state::negotiate_max_idle_timeout;
+pub use qc_state::{
+    ConnectionError, EndpointEvent, Event, Input, Step, Suite, Trace, Transmit,
+    negotiate_max_idle_timeout,
+};

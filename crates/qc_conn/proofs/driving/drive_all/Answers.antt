@@ -2,6 +2,7 @@ use Rattle.std.proofs.Common.{ℕ, ap, length, arith, refl, sym, ◌∙◌}
 use Rattle.qc_conn.specs.Refusal.{refusal_of}
 use Rattle.qc_conn.proofs.Refusals.{refusal_past, refusal_done, refused_at}
 use Rattle.qc_state.proofs.Steps.{run_empty, ran_kept, run_next, added_length, ran}
+use Rattle.qc_conn.proofs.Counting.{none_counted, one_counted, counted_before}
 use Rattle.qc_conn.proofs.driving.drive_all.Goals as goal
 
 -- nothing was done yet
@@ -12,6 +13,7 @@ loop-input-init g c = record {
   run = run_empty _ _ _ _ c.new-trace.ensures;
   left = refl;
   alive = c.requires.alive;
+  steps = none_counted _ _ c.steps-before.ensures.fits c.new-trace.ensures;
 }
 
 -- the steps before stand
@@ -27,6 +29,7 @@ loop-input-preserved g c = record {
   left = refusal_past _ _ _ _ _ _ _ c.loop-input-test.true c.input-item.is c.loop-input.invariant.place c.in-Ok.ensures.time
       (ap (λ (n : ℕ). refusal_of c.loop-input.at n c.input-item.result) (sym c.greatest.ensures) ∙ sym c.refusal.ensures ∙ c.in_default.is) c.loop-input.invariant.left;
   alive = c.in-Ok.ensures.alive;
+  steps = one_counted _ _ _ _ _ c.loop-input.invariant.steps c.in-Ok.ensures.count (added_length _ _ _ _ _ _ _ c.in-Ok.ensures.adds);
 }
 
 -- the steps before an input that is refused stand
@@ -42,3 +45,10 @@ returns-in-Some-clause-refused g c = λ _. refused_at _ _ _ _ _ _ _ _ _ _ c.loop
 -- none was refused
 pub returns-clause-valid : goal.returns-clause-valid
 returns-clause-valid g c = refusal_done _ _ _ _ c.loop-input-test.false c.loop-input.invariant.left
+
+-- the steps before want of memory, or before an input that is refused, are those that were counted
+pub returns-in-Err-clause-count_part : goal.returns-in-Err-clause-count_part
+returns-in-Err-clause-count_part g c = counted_before _ _ _ _ _ _ _ c.loop-input.invariant.steps c.in-Err.ensures.uncounted c.in-Err.ensures.kept c.loop-input.invariant.count c.loop-input-test.true
+
+pub returns-in-Some-clause-count_part : goal.returns-in-Some-clause-count_part
+returns-in-Some-clause-count_part g c = counted_before _ _ _ _ _ _ _ c.loop-input.invariant.steps refl refl c.loop-input.invariant.count c.loop-input-test.true

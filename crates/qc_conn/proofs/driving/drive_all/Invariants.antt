@@ -1,5 +1,6 @@
 use Rattle.std.proofs.Common.{◌≡◌, length, take, drop, false}
 use Rattle.qc_conn.specs.Refusal.{first_refusal}
+use Rattle.qc_conn.specs.Seen.{counted}
 use Rattle.qc_state.specs.Run.{Run}
 use Rattle.qc_state.specs.Types.{meaning}
 use Rattle.qc_state.specs.View.{ideal}
@@ -13,4 +14,5 @@ invariant-loop-input g l = record {
   run : Run (meaning g.U.Session.Session g.U.Session.HeaderKey.HeaderMask g.U.Session.PacketKey.PacketKey g.U.Control.Controller.Controller) 0 (ideal g.U.Random.Rng.stream l.fn.connection.core) (take l.input-index l.inputs) l.trace (ideal g.U.Random.Rng.stream l.connection.core);
   left : first_refusal l.input-index l.connection.core.timers.greatest (drop l.input-index l.inputs) ≡ first_refusal 0 l.fn.connection.core.timers.greatest l.inputs;
   alive : l.connection.failed ≡ false;
+  steps : l.connection.steps ≡ counted l.fn.connection.steps (length l.trace);
 }
