@@ -35,11 +35,11 @@ use Rattle.qc_streams.proofs.Waits.{unopened}
 -- ---- a step, and the bytes that it writes
 
 -- a step writes nothing on a stream
-abbrev WritesNone : ℕ → Step → Type 0
+abbrev pub WritesNone : ℕ → Step → Type 0
 WritesNone id (Wrote j n chunk) = (j == id) ≡ true → n ≡ 0
 WritesNone id x = Unit {0}
 
-same_id : (j id : ℕ) → (j == id) ≡ true → j ≡ id
+pub same_id : (j id : ℕ) → (j == id) ≡ true → j ≡ id
 same_id j id is = grind (arith, nat_tests)
 
 none_taken : (n wanted most : ℕ) (o : Option SendPart) → o ≡ None → n ≤ count_taken wanted most o → n ≡ 0
@@ -47,13 +47,13 @@ none_taken n wanted most None none fits = omega (arith, fits)
 none_taken n wanted most (Some p) none fits = absurd (cc)
 
 -- so it does where the application doesn't know the stream
-unknown_none : (id : ℕ) (x : Step) (s : StreamsState) → known_at id s ≡ None → IsTaken x s → WritesNone id x
+pub unknown_none : (id : ℕ) (x : Step) (s : StreamsState) → known_at id s ≡ None → IsTaken x s → WritesNone id x
 unfolding IsTaken
 unknown_none id (Wrote j n chunk) s unknown taken = λ same.
     none_taken n (length chunk) (budget (send_room s) s.outgoing) (known_at j s) (ap (λ (i : ℕ). known_at i s) (same_id j id same) ∙ unknown) taken
 unknown_none id x s unknown taken = tt
 
-take_none : (n : ℕ) (chunk : List ℕ) → n ≡ 0 → take n chunk ≡ []
+pub take_none : (n : ℕ) (chunk : List ℕ) → n ≡ 0 → take n chunk ≡ []
 take_none n chunk none = ap (λ (i : ℕ). take i chunk) none
 
 -- where nothing was written before, nothing was after it
@@ -105,7 +105,7 @@ traced_wrote id j n chunk written p spares t = by (j == id) (is_done p) refl ref
     by true false same known = traced_step (BufferWrote (take n chunk)) written p.buffer t
     by false d other is = t
 
-traced_sent : (id : ℕ) (x : Step) (written : List ℕ) (p : SendPart) → keeps_streams x ≡ true → (is_done p ≡ true → WritesNone id x) → Traced written p.buffer
+pub traced_sent : (id : ℕ) (x : Step) (written : List ℕ) (p : SendPart) → keeps_streams x ≡ true → (is_done p ≡ true → WritesNone id x) → Traced written p.buffer
     → Traced (with_written id x written) (sent_to id x p).buffer
 unfolding keeps_streams with_written sent_to finished was_reset reset_sealed reset_lost reset_acked part_sealed part_lost part_acked buffer_step bytes_of
 traced_sent id (Wrote j n chunk) written p keeps spares t = traced_wrote id j n chunk written p spares t
@@ -126,7 +126,7 @@ traced_sent id (BytesAcked j start stop last) written p keeps spares t =
 traced_sent id x written p keeps spares t = t
 
 -- the same, where there is a sending side
-abbrev TracedIf : List ℕ → Option SendPart → Type 0
+abbrev pub TracedIf : List ℕ → Option SendPart → Type 0
 TracedIf written None = Unit {0}
 TracedIf written (Some p) = Traced written p.buffer
 
@@ -142,12 +142,12 @@ traced_side id x written (Some p) (Some q) alike keeps spares t =
 
 -- what holds of the bytes that were written on a stream, by whether it was opened: its buffer came from them, and there are none where it
 -- wasn't opened
-abbrev Carries : Bool → List ℕ → Option Stream → Type 0
+abbrev pub Carries : Bool → List ℕ → Option Stream → Type 0
 Carries opened written None = opened ≡ false → written ≡ []
 Carries opened written (Some st) = TracedIf written st.sending
 
 -- the same of the stream with an id
-abbrev CarriesAt : ℕ → List ℕ → StreamsState → Type 0
+abbrev pub CarriesAt : ℕ → List ℕ → StreamsState → Type 0
 CarriesAt id written s = Carries (was_opened s.side s.own s.peer id) written (record_of id s.records)
 
 own_traced : (dir : Dir) (s : StreamsState) → TracedIf [] (fresh_own dir s).sending
@@ -160,13 +160,13 @@ unfolding fresh_stream new_sending
 peer_traced Bi s = traced_nothing
 peer_traced Uni s = tt
 
-done_unknown : (id : ℕ) (s : StreamsState) (st : Stream) (p : SendPart) → record_of id s.records ≡ Some st → st.sending ≡ Some p → is_done p ≡ true
+pub done_unknown : (id : ℕ) (s : StreamsState) (st : Stream) (p : SendPart) → record_of id s.records ≡ Some st → st.sending ≡ Some p → is_done p ≡ true
     → known_at id s ≡ None
 unfolding known_at
 done_unknown id s st p is sends done =
     ap (λ (o : Option Stream). known_of o) is ∙ ap (λ (o : Option SendPart). known o) sends ∙ ap (λ (b : Bool). cond b None (Some p)) done
 
-absent : (id : ℕ) (s : StreamsState) → Holds s → was_opened s.side s.own s.peer id ≡ false → record_of id s.records ≡ None
+pub absent : (id : ℕ) (s : StreamsState) → Holds s → was_opened s.side s.own s.peer id ≡ false → record_of id s.records ≡ None
 absent id s holds new = unopened (was_opened s.side s.own s.peer) id s.records s.blocked holds new
 
 -- nothing was written, nor is by the step, where the stream wasn't opened
@@ -265,7 +265,7 @@ module _ (steps : Steps) (stays : StaysOpened) where
   unfolding with_written after_step early_refused
   refused_carries id written s = λ new. refl
 
-  step_carries : (id : ℕ) (x : Step) (written : List ℕ) (s : StreamsState) → IsPossible x → Holds s → IsTaken x s → CarriesAt id written s
+  pub step_carries : (id : ℕ) (x : Step) (written : List ℕ) (s : StreamsState) → IsPossible x → Holds s → IsTaken x s → CarriesAt id written s
       → CarriesAt id (with_written id x written) (after_step x s)
   unfolding keeps_streams
   step_carries id EarlyRefused written s can holds taken h = refused_carries id written s

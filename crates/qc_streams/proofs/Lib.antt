@@ -1,4 +1,7 @@
 pub mod Back
+pub mod Beside
+pub mod CameLaw
+pub mod CameSide
 pub mod CarriedBuffer
 pub mod CarriedCame
 pub mod CarriedEnd
@@ -20,6 +23,9 @@ pub mod FiledRoom
 pub mod FiledSets
 pub mod FiledTurns
 pub mod Filings
+pub mod FinishingEvents
+pub mod FinishingLaw
+pub mod FinishingSide
 pub mod Fronts
 pub mod KeepLaw
 pub mod KeepSides
@@ -42,6 +48,7 @@ pub mod Stepped
 pub mod SteppedAt
 pub mod SteppedLaw
 pub mod SteppedOpened
+pub mod TiedLaw
 pub mod Views
 pub mod WaitIds
 pub mod WaitLaw

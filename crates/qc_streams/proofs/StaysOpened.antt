@@ -43,20 +43,20 @@ use Rattle.qc_streams.proofs.WaitOpened.{and-then, reaches}
 use Rattle.qc_streams.proofs.WaitSteps.{was_opened}
 
 -- as many streams were opened, or more
-record More (s t : StreamsState) : Type 0 where
-  side : t.side ≡ s.side
-  own : (dir : Dir) → (by_dir dir s.own).opened ≤ (by_dir dir t.own).opened
-  peer : (dir : Dir) → (by_dir dir s.peer).opened ≤ (by_dir dir t.peer).opened
+pub record More (s t : StreamsState) : Type 0 where
+  pub side : t.side ≡ s.side
+  pub own : (dir : Dir) → (by_dir dir s.own).opened ≤ (by_dir dir t.own).opened
+  pub peer : (dir : Dir) → (by_dir dir s.peer).opened ≤ (by_dir dir t.peer).opened
 
 -- the same numbers
-same : (s t : StreamsState) → t.side ≡ s.side → t.own ≡ s.own → t.peer ≡ s.peer → More s t
+pub same : (s t : StreamsState) → t.side ≡ s.side → t.own ≡ s.own → t.peer ≡ s.peer → More s t
 same s t side own peer = record {
   side = side;
   own = λ dir. subst (λ (o : ByDir OwnStreams). (by_dir dir s.own).opened ≤ (by_dir dir o).opened) (sym own) (omega arith);
   peer = λ dir. subst (λ (p : ByDir PeerStreams). (by_dir dir s.peer).opened ≤ (by_dir dir p).opened) (sym peer) (omega arith);
 }
 
-then : (s t u : StreamsState) → More s t → More t u → More s u
+pub then : (s t u : StreamsState) → More s t → More t u → More s u
 then s t u m n = record {
   side = n.side ∙ m.side;
   own = λ dir. omega (arith, m.own dir, n.own dir);
@@ -73,7 +73,7 @@ opened_more : (b : Bool) (id : ℕ) (s t : StreamsState) → More s t
 opened_more true id s t m is = less_more (id / 4) _ _ (m.own (dir_of id)) is
 opened_more false id s t m is = less_more (id / 4) _ _ (m.peer (dir_of id)) is
 
-opened_then : (id : ℕ) (s t : StreamsState) → More s t → was_opened s.side s.own s.peer id ≡ true → was_opened t.side t.own t.peer id ≡ true
+pub opened_then : (id : ℕ) (s t : StreamsState) → More s t → was_opened s.side s.own s.peer id ≡ true → was_opened t.side t.own t.peer id ≡ true
 opened_then id s t m is =
     subst (λ (side : Side). was_opened side t.own t.peer id ≡ true) (sym m.side) (opened_more (is_own s.side id) id s t m is)
 
@@ -187,7 +187,7 @@ lingering_more id s =
     by true = same s s refl refl refl
     by false = peer_same place_freed freed_same (dir_of id) s
 
-settled_more : (id : ℕ) (s : StreamsState) → More s (settled id s)
+pub settled_more : (id : ℕ) (s : StreamsState) → More s (settled id s)
 unfolding settled
 settled_more id s = by (has_ended (record_of id s.records)) (stops_later (record_of id s.records))
   where
@@ -263,7 +263,7 @@ met_more f id s fits = by (is_peer_unopened id s) refl
     by true new = opened_with_more id (f (fresh_peer (dir_of id) s)) s new fits
     by false old = same s _ refl refl refl
 
-comes_more : (g : Recv → Recv) (id : ℕ) (s : StreamsState) → id < 2 ^ 62 → More s (comes g id s)
+pub comes_more : (g : Recv → Recv) (id : ℕ) (s : StreamsState) → id < 2 ^ 62 → More s (comes g id s)
 unfolding comes counted
 comes_more g id s fits =
     then s (met (with_receiving g) id s) (comes g id s) (met_more (with_receiving g) id s fits)

@@ -82,7 +82,7 @@ was_not_peer : (j : ℕ) (s : StreamsState) → is_peer_unopened j s ≡ true �
 unfolding is_peer_unopened
 was_not_peer j s new = not-own (is_own s.side j) _ new
 
-was_not_opened : (j : ℕ) (s : StreamsState) → is_peer_unopened j s ≡ true → was_opened s.side s.own s.peer j ≡ false
+pub was_not_opened : (j : ℕ) (s : StreamsState) → is_peer_unopened j s ≡ true → was_opened s.side s.own s.peer j ≡ false
 unfolding is_peer_unopened
 was_not_opened j s new =
     let other : is_own s.side j ≡ false = not-own (is_own s.side j) _ new in

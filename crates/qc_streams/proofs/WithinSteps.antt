@@ -338,7 +338,7 @@ of_side : (f : Recv → Option SideRefusal) (o : Option Stream) → refusal_at f
 of_side f None none r is = absurd (cc)
 of_side f (Some st) none r is = sym (ap (λ (x : Option Recv). side_refusal f x) is) ∙ none
 
-not_refused : (f : Recv → Option SideRefusal) (id : ℕ) (s : StreamsState) → receive_refusal f id s ≡ None → refusal_at f (target id s) ≡ None
+pub not_refused : (f : Recv → Option SideRefusal) (id : ℕ) (s : StreamsState) → receive_refusal f id s ≡ None → refusal_at f (target id s) ≡ None
 unfolding receive_refusal
 not_refused f id s is = side_none (refusal_at f (target id s)) (or_else_none (receive_bar id s) _ is)
 
@@ -369,7 +369,7 @@ good_at_side : (g : Recv → Recv) (st : Stream) → ((r : Recv) → st.receivin
 unfolding with_receiving
 good_at_side g st keeps h = (h.0, takes_at g st.receiving keeps h.1)
 
-fresh_none : (dir : Dir) (s : StreamsState) → (totals_if (Some (fresh_peer dir s))).received ≡ 0
+pub fresh_none : (dir : Dir) (s : StreamsState) → (totals_if (Some (fresh_peer dir s))).received ≡ 0
 unfolding fresh_stream new_receiving
 fresh_none Bi s = refl
 fresh_none Uni s = refl
@@ -377,7 +377,7 @@ fresh_none Uni s = refl
 opened_more : (n before room : ℕ) → n - 0 ≤ room → n - before ≤ room
 opened_more n before room fits = omega (arith, fits)
 
-opened_here : (id : ℕ) (st : Stream) (s : StreamsState) → record_of id (opened_with id st s).records ≡ Some st
+pub opened_here : (id : ℕ) (st : Stream) (s : StreamsState) → record_of id (opened_with id st s).records ≡ Some st
 unfolding opened_with
 opened_here id st s = new_here id (lower_opened id s) st
 

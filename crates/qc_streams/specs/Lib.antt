@@ -28,3 +28,5 @@ pub mod Filed
 pub mod Within
 pub mod Carried
 pub mod Steps
+pub mod Tied
+pub mod Finishing

@@ -34,6 +34,7 @@ mod state;
 mod stops;
 mod stream;
 mod streams;
+mod tied;
 mod waiting;
 mod writable;
 
@@ -59,4 +60,5 @@ pub use state::{PeerLimits, StreamsState};
 pub use stops::Stops;
 pub use stream::{Stream, Totals};
 pub use streams::Streams;
+pub use tied::{counts_what_came, finished_is_told_once, writes_stay_within};
 pub use waiting::{Dues, Waiting};
