@@ -33,7 +33,7 @@ use Rattle.qc_streams.specs.Within.{AreTaken, IsTaken}
 use Rattle.qc_streams.specs.Writable.{awaits, passed, watched}
 use Rattle.qc_streams.proofs.Beside.{acked_beside, all_filed_beside, lost_beside, met_beside, part_beside, refused_beside, sealed_beside, settled_beside}
 use Rattle.qc_streams.proofs.CameSide.{IsOther, KeepsSide, SideLine, asked_greatest, came_keeps, fresh_line, kept_line, raised_here, raised_other, raised_sum, read_greatest, reset_line, reset_still, stop_greatest, stream_line, stream_still}
-use Rattle.qc_streams.proofs.CarriedWritten.{absent, same_id}
+use Rattle.qc_streams.proofs.CarriedWritten.{absent}
 use Rattle.qc_streams.proofs.StaysOpened.{More, opened_then, settled_more, stays_opened}
 use Rattle.qc_streams.proofs.StaysOpened as stays
 use Rattle.qc_streams.proofs.StepAt.{ComesFrom, IsStepped, SteppedAt, Gone, There, Stood, OwnOpened, PeerOpened, came_to}
@@ -45,6 +45,7 @@ use Rattle.qc_streams.proofs.WaitOpened.{met_ok}
 use Rattle.qc_streams.proofs.WaitSteps.{Holds, was_opened}
 use Rattle.qc_streams.proofs.Waits.{here, unopened}
 use Rattle.qc_streams.proofs.WithinSteps.{fresh_none, not_refused, opened_here}
+use Rattle.qc_streams.proofs.Keyed.{same_id}
 
 -- ---- the line of a stream
 

@@ -21,11 +21,12 @@ use Rattle.qc_streams.proofs.CarriedOffsets.{AreFound, Ascends, ascends_add, asc
 use Rattle.qc_streams.proofs.CarriedOnce.{Keeping, WhileLive, chunk_found, fresh_keeps, given_keeps, side_once}
 use Rattle.qc_streams.proofs.CarriedRead.{answer_at, mapped, own_side, peer_side, some_not_none, unopened_before}
 use Rattle.qc_streams.proofs.CarriedSide.{IsFine}
-use Rattle.qc_streams.proofs.CarriedTaken.{IsUnopened, came_opened, fine_fresh, fine_stood, no_chunk, same_id}
+use Rattle.qc_streams.proofs.CarriedTaken.{IsUnopened, came_opened, fine_fresh, fine_stood, no_chunk}
 use Rattle.qc_streams.proofs.StepAt.{ComesFrom, Stood, OwnOpened, PeerOpened, SteppedAt, Gone, There, Steps, StaysOpened, came_to}
 use Rattle.qc_streams.proofs.WaitLaw.{nothing, step_ok}
 use Rattle.qc_streams.proofs.WaitSteps.{Holds, was_opened}
 use Rattle.qc_streams.proofs.Waits.{unopened}
+use Rattle.qc_streams.proofs.Keyed.{same_id}
 
 -- What was given is among the bytes that came, and none of it twice
 record Given (all bytes : List (ℕ × ℕ)) : Type 0 where

@@ -22,11 +22,12 @@ use Rattle.qc_streams.specs.Waits.{ArePossible, IsPossible, Step, EarlyRefused, 
 use Rattle.qc_streams.specs.Within.{AreTaken, IsTaken}
 use Rattle.qc_streams.proofs.CarriedCame.{SideHolds, chunk_prefix, fresh_holds, open_live, prefix_came}
 use Rattle.qc_streams.proofs.CarriedSide.{IsFine, WhileLive, side_ok}
-use Rattle.qc_streams.proofs.CarriedTaken.{IsUnopened, came_opened, fine_fresh, fine_stood, no_chunk, same_id}
+use Rattle.qc_streams.proofs.CarriedTaken.{IsUnopened, came_opened, fine_fresh, fine_stood, no_chunk}
 use Rattle.qc_streams.proofs.StepAt.{ComesFrom, Stood, OwnOpened, PeerOpened, SteppedAt, Gone, There, Steps, StaysOpened, came_to}
 use Rattle.qc_streams.proofs.WaitLaw.{nothing, step_ok}
 use Rattle.qc_streams.proofs.WaitSteps.{Holds, was_opened}
 use Rattle.qc_streams.proofs.Waits.{unopened}
+use Rattle.qc_streams.proofs.Keyed.{same_id}
 
 -- What was read are the first of the bytes that came; of a stream that wasn't opened there are none; and a receiving side that may
 -- give more holds those that were not read

@@ -28,9 +28,9 @@ use Rattle.qc_streams.specs.Waiting.{left, left_from, touched, turn_at}
 use Rattle.qc_streams.specs.Waits.{IsPossible, Step, Read, StreamCame, after_step}
 use Rattle.qc_streams.specs.Within.{IsTaken}
 use Rattle.qc_streams.proofs.CarriedSide.{IsFine}
-use Rattle.qc_streams.proofs.Keyed.{new_here}
+use Rattle.qc_streams.proofs.Keyed.{new_here, same_id}
 use Rattle.qc_streams.proofs.WaitOpened.{opened_with_ok, peer_waits}
-use Rattle.qc_streams.proofs.WaitSteps.{Holds, opened_same, put_same, was_opened}
+use Rattle.qc_streams.proofs.WaitSteps.{Holds, freed_same, opened_same, put_same, was_opened}
 
 -- whether the stream with an id was opened
 abbrev pub HasOpened : ℕ → StreamsState → Type 0
@@ -39,9 +39,6 @@ HasOpened id s = was_opened s.side s.own s.peer id ≡ true
 -- whether it was not
 abbrev pub IsUnopened : ℕ → StreamsState → Type 0
 IsUnopened id s = was_opened s.side s.own s.peer id ≡ false
-
-pub same_id : (j id : ℕ) → (j == id) ≡ true → j ≡ id
-same_id j id is = grind (arith, nat_tests)
 
 -- ---- a STREAM frame that isn't refused
 
@@ -151,10 +148,6 @@ fine_fresh id x s unopened is takes answers =
     takes answers
 
 -- ---- a stream that a frame opens was opened then
-
-freed_same : (k : PeerStreams) → (place_freed k).opened ≡ k.opened
-unfolding place_freed with_place
-freed_same k = refl
 
 removed_opened : (id : ℕ) (s : StreamsState) → HasOpened id s → HasOpened id (removed id s)
 unfolding removed

@@ -31,6 +31,7 @@ use Rattle.qc_streams.proofs.StepAt.{AlikeIf, ComesFrom, IsStepped, StaysOpened,
 use Rattle.qc_streams.proofs.WaitLaw.{nothing as at_first, step_ok}
 use Rattle.qc_streams.proofs.WaitSteps.{Holds, was_opened}
 use Rattle.qc_streams.proofs.Waits.{unopened}
+use Rattle.qc_streams.proofs.Keyed.{same_id}
 
 -- ---- a step, and the bytes that it writes
 
@@ -38,9 +39,6 @@ use Rattle.qc_streams.proofs.Waits.{unopened}
 abbrev pub WritesNone : ℕ → Step → Type 0
 WritesNone id (Wrote j n chunk) = (j == id) ≡ true → n ≡ 0
 WritesNone id x = Unit {0}
-
-pub same_id : (j id : ℕ) → (j == id) ≡ true → j ≡ id
-same_id j id is = grind (arith, nat_tests)
 
 none_taken : (n wanted most : ℕ) (o : Option SendPart) → o ≡ None → n ≤ count_taken wanted most o → n ≡ 0
 none_taken n wanted most None none fits = omega (arith, fits)

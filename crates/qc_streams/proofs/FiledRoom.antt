@@ -19,7 +19,7 @@ use Rattle.qc_streams.specs.Records.{changed, on_some, record_of, with_new, with
 use Rattle.qc_streams.specs.Streams.{forgotten, released, removed}
 use Rattle.qc_streams.specs.Waiting.{all_filed, dues_at, entered, filed, is_idle, left, left_from, mark_off, due_at, new_waiting, next_place, or_next, place_left, place_made, placed, queue_one, queued, sets_filed, touched, turn_at, turn_filed, with_mark, with_turn}
 use Rattle.qc_streams.proofs.Keeps.{Fresh, Keeps, On, changed_in}
-use Rattle.qc_streams.proofs.Keyed.{Ascends, ascends_gone, ascends_new, ascends_set, gone_here, gone_other, new_here, new_other, set_alike, set_here, set_other}
+use Rattle.qc_streams.proofs.Keyed.{Ascends, ascends_gone, ascends_new, ascends_set, gone_here, gone_other, new_here, new_other, same_id, set_alike, set_here, set_other}
 use Rattle.qc_streams.proofs.MarksOff.{filed_ids}
 
 -- every marked stream stands among the marks, and there are as many free places as streams without a mark
@@ -74,9 +74,6 @@ count_new id st [] none = omega (arith, count_cons (id, st) [])
 count_new id st (e ∷ es) none = count_new_step (nat_cmp id e.0) id e es (with_new id st es) st none (λ there. count_new id st es there)
 
 -- ---- which ids are among the marks
-
-same_id : (id j : ℕ) → (id == j) ≡ true → id ≡ j
-same_id id j is = grind (arith, nat_tests)
 
 other_id : (id j : ℕ) → (id == j) ≡ false → is_at (nat_cmp j) id ≡ false
 other_id id j apart = grind (arith, nat_tests)

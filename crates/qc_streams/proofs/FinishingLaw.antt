@@ -23,7 +23,7 @@ use Rattle.qc_streams.specs.Within.{AreTaken, IsTaken}
 use Rattle.qc_base.specs.declared.side.Dir.{Dir}
 use Rattle.qc_base.specs.declared.side.Dir.TheVariants.{Bi, Uni}
 use Rattle.qc_streams.proofs.CarriedBuffer.{Traced, traced_count}
-use Rattle.qc_streams.proofs.CarriedWritten.{Carries, CarriesAt, TracedIf, WritesNone, absent, done_unknown, same_id, step_carries, take_none, traced_sent, unknown_none}
+use Rattle.qc_streams.proofs.CarriedWritten.{Carries, CarriesAt, TracedIf, WritesNone, absent, done_unknown, step_carries, take_none, traced_sent, unknown_none}
 use Rattle.qc_streams.proofs.FinishingEvents.{after_times, tells}
 use Rattle.qc_streams.proofs.FinishingSide.{AllAcked, SideOk, alike_all, alike_ok, all_done, all_finished, all_stays, finished_all, finished_bytes, finished_end, side_ok}
 use Rattle.qc_streams.proofs.StaysOpened.{stays_opened}
@@ -32,6 +32,7 @@ use Rattle.qc_streams.proofs.SteppedLaw.{steps}
 use Rattle.qc_streams.proofs.WaitLaw.{nothing as at_first, step_ok}
 use Rattle.qc_streams.proofs.WaitSteps.{Holds, was_opened}
 use Rattle.qc_streams.proofs.Waits.{here}
+use Rattle.qc_streams.proofs.Keyed.{same_id}
 
 -- ---- what was written and acknowledged
 

@@ -8,6 +8,10 @@ use Rattle.std.specs.Ordering.{nat_cmp, match_ordering}
 use Rattle.std.proofs.lemmas.Bool.Decides.{nat_tests}
 use Rattle.std.proofs.lemmas.Cmp.{ranked}
 
+-- ids that are told to be the same are
+pub same_id : (id j : ℕ) → (id == j) ≡ true → id ≡ j
+same_id id j is = grind (arith, nat_tests)
+
 -- ---- which keys are found
 
 at_here : (id : ℕ) → is_at (nat_cmp id) id ≡ true

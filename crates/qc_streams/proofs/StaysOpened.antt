@@ -40,7 +40,7 @@ use Rattle.qc_streams.specs.Waits.{IsPossible, Step, LimitsKnown, EarlyRefused, 
 use Rattle.qc_streams.specs.Writable.{credit_at, held_up, passed, watched}
 use Rattle.qc_streams.proofs.StepAt.{StaysOpened}
 use Rattle.qc_streams.proofs.WaitOpened.{and-then, reaches}
-use Rattle.qc_streams.proofs.WaitSteps.{was_opened}
+use Rattle.qc_streams.proofs.WaitSteps.{accepted_same, concurrent_same, freed_same, lost_same, sealed_same, told_same, was_opened}
 
 -- as many streams were opened, or more
 pub record More (s t : StreamsState) : Type 0 where
@@ -100,30 +100,6 @@ peer_put e k s up = record { side = refl; own = λ dir. omega arith; peer = by e
 peer_same : (f : PeerStreams → PeerStreams) → ((k : PeerStreams) → (f k).opened ≡ k.opened) → (e : Dir) (s : StreamsState)
     → More s (record s { peer = dir_put e (f (by_dir e s.peer)) s.peer })
 peer_same f still e s = peer_put e (f (by_dir e s.peer)) s (omega (arith, still (by_dir e s.peer)))
-
-freed_same : (k : PeerStreams) → (place_freed k).opened ≡ k.opened
-unfolding place_freed with_place
-freed_same k = refl
-
-accepted_same : (k : PeerStreams) → (accepted k).opened ≡ k.opened
-unfolding accepted
-accepted_same k = refl
-
-told_same : (k : PeerStreams) → (opening_told k).opened ≡ k.opened
-unfolding opening_told
-told_same k = refl
-
-sealed_same : (k : PeerStreams) → (places_sealed k).opened ≡ k.opened
-unfolding places_sealed
-sealed_same k = refl
-
-lost_same : (k : PeerStreams) → (places_lost k).opened ≡ k.opened
-unfolding places_lost
-lost_same k = refl
-
-concurrent_same : (n : ℕ) (k : PeerStreams) → (concurrent_set n k).opened ≡ k.opened
-unfolding concurrent_set with_concurrent
-concurrent_same n k = refl
 
 raised_same : (n : ℕ) (k : OwnStreams) → (own_raised n k).opened ≡ k.opened
 unfolding own_raised

@@ -15,7 +15,7 @@ use Rattle.qc_streams.specs.Stream.{has_ended, with_freed, with_receiving, with_
 use Rattle.qc_streams.specs.Streams.{forgotten, left_over, lingering, released, removed, settled, stops_later}
 use Rattle.qc_streams.specs.Waiting.{all_filed, dues_at, entered, filed, left, left_from, mark_off, placed, queue_one, queued, sets_filed, touched, turn_at, turn_filed, with_mark, with_turn}
 use Rattle.qc_streams.specs.Waits.{Step, after_step}
-use Rattle.qc_streams.proofs.Keyed.{Ascends, ascends_gone, ascends_set, gone_here, gone_other, set_other}
+use Rattle.qc_streams.proofs.Keyed.{Ascends, ascends_gone, ascends_set, gone_here, gone_other, same_id, set_other}
 use Rattle.qc_streams.proofs.StepAt.{AlikeIf, ComesFrom, Gone, IsStepped, SendsAlike, SteppedAt, Stood, There, came_to, sent_to}
 use Rattle.qc_streams.proofs.Waits.{here}
 
@@ -48,9 +48,6 @@ later_then o p q (Kept st now from to receiving sending) (Kept st' now' from' to
 
 -- ---- the map of streams
 
-same_id : (id j : ℕ) → (j == id) ≡ true → j ≡ id
-same_id id j is = grind (arith, nat_tests)
-
 other-in : (f : Stream → Stream) (id j : ℕ) (all : AllRecords) (o : Option Stream) → (j == id) ≡ false → record_of id (on_some f j o all) ≡ record_of id all
 other-in f id j all None apart = refl
 other-in f id j all (Some st) apart = set_other j id all (f st) apart
@@ -60,7 +57,7 @@ changed_other f id j all apart = other-in f id j all (record_of j all) apart
 
 pub changed_here : (f : Stream → Stream) (id j : ℕ) (all : AllRecords) → (j == id) ≡ true → record_of id (changed f j all) ≡ option_map f (record_of id all)
 changed_here f id j all is =
-    subst (λ (k : ℕ). record_of id (changed f k all) ≡ option_map f (record_of id all)) (sym (same_id id j is)) (here f id all)
+    subst (λ (k : ℕ). record_of id (changed f k all) ≡ option_map f (record_of id all)) (sym (same_id j id is)) (here f id all)
 
 ascends-in : (f : Stream → Stream) (j : ℕ) (all : AllRecords) (o : Option Stream) → Ascends all → Ascends (on_some f j o all)
 ascends-in f j all None order = order
@@ -87,7 +84,7 @@ later_gone : (id j : ℕ) (all : AllRecords) → Ascends all → Later (record_o
 later_gone id j all order = by (j == id) refl
   where
     by : (b : Bool) → (j == id) ≡ b → Later (record_of id all) (record_of id (without j all))
-    by true is = Left (subst (λ (k : ℕ). record_of id (without k all) ≡ None) (sym (same_id id j is)) (gone_here id all order))
+    by true is = Left (subst (λ (k : ℕ). record_of id (without k all) ≡ None) (sym (same_id j id is)) (gone_here id all order))
     by false is = later_same (record_of id all) (record_of id (without j all)) (gone_other j id all is)
 
 -- ---- marks, turns, and streams that leave

@@ -11,7 +11,7 @@ use Rattle.qc_streams.specs.Lending.{AllRecords}
 use Rattle.qc_streams.specs.Records.{changed, record_of, with_new}
 use Rattle.qc_streams.specs.Streams.{dir_of, fresh_own, fresh_peer, is_own, is_peer_unopened, lower_opened, lower_unopened, made, met, next_own, opened_own, opened_with}
 use Rattle.qc_streams.specs.Waits.{Step, Opened, after_step}
-use Rattle.qc_streams.proofs.Keyed.{Ascends, ascends_new, new_here, new_other}
+use Rattle.qc_streams.proofs.Keyed.{Ascends, ascends_new, new_here, new_other, same_id}
 use Rattle.qc_streams.proofs.StepAt.{IsStepped, OwnOpened, PeerOpened, SteppedAt, came_to, sent_to}
 use Rattle.qc_streams.proofs.SteppedAt.{Later, ascends_changed, later_at, later_same, stepped_changed, stepped_from, stepped_still}
 use Rattle.qc_streams.proofs.WaitIds.{nth, nth_self}
@@ -21,11 +21,8 @@ use Rattle.qc_streams.proofs.Stepped.{ChangesNone, rests_alike, still_on}
 
 -- ---- streams are opened
 
-same_id : (id j : ℕ) → (j == id) ≡ true → j ≡ id
-same_id id j is = grind (arith, nat_tests)
-
 pub new_at : (id j : ℕ) (st : Stream) (all : AllRecords) → (j == id) ≡ true → record_of id (with_new j st all) ≡ Some st
-new_at id j st all is = subst (λ (k : ℕ). record_of k (with_new j st all) ≡ Some st) (same_id id j is) (new_here j all st)
+new_at id j st all is = subst (λ (k : ℕ). record_of k (with_new j st all) ≡ Some st) (same_id j id is) (new_here j all st)
 
 opened_none : (dir : Dir) → ChangesNone (Opened dir)
 unfolding came_to sent_to
@@ -38,7 +35,7 @@ opened_on id dir s holds = by (stream_id s.side dir (by_dir dir s.own).opened ==
     by : (b : Bool) → (stream_id s.side dir (by_dir dir s.own).opened == id) ≡ b → SteppedAt id (Opened dir) s
     by true is =
         stepped_from id (Opened dir) s (fresh_own dir s) (fresh_own dir s) _
-        (OwnOpened dir refl (subst (λ (k : ℕ). was_opened s.side s.own s.peer k ≡ false) (same_id id _ is)
+        (OwnOpened dir refl (subst (λ (k : ℕ). was_opened s.side s.own s.peer k ≡ false) (same_id _ id is)
         (own-count s.side dir s.own s.peer (by_dir dir s.own).opened ∙ not-less (by_dir dir s.own).opened)))
         (rests_alike id id (Opened dir) (opened_none dir) (fresh_own dir s))
         (new_at id (stream_id s.side dir (by_dir dir s.own).opened) (fresh_own dir s) s.records is) (later_at _)
@@ -57,7 +54,7 @@ made_at j from (suc n) id st all = by (nth j (from + n) == id) refl (made_at j f
         → (record_of id (made j from n st all) ≡ record_of id all) ⊎ ((i : ℕ) × (nth j (from + i) ≡ id) × (record_of id (made j from n st all) ≡ Some st))
         → (record_of id (with_new (nth j (from + n)) st (made j from n st all)) ≡ record_of id all)
         ⊎ ((i : ℕ) × (nth j (from + i) ≡ id) × (record_of id (with_new (nth j (from + n)) st (made j from n st all)) ≡ Some st))
-    by true is rest = inr (n, same_id id (nth j (from + n)) is, new_at id (nth j (from + n)) st (made j from n st all) is)
+    by true is rest = inr (n, same_id (nth j (from + n)) id is, new_at id (nth j (from + n)) st (made j from n st all) is)
     by false is (inl same) = inl (new_other (nth j (from + n)) id (made j from n st all) st is ∙ same)
     by false is (inr new) = inr (new.0, new.1, new_other (nth j (from + n)) id (made j from n st all) st is ∙ new.2)
 
@@ -123,7 +120,7 @@ module _ (id j : ℕ) (x : Step) (s : StreamsState) (f : Stream → Stream) (mak
       by : (b : Bool) → (j == id) ≡ b → SteppedAt id x s
       by true is =
           stepped_from id x s (fresh_peer (dir_of j) s) (f (fresh_peer (dir_of j) s)) _
-          (PeerOpened (dir_of j) refl (subst (λ (k : ℕ). was_opened s.side s.own s.peer k ≡ false) (same_id id j is) (was_not_opened j s new)))
+          (PeerOpened (dir_of j) refl (subst (λ (k : ℕ). was_opened s.side s.own s.peer k ≡ false) (same_id j id is) (was_not_opened j s new)))
           (makes is (fresh_peer (dir_of j) s)) (new_at id j (f (fresh_peer (dir_of j) s)) (lower_opened j s) is) later
       by false is = lower_on is new _ (new_other j id (lower_opened j s) (f (fresh_peer (dir_of j) s)) is) later
 

@@ -41,7 +41,7 @@ use Rattle.qc_streams.specs.Waits.{ArePossible, IsPossible, Step, LimitsKnown, E
 use Rattle.qc_streams.specs.Writable.{awaits, awaits_at, credit_at, has_credit, held_up, passed, watched}
 use Rattle.qc_streams.proofs.WaitOpened.{met_ok, opened_own_ok, opened_with_ok}
 use Rattle.qc_streams.proofs.WaitSides.{acked_alike, finished_credit, lost_alike, reset_acked_alike, reset_credit, reset_lost_alike, reset_sealed_alike, sealed_alike, side_alike, side_credit, side_limit, side_told, stop_alike, written_credit}
-use Rattle.qc_streams.proofs.WaitSteps.{Holds, left_ok, left_over_ok, opened_same, put_same, queued_ok, settled_ok, touched_ok, was_opened}
+use Rattle.qc_streams.proofs.WaitSteps.{Holds, accepted_same, concurrent_same, left_ok, left_over_ok, lost_same, opened_same, put_same, queued_ok, sealed_same, settled_ok, told_same, touched_ok, was_opened}
 use Rattle.qc_streams.proofs.Waits.{Sound, alike, held, pass, raise, told, watch, watch-in, weaken}
 
 -- ---- streams that change, and wait as before
@@ -89,26 +89,6 @@ limits_same : (m n : ℕ) (own : ByDir OwnStreams) (d : Dir)
     → (by_dir d (let x : ByDir OwnStreams = record { bi = own_raised m own.bi; uni = own_raised n own.uni } in x)).opened ≡ (by_dir d own).opened
 limits_same m n own Bi = raised_same m own.bi
 limits_same m n own Uni = raised_same n own.uni
-
-concurrent_same : (n : ℕ) (k : PeerStreams) → (concurrent_set n k).opened ≡ k.opened
-unfolding concurrent_set with_concurrent
-concurrent_same n k = refl
-
-told_same : (k : PeerStreams) → (opening_told k).opened ≡ k.opened
-unfolding opening_told
-told_same k = refl
-
-accepted_same : (k : PeerStreams) → (accepted k).opened ≡ k.opened
-unfolding accepted
-accepted_same k = refl
-
-sealed_same : (k : PeerStreams) → (places_sealed k).opened ≡ k.opened
-unfolding places_sealed
-sealed_same k = refl
-
-lost_same : (k : PeerStreams) → (places_lost k).opened ≡ k.opened
-unfolding places_lost
-lost_same k = refl
 
 -- ---- the application's calls
 

@@ -10,8 +10,9 @@ use Rattle.qc_streams.specs.declared.counts.OwnStreams.{OwnStreams}
 use Rattle.qc_streams.specs.declared.counts.PeerStreams.{PeerStreams}
 use Rattle.qc_streams.specs.declared.state.StreamsState.{StreamsState}
 use Rattle.qc_streams.specs.declared.stream.Stream.{Stream}
-use Rattle.qc_streams.specs.Counts.{by_dir, dir_put, place_freed, with_place}
+use Rattle.qc_streams.specs.Counts.{accepted, by_dir, dir_put, opening_told, place_freed, places_lost, places_sealed, with_place}
 use Rattle.qc_streams.specs.Records.{changed, record_of, without}
+use Rattle.qc_streams.specs.Settings.{concurrent_set, with_concurrent}
 use Rattle.qc_streams.specs.Stream.{has_ended, is_freed, with_freed}
 use Rattle.qc_streams.specs.Streams.{dir_of, forgotten, is_own, left_over, lingering, released, removed, settled, stops_later}
 use Rattle.qc_streams.specs.Waiting.{left, left_from, queue_one, queued, touched, turn_at, with_mark, with_turn}
@@ -71,9 +72,29 @@ put_same f same Bi peer Uni = refl
 put_same f same Uni peer Bi = refl
 put_same f same Uni peer Uni = same peer.uni
 
-freed_same : (k : PeerStreams) → (place_freed k).opened ≡ k.opened
+pub freed_same : (k : PeerStreams) → (place_freed k).opened ≡ k.opened
 unfolding place_freed with_place
 freed_same k = refl
+
+pub told_same : (k : PeerStreams) → (opening_told k).opened ≡ k.opened
+unfolding opening_told
+told_same k = refl
+
+pub accepted_same : (k : PeerStreams) → (accepted k).opened ≡ k.opened
+unfolding accepted
+accepted_same k = refl
+
+pub sealed_same : (k : PeerStreams) → (places_sealed k).opened ≡ k.opened
+unfolding places_sealed
+sealed_same k = refl
+
+pub lost_same : (k : PeerStreams) → (places_lost k).opened ≡ k.opened
+unfolding places_lost
+lost_same k = refl
+
+pub concurrent_same : (n : ℕ) (k : PeerStreams) → (concurrent_set n k).opened ≡ k.opened
+unfolding concurrent_set with_concurrent
+concurrent_same n k = refl
 
 removed_same : (b : Bool) (e : Dir) (peer : ByDir PeerStreams) (d : Dir)
     → (by_dir d (cond b peer (dir_put e (place_freed (by_dir e peer)) peer))).opened ≡ (by_dir d peer).opened

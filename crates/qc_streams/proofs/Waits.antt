@@ -16,7 +16,7 @@ use Rattle.qc_streams.specs.Records.{changed, on_some, record_of, with_new, with
 use Rattle.qc_streams.specs.Stream.{has_ended, is_over, receiving_over, sending_over, with_sending}
 use Rattle.qc_streams.specs.Waits.{waits_at}
 use Rattle.qc_streams.specs.Writable.{awaits, awaits_at, credit_at, credit_of, has_credit}
-use Rattle.qc_streams.proofs.Keyed.{Ascends, ascends_gone, ascends_new, ascends_set, gone_here, gone_other, new_here, new_other, set_alike, set_here, set_other}
+use Rattle.qc_streams.proofs.Keyed.{Ascends, ascends_gone, ascends_new, ascends_set, gone_here, gone_other, new_here, new_other, same_id, set_alike, set_here, set_other}
 
 -- streams and those of them that wait, where `opened` says which were opened
 pub record Sound (opened : ℕ → Bool) (all : AllRecords) (ids : BlockedIds) : Type 0 where
@@ -31,9 +31,6 @@ pub record SoundBut (id : ℕ) (opened : ℕ → Bool) (all : AllRecords) (ids :
   pub set : Ascends ids
   pub order : Ascends all
   pub known : (j : ℕ) → is_some (record_of j all) ≡ true → opened j ≡ true
-
-same_id : (id j : ℕ) → (id == j) ≡ true → id ≡ j
-same_id id j is = grind (arith, nat_tests)
 
 -- it holds of that one too
 pub close : (id : ℕ) (op : ℕ → Bool) (all : AllRecords) (ids : BlockedIds) → SoundBut id op all ids → waits_at id ids ≡ awaits_at (record_of id all) → Sound op all ids
