@@ -1,49 +1,46 @@
 -- What counts as received is the sum of the greatest ends that came, whatever happens
-use Rattle.std.proofs.Common.{◌≡◌, ◌∙◌, ℕ, ◌+◌, ◌-◌, ◌^◌, ◌<◌, ◌≤◌, ◌==◌, Bool, true, false, cond, not, max, List, [], ◌∷◌, length, Option, None, Some, is_some, ap, sym, subst, arith, refl}
+use Rattle.std.proofs.Common.{◌≡◌, ◌∙◌, ℕ, ◌+◌, ◌-◌, ◌^◌, ◌<◌, ◌==◌, Bool, true, false, cond, not, max, List, [], ◌∷◌, length, Option, None, Some, is_some, ap, sym, subst, arith, refl}
 use Rattle.std.specs.Option.{option_map}
 use Rattle.std.proofs.lemmas.Bool.{eq-eqb, false≢true}
 use Rattle.qc_base.specs.declared.side.Dir.{Dir}
 use Rattle.qc_base.specs.declared.side.Dir.TheVariants.{Bi, Uni}
 use Rattle.qc_base.specs.declared.side.Side.{Side}
-use Rattle.qc_base.specs.declared.varint.VarInt.{VarInt}
 use Rattle.qc_recv.specs.declared.fault.Refusal.{Refusal as SideRefusal}
 use Rattle.qc_recv.specs.declared.recv.Recv.{Recv}
-use Rattle.qc_recv.specs.Receiving.{is_ended, new_receiving, reset_asked, reset_refusal, reset_taken, stop_asked, stream_refusal, stream_taken}
-use Rattle.qc_streams.specs.declared.credit.Incoming.{Incoming}
+use Rattle.qc_recv.specs.Receiving.{is_ended, reset_asked, reset_refusal, reset_taken, stop_asked, stream_refusal, stream_taken}
 use Rattle.qc_streams.specs.declared.state.StreamsState.{StreamsState}
 use Rattle.qc_streams.specs.declared.stream.Stream.{Stream}
-use Rattle.qc_streams.specs.declared.stream.Totals.{Totals}
-use Rattle.qc_streams.specs.Calls.{after_read, gives, reading_begun, sends, wrote}
+use Rattle.qc_streams.specs.Calls.{after_read, gives, reading_begun, resets, sends, wrote}
 use Rattle.qc_streams.specs.Carried.{keeps_streams}
 use Rattle.qc_streams.specs.Counts.{held}
 use Rattle.qc_streams.specs.Credit.{new_incoming, room, tallied, window_set, with_totals, with_window}
 use Rattle.qc_streams.specs.Early.{credit_anew, early_refused}
-use Rattle.qc_streams.specs.Events.{first_event}
+use Rattle.qc_streams.specs.Events.{first_dropped}
 use Rattle.qc_streams.specs.Frames.{comes, limit_came, receive_refusal, reset_came, stop_came, stream_came, stream_limit_came, streams_limit_came}
-use Rattle.qc_streams.specs.Owed.{oldest_told, polled, told_opened, writable, writable_told}
-use Rattle.qc_streams.specs.Parts.{bytes_acked, bytes_lost, bytes_taken}
+use Rattle.qc_streams.specs.Owed.{polled, told_opened}
+use Rattle.qc_streams.specs.Parts.{bytes_acked, bytes_gone, bytes_lost, bytes_taken}
 use Rattle.qc_streams.specs.Records.{changed, record_of}
 use Rattle.qc_streams.specs.Settings.{max_concurrent_set, priority_set, receive_window_set, send_window_set}
 use Rattle.qc_streams.specs.Stream.{fresh_stream, limit_taken, refusal_at, side_refusal, stop_taken, totals_at, totals_if, totals_of, with_receiving, with_sending}
-use Rattle.qc_streams.specs.Streams.{accepted_one, counted, dir_of, fresh_own, fresh_peer, is_peer_unopened, limits_set, met, new_streams, opened_own, opened_with, settled, target, told_if}
+use Rattle.qc_streams.specs.Streams.{accepted_one, counted, dir_of, fresh_own, fresh_peer, is_peer_unopened, limits_set, met, new_streams, opened_own, opened_with, target, told_if}
 use Rattle.qc_streams.specs.Tied.{CountsWhatCame, all_ends, end_on, end_raised, ends_came, may_come, may_come_on, with_end}
 use Rattle.qc_streams.specs.Waiting.{queued, touched}
 use Rattle.qc_streams.specs.Waits.{ArePossible, IsPossible, Step, LimitsKnown, EarlyRefused, Closed, Failed, Opened, Accepted, Wrote, Refused, Finished, WasReset, Began, Read, Stopped, ResetAsked, PrioritySet, SendWindowSet, ReceiveWindowSet, ConcurrentSet, Polled, StreamCame, ResetCame, StopCame, StreamLimitCame, StreamsLimitCame, LimitCame, MarksFiled, ControlSealed, ControlLost, ControlAcked, PartSealed, BytesLost, BytesAcked, after, after_step}
 use Rattle.qc_streams.specs.Within.{AreTaken, IsTaken}
 use Rattle.qc_streams.specs.Writable.{awaits, passed, watched}
-use Rattle.qc_streams.proofs.Beside.{acked_beside, all_filed_beside, lost_beside, met_beside, part_beside, refused_beside, sealed_beside, settled_beside}
-use Rattle.qc_streams.proofs.CameSide.{IsOther, KeepsSide, SideLine, asked_greatest, came_keeps, fresh_line, kept_line, raised_here, raised_other, raised_sum, read_greatest, reset_line, reset_still, stop_greatest, stream_line, stream_still}
+use Rattle.qc_streams.proofs.Beside.{acked_beside, all_filed_beside, lost_beside, met_beside, part_beside, refused_beside, sealed_beside, settled_beside, told_telling}
+use Rattle.qc_streams.proofs.CameSide.{IsOther, SideLine, asked_greatest, came_keeps, fresh_line, kept_line, raised_here, raised_other, raised_sum, read_greatest, reset_line, reset_still, stop_greatest, stream_line, stream_still}
 use Rattle.qc_streams.proofs.CarriedWritten.{absent}
 use Rattle.qc_streams.proofs.StaysOpened.{More, opened_then, settled_more, stays_opened}
 use Rattle.qc_streams.proofs.StaysOpened as stays
-use Rattle.qc_streams.proofs.StepAt.{ComesFrom, IsStepped, SteppedAt, Gone, There, Stood, OwnOpened, PeerOpened, came_to}
+use Rattle.qc_streams.proofs.StepAt.{ComesFrom, SteppedAt, Gone, There, Stood, OwnOpened, PeerOpened, came_to}
 use Rattle.qc_streams.proofs.SteppedAt.{Later, Left, Kept, settled_follows}
 use Rattle.qc_streams.proofs.SteppedLaw.{steps}
 use Rattle.qc_streams.proofs.SteppedOpened.{met_order, was_not_opened}
 use Rattle.qc_streams.proofs.WaitLaw.{nothing as at_first, step_ok}
 use Rattle.qc_streams.proofs.WaitOpened.{met_ok}
 use Rattle.qc_streams.proofs.WaitSteps.{Holds, was_opened}
-use Rattle.qc_streams.proofs.Waits.{here, unopened}
+use Rattle.qc_streams.proofs.Waits.{here}
 use Rattle.qc_streams.proofs.WithinSteps.{fresh_none, not_refused, opened_here}
 use Rattle.qc_streams.proofs.Keyed.{same_id}
 
@@ -304,19 +301,14 @@ gives_received g same id s n sum =
     ap (λ (o : Option Stream). (totals_if o).received) (here (with_receiving g) id s.records) ∙ stream_same g same (record_of id s.records) in
     (settled_beside id _).received ∙ omega (arith, now, sum)
 
-writable_received : (o : Option ℕ) (s : StreamsState) → (writable_told o s).incoming.received ≡ s.incoming.received
-writable_received None s = refl
-writable_received (Some id) s = refl
-
 polled_received : (s : StreamsState) → (polled s).incoming.received ≡ s.incoming.received
 unfolding polled told_opened
-polled_received s = by s.peer.bi.tells s.peer.uni.tells s.events
+polled_received s = by s.peer.bi.tells s.peer.uni.tells
   where
-    by : (b c : Bool) (es : _) → (cond b (told_opened Bi s) (cond c (told_opened Uni s) (oldest_told (first_event es) s))).incoming.received ≡ s.incoming.received
-    by true c es = refl
-    by false true es = refl
-    by false false [] = writable_received (writable s) s
-    by false false (e ∷ es) = refl
+    by : (b c : Bool) → (cond b (told_opened Bi s) (cond c (told_opened Uni s) (record s { events = first_dropped s.events }))).incoming.received ≡ s.incoming.received
+    by true c = refl
+    by false true = refl
+    by false false = refl
 
 -- a step that brings no end
 abbrev IsNoEnd : Step → Type 0
@@ -326,11 +318,11 @@ IsNoEnd EarlyRefused = ⊥
 IsNoEnd x = Unit {0}
 
 rests_received : (x : Step) (s : StreamsState) (n : ℕ) → IsNoEnd x → s.incoming.received ≡ held n → (after_step x s).incoming.received ≡ held n
-unfolding after_step limits_set opened_own accepted_one wrote sends queued passed touched reading_begun priority_set send_window_set receive_window_set window_set with_window max_concurrent_set stop_came stream_limit_came watched streams_limit_came limit_came bytes_lost bytes_acked bytes_taken told_if
+unfolding after_step limits_set opened_own accepted_one wrote resets sends queued passed touched reading_begun priority_set send_window_set receive_window_set window_set with_window max_concurrent_set stop_came stream_limit_came watched streams_limit_came limit_came bytes_lost bytes_acked bytes_gone bytes_taken told_if
 rests_received (StreamCame id o bs last) s n none sum = absurd none
 rests_received (ResetCame id code size) s n none sum = absurd none
 rests_received EarlyRefused s n none sum = absurd none
-rests_received (LimitsKnown p) s n none sum = sum
+rests_received (LimitsKnown p) s n none sum = (told_telling None _).received ∙ sum
 rests_received Closed s n none sum = sum
 rests_received Failed s n none sum = sum
 rests_received (Opened dir) s n none sum = sum
@@ -338,27 +330,28 @@ rests_received (Accepted dir) s n none sum = sum
 rests_received (Wrote id k chunk) s n none sum = sum
 rests_received (Refused e id) s n none sum = (refused_beside e id s).received ∙ sum
 rests_received (Finished id) s n none sum = sum
-rests_received (WasReset code id) s n none sum = sum
+rests_received (WasReset code id) s n none sum = (told_telling None _).received ∙ sum
 rests_received (Began ordered id) s n none sum = sum
 rests_received (Read ordered result id) s n none sum = gives_received (after_read ordered result) (read_greatest ordered result) id s n sum
 rests_received (Stopped code id) s n none sum = gives_received (stop_asked code) (stop_greatest code) id s n sum
 rests_received (ResetAsked id) s n none sum = gives_received reset_asked asked_greatest id s n sum
 rests_received (PrioritySet priority id) s n none sum = sum
-rests_received (SendWindowSet k) s n none sum = sum
+rests_received (SendWindowSet k) s n none sum = (told_telling None _).received ∙ sum
 rests_received (ReceiveWindowSet k) s n none sum = sum
 rests_received (ConcurrentSet dir k) s n none sum = sum
 rests_received Polled s n none sum = polled_received s ∙ sum
 rests_received (StopCame id code) s n none sum = (met_beside (with_sending (stop_taken code)) id s).received ∙ sum
-rests_received (StreamLimitCame id limit) s n none sum = (met_beside (with_sending (limit_taken limit)) id s).received ∙ sum
+rests_received (StreamLimitCame id limit) s n none sum = (told_telling None _).received ∙ (met_beside (with_sending (limit_taken limit)) id s).received ∙ sum
 rests_received (StreamsLimitCame dir k) s n none sum = sum
-rests_received (LimitCame k) s n none sum = sum
+rests_received (LimitCame k) s n none sum = (told_telling None _).received ∙ sum
 rests_received MarksFiled s n none sum = (all_filed_beside s.waiting.marks.ids s).received ∙ sum
 rests_received (ControlSealed c) s n none sum = (sealed_beside c s).received ∙ sum
 rests_received (ControlLost c) s n none sum = (lost_beside c s).received ∙ sum
 rests_received (ControlAcked c) s n none sum = (acked_beside c s).received ∙ sum
 rests_received (PartSealed d) s n none sum = (part_beside d s).received ∙ sum
 rests_received (BytesLost id start stop last) s n none sum = sum
-rests_received (BytesAcked id start stop last) s n none sum = (settled_beside id _).received ∙ sum
+rests_received (BytesAcked id start stop last) s n none sum =
+    (told_telling None _).received ∙ (told_telling (Some id) (bytes_gone id start stop last s)).received ∙ (settled_beside id _).received ∙ sum
 
 -- ---- whatever happens
 

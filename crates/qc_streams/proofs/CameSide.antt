@@ -1,5 +1,5 @@
 -- What counts as received is the sum of the greatest ends that came: what frames and calls make of a receiving side, and of that sum
-use Rattle.std.proofs.Common.{◌≡◌, ◌∙◌, ℕ, ◌+◌, ◌==◌, ◌<◌, ◌≤◌, Bool, true, false, cond, not, ◌&&◌, ◌||◌, nat_lt, max, List, [], ◌∷◌, length, Option, None, Some, is_some, Result, Ok, Err, ap, sym, subst, arith, refl}
+use Rattle.std.proofs.Common.{◌≡◌, ◌∙◌, ℕ, ◌+◌, ◌==◌, ◌≤◌, Bool, true, false, cond, ◌&&◌, ◌||◌, nat_lt, max, List, [], ◌∷◌, length, Option, None, Some, is_some, Result, Ok, Err, ap, sym, arith, refl}
 use Rattle.std.proofs.lemmas.Bool.{false≢true, or_parts}
 use Rattle.std.proofs.lemmas.Bool.Decides.{nat_tests}
 use Rattle.qc_base.specs.declared.varint.VarInt.{VarInt}

@@ -1,5 +1,5 @@
 -- What was read of a stream in order are the first of the bytes that came on it: what is known of a step that a call takes
-use Rattle.std.proofs.Common.{◌≡◌, ◌∙◌, ℕ, ◌+◌, ◌/◌, ◌^◌, ◌<◌, ◌==◌, Bool, true, false, cond, not, ◌&&◌, ◌||◌, nat_le, nat_lt, List, length, Option, None, Some, is_some, Ok, ap, sym, subst, arith, refl}
+use Rattle.std.proofs.Common.{◌≡◌, ◌∙◌, ℕ, ◌+◌, ◌/◌, ◌^◌, ◌<◌, Bool, true, false, cond, not, ◌&&◌, ◌||◌, nat_le, nat_lt, List, length, Option, None, Some, is_some, Ok, ap, sym, subst, arith, refl}
 use Rattle.std.specs.Prelude.{ℤ}
 use Rattle.std.specs.Option.{option_map}
 use Rattle.std.proofs.lemmas.Bool.Decides.{nat_tests}
@@ -10,14 +10,13 @@ use Rattle.qc_recv.specs.declared.fault.Refusal.TheVariants.{FinalSize, FlowCont
 use Rattle.qc_recv.specs.declared.recv.Chunk.{Chunk}
 use Rattle.qc_recv.specs.declared.recv.Recv.{Recv}
 use Rattle.qc_recv.specs.Receiving.{above_credit, breaks_size, end_refusal, first_row as first_side_row, is_ended, new_receiving, stream_refusal, stream_taken}
-use Rattle.qc_streams.specs.declared.counts.PeerStreams.{PeerStreams}
 use Rattle.qc_streams.specs.declared.fault.Refusal.{Refusal}
 use Rattle.qc_streams.specs.declared.fault.Refusal.TheVariants.{Limit, Side, State}
 use Rattle.qc_streams.specs.declared.state.StreamsState.{StreamsState}
 use Rattle.qc_streams.specs.declared.stream.Stream.{Stream}
 use Rattle.qc_streams.specs.Calls.{IsRead, IsReadOf, receiving_at, receiving_of}
 use Rattle.qc_streams.specs.Carried.{IsAnswered}
-use Rattle.qc_streams.specs.Counts.{by_dir, dir_put, place_freed, with_place}
+use Rattle.qc_streams.specs.Counts.{by_dir, dir_put, place_freed}
 use Rattle.qc_streams.specs.Credit.{room}
 use Rattle.qc_streams.specs.Frames.{bars_receiving, comes, receive_bar, receive_refusal, stream_came}
 use Rattle.qc_streams.specs.Records.{changed, record_of}

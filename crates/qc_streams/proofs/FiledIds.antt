@@ -1,5 +1,5 @@
 -- What a change of one stream leaves of all others: which ids are in the sets, which streams there are, and whose turn it is
-use Rattle.std.proofs.Common.{◌≡◌, ◌∙◌, ℕ, ◌==◌, Bool, true, false, cond, ◌||◌, List, [], ◌∷◌, Option, None, Some, is_some, ap, sym, subst, arith, refl}
+use Rattle.std.proofs.Common.{◌≡◌, ◌∙◌, ℕ, ◌==◌, Bool, true, false, cond, ◌||◌, List, [], ◌∷◌, Option, None, Some, is_some, ap, sym, subst, refl}
 use Rattle.std.specs.Prelude.{ℤ}
 use Rattle.std.specs.declared.cmp.Ordering.{Ordering}
 use Rattle.std.specs.declared.cmp.Ordering.TheVariants.{Less, Equal, Greater}
@@ -8,7 +8,6 @@ use Rattle.std.specs.Map.{remove_entry}
 use Rattle.std.specs.Option.{option_map}
 use Rattle.std.specs.Ordering.{nat_cmp, match_ordering}
 use Rattle.std.proofs.lemmas.Bool.{false≢true}
-use Rattle.std.proofs.lemmas.Bool.Decides.{nat_tests}
 use Rattle.qc_turns.specs.Ids.{with_id, without_id}
 use Rattle.qc_streams.specs.declared.state.StreamsState.{StreamsState}
 use Rattle.qc_streams.specs.declared.stream.Stream.{Stream}
@@ -18,7 +17,7 @@ use Rattle.qc_streams.specs.Filed.{is_among, is_marked}
 use Rattle.qc_streams.specs.Lending.{AllRecords}
 use Rattle.qc_streams.specs.Records.{changed, on_some, record_of, with_new, without}
 use Rattle.qc_streams.specs.Waiting.{dues_at, dues_of, entered, left, left_from, put_if, sets_filed, turn_at, with_turn}
-use Rattle.qc_streams.proofs.Keyed.{Ascends, ascends_gone, ascends_new, ascends_set, found, gone_here, gone_other, new_here, new_other, same_id, set_other}
+use Rattle.qc_streams.proofs.Keyed.{Ascends, ascends_gone, ascends_new, ascends_set, found, gone_here, gone_other, new_here, new_other, set_other}
 use Rattle.qc_streams.proofs.Waits.{here}
 
 -- ---- one set of ids

@@ -13,9 +13,10 @@ use Rattle.qc_streams.specs.declared.stream.Stream.{Stream}
 use Rattle.qc_streams.specs.Calls.{known_at, known_of}
 use Rattle.qc_streams.specs.Carried.{keeps_streams, with_written, written_on}
 use Rattle.qc_streams.specs.Early.{early_refused}
-use Rattle.qc_streams.specs.Finishing.{FinishedIsToldOnce, FinishesOnce, acked_on, ended_on, times_finished, times_told, with_acked, with_ended, with_told}
+use Rattle.qc_streams.specs.Events.{no_events}
+use Rattle.qc_streams.specs.Finishing.{FinishedIsToldOnce, acked_on, ended_on, times_finished, times_told, with_acked, with_ended, with_told}
 use Rattle.qc_streams.specs.Parts.{bytes_taken, finished_at, finishes, is_finished}
-use Rattle.qc_streams.specs.Records.{changed, record_of}
+use Rattle.qc_streams.specs.Records.{record_of}
 use Rattle.qc_streams.specs.Stream.{fresh_stream, with_sending}
 use Rattle.qc_streams.specs.Streams.{fresh_own, fresh_peer, new_streams}
 use Rattle.qc_streams.specs.Waits.{ArePossible, IsPossible, Step, BytesAcked, EarlyRefused, Wrote, after, after_step}
@@ -27,7 +28,7 @@ use Rattle.qc_streams.proofs.CarriedWritten.{Carries, CarriesAt, TracedIf, Write
 use Rattle.qc_streams.proofs.FinishingEvents.{after_times, tells}
 use Rattle.qc_streams.proofs.FinishingSide.{AllAcked, SideOk, alike_all, alike_ok, all_done, all_finished, all_stays, finished_all, finished_bytes, finished_end, side_ok}
 use Rattle.qc_streams.proofs.StaysOpened.{stays_opened}
-use Rattle.qc_streams.proofs.StepAt.{AlikeIf, ComesFrom, IsStepped, SteppedAt, Gone, There, Stood, OwnOpened, PeerOpened, sent_to}
+use Rattle.qc_streams.proofs.StepAt.{AlikeIf, ComesFrom, SteppedAt, Gone, There, Stood, OwnOpened, PeerOpened, sent_to}
 use Rattle.qc_streams.proofs.SteppedLaw.{steps}
 use Rattle.qc_streams.proofs.WaitLaw.{nothing as at_first, step_ok}
 use Rattle.qc_streams.proofs.WaitSteps.{Holds, was_opened}
@@ -260,8 +261,8 @@ over_begins id start stop last written acked ended s holds carries side f = reco
 record Stand (id : ℕ) (written : List ℕ) (acked : ℕ → Bool) (ended : Bool) (n : ℕ) (s : StreamsState) : Type 0 where
   carries : CarriesAt id written s
   side : SideAt acked ended (record_of id s.records)
-  once : n + times_finished id s.events ≤ 1
-  over : 0 < n + times_finished id s.events → IsOver id written acked ended s
+  once : n + times_finished id s.events.items ≤ 1
+  over : 0 < n + times_finished id s.events.items → IsOver id written acked ended s
 
 tells_few : (id : ℕ) (x : Step) (s : StreamsState) → tells id x s ≤ 1
 unfolding tells
@@ -299,25 +300,25 @@ kept_stands : (id : ℕ) (x : Step) (written : List ℕ) (acked : ℕ → Bool) 
 kept_stands id x written acked ended n s can keeps holds taken h = record {
   carries = step_carries steps stays_opened id x written s can holds taken h.carries;
   side = side_after id x acked ended s keeps (steps id x s can holds) h.side;
-  once = few (cases_lt 0 (n + times_finished id s.events));
-  over = λ some. by some (cases_lt 0 (n + times_finished id s.events));
+  once = few (cases_lt 0 (n + times_finished id s.events.items));
+  over = λ some. by some (cases_lt 0 (n + times_finished id s.events.items));
 }
   where
-    count : with_told id x s n + times_finished id (after_step x s).events ≡ n + times_finished id s.events + tells id x s
+    count : with_told id x s n + times_finished id (after_step x s).events.items ≡ n + times_finished id s.events.items + tells id x s
     count = after_times id x s n keeps
 
-    none : 0 < n + times_finished id s.events → 0 < tells id x s → ⊥
+    none : 0 < n + times_finished id s.events.items → 0 < tells id x s → ⊥
     none more some = tells_at id x s ⊥ some (λ start stop last is f. over_once id start stop last s (h.over more).all f)
 
-    few : (0 < n + times_finished id s.events) ⊎ (n + times_finished id s.events ≤ 0) → with_told id x s n + times_finished id (after_step x s).events ≤ 1
+    few : (0 < n + times_finished id s.events.items) ⊎ (n + times_finished id s.events.items ≤ 0) → with_told id x s n + times_finished id (after_step x s).events.items ≤ 1
     few (inl more) = elim (cases_lt 0 (tells id x s)) [
       | inl some ↦ absurd (none more some)
       | inr zero ↦ omega (arith, count, zero, h.once)
     ]
     few (inr less) = omega (arith, count, less, tells_few id x s)
 
-    by : 0 < with_told id x s n + times_finished id (after_step x s).events
-        → (0 < n + times_finished id s.events) ⊎ (n + times_finished id s.events ≤ 0) → OverAfter id x written acked ended s
+    by : 0 < with_told id x s n + times_finished id (after_step x s).events.items
+        → (0 < n + times_finished id s.events.items) ⊎ (n + times_finished id s.events.items ≤ 0) → OverAfter id x written acked ended s
     by some (inl more) = over_stays id x written acked ended s can keeps holds taken (h.over more)
     by some (inr less) =
         tells_at id x s (OverAfter id x written acked ended s) (omega (arith, count, less, some)) (λ start stop last is f.
@@ -326,7 +327,7 @@ kept_stands id x written acked ended n s can keeps holds taken h = record {
 refused_stands : (id : ℕ) (written : List ℕ) (acked : ℕ → Bool) (ended : Bool) (n : ℕ) (s : StreamsState) → CarriesAt id (with_written id EarlyRefused written) (after_step EarlyRefused s)
     → Stand id (with_written id EarlyRefused written) (λ i. with_acked id i EarlyRefused (acked i)) (with_ended id EarlyRefused ended) (with_told id EarlyRefused s n)
     (after_step EarlyRefused s)
-unfolding with_told after_step early_refused times_finished
+unfolding with_told after_step early_refused no_events times_finished
 refused_stands id written acked ended n s carries = record {
   carries = carries;
   side = tt;
@@ -353,7 +354,7 @@ after_stands id (x ∷ xs) written acked ended n s can taken holds h =
 
 first_stands : (id : ℕ) (side : Side) (uni bi window stream_window send_window : ℕ) (fair : Bool)
     → Stand id [] (λ i. false) false 0 (new_streams side uni bi window stream_window send_window fair)
-unfolding new_streams times_finished
+unfolding new_streams no_events times_finished
 first_stands id side uni bi window stream_window send_window fair = record {
   carries = λ new. refl;
   side = tt;

@@ -1,8 +1,8 @@
 -- That a stream is finished is told once, where all of it was acknowledged: what each step leaves of a sending side
 use Rattle.std.proofs.Common.{◌≡◌, ◌∙◌, ℕ, suc, ◌+◌, ◌==◌, ◌<◌, ◌≤◌, Bool, true, false, cond, not, ◌&&◌, ◌||◌, nat_le, nat_lt, min, List, [], ◌∷◌, ◌++◌, length, take, Option, None, Some, is_some, inl, inr, ap, sym, subst, arith, refl}
-use Rattle.std.proofs.lemmas.Bool.{and_parts, cases_eq, cases_lt, eq-eqb, false≢true, le-ltb, lt-ltb, ne_eqb, or_right}
+use Rattle.std.proofs.lemmas.Bool.{and_parts, cases_eq, cases_lt, eq-eqb, false≢true, le-ltb, ne_eqb}
 use Rattle.std.proofs.lemmas.Bool.Decides.{nat_tests}
-use Rattle.qc_send_stream.specs.Buffer.{Buffer, Kept, bytes_written, discarded, has_bytes, lies_in, marked, range_acked, range_lost, range_sealed, row, without}
+use Rattle.qc_send_stream.specs.Buffer.{Buffer, Kept, bytes_written, has_bytes, lies_in, marked, range_acked, range_lost, range_sealed, row, without}
 use Rattle.qc_send_stream.specs.declared.send.SendPart.{SendPart}
 use Rattle.qc_send_stream.specs.declared.send.Reset.{Reset}
 use Rattle.qc_send_stream.specs.declared.send.Standing.{Standing}
@@ -16,7 +16,7 @@ use Rattle.qc_streams.specs.Carried.{keeps_streams}
 use Rattle.qc_streams.specs.Finishing.{with_acked, with_ended}
 use Rattle.qc_streams.specs.Parts.{is_finished, part_end}
 use Rattle.qc_streams.specs.Waits.{Step, EarlyRefused, Wrote, Finished, WasReset, ControlSealed, ControlLost, ControlAcked, PartSealed, BytesLost, BytesAcked}
-use Rattle.qc_streams.proofs.StepAt.{SendsAlike, control_sent, if_same, sent_to}
+use Rattle.qc_streams.proofs.StepAt.{SendsAlike, control_sent, sent_to}
 
 -- ---- bytes that are kept
 

@@ -20,21 +20,21 @@ use Rattle.qc_streams.specs.declared.control.Control.{Control}
 use Rattle.qc_streams.specs.declared.counts.ByDir.{ByDir}
 use Rattle.qc_streams.specs.declared.counts.PeerStreams.{PeerStreams}
 use Rattle.qc_streams.specs.declared.control.Control.TheVariants.{Reset, Stop, MaxData, MaxStreamData, MaxStreams}
-use Rattle.qc_streams.specs.declared.events.StreamEvent.{StreamEvent}
 use Rattle.qc_streams.specs.declared.parts.StreamPart.{StreamPart}
 use Rattle.qc_streams.specs.declared.state.StreamsState.{StreamsState}
 use Rattle.qc_streams.specs.declared.stream.Stream.{Stream}
 use Rattle.qc_streams.specs.declared.waiting.Waiting.{Waiting}
-use Rattle.qc_streams.specs.Calls.{after_read, gives, if_known, reading_begun, sends, write_refused, wrote}
+use Rattle.qc_streams.specs.Blocked.{BlockedIds, is_below}
+use Rattle.qc_streams.specs.Calls.{after_read, gives, if_known, reading_begun, resets, sends, write_refused, wrote}
 use Rattle.qc_streams.specs.Control.{control_acked, control_lost, control_sealed, stop_again}
 use Rattle.qc_streams.specs.Counts.{by_dir, dir_put, place_freed}
 use Rattle.qc_streams.specs.Credit.{outgoing_written}
 use Rattle.qc_streams.specs.Early.{early_refused}
-use Rattle.qc_streams.specs.Events.{first_event}
+use Rattle.qc_streams.specs.Events.{first_dropped}
 use Rattle.qc_streams.specs.Frames.{comes, limit_came, reset_came, stop_came, stream_came, stream_limit_came, streams_limit_came}
 use Rattle.qc_streams.specs.Lending.{AllRecords}
-use Rattle.qc_streams.specs.Owed.{max_data_lost, max_data_sealed, max_streams_lost, max_streams_sealed, oldest_told, polled, told_opened, writable, writable_told}
-use Rattle.qc_streams.specs.Parts.{bytes_acked, bytes_lost, bytes_taken, part_end, sealed_part}
+use Rattle.qc_streams.specs.Owed.{max_data_lost, max_data_sealed, max_streams_lost, max_streams_sealed, polled, told_opened}
+use Rattle.qc_streams.specs.Parts.{bytes_acked, bytes_gone, bytes_lost, bytes_taken, part_end, sealed_part}
 use Rattle.qc_streams.specs.Records.{changed, on_some, record_of}
 use Rattle.qc_streams.specs.Sends.{was_taken}
 use Rattle.qc_streams.specs.Settings.{max_concurrent_set, priority_set, receive_window_set, send_window_set, with_priority}
@@ -43,7 +43,7 @@ use Rattle.qc_streams.specs.Stream.{has_ended, is_freed, limit_taken, stop_taken
 use Rattle.qc_streams.specs.Streams.{accepted_one, counted, dir_of, fresh_own, fresh_peer, is_own, is_peer_unopened, left_over, limits_set, lingering, lower_opened, lower_unopened, made, met, new_streams, next_accepted, next_own, opened_own, opened_with, released, settled, stops_later, told_if}
 use Rattle.qc_streams.specs.Waiting.{all_filed, filed, places_made, touched}
 use Rattle.qc_streams.specs.Waits.{ArePossible, Step, LimitsKnown, EarlyRefused, Closed, Failed, Opened, Accepted, Wrote, Refused, Finished, WasReset, Began, Read, Stopped, ResetAsked, PrioritySet, SendWindowSet, ReceiveWindowSet, ConcurrentSet, Polled, StreamCame, ResetCame, StopCame, StreamLimitCame, StreamsLimitCame, LimitCame, MarksFiled, ControlSealed, ControlLost, ControlAcked, PartSealed, BytesLost, BytesAcked, after, after_step}
-use Rattle.qc_streams.specs.Writable.{credit_at, held_up, passed, watched}
+use Rattle.qc_streams.specs.Writable.{all_told, credit_at, has_room, held_up, needs_place_at, passed, place_reserved, told_first, watched, writables_told}
 use Rattle.qc_streams.proofs.Keeps.{Fresh, Keeps, On, Owes, Stays, changed_in}
 use Rattle.qc_streams.proofs.KeepSides.{Unowing, blocked_owes, came_fresh, credit_sealed_owes, limit_owes, opened_owes, own_fresh, owes_fresh, part_sealed_owes, peer_fresh, priority_owes, receiving_stays, reset_sealed_owes, reset_unowing, sending_stays, stop_owes, stop_sealed_owes, stream_unowing, taken_owes, unblocked_owes}
 use Rattle.qc_streams.proofs.MarksOff.{filed_ids}
@@ -178,8 +178,8 @@ module _ {P : AllRecords → Waiting → Type 0} (k : Keeps P) where
           settled_changed (with_receiving g) (receiving_stays g) id
           (record (counted (totals_at id s.records) id (record s { records = changed (with_receiving g) id s.records })) { records = s.records }) h
 
-  limit_keeps : (id limit : ℕ) (s : StreamsState) → Holds s → On P s → On P (stream_limit_came id limit s)
-  unfolding stream_limit_came watched
+  limit_keeps : (id limit : ℕ) (s : StreamsState) → Holds s → On P s → On P (watched id (met (with_sending (limit_taken limit)) id s))
+  unfolding watched
   limit_keeps id limit s holds h = met_keeps (with_sending (limit_taken limit)) (limit_owes limit) id s holds h
 
   -- ---- the application's calls
@@ -203,7 +203,8 @@ module _ {P : AllRecords → Waiting → Type 0} (k : Keeps P) where
   unfolding write_refused held_up
   refused_keeps Blocked id s h = by s.closed
     where
-      by : (b : Bool) → On P (cond b s (held_up (credit_at (record_of id s.records)) id (record s { records = changed (with_sending (if_known was_blocked)) id s.records })))
+      by : (b : Bool)
+          → On P (cond b s (place_reserved (needs_place_at (record_of id s.records)) (held_up (credit_at (record_of id s.records)) id (record s { records = changed (with_sending (if_known was_blocked)) id s.records }))))
       by true = h
       by false = k.quiet (with_sending (if_known was_blocked)) blocked_owes id s.records s.waiting h
   refused_keeps ClosedStream id s h = h
@@ -216,22 +217,32 @@ module _ {P : AllRecords → Waiting → Type 0} (k : Keeps P) where
       settled_changed (with_receiving g) (receiving_stays g) id
       (record (counted (totals_at id s.records) id (record s { records = changed (with_receiving g) id s.records })) { records = s.records }) h
 
-  writable_keeps : (o : Option ℕ) (s : StreamsState) → On P s → On P (writable_told o s)
-  writable_keeps None s h = h
-  writable_keeps (Some id) s h = k.quiet (with_sending unblocked) unblocked_owes id s.records s.waiting h
+  all_told_keeps : (below : Option ℕ) (ids : BlockedIds) (s : StreamsState) → On P s → On P (all_told below ids s)
+  unfolding all_told
+  all_told_keeps below [] s h = h
+  all_told_keeps below (x ∷ xs) s h =
+      by (is_below below x.1) (all_told_keeps below xs (told_first x xs s) (k.quiet (with_sending unblocked) unblocked_owes x.0 s.records s.waiting h))
+    where
+      by : (b : Bool) → On P (all_told below xs (told_first x xs s)) → On P (cond b (all_told below xs (told_first x xs s)) s)
+      by true then = then
+      by false then = h
 
-  oldest_keeps : (e : Option StreamEvent) (s : StreamsState) → On P s → On P (oldest_told e s)
-  oldest_keeps (Some e) s h = h
-  oldest_keeps None s h = writable_keeps (writable s) s h
+  told_keeps : (below : Option ℕ) (s : StreamsState) → On P s → On P (writables_told below s)
+  unfolding writables_told
+  told_keeps below s h = by (has_room s)
+    where
+      by : (b : Bool) → On P (cond b (all_told below s.blocked s) s)
+      by true = all_told_keeps below s.blocked s h
+      by false = h
 
   polled_keeps : (s : StreamsState) → On P s → On P (polled s)
   unfolding polled told_opened
   polled_keeps s h = by s.peer.bi.tells s.peer.uni.tells
     where
-      by : (b c : Bool) → On P (cond b (told_opened Bi s) (cond c (told_opened Uni s) (oldest_told (first_event s.events) s)))
+      by : (b c : Bool) → On P (cond b (told_opened Bi s) (cond c (told_opened Uni s) (record s { events = first_dropped s.events })))
       by true c = h
       by false true = h
-      by false false = oldest_keeps (first_event s.events) s h
+      by false false = h
 
   -- ---- what is sent, and what becomes of it
 
@@ -284,8 +295,8 @@ module _ {P : AllRecords → Waiting → Type 0} (k : Keeps P) where
   -- ---- each step, and all of them
 
   step_keeps : (x : Step) (s : StreamsState) → Holds s → On P s → On P (after_step x s)
-  unfolding after_step reading_begun limits_set early_refused send_window_set receive_window_set max_concurrent_set accepted_one priority_set stream_came reset_came stop_came streams_limit_came limit_came bytes_lost bytes_acked bytes_taken told_if
-  step_keeps (LimitsKnown p) s holds h = h
+  unfolding after_step reading_begun limits_set resets early_refused send_window_set receive_window_set max_concurrent_set accepted_one priority_set stream_came reset_came stop_came stream_limit_came streams_limit_came limit_came bytes_lost bytes_acked bytes_gone bytes_taken told_if
+  step_keeps (LimitsKnown p) s holds h = told_keeps None _ h
   step_keeps EarlyRefused s holds h = k.nothing
   step_keeps Closed s holds h = h
   step_keeps Failed s holds h = h
@@ -294,22 +305,22 @@ module _ {P : AllRecords → Waiting → Type 0} (k : Keeps P) where
   step_keeps (Wrote id n chunk) s holds h = wrote_keeps id n chunk s h
   step_keeps (Refused e id) s holds h = refused_keeps e id s h
   step_keeps (Finished id) s holds h = sends_keeps finished id s h
-  step_keeps (WasReset code id) s holds h = sends_keeps (was_reset code) id s h
+  step_keeps (WasReset code id) s holds h = told_keeps None _ (sends_keeps (was_reset code) id s h)
   step_keeps (Began ordered id) s holds h = k.quiet (with_receiving (opened ordered)) (opened_owes ordered) id s.records s.waiting h
   step_keeps (Read ordered result id) s holds h = gives_keeps (after_read ordered result) id s h
   step_keeps (Stopped code id) s holds h = gives_keeps (stop_asked code) id s h
   step_keeps (ResetAsked id) s holds h = gives_keeps reset_asked id s h
   step_keeps (PrioritySet priority id) s holds h = k.quiet (with_priority priority) (priority_owes priority) id s.records s.waiting h
-  step_keeps (SendWindowSet n) s holds h = h
+  step_keeps (SendWindowSet n) s holds h = told_keeps None _ h
   step_keeps (ReceiveWindowSet n) s holds h = h
   step_keeps (ConcurrentSet dir n) s holds h = h
   step_keeps Polled s holds h = polled_keeps s h
   step_keeps (StreamCame id o bs last) s holds h = comes_keeps (stream_taken o bs last) (stream_unowing o bs last) id s holds h
   step_keeps (ResetCame id code size) s holds h = comes_keeps (reset_taken code size) (reset_unowing code size) id s holds h
   step_keeps (StopCame id code) s holds h = met_keeps (with_sending (stop_taken code)) (stop_owes code) id s holds h
-  step_keeps (StreamLimitCame id limit) s holds h = limit_keeps id limit s holds h
+  step_keeps (StreamLimitCame id limit) s holds h = told_keeps None _ (limit_keeps id limit s holds h)
   step_keeps (StreamsLimitCame dir n) s holds h = h
-  step_keeps (LimitCame n) s holds h = h
+  step_keeps (LimitCame n) s holds h = told_keeps None _ h
   step_keeps MarksFiled s holds h = filed_keeps s.waiting.marks.ids s refl h
   step_keeps (ControlSealed c) s holds h = sealed_keeps c s h
   step_keeps (ControlLost c) s holds h = lost_keeps c s h
@@ -317,7 +328,9 @@ module _ {P : AllRecords → Waiting → Type 0} (k : Keeps P) where
   step_keeps (PartSealed d) s holds h = part_keeps d s h
   step_keeps (BytesLost id start stop last) s holds h = k.queued (with_sending (part_lost start stop last)) (sending_stays (part_lost start stop last)) id s h
   step_keeps (BytesAcked id start stop last) s holds h =
-      settled_changed (with_sending (part_acked start stop last)) (sending_stays (part_acked start stop last)) id s h
+      told_keeps None _
+      (told_keeps (Some id) (bytes_gone id start stop last s)
+      (settled_changed (with_sending (part_acked start stop last)) (sending_stays (part_acked start stop last)) id s h))
 
   after_keeps : (xs : List Step) (s : StreamsState) → ArePossible xs → Holds s → On P s → On P (after xs s)
   unfolding after ArePossible

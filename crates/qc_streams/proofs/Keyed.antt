@@ -14,8 +14,8 @@ same_id id j is = grind (arith, nat_tests)
 
 -- ---- which keys are found
 
-at_here : (id : ℕ) → is_at (nat_cmp id) id ≡ true
-at_here id = grind (arith, nat_tests)
+pub own_key : (id : ℕ) → is_at (nat_cmp id) id ≡ true
+own_key id = grind (arith, nat_tests)
 
 at_less : (id k : ℕ) → id < k → is_at (nat_cmp id) k ≡ false
 at_less id k less = grind (arith, nat_tests)
@@ -94,17 +94,17 @@ set_other id j (e ∷ es) w apart =
 
 new_here_step : {X : Type 0} (r : Ordering) (id : ℕ) (e : ℕ × X) (es rest : List (ℕ × X)) (v : X) → r ≡ nat_cmp id e.0
     → found id rest ≡ Some v → found id (match_ordering r ((id, v) ∷ e ∷ es) ((e.0, v) ∷ es) (e ∷ rest)) ≡ Some v
-new_here_step Less id e es rest v r then = here (is_at (nat_cmp id) id) (Some v) (found id (e ∷ es)) (at_here id)
+new_here_step Less id e es rest v r then = here (is_at (nat_cmp id) id) (Some v) (found id (e ∷ es)) (own_key id)
 new_here_step Equal id e es rest v r then =
     let same : id ≡ e.0 = ranked id e.0 Equal r in
-    here (is_at (nat_cmp id) e.0) (Some v) (found id es) (ap (λ (k : ℕ). is_at (nat_cmp id) k) (sym same) ∙ at_here id)
+    here (is_at (nat_cmp id) e.0) (Some v) (found id es) (ap (λ (k : ℕ). is_at (nat_cmp id) k) (sym same) ∙ own_key id)
 new_here_step Greater id e es rest v r then =
     let more : e.0 < id = ranked id e.0 Greater r in
     skip (is_at (nat_cmp id) e.0) (Some e.1) (found id rest) (at_more id e.0 more) ∙ then
 
 -- it is found
 pub new_here : {X : Type 0} (id : ℕ) (es : List (ℕ × X)) (v : X) → found id (insert_entry nat_cmp es id v) ≡ Some v
-new_here id [] v = here (is_at (nat_cmp id) id) (Some v) None (at_here id)
+new_here id [] v = here (is_at (nat_cmp id) id) (Some v) None (own_key id)
 new_here id (e ∷ es) v = new_here_step (nat_cmp id e.0) id e es (insert_entry nat_cmp es id v) v refl (new_here id es v)
 
 new_other_step : {X : Type 0} (r : Ordering) (id j : ℕ) (e : ℕ × X) (es rest : List (ℕ × X)) (v : X) → r ≡ nat_cmp id e.0 → (id == j) ≡ false

@@ -60,3 +60,6 @@ pub mod WithinLaw
 pub mod WithinSides
 pub mod WithinSteps
 pub mod WithinTaken
+pub mod Told
+pub mod Placed
+pub mod PlacedLaw

@@ -1,5 +1,6 @@
 -- What a write that is refused leaves
-use Rattle.std.proofs.Common.{◌≡◌, ◌∙◌, ℕ, ◌<◌, Bool, true, false, cond, not, ◌||◌, ◌==◌, nat_le, Option, None, Some, ap, arith, refl}
+use Rattle.std.proofs.Common.{◌≡◌, ◌∙◌, ℕ, ◌<◌, Bool, true, false, cond, not, ◌&&◌, ◌||◌, ◌==◌, nat_le, Option, None, Some, is_some, Result, Ok, Err, ap, sym, arith, refl}
+use Rattle.std.specs.Prelude.{OnOk}
 use Rattle.std.specs.Option.{option_map}
 use Rattle.qc_base.specs.declared.varint.VarInt.{VarInt}
 use Rattle.qc_send_stream.specs.declared.send.SendPart.{SendPart}
@@ -14,7 +15,8 @@ use Rattle.qc_streams.specs.Lending.{AllRecords}
 use Rattle.qc_streams.specs.Records.{changed, on_some, record_of}
 use Rattle.qc_streams.specs.Settings.{is_unknown}
 use Rattle.qc_streams.specs.Stream.{with_sending}
-use Rattle.qc_streams.specs.Writable.{credit_at, credit_of, has_credit, held_up}
+use Rattle.qc_streams.specs.Events.{EventQueue, put_by_if}
+use Rattle.qc_streams.specs.Writable.{blocks_anew, credit_at, credit_of, has_credit, held_up, needs_place, needs_place_at, place_after, place_reserved}
 use Rattle.std.proofs.lemmas.Bool.Decides.{nat_tests}
 use Rattle.qc_streams.proofs.Back.{record_back}
 
@@ -81,33 +83,108 @@ no_credit : (most : ℕ) (found : Option Stream) → write_fault most (known_of 
 no_credit most None is some = refl
 no_credit most (Some st) is some = part-lacks most st.sending is some
 
--- so a write that is refused leaves what it is to leave
-same-state : (s : StreamsState) (all' : AllRecords) (ids : BlockedIds) → all' ≡ s.records → ids ≡ s.blocked
-    → (let t : StreamsState = record s { records = all'; blocked = ids } in t) ≡ s
-same-state s all' ids r b =
-    ap (λ (x : AllRecords). (let t : StreamsState = record s { records = x; blocked = ids } in t)) r
-    ∙ ap (λ (x : BlockedIds). (let t : StreamsState = record s { blocked = x } in t)) b
+-- ---- the place for the event that a stream can be written on again
 
-blocked-so : (credit closed : Bool) (id : ℕ) (s : StreamsState) (all' all'' : AllRecords) (ids : BlockedIds) → closed ≡ false → credit ≡ false
-    → all' ≡ all'' → ids ≡ without_blocked id s.blocked
-    → (let t : StreamsState = record s { records = all'; blocked = ids } in t) ≡ cond closed s (held_up credit id (record s { records = all'' }))
+-- why a write is refused, by what a side is
+abbrev refusal_by : Bool → Bool → Option VarInt → Bool → Option WriteError
+refusal_by none closed stopped used = cond none (Some Blocked) (cond closed (Some ClosedStream) (stop_refusal stopped used))
+
+abbrev anew_by : Bool → Bool → Option VarInt → Bool → Bool
+anew_by blocked closed stopped used = not blocked && (not closed && (not (is_some stopped) && used))
+
+anew-refused : (none blocked closed : Bool) (stopped : Option VarInt) (used : Bool) → none ≡ false → anew_by blocked closed stopped used ≡ true
+    → refusal_by none closed stopped used ≡ Some Blocked
+anew-refused true blocked closed stopped used left is = absurd (cc)
+anew-refused false true closed stopped used left is = absurd (cc)
+anew-refused false false true stopped used left is = absurd (cc)
+anew-refused false false false (Some code) used left is = absurd (cc)
+anew-refused false false false None true left is = refl
+anew-refused false false false None false left is = absurd (cc)
+
+anew-needs : (none blocked closed : Bool) (stopped : Option VarInt) (used : Bool) → none ≡ false → refusal_by none closed stopped used ≡ Some Blocked
+    → anew_by blocked closed stopped used ≡ not (blocked || closed)
+anew-needs true blocked closed stopped used left is = absurd (cc)
+anew-needs false blocked true stopped used left is = absurd (cc)
+anew-needs false blocked false (Some code) used left is = absurd (cc)
+anew-needs false true false None used left is = refl
+anew-needs false false false None true left is = refl
+anew-needs false false false None false left is = absurd (cc)
+
+anew_blocks : (most : ℕ) (p : SendPart) → 0 < most → blocks_anew p ≡ true → part_write_refusal most p ≡ Some Blocked
+unfolding part_write_refusal blocks_anew
+anew_blocks most p some is =
+    anew-refused (most == 0) p.blocked (is_closed p) p.stopped (nat_le p.limit p.buffer.written) (not-none most some) is
+
+anew_needs : (most : ℕ) (p : SendPart) → 0 < most → part_write_refusal most p ≡ Some Blocked → blocks_anew p ≡ needs_place (Some p)
+unfolding part_write_refusal blocks_anew
+anew_needs most p some is =
+    anew-needs (most == 0) p.blocked (is_closed p) p.stopped (nat_le p.limit p.buffer.written) (not-none most some) is
+
+pub wants_memory : (most : ℕ) (p : SendPart) → 0 < most → blocks_anew p ≡ true → needs_memory (part_write_refusal most p) ≡ true
+wants_memory most p some is = ap (λ (r : Option WriteError). needs_memory r) (anew_blocks most p some is)
+
+pub lacks_so : (most : ℕ) (p : SendPart) → 0 < most → blocks_anew p ≡ true → IsRefused OutOfMemory (part_write_refusal most p)
+unfolding IsRefused
+lacks_so most p some is = wants_memory most p some is
+
+-- a side that isn't blocked by a write puts no place by
+other_refusal : (most : ℕ) (p : SendPart) (q q' : EventQueue) (r : Option WriteError) → 0 < most → q' ≡ put_by_if (blocks_anew p) q
+    → part_write_refusal most p ≡ r → (r ≡ Some Blocked → ⊥) → q' ≡ q
+other_refusal most p q q' r some to is apart = by (blocks_anew p) refl
+  where
+    by : (b : Bool) → blocks_anew p ≡ b → q' ≡ q
+    by true anew = absurd (apart (sym is ∙ anew_blocks most p some anew))
+    by false anew = to ∙ ap (λ (b : Bool). put_by_if b q) anew
+
+pub placed_so : (e : WriteError) (most : ℕ) (p : SendPart) (q q' : EventQueue) → 0 < most → q' ≡ put_by_if (blocks_anew p) q
+    → IsWriteRefusal e (part_write_refusal most p) → q' ≡ place_after e (needs_place (Some p)) q
+unfolding IsWriteRefusal
+placed_so Blocked most p q q' some to is = to ∙ ap (λ (b : Bool). put_by_if b q) (anew_needs most p some is)
+placed_so ClosedStream most p q q' some to is = other_refusal most p q q' (Some ClosedStream) some to is (λ no. absurd (cc))
+placed_so (Stopped code) most p q q' some to is = other_refusal most p q q' (Some (Stopped code)) some to is (λ no. absurd (cc))
+placed_so OutOfMemory most p q q' some to is = other_refusal most p q q' None some to is (λ no. absurd (cc))
+
+pub unplaced_so : (most : ℕ) (p : SendPart) (q q' : EventQueue) → 0 < most → q' ≡ put_by_if (blocks_anew p) q → part_write_refusal most p ≡ None → q' ≡ q
+unplaced_so most p q q' some to is = other_refusal most p q q' None some to is (λ no. absurd (cc))
+
+pub unplaced_ok : (r : Result ℕ WriteError) (most : ℕ) (p : SendPart) (q q' : EventQueue) → 0 < most → q' ≡ put_by_if (blocks_anew p) q
+    → OnOk r (part_write_refusal most p ≡ None) → OnOk r (q' ≡ q)
+unplaced_ok (Ok n) most p q q' some to is = unplaced_so most p q q' some to is
+unplaced_ok (Err e) most p q q' some to is = tt
+
+-- ---- so a write that is refused leaves what it is to leave
+
+same-state : (s : StreamsState) (all' : AllRecords) (ids : BlockedIds) (q : EventQueue) → all' ≡ s.records → ids ≡ s.blocked → q ≡ s.events
+    → (let t : StreamsState = record s { records = all'; blocked = ids; events = q } in t) ≡ s
+same-state s all' ids q r b e =
+    ap (λ (x : AllRecords). (let t : StreamsState = record s { records = x; blocked = ids; events = q } in t)) r
+    ∙ ap (λ (x : BlockedIds). (let t : StreamsState = record s { blocked = x; events = q } in t)) b
+    ∙ ap (λ (x : EventQueue). (let t : StreamsState = record s { events = x } in t)) e
+
+blocked-so : (credit closed needs : Bool) (id : ℕ) (s : StreamsState) (all' all'' : AllRecords) (ids : BlockedIds) (q : EventQueue) → closed ≡ false → credit ≡ false
+    → all' ≡ all'' → ids ≡ without_blocked id s.blocked → q ≡ put_by_if needs s.events
+    → (let t : StreamsState = record s { records = all'; blocked = ids; events = q } in t)
+    ≡ cond closed s (place_reserved needs (held_up credit id (record s { records = all'' })))
 unfolding held_up
-blocked-so true closed id s all' all'' ids stands lacks to gone = absurd (cc)
-blocked-so false true id s all' all'' ids stands lacks to gone = absurd (cc)
-blocked-so false false id s all' all'' ids stands lacks to gone =
-    ap (λ (x : AllRecords). (let t : StreamsState = record s { records = x; blocked = ids } in t)) to
-    ∙ ap (λ (x : BlockedIds). (let t : StreamsState = record s { records = all''; blocked = x } in t)) gone
+blocked-so true closed needs id s all' all'' ids q stands lacks to gone placed = absurd (cc)
+blocked-so false true needs id s all' all'' ids q stands lacks to gone placed = absurd (cc)
+blocked-so false false needs id s all' all'' ids q stands lacks to gone placed =
+    ap (λ (x : AllRecords). (let t : StreamsState = record s { records = x; blocked = ids; events = q } in t)) to
+    ∙ ap (λ (x : BlockedIds). (let t : StreamsState = record s { records = all''; blocked = x; events = q } in t)) gone
+    ∙ ap (λ (x : EventQueue). (let t : StreamsState = record s { records = all''; blocked = without_blocked id s.blocked; events = x } in t)) placed
 
-pub refused_so : (e : WriteError) (most id : ℕ) (s : StreamsState) (all' : AllRecords) (ids : BlockedIds) → s.closed ≡ false → 0 < most
-    → IsWriteRefusal e (write_fault most (known_of (record_of id s.records)))
+pub refused_so : (e : WriteError) (most id : ℕ) (s : StreamsState) (all' : AllRecords) (ids : BlockedIds) (q : EventQueue) → s.closed ≡ false → 0 < most
+    → IsRefused e (write_fault most (known_of (record_of id s.records)))
     → all' ≡ changed (with_sending (if_known (after_refusal e))) id s.records → ids ≡ lacking e id s.blocked
-    → (let t : StreamsState = record s { records = all'; blocked = ids } in t) ≡ write_refused e id s
-unfolding IsWriteRefusal write_refused
-refused_so Blocked most id s all' ids stands some is to gone =
-    blocked-so (credit_at (record_of id s.records)) s.closed id s all' _ ids stands (no_credit most (record_of id s.records) is some) to gone
-refused_so ClosedStream most id s all' ids stands some is to gone = same-state s all' ids (closed_back id s.records all' to) gone
-refused_so (Stopped code) most id s all' ids stands some is to gone = same-state s all' ids (stopped_back code id s.records all' to) gone
-refused_so OutOfMemory most id s all' ids stands some is to gone = same-state s all' ids (memory_back id s.records all' to) gone
+    → q ≡ place_after e (needs_place_at (record_of id s.records)) s.events
+    → (let t : StreamsState = record s { records = all'; blocked = ids; events = q } in t) ≡ write_refused e id s
+unfolding IsRefused write_refused
+refused_so Blocked most id s all' ids q stands some is to gone placed =
+    blocked-so (credit_at (record_of id s.records)) s.closed (needs_place_at (record_of id s.records)) id s all' _ ids q stands
+    (no_credit most (record_of id s.records) is some) to gone placed
+refused_so ClosedStream most id s all' ids q stands some is to gone placed = same-state s all' ids q (closed_back id s.records all' to) gone placed
+refused_so (Stopped code) most id s all' ids q stands some is to gone placed = same-state s all' ids q (stopped_back code id s.records all' to) gone placed
+refused_so OutOfMemory most id s all' ids q stands some is to gone placed = same-state s all' ids q (memory_back id s.records all' to) gone placed
 
 pub refusal_so : (e : WriteError) (r : Option WriteError) → IsWriteRefusal e r → IsRefused e r
 unfolding IsWriteRefusal IsRefused

@@ -18,12 +18,12 @@ use Rattle.qc_streams.specs.Credit.{outgoing_written, tallied}
 use Rattle.qc_streams.specs.Lending.{AllRecords}
 use Rattle.qc_streams.specs.Records.{changed, on_some, record_of, with_record}
 use Rattle.qc_streams.specs.Sequel.{followed, looked_at, queueing, sequel_at, sequel_of, settling, write_followed}
-use Rattle.qc_streams.specs.Parts.{bytes_acked, bytes_taken, finished_at, finishes}
+use Rattle.qc_streams.specs.Parts.{bytes_acked, bytes_gone, bytes_taken, finished_at, finishes}
 use Rattle.qc_streams.specs.Stream.{has_ended, is_over, totals_at, totals_if, with_receiving, with_sending}
 use Rattle.qc_streams.specs.Streams.{counted, lingering, released, settled, stops_later, told_if}
 use Rattle.qc_streams.specs.Counts.{held}
 use Rattle.qc_streams.specs.Waiting.{is_idle, owes_stop, queue_one, queued, takes_number, touched, with_mark}
-use Rattle.qc_streams.specs.Writable.{credit_at, passed}
+use Rattle.qc_streams.specs.Writable.{credit_at, passed, writables_told}
 use Rattle.qc_streams.proofs.Keyed.{set_here}
 
 -- ---- a value that is set twice
@@ -217,18 +217,22 @@ wrote_so id n chunk s =
     ap (λ (o : Option Stream). touched id (queued id (with_all (changed f id s.records) (at o)))) (found_so f id s.records)
     ∙ noted_so f id (at (option_map f (record_of id s.records)))
 
--- so it is told that bytes of it are acknowledged
+-- so bytes of it are acknowledged
 pub acked_so : (id start stop : ℕ) (last : Bool) (s : StreamsState)
     → bytes_acked id start stop last s
-    ≡ told_if
+    ≡ writables_told None
+    (told_if
     (not (finished_at (record_of id s.records)) && finished_at (option_map (with_sending (part_acked start stop last)) (record_of id s.records)))
     (Finished id)
+    (writables_told (Some id)
     (followed (sequel_at (option_map (with_sending (part_acked start stop last)) (record_of id s.records))) id
-    (record s { records = changed (settling (with_sending (part_acked start stop last))) id s.records }))
-unfolding bytes_acked bytes_taken finishes
+    (record s { records = changed (settling (with_sending (part_acked start stop last))) id s.records }))))
+unfolding bytes_acked bytes_gone bytes_taken finishes
 acked_so id start stop last s =
     let f : Stream → Stream = with_sending (part_acked start stop last) in
-    ap (λ (o : Option Stream). told_if (not (finished_at (record_of id s.records)) && finished_at o) (Finished id) (settled id (bytes_taken id start stop last s)))
+    ap (λ (o : Option Stream). writables_told None (told_if (not (finished_at (record_of id s.records)) && finished_at o) (Finished id)
+    (writables_told (Some id) (settled id (bytes_taken id start stop last s)))))
     (found_so f id s.records)
-    ∙ ap (λ (t : StreamsState). told_if (not (finished_at (record_of id s.records)) && finished_at (option_map f (record_of id s.records))) (Finished id) t)
+    ∙ ap (λ (t : StreamsState). writables_told None (told_if (not (finished_at (record_of id s.records)) && finished_at (option_map f (record_of id s.records)))
+    (Finished id) (writables_told (Some id) t)))
     (settled_so f id s)

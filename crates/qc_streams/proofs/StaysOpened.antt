@@ -11,33 +11,35 @@ use Rattle.qc_recv.specs.Owed.{stop_lost}
 use Rattle.qc_recv.specs.Receiving.{reset_asked, reset_taken, stop_asked, stream_taken}
 use Rattle.qc_send_stream.specs.declared.fault.WriteError.{WriteError}
 use Rattle.qc_send_stream.specs.declared.fault.WriteError.TheVariants.{Blocked, ClosedStream, Stopped as WriteStopped, OutOfMemory}
-use Rattle.qc_send_stream.specs.Sending.{was_blocked}
+use Rattle.qc_send_stream.specs.Sending.{was_blocked, was_reset}
 use Rattle.qc_streams.specs.declared.control.Control.{Control}
 use Rattle.qc_streams.specs.declared.control.Control.TheVariants.{Reset, Stop, MaxData, MaxStreamData, MaxStreams}
 use Rattle.qc_streams.specs.declared.counts.ByDir.{ByDir}
 use Rattle.qc_streams.specs.declared.counts.OwnStreams.{OwnStreams}
 use Rattle.qc_streams.specs.declared.counts.PeerStreams.{PeerStreams}
-use Rattle.qc_streams.specs.declared.events.StreamEvent.{StreamEvent}
+use Rattle.qc_streams.specs.declared.events.StreamEvent.TheVariants.{Finished as FinishedEvent}
 use Rattle.qc_streams.specs.declared.parts.StreamPart.{StreamPart}
 use Rattle.qc_streams.specs.declared.state.PeerLimits.{PeerLimits}
 use Rattle.qc_streams.specs.declared.state.StreamsState.{StreamsState}
 use Rattle.qc_streams.specs.declared.stream.Stream.{Stream}
-use Rattle.qc_streams.specs.Calls.{after_read, gives, if_known, reading_begun, sends, write_refused, wrote}
+use Rattle.qc_streams.specs.Calls.{after_read, gives, if_known, reading_begun, resets, sends, write_refused, wrote}
 use Rattle.qc_streams.specs.Carried.{keeps_streams}
 use Rattle.qc_streams.specs.Control.{control_acked, control_lost, control_sealed, stop_again}
-use Rattle.qc_streams.specs.Counts.{accepted, at_most, by_dir, dir_put, opening_told, own_opened, own_raised, peer_opened, place_freed, places_lost, places_sealed, with_place}
-use Rattle.qc_streams.specs.Events.{first_event}
+use Rattle.qc_streams.specs.Counts.{accepted, at_most, by_dir, dir_put, opening_told, own_opened, own_raised, peer_opened, place_freed, places_lost, places_sealed}
+use Rattle.qc_streams.specs.Events.{first_dropped}
 use Rattle.qc_streams.specs.Frames.{comes, limit_came, reset_came, stop_came, stream_came, stream_limit_came, streams_limit_came}
-use Rattle.qc_streams.specs.Owed.{max_data_lost, max_data_sealed, max_streams_lost, max_streams_sealed, oldest_told, polled, told_opened, writable, writable_told}
-use Rattle.qc_streams.specs.Parts.{bytes_acked, bytes_lost, bytes_taken, place_again, sealed_part, turned}
+use Rattle.qc_streams.specs.Owed.{max_data_lost, max_data_sealed, max_streams_lost, max_streams_sealed, polled, told_opened}
+use Rattle.qc_streams.specs.Parts.{bytes_acked, bytes_gone, bytes_lost, bytes_taken, finishes, place_again, sealed_part, turned}
 use Rattle.qc_streams.specs.Records.{changed, record_of}
-use Rattle.qc_streams.specs.Settings.{concurrent_set, max_concurrent_set, priority_set, receive_window_set, send_window_set, with_concurrent}
+use Rattle.qc_streams.specs.Settings.{concurrent_set, max_concurrent_set, priority_set, receive_window_set, send_window_set}
 use Rattle.qc_streams.specs.Stops.{with_stop}
 use Rattle.qc_streams.specs.Stream.{has_ended, is_freed, stop_taken, limit_taken, with_receiving, with_sending}
 use Rattle.qc_streams.specs.Streams.{accepted_one, counted, dir_of, forgotten, fresh_peer, is_own, is_peer_unopened, left_over, limits_set, lingering, met, opened_own, opened_with, released, removed, settled, stops_later, told_if}
-use Rattle.qc_streams.specs.Waiting.{all_filed, dues_at, entered, filed, left, left_from, mark_off, placed, queue_one, queued, sets_filed, touched, turn_at, turn_filed}
+use Rattle.qc_streams.specs.Waiting.{all_filed, dues_at, entered, filed, left, left_from, mark_off, placed, queued, sets_filed, touched, turn_at, turn_filed}
 use Rattle.qc_streams.specs.Waits.{IsPossible, Step, LimitsKnown, EarlyRefused, Closed, Failed, Opened, Accepted, Wrote, Refused, Finished, WasReset, Began, Read, Stopped, ResetAsked, PrioritySet, SendWindowSet, ReceiveWindowSet, ConcurrentSet, Polled, StreamCame, ResetCame, StopCame, StreamLimitCame, StreamsLimitCame, LimitCame, MarksFiled, ControlSealed, ControlLost, ControlAcked, PartSealed, BytesLost, BytesAcked, after_step}
-use Rattle.qc_streams.specs.Writable.{credit_at, held_up, passed, watched}
+use Rattle.qc_streams.specs.Writable.{all_told, credit_at, has_room, held_up, needs_place_at, passed, place_reserved, told_first, watched, writables_told}
+use Rattle.qc_streams.specs.Blocked.{BlockedIds, is_below}
+use Rattle.qc_streams.specs.Credit.{outgoing_raised}
 use Rattle.qc_streams.proofs.StepAt.{StaysOpened}
 use Rattle.qc_streams.proofs.WaitOpened.{and-then, reaches}
 use Rattle.qc_streams.proofs.WaitSteps.{accepted_same, concurrent_same, freed_same, lost_same, sealed_same, told_same, was_opened}
@@ -105,9 +107,27 @@ raised_same : (n : ℕ) (k : OwnStreams) → (own_raised n k).opened ≡ k.opene
 unfolding own_raised
 raised_same n k = refl
 
+-- it is told that streams can be written on again
+all_told_more : (below : Option ℕ) (ids : BlockedIds) (s : StreamsState) → More s (all_told below ids s)
+unfolding all_told
+all_told_more below [] s = same s s refl refl refl
+all_told_more below (x ∷ xs) s = by (is_below below x.1) (all_told_more below xs (told_first x xs s))
+  where
+    by : (b : Bool) → More (told_first x xs s) (all_told below xs (told_first x xs s)) → More s (cond b (all_told below xs (told_first x xs s)) s)
+    by true rest = then s (told_first x xs s) _ (same s (told_first x xs s) refl refl refl) rest
+    by false rest = same s s refl refl refl
+
+told_more : (below : Option ℕ) (s t : StreamsState) → More s t → More s (writables_told below t)
+unfolding writables_told
+told_more below s t m = by (has_room t)
+  where
+    by : (b : Bool) → More s (cond b (all_told below t.blocked t) t)
+    by true = then s t _ m (all_told_more below t.blocked t)
+    by false = m
+
 limits_more : (p : PeerLimits) (s : StreamsState) → More s (limits_set p s)
 unfolding limits_set
-limits_more p s = record { side = refl; own = by; peer = λ dir. omega arith }
+limits_more p s = told_more None s _ (record { side = refl; own = by; peer = λ dir. omega arith })
   where
     by : (dir : Dir) → (by_dir dir s.own).opened
         ≤ (by_dir dir (let x : ByDir OwnStreams = record { bi = own_raised p.bidi_streams s.own.bi; uni = own_raised p.uni_streams s.own.uni } in x)).opened
@@ -255,29 +275,22 @@ refused_more : (e : WriteError) (id : ℕ) (s : StreamsState) → More s (write_
 unfolding write_refused held_up
 refused_more Blocked id s = by s.closed
   where
-    by : (b : Bool) → More s (cond b s (held_up (credit_at (record_of id s.records)) id (record s { records = changed (with_sending (if_known was_blocked)) id s.records })))
+    by : (b : Bool)
+        → More s (cond b s (place_reserved (needs_place_at (record_of id s.records)) (held_up (credit_at (record_of id s.records)) id (record s { records = changed (with_sending (if_known was_blocked)) id s.records }))))
     by true = same s s refl refl refl
     by false = same s _ refl refl refl
 refused_more ClosedStream id s = same s s refl refl refl
 refused_more (WriteStopped code) id s = same s s refl refl refl
 refused_more OutOfMemory id s = same s s refl refl refl
 
-writable_more : (o : Option ℕ) (s : StreamsState) → More s (writable_told o s)
-writable_more None s = same s s refl refl refl
-writable_more (Some id) s = same s _ refl refl refl
-
-oldest_more : (e : Option StreamEvent) (s : StreamsState) → More s (oldest_told e s)
-oldest_more (Some e) s = same s _ refl refl refl
-oldest_more None s = writable_more (writable s) s
-
 polled_more : (s : StreamsState) → More s (polled s)
 unfolding polled told_opened
 polled_more s = by s.peer.bi.tells s.peer.uni.tells
   where
-    by : (b c : Bool) → More s (cond b (told_opened Bi s) (cond c (told_opened Uni s) (oldest_told (first_event s.events) s)))
+    by : (b c : Bool) → More s (cond b (told_opened Bi s) (cond c (told_opened Uni s) (record s { events = first_dropped s.events })))
     by true c = peer_same opening_told told_same Bi s
     by false true = peer_same opening_told told_same Uni s
-    by false false = oldest_more (first_event s.events) s
+    by false false = same s _ refl refl refl
 
 sealed_more : (c : Control) (s : StreamsState) → More s (control_sealed c s)
 unfolding control_sealed max_data_sealed max_streams_sealed
@@ -317,7 +330,7 @@ unfolding sealed_part
 part_more d s = then s _ _ (same s _ refl refl refl) (turned_more d.id _)
 
 step_more : (x : Step) (s : StreamsState) → IsPossible x → keeps_streams x ≡ true → More s (after_step x s)
-unfolding after_step IsPossible keeps_streams reading_begun send_window_set receive_window_set max_concurrent_set accepted_one priority_set sends passed wrote queued touched stream_came reset_came stop_came stream_limit_came watched streams_limit_came limit_came bytes_lost bytes_acked bytes_taken told_if
+unfolding after_step IsPossible keeps_streams reading_begun send_window_set receive_window_set max_concurrent_set accepted_one priority_set resets sends passed wrote queued touched stream_came reset_came stop_came stream_limit_came watched streams_limit_came limit_came bytes_lost bytes_acked bytes_gone bytes_taken told_if
 step_more (LimitsKnown p) s can keeps = limits_more p s
 step_more EarlyRefused s can keeps = absurd (cc)
 step_more Closed s can keeps = same s _ refl refl refl
@@ -329,32 +342,40 @@ step_more (Accepted dir) s can keeps =
 step_more (Wrote id n chunk) s can keeps = same s _ refl refl refl
 step_more (Refused e id) s can keeps = refused_more e id s
 step_more (Finished id) s can keeps = same s _ refl refl refl
-step_more (WasReset code id) s can keeps = same s _ refl refl refl
+step_more (WasReset code id) s can keeps = told_more None s (sends (was_reset code) id s) (same s _ refl refl refl)
 step_more (Began ordered id) s can keeps = same s _ refl refl refl
 step_more (Read ordered result id) s can keeps = gives_more (after_read ordered result) id s
 step_more (Stopped code id) s can keeps = gives_more (stop_asked code) id s
 step_more (ResetAsked id) s can keeps = gives_more reset_asked id s
 step_more (PrioritySet priority id) s can keeps = same s _ refl refl refl
-step_more (SendWindowSet n) s can keeps = same s _ refl refl refl
+step_more (SendWindowSet n) s can keeps = told_more None s _ (same s (record s { send_window = n }) refl refl refl)
 step_more (ReceiveWindowSet n) s can keeps = same s _ refl refl refl
 step_more (ConcurrentSet dir n) s can keeps = peer_same (concurrent_set n) (concurrent_same n) dir s
 step_more Polled s can keeps = polled_more s
 step_more (StreamCame id o bs last) s can keeps = then s _ _ (comes_more (stream_taken o bs last) id s can) (same _ _ refl refl refl)
 step_more (ResetCame id code size) s can keeps = then s _ _ (comes_more (reset_taken code size) id s can) (same _ _ refl refl refl)
 step_more (StopCame id code) s can keeps = then s _ _ (met_more (with_sending (stop_taken code)) id s can) (same _ _ refl refl refl)
-step_more (StreamLimitCame id limit) s can keeps = then s _ _ (met_more (with_sending (limit_taken limit)) id s can) (same _ _ refl refl refl)
+step_more (StreamLimitCame id limit) s can keeps =
+    told_more None s (watched id (met (with_sending (limit_taken limit)) id s))
+    (then s (met (with_sending (limit_taken limit)) id s) _ (met_more (with_sending (limit_taken limit)) id s can) (same _ _ refl refl refl))
 step_more (StreamsLimitCame dir n) s can keeps =
     then s (record s { own = dir_put dir (own_raised n (by_dir dir s.own)) s.own }) _
     (own_put dir (own_raised n (by_dir dir s.own)) s (omega (arith, raised_same n (by_dir dir s.own))))
     (same (record s { own = dir_put dir (own_raised n (by_dir dir s.own)) s.own }) _ refl refl refl)
-step_more (LimitCame n) s can keeps = same s _ refl refl refl
+step_more (LimitCame n) s can keeps = told_more None s _ (same s (record s { outgoing = outgoing_raised n s.outgoing }) refl refl refl)
 step_more MarksFiled s can keeps = all_filed_more s.waiting.marks.ids s
 step_more (ControlSealed c) s can keeps = sealed_more c s
 step_more (ControlLost c) s can keeps = lost_more c s
 step_more (ControlAcked c) s can keeps = acked_more c s
 step_more (PartSealed d) s can keeps = part_more d s
 step_more (BytesLost id start stop last) s can keeps = same s _ refl refl refl
-step_more (BytesAcked id start stop last) s can keeps = then s _ _ (then s _ _ (same s _ refl refl refl) (settled_more id _)) (same _ _ refl refl refl)
+step_more (BytesAcked id start stop last) s can keeps =
+    let t : StreamsState = bytes_gone id start stop last s in
+    let u : StreamsState = writables_told (Some id) t in
+    told_more None s (told_if (finishes id start stop last s) (FinishedEvent id) u)
+    (then s u (told_if (finishes id start stop last s) (FinishedEvent id) u)
+    (told_more (Some id) s t (then s _ t (same s (bytes_taken id start stop last s) refl refl refl) (settled_more id _)))
+    (same u (told_if (finishes id start stop last s) (FinishedEvent id) u) refl refl refl))
 
 pub stays_opened : StaysOpened
 stays_opened id x s can keeps is = opened_then id s (after_step x s) (step_more x s can keeps) is

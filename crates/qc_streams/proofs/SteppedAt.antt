@@ -1,12 +1,14 @@
 -- What a change of one stream, and what follows on it, makes of the stream with an id
-use Rattle.std.proofs.Common.{◌≡◌, ◌∙◌, ℕ, ◌==◌, Bool, true, false, cond, List, [], ◌∷◌, Option, None, Some, is_some, ap, sym, subst, arith, refl}
+use Rattle.std.proofs.Common.{◌≡◌, ◌∙◌, ℕ, ◌==◌, Bool, true, false, cond, List, [], ◌∷◌, Option, None, Some, is_some, ap, sym, subst, refl}
 use Rattle.std.proofs.lemmas.Bool.{false≢true}
-use Rattle.std.proofs.lemmas.Bool.Decides.{nat_tests}
 use Rattle.std.specs.Prelude.{ℤ}
 use Rattle.std.specs.Option.{option_map}
 use Rattle.qc_recv.specs.declared.recv.Recv.{Recv}
 use Rattle.qc_send_stream.specs.declared.send.SendPart.{SendPart}
+use Rattle.qc_send_stream.specs.Sending.{unblocked}
 use Rattle.qc_streams.specs.declared.state.StreamsState.{StreamsState}
+use Rattle.qc_streams.specs.Blocked.{BlockedIds, is_below}
+use Rattle.qc_streams.specs.Writable.{all_told, has_room, told_first, writables_told}
 use Rattle.qc_streams.specs.declared.stream.Stream.{Stream}
 use Rattle.qc_streams.specs.Lending.{AllRecords}
 use Rattle.qc_streams.specs.Parts.{place_again, turned}
@@ -21,13 +23,29 @@ use Rattle.qc_streams.proofs.Waits.{here}
 
 -- ---- a stream of which the sides stay, or that goes
 
+-- the same bytes, end and reset are those of a third side too
+same_alike : (o p : Option SendPart) → p ≡ o → AlikeIf o p
+same_alike o p is = subst (λ (x : Option SendPart). AlikeIf o x) (sym is) (self o)
+  where
+    self : (o : Option SendPart) → AlikeIf o o
+    self None = tt
+    self (Some p) = record { buffer = refl; end = refl; reset = refl }
+
+alike_then : (o p q : Option SendPart) → AlikeIf o p → AlikeIf p q → AlikeIf o q
+alike_then None None None m n = tt
+alike_then None None (Some c) m n = n
+alike_then None (Some b) q m n = absurd m
+alike_then (Some a) None q m n = absurd m
+alike_then (Some a) (Some b) None m n = n
+alike_then (Some a) (Some b) (Some c) m n = record { buffer = n.buffer ∙ m.buffer; end = n.end ∙ m.end; reset = n.reset ∙ m.reset }
+
 pub data Later (o p : Option Stream) : Type 0 where
   Left : p ≡ None → Later o p
-  Kept : (st now : Stream) → o ≡ Some st → p ≡ Some now → now.receiving ≡ st.receiving → now.sending ≡ st.sending → Later o p
+  Kept : (st now : Stream) → o ≡ Some st → p ≡ Some now → now.receiving ≡ st.receiving → AlikeIf st.sending now.sending → Later o p
 
 pub later_at : (o : Option Stream) → Later o o
 later_at None = Left refl
-later_at (Some st) = Kept st st refl refl refl refl
+later_at (Some st) = Kept st st refl refl refl (same_alike st.sending st.sending refl)
 
 pub later_same : (o p : Option Stream) → p ≡ o → Later o p
 later_same o p is = subst (λ (x : Option Stream). Later o x) (sym is) (later_at o)
@@ -44,7 +62,8 @@ later_then o p q (Left is) (Kept st now from to receiving sending) = none_some s
 later_then o p q (Kept st now from to receiving sending) (Left none) = Left none
 later_then o p q (Kept st now from to receiving sending) (Kept st' now' from' to' receiving' sending') =
     let same : now ≡ st' = some_is now st' (sym to ∙ from') in
-    Kept st now' from to' (receiving' ∙ ap (λ (x : Stream). x.receiving) (sym same) ∙ receiving) (sending' ∙ ap (λ (x : Stream). x.sending) (sym same) ∙ sending)
+    Kept st now' from to' (receiving' ∙ ap (λ (x : Stream). x.receiving) (sym same) ∙ receiving)
+    (alike_then st.sending now.sending now'.sending sending (subst (λ (x : Stream). AlikeIf x.sending now'.sending) (sym same) sending'))
 
 -- ---- the map of streams
 
@@ -66,19 +85,24 @@ ascends-in f j all (Some st) order = ascends_set j all (f st) order
 pub ascends_changed : (f : Stream → Stream) (j : ℕ) (all : AllRecords) → Ascends all → Ascends (changed f j all)
 ascends_changed f j all order = ascends-in f j all (record_of j all) order
 
-mapped : (f : Stream → Stream) → ((st : Stream) → (f st).receiving ≡ st.receiving) → ((st : Stream) → (f st).sending ≡ st.sending) → (o : Option Stream)
+mapped : (f : Stream → Stream) → ((st : Stream) → (f st).receiving ≡ st.receiving) → ((st : Stream) → AlikeIf st.sending (f st).sending) → (o : Option Stream)
     → Later o (option_map f o)
 mapped f receiving sending None = Left refl
 mapped f receiving sending (Some st) = Kept st (f st) refl refl (receiving st) (sending st)
 
--- a stream changes, but for its sides
-pub later_changed : (f : Stream → Stream) → ((st : Stream) → (f st).receiving ≡ st.receiving) → ((st : Stream) → (f st).sending ≡ st.sending) → (id j : ℕ)
+-- a stream changes, but for its sides: of the sending one its bytes, end and reset stay
+later_alike : (f : Stream → Stream) → ((st : Stream) → (f st).receiving ≡ st.receiving) → ((st : Stream) → AlikeIf st.sending (f st).sending) → (id j : ℕ)
     (all : AllRecords) → Later (record_of id all) (record_of id (changed f j all))
-later_changed f receiving sending id j all = by (j == id) refl
+later_alike f receiving sending id j all = by (j == id) refl
   where
     by : (b : Bool) → (j == id) ≡ b → Later (record_of id all) (record_of id (changed f j all))
     by true is = subst (λ (o : Option Stream). Later (record_of id all) o) (sym (changed_here f id j all is)) (mapped f receiving sending (record_of id all))
     by false is = later_same (record_of id all) (record_of id (changed f j all)) (changed_other f id j all is)
+
+-- the same, where both sides stay
+pub later_changed : (f : Stream → Stream) → ((st : Stream) → (f st).receiving ≡ st.receiving) → ((st : Stream) → (f st).sending ≡ st.sending) → (id j : ℕ)
+    (all : AllRecords) → Later (record_of id all) (record_of id (changed f j all))
+later_changed f receiving sending id j all = later_alike f receiving (λ st. same_alike st.sending (f st).sending (sending st)) id j all
 
 later_gone : (id j : ℕ) (all : AllRecords) → Ascends all → Later (record_of id all) (record_of id (without j all))
 later_gone id j all order = by (j == id) refl
@@ -247,6 +271,43 @@ unfolding all_filed
 all_filed_follows [] s = follows_same s s refl
 all_filed_follows (id ∷ ids) s = follows_then s (filed id s) (all_filed ids (filed id s)) (filed_follows id s) (all_filed_follows ids (filed id s))
 
+-- that streams can be written on again is told
+
+unblocked_sending : (st : Stream) → AlikeIf st.sending (with_sending unblocked st).sending
+unfolding with_sending unblocked
+unblocked_sending st = by st.sending
+  where
+    by : (o : Option SendPart) → AlikeIf o (option_map unblocked o)
+    by None = tt
+    by (Some p) = record { buffer = refl; end = refl; reset = refl }
+
+unblocked_receiving : (st : Stream) → (with_sending unblocked st).receiving ≡ st.receiving
+unfolding with_sending
+unblocked_receiving st = refl
+
+told_first_follows : (x : ℕ × ℕ) (xs : BlockedIds) (s : StreamsState) → Follows s (told_first x xs s)
+told_first_follows x xs s = record {
+  order = λ o. ascends_changed (with_sending unblocked) x.0 s.records o;
+  later = λ o j. later_alike (with_sending unblocked) unblocked_receiving unblocked_sending j x.0 s.records;
+}
+
+all_told_follows : (below : Option ℕ) (ids : BlockedIds) (s : StreamsState) → Follows s (all_told below ids s)
+unfolding all_told
+all_told_follows below [] s = follows_same s s refl
+all_told_follows below (x ∷ xs) s = by (is_below below x.1) (all_told_follows below xs (told_first x xs s))
+  where
+    by : (b : Bool) → Follows (told_first x xs s) (all_told below xs (told_first x xs s)) → Follows s (cond b (all_told below xs (told_first x xs s)) s)
+    by true rest = follows_then s (told_first x xs s) (all_told below xs (told_first x xs s)) (told_first_follows x xs s) rest
+    by false rest = follows_same s s refl
+
+pub told_follows : (below : Option ℕ) (s : StreamsState) → Follows s (writables_told below s)
+unfolding writables_told
+told_follows below s = by (has_room s)
+  where
+    by : (b : Bool) → Follows s (cond b (all_told below s.blocked s) s)
+    by true = all_told_follows below s.blocked s
+    by false = follows_same s s refl
+
 pub turned_follows : (id : ℕ) (s : StreamsState) → Follows s (turned id s)
 unfolding turned
 turned_follows id s = by (dues_at (record_of id s.records)).bytes
@@ -290,10 +351,11 @@ pub rest_step : (id : ℕ) (x : Step) → ((r : Recv) → came_to id x r ≡ r) 
 rest_step id x came sent st = record { receiving = still_option (came_to id x) came st.receiving; sending = alike_still (sent_to id x) sent st.sending }
 
 -- what follows leaves the sides
-stepped_then : (id : ℕ) (x : Step) (st mid now : Stream) → now.receiving ≡ mid.receiving → now.sending ≡ mid.sending → IsStepped id x st mid → IsStepped id x st now
+stepped_then : (id : ℕ) (x : Step) (st mid now : Stream) → now.receiving ≡ mid.receiving → AlikeIf mid.sending now.sending → IsStepped id x st mid
+    → IsStepped id x st now
 stepped_then id x st mid now receiving sending h = record {
   receiving = receiving ∙ h.receiving;
-  sending = subst (λ (o : Option SendPart). AlikeIf (option_map (sent_to id x) st.sending) o) (sym sending) h.sending;
+  sending = alike_then (option_map (sent_to id x) st.sending) mid.sending now.sending h.sending sending;
 }
 
 -- a stream of which it is known where it comes from, and what the step made of it
@@ -303,7 +365,8 @@ stepped_from id x s st mid o from made is (Left none) = Gone none
 stepped_from id x s st mid o from made is (Kept old now was be receiving sending) =
     let same : mid ≡ old = some_is mid old (sym is ∙ was) in
     There st now from
-    (stepped_then id x st mid now (receiving ∙ ap (λ (y : Stream). y.receiving) (sym same)) (sending ∙ ap (λ (y : Stream). y.sending) (sym same)) made) be
+    (stepped_then id x st mid now (receiving ∙ ap (λ (y : Stream). y.receiving) (sym same))
+    (subst (λ (y : Stream). AlikeIf y.sending now.sending) (sym same) sending) made) be
 
 -- where there was none there is none
 pub stepped_none : (id : ℕ) (x : Step) (s : StreamsState) (o : Option Stream) → o ≡ None → Later o (record_of id (after_step x s).records) → SteppedAt id x s

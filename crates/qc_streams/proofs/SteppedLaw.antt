@@ -13,19 +13,20 @@ use Rattle.qc_send_stream.specs.declared.send.SendPart.{SendPart}
 use Rattle.qc_send_stream.specs.Sending.{finished, is_done, limit_raised, part_acked, part_lost, part_sealed, part_written, reset_acked, reset_lost, reset_sealed, unblocked, was_blocked, was_reset, was_stopped}
 use Rattle.qc_streams.specs.declared.control.Control.{Control}
 use Rattle.qc_streams.specs.declared.control.Control.TheVariants.{Reset, Stop, MaxData, MaxStreamData, MaxStreams}
-use Rattle.qc_streams.specs.declared.events.StreamEvent.{StreamEvent}
+use Rattle.qc_streams.specs.declared.events.StreamEvent.TheVariants.{Finished as FinishedEvent}
 use Rattle.qc_streams.specs.declared.parts.StreamPart.{StreamPart}
 use Rattle.qc_streams.specs.declared.state.StreamsState.{StreamsState}
 use Rattle.qc_streams.specs.declared.stream.Stream.{Stream}
-use Rattle.qc_streams.specs.Calls.{after_read, gives, if_known, reading_begun, sends, write_refused, wrote}
+use Rattle.qc_streams.specs.Calls.{after_read, gives, if_known, reading_begun, resets, sends, write_refused, wrote}
 use Rattle.qc_streams.specs.Control.{control_acked, control_lost, control_sealed, stop_again}
-use Rattle.qc_streams.specs.Credit.{outgoing_written}
+use Rattle.qc_streams.specs.Counts.{own_raised}
+use Rattle.qc_streams.specs.Credit.{outgoing_raised, outgoing_written}
 use Rattle.qc_streams.specs.Early.{early_refused}
-use Rattle.qc_streams.specs.Events.{first_event}
+use Rattle.qc_streams.specs.Events.{first_dropped}
 use Rattle.qc_streams.specs.Frames.{comes, limit_came, reset_came, stop_came, stream_came, stream_limit_came, streams_limit_came}
 use Rattle.qc_streams.specs.Lending.{AllRecords}
-use Rattle.qc_streams.specs.Owed.{max_data_lost, max_data_sealed, max_streams_lost, max_streams_sealed, oldest_told, polled, told_opened, writable, writable_told}
-use Rattle.qc_streams.specs.Parts.{bytes_acked, bytes_lost, bytes_taken, part_end, sealed_part, turned}
+use Rattle.qc_streams.specs.Owed.{max_data_lost, max_data_sealed, max_streams_lost, max_streams_sealed, polled, told_opened}
+use Rattle.qc_streams.specs.Parts.{bytes_acked, bytes_gone, bytes_lost, bytes_taken, finishes, part_end, sealed_part, turned}
 use Rattle.qc_streams.specs.Records.{changed, on_some, record_of}
 use Rattle.qc_streams.specs.Sends.{was_taken}
 use Rattle.qc_streams.specs.Settings.{max_concurrent_set, priority_set, receive_window_set, send_window_set, with_priority}
@@ -35,10 +36,10 @@ use Rattle.qc_streams.specs.Stream.{limit_taken, stop_taken, totals_at, with_rec
 use Rattle.qc_streams.specs.Streams.{accepted_one, counted, left_over, limits_set, met, next_accepted, settled, told_if}
 use Rattle.qc_streams.specs.Waiting.{queued, touched}
 use Rattle.qc_streams.specs.Waits.{Step, LimitsKnown, EarlyRefused, Closed, Failed, Opened, Accepted, Wrote, Refused, Finished, WasReset, Began, Read, Stopped, ResetAsked, PrioritySet, SendWindowSet, ReceiveWindowSet, ConcurrentSet, Polled, StreamCame, ResetCame, StopCame, StreamLimitCame, StreamsLimitCame, LimitCame, MarksFiled, ControlSealed, ControlLost, ControlAcked, PartSealed, BytesLost, BytesAcked, after_step}
-use Rattle.qc_streams.specs.Writable.{credit_at, held_up, passed, watched}
+use Rattle.qc_streams.specs.Writable.{credit_at, has_place_at, held_up, needs_place_at, passed, place_released, place_reserved, watched, writables_told}
 use Rattle.qc_streams.proofs.Keyed.{Ascends}
 use Rattle.qc_streams.proofs.StepAt.{Gone, SendsAlike, SteppedAt, Steps, came_to, sent_to}
-use Rattle.qc_streams.proofs.SteppedAt.{Follows, Later, all_filed_follows, ascends_changed, follows_same, follows_then, later_at, later_changed, later_same, left_over_follows, noted_follows, settled_follows, touched_follows, turned_follows}
+use Rattle.qc_streams.proofs.SteppedAt.{Follows, Later, all_filed_follows, ascends_changed, follows_same, follows_then, later_at, later_changed, later_same, left_over_follows, noted_follows, settled_follows, told_follows, touched_follows, turned_follows}
 use Rattle.qc_streams.proofs.WaitSteps.{Holds}
 use Rattle.qc_streams.proofs.SteppedOpened.{met_on, met_order, opened_on}
 use Rattle.qc_streams.proofs.Stepped.{ChangesNone, ChangesReceiving, ChangesSending, alike_self, keeps_on, makes_alike, makes_receiving, receives, rests_alike, rests_receiving, sends_on, still_on}
@@ -118,7 +119,7 @@ again_later id j code s order = by (is_some (record_of j s.records)) refl
 
 -- a write that was blocked is noted, but where the connection is closed
 abbrev noted : Bool → ℕ → StreamsState → StreamsState
-noted b j s = cond b s (held_up (credit_at (record_of j s.records)) j (record s { records = changed (with_sending (if_known was_blocked)) j s.records }))
+noted b j s = cond b s (place_reserved (needs_place_at (record_of j s.records)) (held_up (credit_at (record_of j s.records)) j (record s { records = changed (with_sending (if_known was_blocked)) j s.records })))
 
 refused_later : (id j : ℕ) (s : StreamsState)
     → Later (record_of id s.records) (record_of id (write_refused Blocked j s).records)
@@ -131,28 +132,15 @@ refused_later id j s = by s.closed
     by true = inl (later_at (record_of id s.records))
     by false = inr (later_at (record_of id (changed (with_sending (if_known was_blocked)) j s.records)))
 
--- where it was told that a stream can be written on again, or not
-abbrev Tells : ℕ → StreamsState → StreamsState → Type 0
-Tells id s t =
-    Later (record_of id s.records) (record_of id t.records)
-    ⊎ ((j : ℕ) × Later (record_of id (changed (with_sending unblocked) j s.records)) (record_of id t.records))
-
-writable_later : (id : ℕ) (o : Option ℕ) (s : StreamsState) → Tells id s (writable_told o s)
-writable_later id None s = inl (later_at (record_of id s.records))
-writable_later id (Some j) s = inr (j, later_at (record_of id (changed (with_sending unblocked) j s.records)))
-
-oldest_later : (id : ℕ) (e : Option StreamEvent) (s : StreamsState) → Tells id s (oldest_told e s)
-oldest_later id (Some e) s = inl (later_at (record_of id s.records))
-oldest_later id None s = writable_later id (writable s) s
-
-polled_later : (id : ℕ) (s : StreamsState) → Tells id s (polled s)
+-- the streams are those that there were
+polled_records : (s : StreamsState) → (polled s).records ≡ s.records
 unfolding polled told_opened
-polled_later id s = by s.peer.bi.tells s.peer.uni.tells
+polled_records s = by s.peer.bi.tells s.peer.uni.tells
   where
-    by : (b c : Bool) → Tells id s (cond b (told_opened Bi s) (cond c (told_opened Uni s) (oldest_told (first_event s.events) s)))
-    by true c = inl (later_at (record_of id s.records))
-    by false true = inl (later_at (record_of id s.records))
-    by false false = oldest_later id (first_event s.events) s
+    by : (b c : Bool) → (cond b (told_opened Bi s) (cond c (told_opened Uni s) (record s { events = first_dropped s.events }))).records ≡ s.records
+    by true c = refl
+    by false true = refl
+    by false false = refl
 
 -- ---- each step
 
@@ -221,6 +209,32 @@ module _ (id : ℕ) (s : StreamsState) (holds : Holds s) where
   still_at x c is =
       still_on id id x s c (later_same (record_of id s.records) (record_of id (after_step x s).records) (ap (λ (all : AllRecords). record_of id all) is))
 
+  -- no side changes, and it is told that streams can be written on again
+  told_at : (x : Step) (t : StreamsState) → ChangesNone x → t.records ≡ s.records → (after_step x s).records ≡ (writables_told None t).records → SteppedAt id x s
+  told_at x t c is after =
+      still_on id id x s c
+      (subst (λ (all : AllRecords). Later (record_of id s.records) (record_of id all)) (sym after)
+      (after_order s t (writables_told None t) is holds.order (told_follows None t) id))
+
+  reset_at : (code : VarInt) (j : ℕ) → SteppedAt id (WasReset code j) s
+  unfolding after_step resets sends passed
+  reset_at code j =
+      let t : StreamsState = passed j (record s { records = changed (with_sending (if_known (was_reset code))) j s.records }) in
+      let u : StreamsState = place_released (has_place_at (record_of j s.records)) (touched j (queued j t)) in
+      sends_after (WasReset code j) j (if_known (was_reset code)) t (writables_told None u) (reset_sends code j) refl
+      (follows_then t u (writables_told None u) (follows_then t (touched j (queued j t)) u (noted_follows j t) (follows_same (touched j (queued j t)) u refl))
+      (told_follows None u)) refl
+
+  limit_at : (j limit : ℕ) → SteppedAt id (StreamLimitCame j limit) s
+  unfolding after_step stream_limit_came watched
+  limit_at j limit =
+      let m : StreamsState = met (with_sending (limit_taken limit)) j s in
+      let t : StreamsState = watched j m in
+      met_on id j (StreamLimitCame j limit) s (with_sending (limit_taken limit))
+      (λ same. makes_alike id j (StreamLimitCame j limit) (limit_taken limit) (limit_none j limit) (limit_alike limit))
+      (λ apart. rests_alike id j (StreamLimitCame j limit) (limit_none j limit))
+      (after_order m t (writables_told None t) refl (met_order (with_sending (limit_taken limit)) j s holds.order) (told_follows None t) id)
+
   refused_at : (e : WriteError) (j : ℕ) → SteppedAt id (Refused e j) s
   unfolding after_step write_refused
   refused_at Blocked j = by (refused_later id j s)
@@ -236,11 +250,7 @@ module _ (id : ℕ) (s : StreamsState) (holds : Holds s) where
 
   polled_at : SteppedAt id Polled s
   unfolding after_step
-  polled_at = by (polled_later id s)
-    where
-      by : Tells id s (polled s) → SteppedAt id Polled s
-      by (inl later) = still_on id id Polled s polled_none later
-      by (inr told) = keeps_on id told.0 Polled s unblocked polled_none unblocked_alike told.1
+  polled_at = still_at Polled polled_none (polled_records s)
 
   accepted_at : (dir : Dir) → SteppedAt id (Accepted dir) s
   unfolding after_step accepted_one
@@ -309,14 +319,25 @@ module _ (id : ℕ) (s : StreamsState) (holds : Holds s) where
       sends_after (BytesLost j start stop last) j (part_lost start stop last) t (touched j (queued j t)) (bytes_lost_sends j start stop last) refl (noted_follows j t) refl
 
   bytes_acked_at : (j start stop : ℕ) (last : Bool) → SteppedAt id (BytesAcked j start stop last) s
-  unfolding after_step bytes_acked bytes_taken told_if
+  unfolding after_step bytes_acked bytes_gone bytes_taken told_if
   bytes_acked_at j start stop last =
       let t : StreamsState = record s { records = changed (with_sending (part_acked start stop last)) j s.records } in
-      sends_after (BytesAcked j start stop last) j (part_acked start stop last) t (settled j t) (bytes_acked_sends j start stop last) refl (settled_follows j t) refl
+      let a : StreamsState = writables_told (Some j) (settled j t) in
+      let b : StreamsState = told_if (finishes j start stop last s) (FinishedEvent j) a in
+      sends_after (BytesAcked j start stop last) j (part_acked start stop last) t (writables_told None b) (bytes_acked_sends j start stop last) refl
+      (follows_then t (settled j t) (writables_told None b) (settled_follows j t)
+      (follows_then (settled j t) a (writables_told None b) (told_follows (Some j) (settled j t))
+      (follows_then a b (writables_told None b) (follows_same a b refl) (told_follows None b)))) refl
 
 pub steps : Steps
 unfolding after_step came_to sent_to limits_set early_refused send_window_set receive_window_set max_concurrent_set stream_came reset_came stop_came stream_limit_came watched streams_limit_came limit_came told_if
-steps id (LimitsKnown p) s can holds = still_at id s holds (LimitsKnown p) (record { came = λ i r. refl; sent = λ i p. refl }) refl
+steps id (LimitsKnown p) s can holds =
+    told_at id s holds (LimitsKnown p)
+    (record s {
+      limits = p;
+      outgoing = outgoing_raised p.all_data s.outgoing;
+      own = record { bi = own_raised p.bidi_streams s.own.bi; uni = own_raised p.uni_streams s.own.uni };
+    }) (record { came = λ i r. refl; sent = λ i p. refl }) refl refl
 steps id EarlyRefused s can holds = Gone refl
 steps id Closed s can holds = still_at id s holds Closed (record { came = λ i r. refl; sent = λ i p. refl }) refl
 steps id Failed s can holds = still_at id s holds Failed (record { came = λ i r. refl; sent = λ i p. refl }) refl
@@ -325,22 +346,22 @@ steps id (Accepted dir) s can holds = accepted_at id s holds dir
 steps id (Wrote j n chunk) s can holds = wrote_at id s holds j n chunk
 steps id (Refused e j) s can holds = refused_at id s holds e j
 steps id (Finished j) s can holds = sends_at id s holds (Finished j) j finished (finished_sends j) refl
-steps id (WasReset code j) s can holds = sends_at id s holds (WasReset code j) j (was_reset code) (reset_sends code j) refl
+steps id (WasReset code j) s can holds = reset_at id s holds code j
 steps id (Began ordered j) s can holds = began_at id s holds ordered j
 steps id (Read ordered result j) s can holds = gives_at id s holds (Read ordered result j) j (after_read ordered result) (read_receives ordered result j) refl
 steps id (Stopped code j) s can holds = gives_at id s holds (Stopped code j) j (stop_asked code) (stopped_receives code j) refl
 steps id (ResetAsked j) s can holds = gives_at id s holds (ResetAsked j) j reset_asked (asked_receives j) refl
 steps id (PrioritySet priority j) s can holds = priority_at id s holds priority j
-steps id (SendWindowSet n) s can holds = still_at id s holds (SendWindowSet n) (record { came = λ i r. refl; sent = λ i p. refl }) refl
+steps id (SendWindowSet n) s can holds = told_at id s holds (SendWindowSet n) (record s { send_window = n }) (record { came = λ i r. refl; sent = λ i p. refl }) refl refl
 steps id (ReceiveWindowSet n) s can holds = still_at id s holds (ReceiveWindowSet n) (record { came = λ i r. refl; sent = λ i p. refl }) refl
 steps id (ConcurrentSet dir n) s can holds = still_at id s holds (ConcurrentSet dir n) (record { came = λ i r. refl; sent = λ i p. refl }) refl
 steps id Polled s can holds = polled_at id s holds
 steps id (StreamCame j o bs last) s can holds = comes_at id s holds (StreamCame j o bs last) j (stream_taken o bs last) (stream_receives j o bs last) refl
 steps id (ResetCame j code size) s can holds = comes_at id s holds (ResetCame j code size) j (reset_taken code size) (reset_receives j code size) refl
 steps id (StopCame j code) s can holds = meets_at id s holds (StopCame j code) j (stop_taken code) (stop_none j code) (stop_alike code) refl
-steps id (StreamLimitCame j limit) s can holds = meets_at id s holds (StreamLimitCame j limit) j (limit_taken limit) (limit_none j limit) (limit_alike limit) refl
+steps id (StreamLimitCame j limit) s can holds = limit_at id s holds j limit
 steps id (StreamsLimitCame dir n) s can holds = still_at id s holds (StreamsLimitCame dir n) (record { came = λ i r. refl; sent = λ i p. refl }) refl
-steps id (LimitCame n) s can holds = still_at id s holds (LimitCame n) (record { came = λ i r. refl; sent = λ i p. refl }) refl
+steps id (LimitCame n) s can holds = told_at id s holds (LimitCame n) (record s { outgoing = outgoing_raised n s.outgoing }) (record { came = λ i r. refl; sent = λ i p. refl }) refl refl
 steps id MarksFiled s can holds = filed_at id s holds
 steps id (ControlSealed c) s can holds = sealed_at id s holds c
 steps id (ControlLost c) s can holds = lost_at id s holds c

@@ -1,6 +1,5 @@
 -- What each step makes of the stream with an id
 use Rattle.std.proofs.Common.{◌≡◌, ◌∙◌, ℕ, zero, suc, ◌+◌, ◌/◌, ◌≤◌, ◌==◌, Bool, true, false, cond, not, Option, Some, inl, inr, ap, sym, subst, arith, refl}
-use Rattle.std.proofs.lemmas.Bool.Decides.{nat_tests}
 use Rattle.std.specs.Prelude.{◌⊎◌}
 use Rattle.qc_base.specs.StreamId.{stream_id}
 use Rattle.qc_base.specs.declared.side.Dir.{Dir}

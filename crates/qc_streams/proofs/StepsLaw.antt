@@ -1,10 +1,8 @@
 -- Steps one behind the other, frames that come as steps, and that what is drawn waited
-use Rattle.std.proofs.Common.{◌≡◌, ◌∙◌, ℕ, ◌-◌, ◌<◌, ◌⊎◌, inl, inr, Bool, true, false, cond, nat_le, nat_lt, List, [], ◌∷◌, ◌++◌, Option, None, Some, ap, sym, subst, arith, refl}
-use Rattle.std.specs.Option.{option_and_then, option_map}
+use Rattle.std.proofs.Common.{◌≡◌, ℕ, ◌-◌, ◌<◌, Bool, true, false, cond, nat_le, nat_lt, List, [], ◌∷◌, ◌++◌, Option, None, Some, ap, sym, subst, arith, refl}
+use Rattle.std.specs.Option.{option_map}
 use Rattle.std.proofs.lemmas.Bool.Decides.{nat_tests}
-use Rattle.qc_base.specs.declared.side.Dir.{Dir}
 use Rattle.qc_base.specs.declared.side.Dir.TheVariants.{Bi, Uni}
-use Rattle.qc_base.specs.declared.varint.VarInt.{VarInt}
 use Rattle.qc_send_stream.specs.declared.send.Part.{Part}
 use Rattle.qc_turns.specs.Ids.{first_id}
 use Rattle.qc_streams.specs.declared.control.Control.{Control}
@@ -15,10 +13,10 @@ use Rattle.qc_streams.specs.declared.stream.Stream.{Stream as StreamRecord}
 use Rattle.qc_streams.specs.Carried.{AreAnswered, IsAnswered}
 use Rattle.qc_streams.specs.Control.{control_len, credit_of, data_with, gone_stop, if_fits, next_control, of_first, or_else, reset_of, stop_of, streams_with}
 use Rattle.qc_streams.specs.Owed.{max_data_owed, max_streams_owed}
-use Rattle.qc_streams.specs.Parts.{IsDrawn, IsOfferAt, IsTurn, part_on, turn_in}
+use Rattle.qc_streams.specs.Parts.{IsDrawn, IsOfferAt, IsTurn, part_on}
 use Rattle.qc_streams.specs.Records.{record_of}
-use Rattle.qc_streams.specs.Steps.{AllMay, Handed, IsOffered, IsOwed, IsSealedSo, MayStep, MaxData, MaxStreamData, MaxStreams, NamesStream, OwesData, OwesGoneStop, OwesReset, OwesStop, OwesStreamData, OwesStreams, ResetStream, StopSending, Stream, StreamDataBlocked, StreamsBlocked, came, handed, refusal_of, steps_of, unless_refused}
-use Rattle.qc_streams.specs.Waits.{ArePossible, IsPossible, Step, StreamCame, ResetCame, StopCame, StreamLimitCame, StreamsLimitCame, LimitCame, after, after_step}
+use Rattle.qc_streams.specs.Steps.{AllMay, Handed, IsOffered, IsOwed, IsSealedSo, MaxData, MaxStreamData, MaxStreams, NamesStream, OwesData, OwesGoneStop, OwesReset, OwesStop, OwesStreamData, OwesStreams, ResetStream, StopSending, Stream, StreamDataBlocked, StreamsBlocked, came, handed, refusal_of, steps_of, unless_refused}
+use Rattle.qc_streams.specs.Waits.{ArePossible, IsPossible, Step, after, after_step}
 use Rattle.qc_streams.specs.Within.{AreTaken, IsTaken}
 
 -- ---- steps one behind the other

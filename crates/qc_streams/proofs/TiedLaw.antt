@@ -1,50 +1,40 @@
 -- The bytes of all writes are at most the greatest limit that came
-use Rattle.std.proofs.Common.{◌≡◌, ◌∙◌, ℕ, ◌+◌, ◌-◌, ◌^◌, ◌<◌, ◌≤◌, min, max, Bool, true, false, cond, List, [], ◌∷◌, length, take, Option, None, Some, ap, sym, subst, arith, refl, length-take}
-use Rattle.qc_base.specs.declared.side.Dir.{Dir}
+use Rattle.std.proofs.Common.{◌≡◌, ◌∙◌, ℕ, ◌+◌, ◌^◌, ◌<◌, ◌≤◌, max, Bool, true, false, cond, List, [], ◌∷◌, length, take, Option, None, Some, ap, sym, subst, arith, refl, length-take}
 use Rattle.qc_base.specs.declared.side.Dir.TheVariants.{Bi, Uni}
 use Rattle.qc_base.specs.declared.side.Side.{Side}
 use Rattle.qc_recv.specs.Receiving.{reset_taken, stream_taken}
 use Rattle.qc_send_stream.specs.declared.send.SendPart.{SendPart}
 use Rattle.qc_send_stream.specs.Sending.{takes}
 use Rattle.qc_streams.specs.declared.credit.Outgoing.{Outgoing}
-use Rattle.qc_streams.specs.declared.events.StreamEvent.{StreamEvent}
 use Rattle.qc_streams.specs.declared.state.StreamsState.{StreamsState}
-use Rattle.qc_streams.specs.Calls.{count_taken, gives, known_at, reading_begun, send_room, sends, wrote}
+use Rattle.qc_streams.specs.Calls.{count_taken, gives, known_at, reading_begun, resets, send_room, sends, wrote}
 use Rattle.qc_streams.specs.Counts.{held}
 use Rattle.qc_streams.specs.Credit.{budget, new_outgoing, outgoing_raised, outgoing_written}
 use Rattle.qc_streams.specs.Early.{early_refused}
-use Rattle.qc_streams.specs.Events.{first_event}
+use Rattle.qc_streams.specs.Events.{first_dropped}
 use Rattle.qc_streams.specs.Frames.{comes, limit_came, reset_came, stop_came, stream_came, stream_limit_came, streams_limit_came}
-use Rattle.qc_streams.specs.Owed.{oldest_told, polled, told_opened, writable, writable_told}
-use Rattle.qc_streams.specs.Parts.{bytes_acked, bytes_lost, bytes_taken}
+use Rattle.qc_streams.specs.Owed.{polled, told_opened}
+use Rattle.qc_streams.specs.Parts.{bytes_acked, bytes_gone, bytes_lost, bytes_taken}
 use Rattle.qc_streams.specs.Settings.{max_concurrent_set, priority_set, receive_window_set, send_window_set}
 use Rattle.qc_streams.specs.Stream.{limit_taken, stop_taken, with_receiving, with_sending}
 use Rattle.qc_streams.specs.Streams.{accepted_one, counted, limits_set, new_streams, opened_own, told_if}
 use Rattle.qc_streams.specs.Tied.{HasLimit, HaveLimits, WritesWithin, bytes_written, greatest_limit, with_bytes, with_limit}
 use Rattle.qc_streams.specs.Waiting.{queued, touched}
-use Rattle.qc_streams.specs.Waits.{Step, LimitsKnown, EarlyRefused, Closed, Failed, Opened, Accepted, Wrote, Refused, Finished, WasReset, Began, Read, Stopped, ResetAsked, PrioritySet, SendWindowSet, ReceiveWindowSet, ConcurrentSet, Polled, StreamCame, ResetCame, StopCame, StreamLimitCame, StreamsLimitCame, LimitCame, MarksFiled, ControlSealed, ControlLost, ControlAcked, PartSealed, BytesLost, BytesAcked, after, after_step}
+use Rattle.qc_streams.specs.Waits.{Step, LimitsKnown, EarlyRefused, Closed, Failed, Opened, Accepted, Wrote, Refused, Finished, WasReset, Began, Read, Stopped, ResetAsked, PrioritySet, SendWindowSet, ReceiveWindowSet, ConcurrentSet, Polled, StreamCame, ResetCame, StopCame, StreamLimitCame, StreamsLimitCame, LimitCame, MarksFiled, ControlSealed, ControlLost, ControlAcked, PartSealed, BytesLost, BytesAcked, after_step}
 use Rattle.qc_streams.specs.Within.{AreTaken, IsTaken}
 use Rattle.qc_streams.specs.Writable.{passed, watched}
-use Rattle.qc_streams.proofs.Beside.{acked_beside, all_filed_beside, lost_beside, met_beside, part_beside, refused_beside, sealed_beside, settled_beside}
+use Rattle.qc_streams.proofs.Beside.{acked_beside, all_filed_beside, lost_beside, met_beside, part_beside, refused_beside, sealed_beside, settled_beside, told_telling}
 
 -- ---- what a step leaves of the credit for what is sent
-
-writable_out : (o : Option ℕ) (s : StreamsState) → (writable_told o s).outgoing ≡ s.outgoing
-writable_out None s = refl
-writable_out (Some id) s = refl
-
-oldest_out : (e : Option StreamEvent) (s : StreamsState) → (oldest_told e s).outgoing ≡ s.outgoing
-oldest_out (Some e) s = refl
-oldest_out None s = writable_out (writable s) s
 
 polled_out : (s : StreamsState) → (polled s).outgoing ≡ s.outgoing
 unfolding polled told_opened
 polled_out s = by s.peer.bi.tells s.peer.uni.tells
   where
-    by : (b c : Bool) → (cond b (told_opened Bi s) (cond c (told_opened Uni s) (oldest_told (first_event s.events) s))).outgoing ≡ s.outgoing
+    by : (b c : Bool) → (cond b (told_opened Bi s) (cond c (told_opened Uni s) (record s { events = first_dropped s.events }))).outgoing ≡ s.outgoing
     by true c = refl
     by false true = refl
-    by false false = oldest_out (first_event s.events) s
+    by false false = refl
 
 -- what each step makes of it
 abbrev out_of : Step → Outgoing → Outgoing
@@ -55,8 +45,8 @@ out_of (LimitCame n) o = outgoing_raised n o
 out_of x o = o
 
 out_after : (x : Step) (s : StreamsState) → (after_step x s).outgoing ≡ out_of x s.outgoing
-unfolding after_step limits_set early_refused opened_own accepted_one wrote sends queued passed touched gives comes counted reading_begun priority_set send_window_set receive_window_set max_concurrent_set stream_came reset_came stop_came stream_limit_came watched streams_limit_came limit_came bytes_lost bytes_acked bytes_taken told_if
-out_after (LimitsKnown p) s = refl
+unfolding after_step limits_set early_refused opened_own accepted_one wrote resets sends queued passed touched gives comes counted reading_begun priority_set send_window_set receive_window_set max_concurrent_set stream_came reset_came stop_came stream_limit_came watched streams_limit_came limit_came bytes_lost bytes_acked bytes_gone bytes_taken told_if
+out_after (LimitsKnown p) s = (told_telling None _).outgoing
 out_after EarlyRefused s = refl
 out_after Closed s = refl
 out_after Failed s = refl
@@ -65,29 +55,30 @@ out_after (Accepted dir) s = refl
 out_after (Wrote id n chunk) s = refl
 out_after (Refused e id) s = (refused_beside e id s).outgoing
 out_after (Finished id) s = refl
-out_after (WasReset code id) s = refl
+out_after (WasReset code id) s = (told_telling None _).outgoing
 out_after (Began ordered id) s = refl
 out_after (Read ordered result id) s = (settled_beside id _).outgoing
 out_after (Stopped code id) s = (settled_beside id _).outgoing
 out_after (ResetAsked id) s = (settled_beside id _).outgoing
 out_after (PrioritySet priority id) s = refl
-out_after (SendWindowSet n) s = refl
+out_after (SendWindowSet n) s = (told_telling None _).outgoing
 out_after (ReceiveWindowSet n) s = refl
 out_after (ConcurrentSet dir n) s = refl
 out_after Polled s = polled_out s
 out_after (StreamCame id o bs last) s = (settled_beside id _).outgoing ∙ (met_beside (with_receiving (stream_taken o bs last)) id s).outgoing
 out_after (ResetCame id code size) s = (settled_beside id _).outgoing ∙ (met_beside (with_receiving (reset_taken code size)) id s).outgoing
 out_after (StopCame id code) s = (met_beside (with_sending (stop_taken code)) id s).outgoing
-out_after (StreamLimitCame id limit) s = (met_beside (with_sending (limit_taken limit)) id s).outgoing
+out_after (StreamLimitCame id limit) s = (told_telling None _).outgoing ∙ (met_beside (with_sending (limit_taken limit)) id s).outgoing
 out_after (StreamsLimitCame dir n) s = refl
-out_after (LimitCame n) s = refl
+out_after (LimitCame n) s = (told_telling None _).outgoing
 out_after MarksFiled s = (all_filed_beside s.waiting.marks.ids s).outgoing
 out_after (ControlSealed c) s = (sealed_beside c s).outgoing
 out_after (ControlLost c) s = (lost_beside c s).outgoing
 out_after (ControlAcked c) s = (acked_beside c s).outgoing
 out_after (PartSealed d) s = (part_beside d s).outgoing
 out_after (BytesLost id start stop last) s = refl
-out_after (BytesAcked id start stop last) s = (settled_beside id _).outgoing
+out_after (BytesAcked id start stop last) s =
+    (told_telling None _).outgoing ∙ (told_telling (Some id) (bytes_gone id start stop last s)).outgoing ∙ (settled_beside id _).outgoing
 
 -- ---- the bytes of all writes, and the greatest limit
 

@@ -24,12 +24,12 @@ pub side_alike : (g : SendPart → SendPart) → ((p : SendPart) → awaits (Som
 unfolding with_sending
 side_alike g same st = option_alike g same st.sending
 
-end_some : (f : Standing → Standing) (last : Bool) (end : Option Standing) → is_some (end_with f last end) ≡ is_some end
+pub end_some : (f : Standing → Standing) (last : Bool) (end : Option Standing) → is_some (end_with f last end) ≡ is_some end
 end_some f last None = refl
 end_some f true (Some x) = refl
 end_some f false (Some x) = refl
 
-reset_some : (f : Standing → Standing) (r : Option Reset) → is_some (reset_with f r) ≡ is_some r
+pub reset_some : (f : Standing → Standing) (r : Option Reset) → is_some (reset_with f r) ≡ is_some r
 reset_some f None = refl
 reset_some f (Some r) = refl
 
@@ -92,11 +92,11 @@ side_credit g same st is = credit-of g same st.sending is
 lacks-not : (p q : SendPart) → has_credit p ≡ false → has_credit p ≡ true → awaits (Some p) ≡ awaits (Some q)
 lacks-not p q lacks has = absurd (cc)
 
-finished-closed : (p : SendPart) → is_closed (finished p) ≡ true
+pub finished-closed : (p : SendPart) → is_closed (finished p) ≡ true
 unfolding finished is_closed
 finished-closed p = refl
 
-reset-closed : (code : VarInt) (p : SendPart) → is_closed (was_reset code p) ≡ true
+pub reset-closed : (code : VarInt) (p : SendPart) → is_closed (was_reset code p) ≡ true
 unfolding was_reset is_closed
 reset-closed code p = or-right (is_some p.end) true refl
 

@@ -1,8 +1,7 @@
 -- Exactly those streams wait on which a write was blocked and that have credit: what one change leaves of that
-use Rattle.std.proofs.Common.{◌≡◌, ◌∙◌, ℕ, ◌==◌, Bool, true, false, cond, not, ◌&&◌, ◌||◌, nat_le, Option, None, Some, is_some, ap, sym, subst, arith, refl}
+use Rattle.std.proofs.Common.{◌≡◌, ◌∙◌, ℕ, ◌==◌, Bool, true, false, cond, not, ◌&&◌, ◌||◌, nat_le, Option, None, Some, is_some, ap, sym, subst, refl}
 use Rattle.std.proofs.lemmas.Bool.{false≢true}
 use Rattle.std.specs.Option.{option_map}
-use Rattle.std.proofs.lemmas.Bool.Decides.{nat_tests}
 use Rattle.qc_send_stream.specs.Buffer.{has_bytes}
 use Rattle.qc_send_stream.specs.declared.send.Reset.{Reset}
 use Rattle.qc_send_stream.specs.declared.send.SendPart.{SendPart}
@@ -137,7 +136,7 @@ ended-with : (r : Option Reset) (end : Option Standing) (none : Bool) → done_w
 ended-with None end none is = or-left (is_some end) false (ended-end end none is)
 ended-with (Some r) end none is = or-right (is_some end) true refl
 
-done_closed : (p : SendPart) → is_done p ≡ true → is_closed p ≡ true
+pub done_closed : (p : SendPart) → is_done p ≡ true → is_closed p ≡ true
 unfolding is_done is_closed
 done_closed p is = ended-with p.reset p.end (not (has_bytes p.buffer.kept)) is
 

@@ -23,22 +23,21 @@ use Rattle.qc_streams.specs.declared.counts.OwnStreams.{OwnStreams}
 use Rattle.qc_streams.specs.declared.counts.PeerStreams.{PeerStreams}
 use Rattle.qc_streams.specs.declared.credit.Incoming.{Incoming}
 use Rattle.qc_streams.specs.declared.credit.Outgoing.{Outgoing}
-use Rattle.qc_streams.specs.declared.events.StreamEvent.{StreamEvent}
 use Rattle.qc_streams.specs.declared.fault.ReadFault.{ReadFault}
 use Rattle.qc_streams.specs.declared.fault.ReadFault.TheVariants.{ClosedStream as ReadClosed, IllegalOrderedRead, Reset as WasResetTo, Blocked as ReadBlocked, OutOfMemory as ReadMemory}
 use Rattle.qc_streams.specs.declared.parts.StreamPart.{StreamPart}
 use Rattle.qc_streams.specs.declared.state.PeerLimits.{PeerLimits}
 use Rattle.qc_streams.specs.declared.state.StreamsState.{StreamsState}
 use Rattle.qc_streams.specs.declared.stream.Stream.{Stream}
-use Rattle.qc_streams.specs.Calls.{after_read, count_taken, if_known, known, known_at, known_of, reading_begun, send_room, sends, write_refused, wrote}
+use Rattle.qc_streams.specs.Calls.{after_read, count_taken, if_known, known, known_at, known_of, reading_begun, resets, send_room, sends, write_refused, wrote}
 use Rattle.qc_streams.specs.Control.{control_acked, control_lost, control_sealed, stop_again}
 use Rattle.qc_streams.specs.Counts.{accepted, at_most, by_dir, dir_put, held, opening_told, own_raised, places_lost, places_sealed}
 use Rattle.qc_streams.specs.Credit.{budget, credit_lost, credit_sealed, credit_value, incoming_credit, new_incoming, new_outgoing, outgoing_raised, outgoing_written, room, window_set, with_window}
 use Rattle.qc_streams.specs.Early.{credit_anew, early_refused, places_anew}
-use Rattle.qc_streams.specs.Events.{first_event}
+use Rattle.qc_streams.specs.Events.{first_dropped}
 use Rattle.qc_streams.specs.Frames.{limit_came, reset_came, stop_came, stream_came, stream_limit_came, streams_limit_came}
-use Rattle.qc_streams.specs.Owed.{max_data_lost, max_data_sealed, max_streams_lost, max_streams_sealed, oldest_told, polled, told_opened, writable, writable_told}
-use Rattle.qc_streams.specs.Parts.{bytes_acked, bytes_lost, bytes_taken, part_end, sealed_part}
+use Rattle.qc_streams.specs.Owed.{max_data_lost, max_data_sealed, max_streams_lost, max_streams_sealed, polled, told_opened}
+use Rattle.qc_streams.specs.Parts.{bytes_acked, bytes_gone, bytes_lost, bytes_taken, part_end, sealed_part}
 use Rattle.qc_streams.specs.Records.{changed, record_of}
 use Rattle.qc_streams.specs.Sends.{was_taken}
 use Rattle.qc_streams.specs.Settings.{concurrent_set, max_concurrent_set, priority_set, receive_window_set, send_window_set, with_concurrent, with_priority}
@@ -48,7 +47,8 @@ use Rattle.qc_streams.specs.Streams.{accepted_one, limits_set, new_streams, next
 use Rattle.qc_streams.specs.Waiting.{queued, touched}
 use Rattle.qc_streams.specs.Waits.{Step, LimitsKnown, EarlyRefused, Closed, Failed, Opened, Accepted, Wrote, Refused, Finished, WasReset, Began, Read, Stopped, ResetAsked, PrioritySet, SendWindowSet, ReceiveWindowSet, ConcurrentSet, Polled, StreamCame, ResetCame, StopCame, StreamLimitCame, StreamsLimitCame, LimitCame, MarksFiled, ControlSealed, ControlLost, ControlAcked, PartSealed, BytesLost, BytesAcked, after, after_step}
 use Rattle.qc_streams.specs.Within.{AreTaken, CreditIsKept, IsTaken, SendsWithin, StaysWithin}
-use Rattle.qc_streams.specs.Writable.{credit_at, held_up, passed, watched}
+use Rattle.qc_streams.specs.Writable.{all_told, credit_at, has_room, held_up, needs_place_at, passed, place_reserved, told_first, watched, writables_told}
+use Rattle.qc_streams.specs.Blocked.{BlockedIds, is_below}
 use Rattle.qc_streams.proofs.WithinSides.{Good, blocked_good, credit_lost_good, credit_sealed_good, finished_good, good_at, good_changed_at, known_good, limit_good, opened_good, part_acked_good, part_lost_good, part_sealed_good, read_good, receiving_good, reset_acked_good, reset_asked_good, reset_good, reset_lost_good, reset_sealed_good, sending_good, stop_asked_good, stop_good, stop_lost_good, stop_sealed_good, unblocked_good}
 use Rattle.qc_streams.proofs.WithinSteps.{Fits, IncomingFits, OwnFits, PeerFits, all_filed_fits, changed_fits, comes_fits, gives_fits, left_over_fits, met_fits, opened_own_fits, put_own, put_peer, queued_fits, sent_below, settled_fits, touched_fits, turned_fits, with_own, with_peer}
 use Rattle.qc_streams.proofs.WithinTaken.{reset_can, stream_can}
@@ -122,7 +122,8 @@ refused_fits : (e : WriteError) (id : ℕ) (s : StreamsState) → Fits s → Fit
 unfolding write_refused held_up
 refused_fits Blocked id s h = by s.closed
   where
-    by : (b : Bool) → Fits (cond b s (held_up (credit_at (record_of id s.records)) id (record s { records = changed (with_sending (if_known was_blocked)) id s.records })))
+    by : (b : Bool)
+        → Fits (cond b s (place_reserved (needs_place_at (record_of id s.records)) (held_up (credit_at (record_of id s.records)) id (record s { records = changed (with_sending (if_known was_blocked)) id s.records }))))
     by true = h
     by false = changed_fits (with_sending (if_known was_blocked)) (sending_good (if_known was_blocked) (known_good was_blocked blocked_good)) id s h
 refused_fits ClosedStream id s h = h
@@ -160,13 +161,24 @@ priority_good : (priority : ℤ) (st : Stream) → Good st → Good (with_priori
 unfolding with_priority
 priority_good priority st g = g
 
-writable_fits : (o : Option ℕ) (s : StreamsState) → Fits s → Fits (writable_told o s)
-writable_fits None s h = h
-writable_fits (Some id) s h = changed_fits (with_sending unblocked) (sending_good unblocked unblocked_good) id s h
+all_told_fits : (below : Option ℕ) (ids : BlockedIds) (s : StreamsState) → Fits s → Fits (all_told below ids s)
+unfolding all_told
+all_told_fits below [] s h = h
+all_told_fits below (x ∷ xs) s h =
+    by (is_below below x.1)
+    (all_told_fits below xs (told_first x xs s) (changed_fits (with_sending unblocked) (sending_good unblocked unblocked_good) x.0 s h))
+  where
+    by : (b : Bool) → Fits (all_told below xs (told_first x xs s)) → Fits (cond b (all_told below xs (told_first x xs s)) s)
+    by true then = then
+    by false then = h
 
-oldest_fits : (e : Option StreamEvent) (s : StreamsState) → Fits s → Fits (oldest_told e s)
-oldest_fits (Some e) s h = h
-oldest_fits None s h = writable_fits (writable s) s h
+writables_fits : (below : Option ℕ) (s : StreamsState) → Fits s → Fits (writables_told below s)
+unfolding writables_told
+writables_fits below s h = by (has_room s)
+  where
+    by : (b : Bool) → Fits (cond b (all_told below s.blocked s) s)
+    by true = all_told_fits below s.blocked s h
+    by false = h
 
 -- ---- the connection's credit
 
@@ -207,9 +219,10 @@ both_raised m n own h Uni = own_raised_fits n own.uni (h Uni)
 limits_fits : (p : PeerLimits) (s : StreamsState) → Fits s → Fits (limits_set p s)
 unfolding limits_set
 limits_fits p s h =
-    with_own (record { bi = own_raised p.bidi_streams s.own.bi; uni = own_raised p.uni_streams s.own.uni })
+    writables_fits None _
+    (with_own (record { bi = own_raised p.bidi_streams s.own.bi; uni = own_raised p.uni_streams s.own.uni })
     (record s { limits = p; outgoing = outgoing_raised p.all_data s.outgoing }) (both_raised p.bidi_streams p.uni_streams s.own h.own)
-    (raised_fits p.all_data s h)
+    (raised_fits p.all_data s h))
 
 accepted_fits : (k : PeerStreams) → PeerFits k → PeerFits (accepted k)
 unfolding accepted
@@ -283,10 +296,10 @@ polled_fits : (s : StreamsState) → Fits s → Fits (polled s)
 unfolding polled told_opened
 polled_fits s h = by s.peer.bi.tells s.peer.uni.tells
   where
-    by : (b c : Bool) → Fits (cond b (told_opened Bi s) (cond c (told_opened Uni s) (oldest_told (first_event s.events) s)))
+    by : (b c : Bool) → Fits (cond b (told_opened Bi s) (cond c (told_opened Uni s) (record s { events = first_dropped s.events })))
     by true c = peer_fits opening_told told_fits Bi s h
     by false true = peer_fits opening_told told_fits Uni s h
-    by false false = oldest_fits (first_event s.events) s h
+    by false false = h
 
 -- ---- what is sent, and what becomes of it
 
@@ -334,7 +347,7 @@ part_fits d s h =
 -- ---- each step, and all of them
 
 step_fits : (x : Step) (s : StreamsState) → IsTaken x s → Fits s → Fits (after_step x s)
-unfolding after_step IsTaken reading_begun send_window_set receive_window_set max_concurrent_set accepted_one priority_set stream_came reset_came stop_came stream_limit_came watched streams_limit_came limit_came bytes_lost bytes_acked bytes_taken told_if
+unfolding after_step IsTaken reading_begun resets send_window_set receive_window_set max_concurrent_set accepted_one priority_set stream_came reset_came stop_came stream_limit_came watched streams_limit_came limit_came bytes_lost bytes_acked bytes_gone bytes_taken told_if
 step_fits (LimitsKnown p) s can h = limits_fits p s h
 step_fits EarlyRefused s can h = none_fits s h
 step_fits Closed s can h = h
@@ -346,13 +359,13 @@ step_fits (Accepted dir) s can h =
 step_fits (Wrote id n chunk) s can h = wrote_fits id n chunk s can h
 step_fits (Refused e id) s can h = refused_fits e id s h
 step_fits (Finished id) s can h = sends_fits finished finished_good id s h
-step_fits (WasReset code id) s can h = sends_fits (was_reset code) (reset_good code) id s h
+step_fits (WasReset code id) s can h = writables_fits None _ (sends_fits (was_reset code) (reset_good code) id s h)
 step_fits (Began ordered id) s can h = changed_fits (with_receiving (opened ordered)) (receiving_good (opened ordered) (opened_good ordered)) id s h
 step_fits (Read ordered result id) s can h = gives_fits (after_read ordered result) (read_good ordered result) (read_same ordered result) id s h
 step_fits (Stopped code id) s can h = gives_fits (stop_asked code) (stop_asked_good code) (stop_same code) id s h
 step_fits (ResetAsked id) s can h = gives_fits reset_asked reset_asked_good asked_same id s h
 step_fits (PrioritySet priority id) s can h = changed_fits (with_priority priority) (priority_good priority) id s h
-step_fits (SendWindowSet n) s can h = h
+step_fits (SendWindowSet n) s can h = writables_fits None _ h
 step_fits (ReceiveWindowSet n) s can h = with_incoming (window_set n s.incoming) s (set_fits n s.incoming h.incoming) h
 step_fits (ConcurrentSet dir n) s can h = peer_fits (concurrent_set n) (concurrent_fits n) dir s h
 step_fits Polled s can h = polled_fits s h
@@ -362,11 +375,11 @@ step_fits (ResetCame id code size) s can h =
     comes_fits (reset_taken code size) (reset_refusal size (room s.incoming)) id s (λ r none. reset_can code size (room s.incoming) r none) can h
 step_fits (StopCame id code) s can h = met_fits (with_sending (stop_taken code)) (sending_good (stop_taken code) (stop_good code)) id s (sent_below id s can) h
 step_fits (StreamLimitCame id limit) s can h =
-    met_fits (with_sending (limit_taken limit)) (sending_good (limit_taken limit) (limit_good limit)) id s (sent_below id s can) h
+    writables_fits None _ (met_fits (with_sending (limit_taken limit)) (sending_good (limit_taken limit) (limit_good limit)) id s (sent_below id s can) h)
 step_fits (StreamsLimitCame dir n) s can h =
     with_own (dir_put dir (own_raised n (by_dir dir s.own)) s.own) s
     (put_own dir (own_raised n (by_dir dir s.own)) s.own (own_raised_fits n (by_dir dir s.own) (h.own dir)) h.own) h
-step_fits (LimitCame n) s can h = raised_fits n s h
+step_fits (LimitCame n) s can h = writables_fits None _ (raised_fits n s h)
 step_fits MarksFiled s can h = all_filed_fits s.waiting.marks.ids s h
 step_fits (ControlSealed c) s can h = control_fits c s h
 step_fits (ControlLost c) s can h = control_lost_fits c s h
@@ -376,7 +389,9 @@ step_fits (BytesLost id start stop last) s can h =
     touched_fits id _
     (queued_fits id _ (changed_fits (with_sending (part_lost start stop last)) (sending_good _ (part_lost_good start stop last)) id s h))
 step_fits (BytesAcked id start stop last) s can h =
-    settled_fits id _ (changed_fits (with_sending (part_acked start stop last)) (sending_good _ (part_acked_good start stop last)) id s h)
+    writables_fits None _
+    (writables_fits (Some id) (bytes_gone id start stop last s)
+    (settled_fits id _ (changed_fits (with_sending (part_acked start stop last)) (sending_good _ (part_acked_good start stop last)) id s h)))
 
 after_fits : (xs : List Step) (s : StreamsState) → AreTaken xs s → Fits s → Fits (after xs s)
 unfolding after AreTaken

@@ -1,5 +1,5 @@
 -- Streams that wait until they can be written on again
-use Rattle.std.specs.Prelude.{ℕ, List, [], ◌∷◌, Option, None, Some}
+use Rattle.std.specs.Prelude.{ℕ, Bool, true, nat_lt, if◌then◌else◌, List, [], ◌∷◌, Option, None, Some}
 use Rattle.std.specs.BTreeMap.{insert_entry, is_at}
 use Rattle.std.specs.Map.{remove_entry}
 use Rattle.std.specs.Ordering.{nat_cmp}
@@ -25,7 +25,17 @@ lacking ClosedStream id ids = ids
 lacking (Stopped code) id ids = ids
 lacking OutOfMemory id ids = ids
 
--- the least of them
-abbrev pub first_blocked : BlockedIds → Option ℕ
-first_blocked [] = None
-first_blocked (x ∷ xs) = Some x.1
+-- whether an id lies below another, or there is no other
+abbrev pub is_below : Option ℕ → ℕ → Bool
+is_below None id = true
+is_below (Some n) id = nat_lt id n
+
+-- the least of them, where it lies below that id
+abbrev pub first_blocked : Option ℕ → BlockedIds → Option (ℕ × ℕ)
+first_blocked below [] = None
+first_blocked below (x ∷ xs) = if is_below below x.1 then Some x else None
+
+-- without it
+abbrev pub first_gone : Option ℕ → BlockedIds → BlockedIds
+first_gone below [] = []
+first_gone below (x ∷ xs) = if is_below below x.1 then xs else x ∷ xs

@@ -13,7 +13,7 @@ use Rattle.qc_send_stream.specs.declared.fault.WriteError.{WriteError}
 use Rattle.qc_send_stream.specs.declared.fault.WriteError.TheVariants.{Blocked as WriteBlocked, ClosedStream as WriteClosed, Stopped as WriteStopped, OutOfMemory as WriteMemory}
 use Rattle.qc_send_stream.specs.declared.fault.FinishError.{FinishError}
 use Rattle.qc_send_stream.specs.declared.fault.FinishError.TheVariants.{ClosedStream as FinishClosed}
-use Rattle.qc_send_stream.specs.Sending.{is_done, takes, part_written, was_blocked, write_refusal as part_write_refusal, finish_refusal as part_finish_refusal}
+use Rattle.qc_send_stream.specs.Sending.{is_done, takes, part_written, was_blocked, was_reset, write_refusal as part_write_refusal, finish_refusal as part_finish_refusal}
 use Rattle.qc_streams.specs.declared.stream.Stream.{Stream}
 use Rattle.qc_streams.specs.declared.fault.ReadFault.{ReadFault}
 use Rattle.qc_streams.specs.declared.fault.ReadFault.TheVariants.{ClosedStream, IllegalOrderedRead, Reset, Blocked, OutOfMemory}
@@ -24,7 +24,7 @@ use Rattle.qc_streams.specs.Records.{record_of, changed}
 use Rattle.qc_streams.specs.Stream.{totals_at, with_receiving, with_sending}
 use Rattle.qc_streams.specs.Streams.{counted, settled}
 use Rattle.qc_streams.specs.Waiting.{queued, touched}
-use Rattle.qc_streams.specs.Writable.{credit_at, held_up, passed}
+use Rattle.qc_streams.specs.Writable.{credit_at, has_place_at, held_up, needs_place_at, passed, place_released, place_reserved, writables_told}
 
 -- a sending side that the application knows: not one of which all is acknowledged
 abbrev pub known : Option SendPart → Option SendPart
@@ -44,10 +44,16 @@ known_at id s = known_of (record_of id s.records)
 abbrev pub if_known : (SendPart → SendPart) → SendPart → SendPart
 if_known f p = if is_done p then p else f p
 
--- the same of the stream with an id, which may not wait for the connection any more; its end waits from this moment on, and it is looked
--- at what it owes now
+-- the same of the stream with an id, which can't be written on any more, so it doesn't wait for that, nor is it told; its end waits from
+-- this moment on, and it is looked at what it owes now
 unfoldable pub sends : (SendPart → SendPart) → ℕ → StreamsState → StreamsState
-sends f id s = touched id (queued id (passed id (record s { records = changed (with_sending (if_known f)) id s.records })))
+sends f id s =
+    place_released (has_place_at (record_of id s.records))
+    (touched id (queued id (passed id (record s { records = changed (with_sending (if_known f)) id s.records }))))
+
+-- a stream is reset: that its bytes are let go makes room in the send window
+unfoldable pub resets : VarInt → ℕ → StreamsState → StreamsState
+resets code id s = writables_told None (sends (was_reset code) id s)
 
 -- why a write is refused: the stream is unknown, or its sending side refuses
 abbrev pub write_fault : ℕ → Option SendPart → Option WriteError
@@ -93,7 +99,9 @@ IsRefused (WriteStopped code) refusal = refusal ≡ Some (WriteStopped code)
 unfoldable pub write_refused : WriteError → ℕ → StreamsState → StreamsState
 write_refused WriteBlocked id s =
     if s.closed then s
-    else held_up (credit_at (record_of id s.records)) id (record s { records = changed (with_sending (if_known was_blocked)) id s.records })
+    else
+    place_reserved (needs_place_at (record_of id s.records))
+    (held_up (credit_at (record_of id s.records)) id (record s { records = changed (with_sending (if_known was_blocked)) id s.records }))
 write_refused WriteClosed id s = s
 write_refused (WriteStopped code) id s = s
 write_refused WriteMemory id s = s

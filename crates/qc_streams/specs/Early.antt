@@ -5,6 +5,7 @@ use Rattle.qc_streams.specs.declared.credit.Incoming.{Incoming}
 use Rattle.qc_streams.specs.declared.state.StreamsState.{StreamsState}
 use Rattle.qc_streams.specs.Counts.{owes_places}
 use Rattle.qc_streams.specs.Credit.{incoming_owes, new_outgoing}
+use Rattle.qc_streams.specs.Events.{no_events}
 use Rattle.qc_streams.specs.Streams.{no_limits, no_own}
 use Rattle.qc_streams.specs.Waiting.{new_waiting}
 
@@ -34,7 +35,7 @@ early_refused s = record s {
   limits = no_limits;
   incoming = credit_anew s.incoming;
   outgoing = new_outgoing;
-  events = [];
+  events = no_events;
   waiting = new_waiting;
   blocked = [];
 }

@@ -60,9 +60,9 @@ ended_on id (x ∷ xs) ended = ended_on id xs (with_ended id x ended)
 -- That a stream is finished was told or waits to be told at most once; and where it was or does, each byte that was written on it was
 -- acknowledged, and its end
 pub record FinishesOnce (id : ℕ) (s : StreamsState) (xs : List Step) : Type 0 where
-  pub once : times_told id xs s 0 + times_finished id (after xs s).events ≤ 1
-  pub bytes : (o : ℕ) → 0 < times_told id xs s 0 + times_finished id (after xs s).events → o < length (written_on id xs []) → acked_on id o xs false ≡ true
-  pub end : 0 < times_told id xs s 0 + times_finished id (after xs s).events → ended_on id xs false ≡ true
+  pub once : times_told id xs s 0 + times_finished id (after xs s).events.items ≤ 1
+  pub bytes : (o : ℕ) → 0 < times_told id xs s 0 + times_finished id (after xs s).events.items → o < length (written_on id xs []) → acked_on id o xs false ≡ true
+  pub end : 0 < times_told id xs s 0 + times_finished id (after xs s).events.items → ended_on id xs false ≡ true
 
 -- Whatever happened, that holds of every stream
 unfoldable pub FinishedIsToldOnce : StreamsState → List Step → Type 0

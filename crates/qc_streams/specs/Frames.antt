@@ -15,7 +15,7 @@ use Rattle.qc_streams.specs.Credit.{outgoing_raised}
 use Rattle.qc_streams.specs.Records.{record_of}
 use Rattle.qc_streams.specs.Refusals.{first_row, or_else}
 use Rattle.qc_streams.specs.Stream.{totals_at, refusal_at, reads_if, stops_at, with_receiving, with_sending, stop_taken, limit_taken}
-use Rattle.qc_streams.specs.Writable.{watched}
+use Rattle.qc_streams.specs.Writable.{watched, writables_told}
 use Rattle.qc_streams.specs.Streams.{is_own, is_uni, is_own_unopened, is_peer_unopened, is_past_limit, target, met, counted, settled, told_if}
 
 -- whether nothing may come on the stream with an id: it is this end's own and unidirectional, or wasn't opened
@@ -77,7 +77,7 @@ stop_came id code s = told_if (stops_at (target id s)) (Stopped id code) (met (w
 
 -- a MAX_STREAM_DATA frame is taken
 unfoldable pub stream_limit_came : ℕ → ℕ → StreamsState → StreamsState
-stream_limit_came id limit s = watched id (met (with_sending (limit_taken limit)) id s)
+stream_limit_came id limit s = writables_told None (watched id (met (with_sending (limit_taken limit)) id s))
 
 -- a MAX_STREAMS frame is taken: a limit that rises is told
 unfoldable pub streams_limit_came : Dir → ℕ → StreamsState → StreamsState
@@ -86,4 +86,4 @@ streams_limit_came dir n s = told_if (nat_lt (by_dir dir s.own).limit n) (Availa
 
 -- a MAX_DATA frame is taken
 unfoldable pub limit_came : ℕ → StreamsState → StreamsState
-limit_came n s = record s { outgoing = outgoing_raised n s.outgoing }
+limit_came n s = writables_told None (record s { outgoing = outgoing_raised n s.outgoing })

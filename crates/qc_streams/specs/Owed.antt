@@ -1,58 +1,31 @@
 -- The events that are told, and the credit and the places that are owed to the peer (RFC 9000, sections 4.1 and 4.6)
-use Rattle.std.specs.Prelude.{ℕ, not, ◌&&◌, nat_lt, if◌then◌else◌, Option, None, Some, drop}
-use Rattle.std.specs.Option.{option_map}
+use Rattle.std.specs.Prelude.{ℕ, if◌then◌else◌, Option, None, Some}
 use Rattle.qc_base.specs.declared.side.Dir.{Dir}
 use Rattle.qc_base.specs.declared.side.Dir.TheVariants.{Bi, Uni}
 use Rattle.qc_streams.specs.declared.events.StreamEvent.{StreamEvent}
-use Rattle.qc_streams.specs.declared.events.StreamEvent.TheVariants.{Opened, Writable}
+use Rattle.qc_streams.specs.declared.events.StreamEvent.TheVariants.{Opened}
 use Rattle.qc_streams.specs.declared.state.StreamsState.{StreamsState}
 use Rattle.qc_streams.specs.Counts.{by_dir, dir_put, opening_told, places_sealed, places_lost}
-use Rattle.qc_streams.specs.Credit.{budget, credit_value, credit_sealed, credit_lost}
-use Rattle.qc_send_stream.specs.Sending.{unblocked}
-use Rattle.qc_streams.specs.Blocked.{first_blocked, without_blocked}
-use Rattle.qc_streams.specs.Calls.{send_room}
-use Rattle.qc_streams.specs.Events.{first_event}
-use Rattle.qc_streams.specs.Records.{changed}
-use Rattle.qc_streams.specs.Stream.{with_sending}
+use Rattle.qc_streams.specs.Credit.{credit_value, credit_sealed, credit_lost}
+use Rattle.qc_streams.specs.Events.{first_dropped, first_event}
 
--- the stream of which it is told that it can be written on again: the least of those that wait, where the connection is open, and has
--- credit and room in the send window
-unfoldable pub writable : StreamsState → Option ℕ
-writable s = if not s.closed && nat_lt 0 (budget (send_room s) s.outgoing) then first_blocked s.blocked else None
-
--- that is told: once, until a write is blocked again
-abbrev pub writable_told : Option ℕ → StreamsState → StreamsState
-writable_told None s = s
-writable_told (Some id) s = record s { records = changed (with_sending unblocked) id s.records; blocked = without_blocked id s.blocked }
-
--- the oldest event, or where none waits that a stream can be written on again
-abbrev pub or_writable : Option StreamEvent → Option ℕ → Option StreamEvent
-or_writable (Some e) id = Some e
-or_writable None id = option_map Writable id
-
--- the next event: that the peer opened streams comes before all others, bidirectional ones first, and that a stream can be written on
--- again behind them
+-- the next event: that the peer opened streams comes before all others, bidirectional ones first; these in the order of their causes
 unfoldable pub next_event : StreamsState → Option StreamEvent
 next_event s =
     if s.peer.bi.tells then Some (Opened Bi)
     else if s.peer.uni.tells then Some (Opened Uni)
-    else or_writable (first_event s.events) (writable s)
+    else first_event s.events.items
 
 -- that the peer opened streams was told
 unfoldable pub told_opened : Dir → StreamsState → StreamsState
 told_opened dir s = record s { peer = dir_put dir (opening_told (by_dir dir s.peer)) s.peer }
-
--- the oldest event was told, or where none waits that a stream can be written on again
-abbrev pub oldest_told : Option StreamEvent → StreamsState → StreamsState
-oldest_told (Some e) s = record s { events = drop 1 s.events }
-oldest_told None s = writable_told (writable s) s
 
 -- the next event was told
 unfoldable pub polled : StreamsState → StreamsState
 polled s =
     if s.peer.bi.tells then told_opened Bi s
     else if s.peer.uni.tells then told_opened Uni s
-    else oldest_told (first_event s.events) s
+    else record s { events = first_dropped s.events }
 
 -- the credit of a MAX_DATA that waits
 unfoldable pub max_data_owed : StreamsState → Option ℕ

@@ -16,6 +16,7 @@ use Rattle.qc_streams.specs.Records.{record_of, changed}
 use Rattle.qc_streams.specs.Stream.{with_sending}
 use Rattle.qc_streams.specs.Streams.{settled, told_if}
 use Rattle.qc_streams.specs.Waiting.{dues_at, dues_of, entered, left, next_place, queued, touched, with_turn}
+use Rattle.qc_streams.specs.Writable.{writables_told}
 
 -- What a stream may give next, with at most so many bytes
 unfoldable pub IsOfferOf : ℕ → Option SendPart → Option Part → Type 0
@@ -93,10 +94,14 @@ unfoldable pub finishes : ℕ → ℕ → ℕ → Bool → StreamsState → Bool
 finishes id start stop last s =
     not (finished_at (record_of id s.records)) && finished_at (record_of id (bytes_taken id start stop last s).records)
 
--- the same, with the event that the stream is finished; a stream that has ended leaves
+-- the same; a stream that has ended leaves
+unfoldable pub bytes_gone : ℕ → ℕ → ℕ → Bool → StreamsState → StreamsState
+bytes_gone id start stop last s = settled id (bytes_taken id start stop last s)
+
+-- the same, with the events that the stream is finished, and that streams can be written on again, in ascending order of ids
 unfoldable pub bytes_acked : ℕ → ℕ → ℕ → Bool → StreamsState → StreamsState
 bytes_acked id start stop last s =
-    told_if (finishes id start stop last s) (Finished id) (settled id (bytes_taken id start stop last s))
+    writables_told None (told_if (finishes id start stop last s) (Finished id) (writables_told (Some id) (bytes_gone id start stop last s)))
 
 -- where a stream of a priority goes on that has more, where so many turns were given: the same as `place_again`
 abbrev pub place_after : Bool → ℕ → ℤ → ℤ × ℕ

@@ -9,6 +9,7 @@ use Rattle.qc_streams.specs.declared.state.StreamsState.{StreamsState}
 use Rattle.qc_streams.specs.Counts.{at_most, by_dir, dir_put, held, owes_places}
 use Rattle.qc_streams.specs.Credit.{window_set}
 use Rattle.qc_streams.specs.Records.{changed}
+use Rattle.qc_streams.specs.Writable.{writables_told}
 
 -- a stream's priority
 unfoldable pub with_priority : ℤ → Stream → Stream
@@ -30,7 +31,7 @@ stop_code (Some p) = p.stopped
 
 -- so many bytes may be kept until they are acknowledged
 unfoldable pub send_window_set : ℕ → StreamsState → StreamsState
-send_window_set n s = record s { send_window = n }
+send_window_set n s = writables_told None (record s { send_window = n })
 
 -- so many bytes may be underway or unread, on all streams
 unfoldable pub receive_window_set : ℕ → StreamsState → StreamsState

@@ -4,7 +4,6 @@ use Rattle.std.specs.Prelude.{◌≡◌, ℕ, ◌<◌, ◌^◌, Bool, List, [], 
 use Rattle.qc_base.specs.declared.side.Dir.{Dir}
 use Rattle.qc_base.specs.declared.varint.VarInt.{VarInt}
 use Rattle.qc_recv.specs.Receiving.{reset_refusal, stream_refusal}
-use Rattle.qc_turns.specs.Ids.{first_id}
 use Rattle.qc_streams.specs.declared.control.Control.{Control}
 use Rattle.qc_streams.specs.declared.fault.Refusal.{Refusal}
 use Rattle.qc_streams.specs.declared.parts.StreamPart.{StreamPart}

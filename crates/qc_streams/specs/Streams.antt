@@ -1,5 +1,5 @@
 -- The state over all streams of a connection (RFC 9000, sections 2 to 4)
-use Rattle.std.specs.Prelude.{ℕ, zero, suc, ◌+◌, ◌-◌, ◌*◌, ◌/◌, ◌%◌, ◌==◌, Bool, true, false, not, ◌&&◌, ◌||◌, nat_lt, nat_le, if◌then◌else◌, [], ◌∷◌, ◌++◌, Option, None, Some}
+use Rattle.std.specs.Prelude.{ℕ, zero, suc, ◌+◌, ◌-◌, ◌*◌, ◌/◌, ◌%◌, ◌==◌, Bool, true, false, not, ◌&&◌, ◌||◌, nat_lt, nat_le, if◌then◌else◌, [], Option, None, Some}
 use Rattle.qc_base.specs.declared.side.Dir.{Dir}
 use Rattle.qc_base.specs.declared.side.Dir.TheVariants.{Bi, Uni}
 use Rattle.qc_base.specs.declared.side.Side.{Side}
@@ -16,10 +16,12 @@ use Rattle.qc_streams.specs.declared.counts.OwnStreams.{OwnStreams}
 use Rattle.qc_streams.specs.declared.counts.PeerStreams.{PeerStreams}
 use Rattle.qc_streams.specs.Counts.{at_most, by_dir, dir_put, own_opened, own_raised, peer_opened, place_freed, accepted}
 use Rattle.qc_streams.specs.Credit.{new_incoming, tallied, new_outgoing, outgoing_raised}
+use Rattle.qc_streams.specs.Events.{event_added, no_events}
 use Rattle.qc_streams.specs.Lending.{AllRecords}
 use Rattle.qc_streams.specs.Records.{record_of, with_new, without, changed}
 use Rattle.qc_streams.specs.Sends.{was_taken}
 use Rattle.qc_streams.specs.Stream.{fresh_stream, totals_at, has_ended, is_freed, with_freed}
+use Rattle.qc_streams.specs.Writable.{writables_told}
 use Rattle.qc_streams.specs.Waiting.{new_waiting, place_made, places_made, place_left, dues_at, sets_filed, left, owes_stop, touched, is_idle}
 
 -- the other end
@@ -76,7 +78,7 @@ new_streams side uni bi window stream_window send_window fair = record {
   send_window = send_window;
   incoming = new_incoming window;
   outgoing = new_outgoing;
-  events = [];
+  events = no_events;
   waiting = new_waiting;
   blocked = [];
   fair = fair;
@@ -84,11 +86,11 @@ new_streams side uni bi window stream_window send_window fair = record {
 
 -- the peer's limits are known: those on what is open already only rise
 unfoldable pub limits_set : PeerLimits → StreamsState → StreamsState
-limits_set p s = record s {
+limits_set p s = writables_told None (record s {
   limits = p;
   outgoing = outgoing_raised p.all_data s.outgoing;
   own = record { bi = own_raised p.bidi_streams s.own.bi; uni = own_raised p.uni_streams s.own.uni };
-}
+})
 
 -- the connection is closed
 abbrev pub closed : StreamsState → StreamsState
@@ -225,4 +227,4 @@ left_over id s = if has_ended (record_of id s.records) then released id s else s
 
 -- an event waits, if it is to be told
 unfoldable pub told_if : Bool → StreamEvent → StreamsState → StreamsState
-told_if tells e s = record s { events = if tells then s.events ++ (e ∷ []) else s.events }
+told_if tells e s = record s { events = if tells then event_added e s.events else s.events }

@@ -1,6 +1,6 @@
 -- What is counted for the connection's credit, tied to what happened: the bytes of all writes and the greatest limit that came, and what
 -- counts as received and the frames that came (RFC 9000, section 4.1)
-use Rattle.std.specs.Prelude.{◌≡◌, ℕ, ◌+◌, ◌^◌, ◌<◌, ◌≤◌, ◌==◌, max, Bool, true, false, not, if◌then◌else◌, List, [], ◌∷◌, length, take, Option, None, Some}
+use Rattle.std.specs.Prelude.{◌≡◌, ℕ, ◌+◌, ◌^◌, ◌<◌, ◌≤◌, ◌==◌, max, Bool, false, not, if◌then◌else◌, List, [], ◌∷◌, length, take, Option, None, Some}
 use Rattle.qc_recv.specs.declared.recv.Recv.{Recv}
 use Rattle.qc_recv.specs.Receiving.{is_ended}
 use Rattle.qc_streams.specs.declared.state.StreamsState.{StreamsState}

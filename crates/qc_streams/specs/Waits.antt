@@ -1,21 +1,23 @@
 -- Which streams wait until they can be written on again: those on which a write was blocked, and that have credit of their own
-use Rattle.std.specs.Prelude.{◌≡◌, ℕ, ℤ, ◌<◌, ◌^◌, Bool, List, [], ◌∷◌, Option, is_some, Result}
+use Rattle.std.specs.Prelude.{◌≡◌, ℕ, ℤ, ◌<◌, ◌≤◌, ◌^◌, Bool, true, false, List, [], ◌∷◌, ◌++◌, Option, is_some, Result}
 use Rattle.std.specs.BTreeMap.{is_at}
-use Rattle.std.specs.Map.{lookup}
+use Rattle.std.specs.List.{count_by}
+use Rattle.std.specs.Map.{lookup, values_of}
 use Rattle.std.specs.Ordering.{nat_cmp}
 use Rattle.qc_base.specs.declared.side.Dir.{Dir}
 use Rattle.qc_base.specs.declared.varint.VarInt.{VarInt}
 use Rattle.qc_recv.specs.declared.recv.Chunk.{Chunk}
 use Rattle.qc_recv.specs.Receiving.{reset_asked, stop_asked}
 use Rattle.qc_send_stream.specs.declared.fault.WriteError.{WriteError}
-use Rattle.qc_send_stream.specs.Sending.{finished, was_reset}
+use Rattle.qc_send_stream.specs.Sending.{finished}
 use Rattle.qc_streams.specs.declared.control.Control.{Control}
+use Rattle.qc_streams.specs.declared.events.StreamEvent.{StreamEvent}
 use Rattle.qc_streams.specs.declared.fault.ReadFault.{ReadFault}
 use Rattle.qc_streams.specs.declared.parts.StreamPart.{StreamPart}
 use Rattle.qc_streams.specs.declared.state.PeerLimits.{PeerLimits}
 use Rattle.qc_streams.specs.declared.state.StreamsState.{StreamsState}
 use Rattle.qc_streams.specs.Blocked.{BlockedIds}
-use Rattle.qc_streams.specs.Calls.{after_read, gives, reading_begun, sends, write_refused, wrote}
+use Rattle.qc_streams.specs.Calls.{after_read, gives, reading_begun, resets, sends, write_refused, wrote}
 use Rattle.qc_streams.specs.Control.{control_acked, control_lost, control_sealed}
 use Rattle.qc_streams.specs.Early.{early_refused}
 use Rattle.qc_streams.specs.Frames.{limit_came, reset_came, stop_came, stream_came, stream_limit_came, streams_limit_came}
@@ -25,7 +27,8 @@ use Rattle.qc_streams.specs.Records.{record_of}
 use Rattle.qc_streams.specs.Settings.{max_concurrent_set, priority_set, receive_window_set, send_window_set}
 use Rattle.qc_streams.specs.Streams.{accepted_one, closed, failed, limits_set, opened_own}
 use Rattle.qc_streams.specs.Waiting.{all_filed}
-use Rattle.qc_streams.specs.Writable.{awaits_at}
+use Rattle.qc_streams.specs.Writable.{awaits_at, has_place, has_room}
+use Rattle.qc_streams.specs.Lending.{AllRecords}
 
 -- what happens to the streams of a connection
 pub data Step : Type 0 where
@@ -85,7 +88,7 @@ after_step (Accepted dir) s = accepted_one dir s
 after_step (Wrote id n chunk) s = wrote id n chunk s
 after_step (Refused e id) s = write_refused e id s
 after_step (Finished id) s = sends finished id s
-after_step (WasReset code id) s = sends (was_reset code) id s
+after_step (WasReset code id) s = resets code id s
 after_step (Began ordered id) s = reading_begun ordered id s
 after_step (Read ordered result id) s = gives (after_read ordered result) id s
 after_step (Stopped code id) s = gives (stop_asked code) id s
@@ -135,3 +138,42 @@ waits_at id ids = is_some (lookup (is_at (nat_cmp id)) ids)
 -- and that are neither finished nor reset and have credit
 unfoldable pub WaitWhereBlocked : StreamsState → List Step → Type 0
 WaitWhereBlocked s xs = (id : ℕ) → waits_at id (after xs s).blocked ≡ awaits_at (record_of id (after xs s).records)
+
+-- how many streams there are on which a write was blocked since it was last told that they can be written on again, and that are neither
+-- finished nor reset
+unfoldable pub placed_count : AllRecords → ℕ
+placed_count all = count_by (λ st. has_place st.sending) (values_of all)
+
+-- Whatever happened, a place is put by for the event of each of them
+unfoldable pub BlockedHavePlaces : StreamsState → List Step → Type 0
+BlockedHavePlaces s xs = placed_count (after xs s).records ≤ (after xs s).events.places
+
+-- what may give credit, or room in the send window
+abbrev pub gives_credit : Step → Bool
+gives_credit (LimitsKnown p) = true
+gives_credit (WasReset code id) = true
+gives_credit (SendWindowSet n) = true
+gives_credit (StreamLimitCame id limit) = true
+gives_credit (LimitCame n) = true
+gives_credit (BytesAcked id start stop last) = true
+gives_credit x = false
+
+-- Whatever happened, once one of these has happened no stream waits that can be written on: that is queued to be told by then
+unfoldable pub CreditIsToldAtOnce : StreamsState → List Step → Type 0
+CreditIsToldAtOnce s xs =
+    (x : Step) → IsPossible x → gives_credit x ≡ true → has_room (after_step x (after xs s)) ≡ true
+    → (id : ℕ) → awaits_at (record_of id (after_step x (after xs s)).records) ≡ false
+
+-- the events of a state wait behind those of another, which still wait in their order
+abbrev pub QueuesBehind : StreamsState → StreamsState → Type 0
+QueuesBehind s t = (more : List StreamEvent) × (t.events.items ≡ s.events.items ++ more)
+
+-- what takes events off their queue: that one is told, and that early data are refused
+abbrev pub takes_events : Step → Bool
+takes_events EarlyRefused = true
+takes_events Polled = true
+takes_events x = false
+
+-- Whatever else happens queues events behind all that wait
+unfoldable pub EventsWaitInOrder : Type 0
+EventsWaitInOrder = (x : Step) (s : StreamsState) → takes_events x ≡ false → QueuesBehind s (after_step x s)

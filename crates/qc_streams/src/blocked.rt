@@ -1,7 +1,7 @@
 //! Streams that wait until they can be written on again.
 
-ghost use Rattle.std.specs.Prelude.{◌≡◌, [], OnOk, OnErr};
-ghost use Rattle.qc_streams.specs.Blocked.{first_blocked, lacking, with_blocked, without_blocked};
+ghost use Rattle.std.specs.Prelude.{◌≡◌, [], IsTrue, OnOk, OnErr};
+ghost use Rattle.qc_streams.specs.Blocked.{first_blocked, first_gone, is_below, lacking, with_blocked, without_blocked};
 
 use qc_base::StreamId;
 use qc_send_stream::WriteError;
@@ -66,13 +66,35 @@ impl Blocked {
         }
     }
 
-    /// The least of them; None where none waits.
-    pub fn first(&self) -> Option<StreamId>
-        ensures { result ≡ first_blocked self.now }
+    /// Whether none waits.
+    pub(crate) fn is_empty(&self) -> bool
+        ensures { IsTrue result → self.now ≡ [] }
     {
-        match self.ids.first_key_value() {
-            Some((_, id)) => Some(*id),
-            None => None,
+        self.ids.is_empty()
+    }
+
+    /// The least of them leaves, where it lies below an id, or there is no such id: under which it waited,
+    /// and what it is.
+    pub(crate) fn pop(&mut self, below: Option<u64>) -> Option<(u64, StreamId)>
+        ensures first { result ≡ first_blocked below self.old }
+        ensures gone { self.new ≡ first_gone below self.old }
+    {
+        let Some((_, id)) = self.ids.first_key_value() else {
+            return None;
+        };
+        if !is_below(below, id.value()) {
+            return None;
         }
+        self.ids.pop_first()
+    }
+}
+
+/// Whether an id lies below another, or there is no other.
+fn is_below(below: Option<u64>, id: u64) -> bool
+    ensures { result ≡ is_below below id }
+{
+    match below {
+        Some(limit) => id < limit,
+        None => true,
     }
 }

@@ -2,8 +2,8 @@
 
 ghost use Rattle.std.specs.Prelude.{◌≡◌, false, ◌+◌, ◌^◌, ◌<◌, length, take, drop, IfErr, IfOk, OnErr, OnOk, None, Some, is_err};
 ghost use Rattle.qc_recv.specs.Receiving.{reset_asked, stop_asked};
-ghost use Rattle.qc_send_stream.specs.Sending.{IsWriteRefusal, after_refusal, finished, part_written, was_reset};
-ghost use Rattle.qc_streams.specs.Calls.{IsReadOf, IsRefused, after_read, bars_reset, closed_to, count_taken, finish_refusal, gives, if_known, known_at, known_of, receiving_at, receiving_of, reset_of, send_room, sends, write_fault, write_refusal, write_refused, wrote};
+ghost use Rattle.qc_send_stream.specs.Sending.{after_refusal, finished, part_written, was_reset};
+ghost use Rattle.qc_streams.specs.Calls.{IsReadOf, IsRefused, after_read, bars_reset, closed_to, count_taken, finish_refusal, gives, if_known, known_at, known_of, receiving_at, receiving_of, reset_of, resets, send_room, sends, write_fault, write_refusal, write_refused, wrote};
 ghost use Rattle.std.specs.Option.{option_map};
 ghost use Rattle.qc_streams.specs.Credit.{budget, tallied};
 ghost use Rattle.qc_streams.specs.Kept.{kept_in};
@@ -11,9 +11,10 @@ ghost use Rattle.qc_streams.specs.Records.{changed, record_of};
 ghost use Rattle.qc_streams.specs.Sequel.{queueing, sequel_at, settling};
 ghost use Rattle.qc_streams.specs.Stream.{totals_at, totals_if, with_receiving, with_sending};
 ghost use Rattle.qc_streams.specs.Waiting.{is_idle, takes_number};
-ghost use Rattle.qc_streams.specs.Writable.{credit_at};
+ghost use Rattle.qc_streams.specs.Writable.{credit_at, needs_place_at, place_after};
 
 use crate::credit::Incoming;
+use crate::events::Events;
 use crate::fault::{ClosedStream, ReadFault};
 use crate::records::Records;
 use crate::sends::recounted;
@@ -28,15 +29,17 @@ use qc_send_stream::{FinishError, WriteError};
 
 impl Records {
     /// Writes on the stream with an id, where so many turns were given; it waits from then on, and is marked.
-    #[tactic(auto, using(crate::proofs::Keeping::same, crate::proofs::Sending::still, crate::proofs::Sending::recounts), unfolding(qc_send_stream::specs::Sending::IsWriteRefusal, crate::specs::Sequel::queueing))]
+    #[tactic(auto, using(crate::proofs::Keeping::same, crate::proofs::Sending::still, crate::proofs::Sending::recounts), unfolding(crate::specs::Calls::IsRefused, crate::specs::Sequel::queueing))]
     fn write(
         &mut self,
         id: u64,
         chunk: &mut Bytes,
         most: u64,
         turns: u64,
+        events: &mut Events,
     ) -> Result<(usize, Noted), WriteError>
-        requires { kept_in self.old + most < 2 ^ 64 }
+        requires some { 0 < most }
+        requires room { kept_in self.old + most < 2 ^ 64 }
         ensures count { IfOk result (λ w. w.0 ≡ count_taken (length chunk.old) most (known_of (record_of id self.old))) }
         ensures written { IfOk result (λ w. self.new ≡ changed (queueing turns (with_sending (if_known (part_written (take w.0 chunk.old))))) id self.old) }
         ensures credit { IfOk result (λ w. w.1.credit ≡ credit_at (option_map (with_sending (if_known (part_written (take w.0 chunk.old)))) (record_of id self.old))) }
@@ -44,14 +47,16 @@ impl Records {
         ensures idle { IfOk result (λ w. w.1.idle ≡ is_idle (option_map (with_sending (if_known (part_written (take w.0 chunk.old)))) (record_of id self.old))) }
         ensures rest { IfOk result (λ w. chunk.new ≡ drop w.0 chunk.old) }
         ensures fits { OnOk result (write_fault most (known_of (record_of id self.old)) ≡ None) }
-        ensures refused { IfErr result (λ e. IsWriteRefusal e (write_fault most (known_of (record_of id self.old)))) }
+        ensures refused { IfErr result (λ e. IsRefused e (write_fault most (known_of (record_of id self.old)))) }
         ensures err { IfErr result (λ e. self.new ≡ changed (with_sending (if_known (after_refusal e))) id self.old) }
         ensures kept { OnErr result (chunk.new ≡ chunk.old) }
+        ensures placed { IfErr result (λ e. events.new ≡ place_after e (needs_place_at (record_of id self.old)) events.old) }
+        ensures unplaced { OnOk result (events.new ≡ events.old) }
     {
         match self.streams.get_mut(id) {
             Some(stream) => {
                 let before = stream.sends();
-                let count = stream.write(chunk, most)?;
+                let count = stream.write(chunk, most, events)?;
                 let noted = stream.note_write(turns);
                 let after = stream.sends();
                 let _count = self.streams.len();
@@ -166,7 +171,7 @@ impl StreamsState {
     }
 
     /// Writes where the connection has credit, and the send window room.
-    #[tactic(auto, using(crate::proofs::Refused::refused_so, crate::proofs::Refused::refusal_so, crate::proofs::Sequels::wrote_so), unfolding(crate::specs::Calls::known_at))]
+    #[tactic(auto, using(crate::proofs::Refused::refused_so, crate::proofs::Sequels::wrote_so), unfolding(crate::specs::Calls::known_at))]
     fn write_some(
         &mut self,
         id: StreamId,
@@ -185,7 +190,10 @@ impl StreamsState {
         ensures kept { OnErr result (chunk.new ≡ chunk.old) }
     {
         let turns = self.waiting.turns;
-        match self.records.write(id.value(), chunk, most, turns) {
+        match self
+            .records
+            .write(id.value(), chunk, most, turns, &mut self.events)
+        {
             Ok((count, noted)) => {
                 self.outgoing.write(count as u64);
                 self.follow_write(noted, id.value());
@@ -246,10 +254,12 @@ impl StreamsState {
         ensures refused { IfErr result (λ e. finish_refusal (known_at id self.old) ≡ Some e) }
         ensures err { OnErr result (self.new ≡ self.old) }
     {
+        let has = self.records.has_place(id.value());
         self.records.finish(id.value())?;
         self.pass(id.value());
         self.queue(id.value());
         self.touch(id.value());
+        self.events.drop_place_if(has);
         Ok(())
     }
 
@@ -258,16 +268,19 @@ impl StreamsState {
     /// # Errors
     ///
     /// Exactly where the stream is unknown or was reset; nothing changes then.
-    #[tactic(auto, unfolding(crate::specs::Calls::sends, crate::specs::Calls::known_at))]
+    #[tactic(auto, unfolding(crate::specs::Calls::resets, crate::specs::Calls::sends, crate::specs::Calls::known_at))]
     pub fn reset(&mut self, id: StreamId, error_code: VarInt) -> Result<(), ClosedStream>
-        ensures reset { OnOk result (self.new ≡ sends (was_reset error_code) id self.old) }
+        ensures reset { OnOk result (self.new ≡ resets error_code id self.old) }
         ensures refused { is_err result ≡ bars_reset (known_at id self.old) }
         ensures err { OnErr result (self.new ≡ self.old) }
     {
+        let has = self.records.has_place(id.value());
         self.records.reset(id.value(), error_code)?;
         self.pass(id.value());
         self.queue(id.value());
         self.touch(id.value());
+        self.events.drop_place_if(has);
+        self.tell_writables(None);
         Ok(())
     }
 

@@ -14,13 +14,14 @@ ghost use Rattle.qc_streams.specs.Sends.{sends_of};
 ghost use Rattle.qc_streams.specs.Sequel.{queueing};
 ghost use Rattle.qc_streams.specs.Stream.{with_sending};
 ghost use Rattle.qc_streams.specs.Waiting.{is_idle, takes_number};
-ghost use Rattle.qc_streams.specs.Writable.{credit_at};
+ghost use Rattle.qc_streams.specs.Writable.{credit_at, needs_place, needs_place_at, place_after};
 
+use crate::events::Events;
 use crate::records::Records;
 use crate::sends::recounted;
 use crate::state::StreamsState;
 use crate::stream::Stream;
-use crate::writable::Noted;
+use crate::writable::{Noted, put_by};
 use bytes::Bytes;
 use qc_base::StreamId;
 use qc_send_stream::{SendBuffer, SendPart, WriteError};
@@ -85,20 +86,41 @@ fn write_front(buffer: &mut SendBuffer, chunks: &mut [Bytes], most: u64) -> Take
 /// # Errors
 ///
 /// Exactly those of a write of no bytes; that a write was blocked is noted.
+#[tactic(auto, unfolding(qc_send_stream::specs::Sending::write_refusal, qc_send_stream::specs::Sending::IsWriteRefusal, qc_send_stream::specs::Sending::was_blocked))]
 fn test(sending: &mut SendPart, most: u64) -> Result<(), WriteError>
     ensures same { OnOk result (sending.new ≡ sending.old) }
     ensures fits { OnOk result (part_refusal most sending.old ≡ None) }
     ensures refused { IfErr result (λ e. IsWriteRefusal e (part_refusal most sending.old)) }
     ensures err { IfErr result (λ e. sending.new ≡ after_refusal e sending.old) }
 {
-    let mut none = Bytes::new();
-    sending.write(&mut none, most)?;
+    if most == 0 {
+        sending.blocked = true;
+        return Err(WriteError::Blocked);
+    }
+    if sending.is_closed() {
+        return Err(WriteError::ClosedStream);
+    }
+    if let Some(code) = sending.stopped {
+        return Err(WriteError::Stopped(code));
+    }
+    if sending.limit <= sending.buffer.written() {
+        sending.blocked = true;
+        return Err(WriteError::Blocked);
+    }
     Ok(())
 }
 
 /// Writes the front of chunks on a sending side, unless all of it is acknowledged.
-#[tactic(auto, unfolding(qc_send_stream::specs::Sending::IsWriteRefusal, qc_send_stream::specs::Sending::was_blocked, qc_send_stream::specs::Sending::is_done))]
-fn write(sending: &mut SendPart, chunks: &mut [Bytes], most: u64) -> Result<Taken, WriteError>
+///
+/// A place for the event that it can be written on again is put by where it blocks and needs one.
+#[tactic(auto, using(crate::proofs::Refused::refusal_so, crate::proofs::Refused::placed_so), unfolding(qc_send_stream::specs::Sending::IsWriteRefusal, qc_send_stream::specs::Sending::was_blocked, qc_send_stream::specs::Sending::is_done))]
+fn write(
+    sending: &mut SendPart,
+    chunks: &mut [Bytes],
+    most: u64,
+    events: &mut Events,
+) -> Result<Taken, WriteError>
+    requires { 0 < most }
     ensures count { IfOk result (λ t. t.lacked ≡ false → t.bytes ≡ count_taken (length (concat chunks.old)) most (known (Some sending.old))) }
     ensures whole { IfOk result (λ t. t.lacked ≡ false → t.chunks ≡ whole_in t.bytes chunks.old) }
     ensures written { IfOk result (λ t. sending.new ≡ if_known (part_written (take t.bytes (concat chunks.old))) sending.old) }
@@ -108,13 +130,16 @@ fn write(sending: &mut SendPart, chunks: &mut [Bytes], most: u64) -> Result<Take
     ensures same { OnErr result (kept_count sending.new ≡ kept_count sending.old) }
     ensures still { OnErr result (is_done sending.new ≡ is_done sending.old) }
     ensures fits { OnOk result (write_fault most (known (Some sending.old)) ≡ None) }
-    ensures refused { IfErr result (λ e. IsWriteRefusal e (write_fault most (known (Some sending.old)))) }
+    ensures refused { IfErr result (λ e. IsRefused e (write_fault most (known (Some sending.old)))) }
     ensures err { IfErr result (λ e. sending.new ≡ if_known (after_refusal e) sending.old) }
     ensures kept { OnErr result (chunks.new ≡ chunks.old) }
+    ensures placed { IfErr result (λ e. events.new ≡ place_after e (needs_place (Some sending.old)) events.old) }
+    ensures unplaced { OnOk result (events.new ≡ events.old) }
 {
     if sending.is_done() {
         return Err(WriteError::ClosedStream);
     }
+    put_by(sending, most, events)?;
     test(sending, most)?;
     let credit = sending.limit.saturating_sub(sending.buffer.written());
     Ok(write_front(&mut sending.buffer, chunks, credit.min(most)))
@@ -122,8 +147,14 @@ fn write(sending: &mut SendPart, chunks: &mut [Bytes], most: u64) -> Result<Take
 
 impl Stream {
     /// Writes the front of chunks on it.
-    #[tactic(auto, unfolding(crate::specs::Stream::with_sending, qc_send_stream::specs::Sending::IsWriteRefusal))]
-    fn write_chunks(&mut self, chunks: &mut [Bytes], most: u64) -> Result<Taken, WriteError>
+    #[tactic(auto, unfolding(crate::specs::Stream::with_sending, crate::specs::Calls::IsRefused))]
+    fn write_chunks(
+        &mut self,
+        chunks: &mut [Bytes],
+        most: u64,
+        events: &mut Events,
+    ) -> Result<Taken, WriteError>
+        requires { 0 < most }
         ensures count { IfOk result (λ t. t.lacked ≡ false → t.bytes ≡ count_taken (length (concat chunks.old)) most (known self.old.sending)) }
         ensures whole { IfOk result (λ t. t.lacked ≡ false → t.chunks ≡ whole_in t.bytes chunks.old) }
         ensures written { IfOk result (λ t. self.new ≡ with_sending (if_known (part_written (take t.bytes (concat chunks.old)))) self.old) }
@@ -133,12 +164,14 @@ impl Stream {
         ensures same { OnErr result (kept_of self.new ≡ kept_of self.old) }
         ensures still { OnErr result (sends_of self.new ≡ sends_of self.old) }
         ensures fits { OnOk result (write_fault most (known self.old.sending) ≡ None) }
-        ensures refused { IfErr result (λ e. IsWriteRefusal e (write_fault most (known self.old.sending))) }
+        ensures refused { IfErr result (λ e. IsRefused e (write_fault most (known self.old.sending))) }
         ensures err { IfErr result (λ e. self.new ≡ with_sending (if_known (after_refusal e)) self.old) }
         ensures kept { OnErr result (chunks.new ≡ chunks.old) }
+        ensures placed { IfErr result (λ e. events.new ≡ place_after e (needs_place self.old.sending) events.old) }
+        ensures unplaced { OnOk result (events.new ≡ events.old) }
     {
         match &mut self.sending {
-            Some(sending) => write(sending, chunks, most),
+            Some(sending) => write(sending, chunks, most, events),
             None => Err(WriteError::ClosedStream),
         }
     }
@@ -147,15 +180,17 @@ impl Stream {
 impl Records {
     /// Writes the front of chunks on the stream with an id, where so many turns were given; it waits from then
     /// on, and is marked.
-    #[tactic(auto, using(crate::proofs::Keeping::same, crate::proofs::Sending::still, crate::proofs::Sending::recounts), unfolding(qc_send_stream::specs::Sending::IsWriteRefusal, crate::specs::Sequel::queueing))]
+    #[tactic(auto, using(crate::proofs::Keeping::same, crate::proofs::Sending::still, crate::proofs::Sending::recounts), unfolding(crate::specs::Calls::IsRefused, crate::specs::Sequel::queueing))]
     fn write_chunks(
         &mut self,
         id: u64,
         chunks: &mut [Bytes],
         most: u64,
         turns: u64,
+        events: &mut Events,
     ) -> Result<(Taken, Noted), WriteError>
-        requires { kept_in self.old + most < 2 ^ 64 }
+        requires some { 0 < most }
+        requires room { kept_in self.old + most < 2 ^ 64 }
         ensures count { IfOk result (λ t. t.0.lacked ≡ false → t.0.bytes ≡ count_taken (length (concat chunks.old)) most (known_of (record_of id self.old))) }
         ensures whole { IfOk result (λ t. t.0.lacked ≡ false → t.0.chunks ≡ whole_in t.0.bytes chunks.old) }
         ensures written { IfOk result (λ t. self.new ≡ changed (queueing turns (with_sending (if_known (part_written (take t.0.bytes (concat chunks.old)))))) id self.old) }
@@ -164,14 +199,16 @@ impl Records {
         ensures idle { IfOk result (λ t. t.1.idle ≡ is_idle (option_map (with_sending (if_known (part_written (take t.0.bytes (concat chunks.old))))) (record_of id self.old))) }
         ensures rest { IfOk result (λ t. chunks.new ≡ cut_front t.0.bytes chunks.old) }
         ensures fits { OnOk result (write_fault most (known_of (record_of id self.old)) ≡ None) }
-        ensures refused { IfErr result (λ e. IsWriteRefusal e (write_fault most (known_of (record_of id self.old)))) }
+        ensures refused { IfErr result (λ e. IsRefused e (write_fault most (known_of (record_of id self.old)))) }
         ensures err { IfErr result (λ e. self.new ≡ changed (with_sending (if_known (after_refusal e))) id self.old) }
         ensures kept { OnErr result (chunks.new ≡ chunks.old) }
+        ensures placed { IfErr result (λ e. events.new ≡ place_after e (needs_place_at (record_of id self.old)) events.old) }
+        ensures unplaced { OnOk result (events.new ≡ events.old) }
     {
         match self.streams.get_mut(id) {
             Some(stream) => {
                 let before = stream.sends();
-                let taken = stream.write_chunks(chunks, most)?;
+                let taken = stream.write_chunks(chunks, most, events)?;
                 let noted = stream.note_write(turns);
                 let after = stream.sends();
                 let _count = self.streams.len();
@@ -186,7 +223,7 @@ impl Records {
 
 impl StreamsState {
     /// Writes the front of chunks where the connection has credit, and the send window room.
-    #[tactic(auto, using(crate::proofs::Refused::refused_so, crate::proofs::Refused::refusal_so, crate::proofs::Sequels::wrote_so), unfolding(crate::specs::Calls::known_at))]
+    #[tactic(auto, using(crate::proofs::Refused::refused_so, crate::proofs::Sequels::wrote_so), unfolding(crate::specs::Calls::known_at))]
     fn write_some_chunks(
         &mut self,
         id: StreamId,
@@ -206,7 +243,10 @@ impl StreamsState {
         ensures kept { OnErr result (chunks.new ≡ chunks.old) }
     {
         let turns = self.waiting.turns;
-        match self.records.write_chunks(id.value(), chunks, most, turns) {
+        match self
+            .records
+            .write_chunks(id.value(), chunks, most, turns, &mut self.events)
+        {
             Ok((taken, noted)) => {
                 self.outgoing.write(taken.bytes as u64);
                 self.follow_write(noted, id.value());

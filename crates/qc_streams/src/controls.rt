@@ -51,7 +51,9 @@ impl StreamsState {
         ensures { OnOk result (self.new ≡ stream_limit_came id limit self.old) }
     {
         self.meet_limit(id.value(), limit)?;
-        self.watch(id)
+        self.watch(id)?;
+        self.tell_writables(None);
+        Ok(())
     }
 
     /// A STOP_SENDING frame meets its stream, with the event of a first one.
@@ -167,6 +169,7 @@ impl StreamsState {
         ensures { self.new ≡ limit_came limit self.old }
     {
         self.outgoing.raise_limit(limit.into_inner());
+        self.tell_writables(None);
     }
 
     /// Takes a STREAM_DATA_BLOCKED frame (RFC 9000, section 19.13), which changes nothing: it is only

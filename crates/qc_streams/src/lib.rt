@@ -3,6 +3,7 @@
 
 mod begins;
 mod blocked;
+mod blocked_laws;
 mod calls;
 mod changes;
 mod chunks;
@@ -39,6 +40,7 @@ mod waiting;
 mod writable;
 
 pub use blocked::Blocked;
+pub use blocked_laws::{blocked_streams_have_places, credit_is_told_at_once, events_wait_in_order};
 pub use chunks::Written;
 pub use control::Control;
 pub use counts::{ByDir, OwnStreams, PeerStreams, StreamLimit};

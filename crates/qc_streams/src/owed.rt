@@ -20,8 +20,7 @@ impl StreamsState {
     }
 
     /// The next event: that the peer opened streams comes before all others, the others come in the
-    /// order of their causes, and behind them that streams can be written on again, the least id
-    /// first. None exactly where none waits.
+    /// order of their causes. None exactly where none waits.
     #[tactic(auto, unfolding(crate::specs::Owed::next_event, crate::specs::Owed::polled))]
     pub fn poll(&mut self) -> Option<StreamEvent>
         ensures event { result ≡ next_event self.old }
@@ -33,10 +32,7 @@ impl StreamsState {
         if self.peer.uni.tells {
             return self.tell_opened(Dir::Uni);
         }
-        match self.events.pop() {
-            Some(event) => Some(event),
-            None => self.tell_writable(),
-        }
+        self.events.pop()
     }
 
     /// The credit of a MAX_DATA that waits (RFC 9000, section 19.9).

@@ -368,6 +368,9 @@ impl StreamsState {
     {
         let (finishes, sequel) = self.records.acknowledge(id.value(), start, end, last)?;
         self.follow(sequel, id.value());
-        self.tell_if(finishes, StreamEvent::Finished { id })
+        self.tell_writables(Some(id.value()));
+        self.tell_if(finishes, StreamEvent::Finished { id })?;
+        self.tell_writables(None);
+        Ok(())
     }
 }

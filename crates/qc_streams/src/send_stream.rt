@@ -3,8 +3,8 @@
 ghost use Rattle.std.specs.Prelude.{◌≡◌, IfErr, IfOk, OnErr, OnOk, None, is_err, length};
 ghost use Rattle.std.specs.List.{concat};
 ghost use Rattle.std.specs.Option.{option_map};
-ghost use Rattle.qc_send_stream.specs.Sending.{finished, was_reset};
-ghost use Rattle.qc_streams.specs.Calls.{bars_reset, count_taken, finish_refusal, known_at, send_room, sends, wrote};
+ghost use Rattle.qc_send_stream.specs.Sending.{finished};
+ghost use Rattle.qc_streams.specs.Calls.{bars_reset, count_taken, finish_refusal, known_at, resets, send_room, sends, wrote};
 ghost use Rattle.qc_streams.specs.Chunks.{cut_front, whole_in};
 ghost use Rattle.qc_streams.specs.Credit.{budget};
 ghost use Rattle.qc_streams.specs.Records.{record_of};
@@ -110,7 +110,7 @@ impl<'a> SendStream<'a> {
     pub fn reset(&mut self, error_code: VarInt) -> Result<(), ClosedStream>
         ensures same_reference { self.new.state.ghost_name ≡ self.old.state.ghost_name }
         ensures same_id { self.new.id ≡ self.old.id }
-        ensures reset { OnOk result (self.new.state.now ≡ sends (was_reset error_code) self.old.id self.old.state.now) }
+        ensures reset { OnOk result (self.new.state.now ≡ resets error_code self.old.id self.old.state.now) }
         ensures refused { is_err result ≡ bars_reset (known_at self.old.id self.old.state.now) }
         ensures err { OnErr result (self.new.state.now ≡ self.old.state.now) }
     {

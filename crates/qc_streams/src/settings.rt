@@ -113,6 +113,7 @@ impl StreamsState {
         ensures { self.new ≡ send_window_set window self.old }
     {
         self.send_window = window;
+        self.tell_writables(None);
     }
 
     /// Sets how many bytes may be underway or unread, on all streams: the credit is the greatest sum so

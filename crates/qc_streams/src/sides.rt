@@ -1,19 +1,22 @@
 //! The application's calls on one side of a stream.
 
-ghost use Rattle.std.specs.Prelude.{◌≡◌, ◌+◌, ◌≤◌, length, take, drop, IfErr, IfOk, OnErr, OnOk, None, Some, is_err};
+ghost use Rattle.std.specs.Prelude.{◌≡◌, ◌+◌, ◌<◌, ◌≤◌, length, take, drop, IfErr, IfOk, OnErr, OnOk, None, Some, is_err};
 ghost use Rattle.qc_recv.specs.Receiving.{IsNext, reset_asked, stop_asked};
-ghost use Rattle.qc_send_stream.specs.Sending.{kept_count, IsWriteRefusal, after_refusal, is_done, finished, part_written, was_reset};
-ghost use Rattle.qc_streams.specs.Calls.{IsRead, IsReadOf, after_read, bars_reset, closed_to, count_taken, fault_of_open, fault_of_read, finish_refusal, if_known, known, reset_of, write_fault};
+ghost use Rattle.qc_send_stream.specs.Sending.{kept_count, after_refusal, is_done, finished, part_written, was_reset};
+ghost use Rattle.qc_streams.specs.Calls.{IsRead, IsReadOf, IsRefused, after_read, bars_reset, closed_to, count_taken, fault_of_open, fault_of_read, finish_refusal, if_known, known, reset_of, write_fault};
 ghost use Rattle.qc_streams.specs.Kept.{kept_of};
 ghost use Rattle.qc_streams.specs.Sends.{sends_of};
 ghost use Rattle.qc_streams.specs.Credit.{tallied};
 ghost use Rattle.qc_streams.specs.Sequel.{sequel_of, settling};
 ghost use Rattle.qc_streams.specs.Stream.{totals_of, with_receiving, with_sending};
+ghost use Rattle.qc_streams.specs.Writable.{needs_place, place_after};
 
 use crate::credit::Incoming;
+use crate::events::Events;
 use crate::fault::{ClosedStream, ReadFault};
 use crate::sequel::Sequel;
 use crate::stream::Stream;
+use crate::writable::put_by;
 use bytes::Bytes;
 use qc_base::VarInt;
 use qc_recv::{Chunk, ReadError, ReadableError, Recv};
@@ -41,8 +44,16 @@ fn closed_fault(error: ReadableError) -> ReadFault
 }
 
 /// Writes on a sending side, unless all of it is acknowledged.
-#[tactic(auto, unfolding(qc_send_stream::specs::Sending::IsWriteRefusal, qc_send_stream::specs::Sending::was_blocked, qc_send_stream::specs::Sending::is_done))]
-fn write(sending: &mut SendPart, chunk: &mut Bytes, most: u64) -> Result<usize, WriteError>
+///
+/// A place for the event that it can be written on again is put by where it blocks and needs one.
+#[tactic(auto, using(crate::proofs::Refused::refusal_so, crate::proofs::Refused::placed_so), unfolding(qc_send_stream::specs::Sending::IsWriteRefusal, qc_send_stream::specs::Sending::was_blocked, qc_send_stream::specs::Sending::is_done))]
+fn write(
+    sending: &mut SendPart,
+    chunk: &mut Bytes,
+    most: u64,
+    events: &mut Events,
+) -> Result<usize, WriteError>
+    requires { 0 < most }
     ensures count { IfOk result (λ n. n ≡ count_taken (length chunk.old) most (known (Some sending.old))) }
     ensures written { IfOk result (λ n. sending.new ≡ if_known (part_written (take n chunk.old)) sending.old) }
     ensures rest { IfOk result (λ n. chunk.new ≡ drop n chunk.old) }
@@ -51,13 +62,16 @@ fn write(sending: &mut SendPart, chunk: &mut Bytes, most: u64) -> Result<usize, 
     ensures same { OnErr result (kept_count sending.new ≡ kept_count sending.old) }
     ensures still { OnErr result (is_done sending.new ≡ is_done sending.old) }
     ensures fits { OnOk result (write_fault most (known (Some sending.old)) ≡ None) }
-    ensures refused { IfErr result (λ e. IsWriteRefusal e (write_fault most (known (Some sending.old)))) }
+    ensures refused { IfErr result (λ e. IsRefused e (write_fault most (known (Some sending.old)))) }
     ensures err { IfErr result (λ e. sending.new ≡ if_known (after_refusal e) sending.old) }
     ensures kept { OnErr result (chunk.new ≡ chunk.old) }
+    ensures placed { IfErr result (λ e. events.new ≡ place_after e (needs_place (Some sending.old)) events.old) }
+    ensures unplaced { OnOk result (events.new ≡ events.old) }
 {
     if sending.is_done() {
         return Err(WriteError::ClosedStream);
     }
+    put_by(sending, most, events)?;
     sending.write(chunk, most)
 }
 
@@ -110,8 +124,14 @@ fn read(receiving: &mut Recv, ordered: bool, most: usize) -> Result<Option<Chunk
 
 impl Stream {
     /// Writes as many bytes of the chunk's front as fit, no more than `most`.
-    #[tactic(auto, unfolding(crate::specs::Stream::with_sending, qc_send_stream::specs::Sending::IsWriteRefusal))]
-    pub(crate) fn write(&mut self, chunk: &mut Bytes, most: u64) -> Result<usize, WriteError>
+    #[tactic(auto, unfolding(crate::specs::Stream::with_sending, crate::specs::Calls::IsRefused))]
+    pub(crate) fn write(
+        &mut self,
+        chunk: &mut Bytes,
+        most: u64,
+        events: &mut Events,
+    ) -> Result<usize, WriteError>
+        requires { 0 < most }
         ensures count { IfOk result (λ n. n ≡ count_taken (length chunk.old) most (known self.old.sending)) }
         ensures written { IfOk result (λ n. self.new ≡ with_sending (if_known (part_written (take n chunk.old))) self.old) }
         ensures rest { IfOk result (λ n. chunk.new ≡ drop n chunk.old) }
@@ -120,12 +140,14 @@ impl Stream {
         ensures same { OnErr result (kept_of self.new ≡ kept_of self.old) }
         ensures still { OnErr result (sends_of self.new ≡ sends_of self.old) }
         ensures fits { OnOk result (write_fault most (known self.old.sending) ≡ None) }
-        ensures refused { IfErr result (λ e. IsWriteRefusal e (write_fault most (known self.old.sending))) }
+        ensures refused { IfErr result (λ e. IsRefused e (write_fault most (known self.old.sending))) }
         ensures err { IfErr result (λ e. self.new ≡ with_sending (if_known (after_refusal e)) self.old) }
         ensures kept { OnErr result (chunk.new ≡ chunk.old) }
+        ensures placed { IfErr result (λ e. events.new ≡ place_after e (needs_place self.old.sending) events.old) }
+        ensures unplaced { OnOk result (events.new ≡ events.old) }
     {
         match &mut self.sending {
-            Some(sending) => write(sending, chunk, most),
+            Some(sending) => write(sending, chunk, most, events),
             None => Err(WriteError::ClosedStream),
         }
     }

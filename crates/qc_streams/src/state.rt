@@ -170,6 +170,7 @@ impl StreamsState {
         let uni = self.own.get(Dir::Uni).with_limit(limits.uni_streams);
         self.own = ByDir { bi, uni };
         self.limits = limits;
+        self.tell_writables(None);
     }
 
     /// A receiving side of which nothing came.

@@ -1,20 +1,18 @@
 //! Streams on which a write was blocked, and which can be written on again.
 
-ghost use Rattle.std.specs.Prelude.{◌≡◌, OnOk, true, false, not};
-ghost use Rattle.std.specs.Option.{option_map};
-ghost use Rattle.qc_send_stream.specs.Sending.{is_done, kept_count, unblocked, was_blocked};
-ghost use Rattle.qc_streams.specs.declared.events.StreamEvent.TheVariants.{Writable};
+ghost use Rattle.std.specs.Prelude.{◌≡◌, ◌<◌, IfErr, OnErr, OnOk, true, false, not};
+ghost use Rattle.qc_send_stream.specs.Sending.{is_done, kept_count, unblocked, was_blocked, write_refusal};
 ghost use Rattle.qc_streams.specs.Calls.{IsRefused, if_known, known_at, write_fault, write_refused};
+ghost use Rattle.qc_streams.specs.Events.{put_by_if};
 ghost use Rattle.qc_streams.specs.Kept.{kept_of};
-ghost use Rattle.qc_streams.specs.Owed.{writable, writable_told};
 ghost use Rattle.qc_streams.specs.Records.{changed, record_of};
 ghost use Rattle.qc_streams.specs.Sends.{sends_of};
 ghost use Rattle.qc_streams.specs.Sequel.{write_followed};
 ghost use Rattle.qc_streams.specs.Stream.{with_sending};
 ghost use Rattle.qc_streams.specs.Waiting.{queue_one, takes_number, with_mark};
-ghost use Rattle.qc_streams.specs.Writable.{awaits, awaits_at, credit_at, credit_of, has_credit, passed, watched};
+ghost use Rattle.qc_streams.specs.Writable.{all_told, awaits, awaits_at, blocks_anew, credit_at, credit_of, has_credit, has_place, has_place_at, has_room, held_up, needs_place, needs_place_at, passed, place_reserved, told_first, watched, writables_told};
 
-use crate::events::StreamEvent;
+use crate::events::{Events, StreamEvent};
 use crate::records::Records;
 use crate::state::StreamsState;
 use crate::stream::Stream;
@@ -40,6 +38,60 @@ fn awaits(sending: &Option<SendPart>) -> bool
     match sending {
         Some(part) => part.blocked && has_credit(sending),
         None => false,
+    }
+}
+
+/// Whether a place is put by for the event that a sending side can be written on again.
+fn has_place(sending: &Option<SendPart>) -> bool
+    ensures { result ≡ has_place sending.now }
+{
+    match sending {
+        Some(part) => part.blocked && !part.is_closed(),
+        None => false,
+    }
+}
+
+/// Whether one is to be put by once a write is blocked on a sending side.
+fn needs_place(sending: &Option<SendPart>) -> bool
+    ensures { result ≡ needs_place sending.now }
+{
+    match sending {
+        Some(part) => !(part.blocked || part.is_closed()),
+        None => false,
+    }
+}
+
+/// Whether a write that has budget is blocked by a sending side for the first time since it was told.
+#[tactic(auto, unfolding(crate::specs::Writable::blocks_anew))]
+fn blocks_anew(part: &SendPart) -> bool
+    ensures { result ≡ blocks_anew part.now }
+{
+    part.limit <= part.buffer.written()
+        && !part.blocked
+        && !part.is_closed()
+        && part.stopped.is_none()
+}
+
+/// A place for the event that a sending side can be written on again is put by, where a write that has budget
+/// is blocked by it anew.
+///
+/// # Errors
+///
+/// Want of memory; nothing changes then.
+#[tactic(auto, using(crate::proofs::Refused::lacks_so))]
+pub(crate) fn put_by(part: &SendPart, most: u64, events: &mut Events) -> Result<(), WriteError>
+    requires { 0 < most }
+    ensures added { OnOk result (events.new ≡ put_by_if (blocks_anew part.now) events.old) }
+    ensures lacks { IfErr result (λ e. e ≡ WriteError.OutOfMemory) }
+    ensures refused { IfErr result (λ e. IsRefused e (write_refusal most part.now)) }
+    ensures err { OnErr result (events.new ≡ events.old) }
+{
+    if !blocks_anew(part) {
+        return Ok(());
+    }
+    match events.add_place() {
+        Ok(()) => Ok(()),
+        Err(_) => Err(WriteError::OutOfMemory),
     }
 }
 
@@ -136,6 +188,26 @@ impl Records {
         }
     }
 
+    /// Whether a place is put by for the event that such a stream can be written on again.
+    pub(crate) fn has_place(&self, id: u64) -> bool
+        ensures { result ≡ has_place_at (record_of id self.now) }
+    {
+        match self.streams.get(id) {
+            Some(stream) => has_place(&stream.sending),
+            None => false,
+        }
+    }
+
+    /// Whether one is to be put by once a write is blocked on such a stream.
+    fn needs_place(&self, id: u64) -> bool
+        ensures { result ≡ needs_place_at (record_of id self.now) }
+    {
+        match self.streams.get(id) {
+            Some(stream) => needs_place(&stream.sending),
+            None => false,
+        }
+    }
+
     /// A write was blocked on the stream with an id.
     #[tactic(auto, using(crate::proofs::Keeping::same, crate::proofs::Sending::still))]
     fn block(&mut self, id: u64)
@@ -170,13 +242,35 @@ impl StreamsState {
         if self.stopped(id).is_err() {
             return WriteError::ClosedStream;
         }
-        if !self.records.has_credit(id.value()) {
-            self.blocked.remove(id.value());
-        } else if self.blocked.insert(id).is_err() {
+        if self.await_room(id).is_err() {
             return WriteError::OutOfMemory;
         }
         self.records.block(id.value());
         WriteError::Blocked
+    }
+
+    /// A place is put by for the event that a stream can be written on again, where one is needed; where it
+    /// has credit it waits for the connection.
+    ///
+    /// # Errors
+    ///
+    /// Want of memory; nothing changes then.
+    #[tactic(auto, using(crate::proofs::Told::given_back), unfolding(crate::specs::Writable::held_up))]
+    fn await_room(&mut self, id: StreamId) -> Result<(), AllocError>
+        ensures waits { OnOk result (self.new ≡ place_reserved (needs_place_at (record_of id self.old.records)) (held_up (credit_at (record_of id self.old.records)) id self.old)) }
+        ensures err { OnErr result (self.new ≡ self.old) }
+    {
+        let needs = self.records.needs_place(id.value());
+        self.events.add_place_if(needs)?;
+        if !self.records.has_credit(id.value()) {
+            self.blocked.remove(id.value());
+            return Ok(());
+        }
+        if let Err(lack) = self.blocked.insert(id) {
+            self.events.drop_place_if(needs);
+            return Err(lack);
+        }
+        Ok(())
     }
 
     /// A stream that was finished or reset, or has no credit left, doesn't wait for the connection.
@@ -216,30 +310,41 @@ impl StreamsState {
         Ok(())
     }
 
-    /// The stream of which it is told that it can be written on again.
-    #[tactic(auto, unfolding(crate::specs::Owed::writable))]
-    fn writable(&self) -> Option<StreamId>
-        ensures { result ≡ writable self.now }
+    /// Whether the connection is open, has credit, and room in the send window.
+    #[tactic(auto, unfolding(crate::specs::Writable::has_room, crate::specs::Calls::send_room))]
+    fn has_room(&self) -> bool
+        ensures { result ≡ has_room self.now }
     {
-        let Some(id) = self.blocked.first() else {
-            return None;
-        };
-        if self.closed || self.outgoing.budget(self.send_room()) == 0 {
-            return None;
-        }
-        Some(id)
+        !self.closed && self.outgoing.budget(self.send_room()) > 0
     }
 
-    /// That a stream can be written on again is told.
-    pub(crate) fn tell_writable(&mut self) -> Option<StreamEvent>
-        ensures event { result ≡ option_map Writable (writable self.old) }
-        ensures told { self.new ≡ writable_told (writable self.old) self.old }
+    /// That a stream can be written on again waits to be told, behind all other events.
+    fn tell_writable(&mut self, first: (u64, StreamId))
+        ensures { self.new ≡ told_first first self.old.blocked self.old }
     {
-        let Some(id) = self.writable() else {
-            return None;
-        };
-        self.records.unblock(id.value());
-        self.blocked.remove(id.value());
-        Some(StreamEvent::Writable { id })
+        self.records.unblock(first.0);
+        self.events.place(StreamEvent::Writable { id: first.1 });
+    }
+
+    /// The same of all streams that wait for the connection and lie below an id, or of all, the least first.
+    fn tell_all(&mut self, below: Option<u64>)
+        ensures { self.new ≡ all_told below self.old.blocked self.old }
+    {
+        while let Some(first) = self.blocked.pop(below) {
+            self.tell_writable(first);
+        }
+    }
+
+    /// The same, where the connection lets streams be written on.
+    #[tactic(auto, using(crate::proofs::Told::none_told), unfolding(crate::specs::Writable::writables_told))]
+    pub(crate) fn tell_writables(&mut self, below: Option<u64>)
+        ensures { self.new ≡ writables_told below self.old }
+    {
+        if self.blocked.is_empty() {
+            return;
+        }
+        if self.has_room() {
+            self.tell_all(below);
+        }
     }
 }

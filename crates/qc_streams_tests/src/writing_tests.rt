@@ -50,11 +50,11 @@ fn credit_makes_streams_writable(rt: HostRuntime) -> Result<(), Fail> {
         Act::Poll(None),
         Act::MaxData(50),
         Act::StopSending(4, 3, None),
-        Act::Poll(Some(stopped)),
-        // each is told once, in ascending order
+        // each is told once, in ascending order, and before what came later
         writable(0),
         writable(4),
         writable(8),
+        Act::Poll(Some(stopped)),
         Act::Poll(None),
         Act::MaxData(60),
         Act::Poll(None),
@@ -64,12 +64,14 @@ fn credit_makes_streams_writable(rt: HostRuntime) -> Result<(), Fail> {
         Act::Poll(None),
         Act::SendWindow(8),
         writable(8),
-        // one byte more, and then two: its credit is used up
+        // one byte more, and then one: its credit is used up, and gone again by the poll
         Act::Write(8, 20, Ok(1)),
         Act::Write(8, 20, blocked),
         Act::SendWindow(10),
         Act::Write(8, 20, Ok(1)),
+        writable(8),
         Act::Poll(None),
+        Act::Write(8, 20, blocked),
         Act::MaxStreamData(8, 9, None),
         writable(8),
         Act::Poll(None),
@@ -103,6 +105,111 @@ fn room_makes_streams_writable(rt: HostRuntime) -> Result<(), Fail> {
         Act::Write(8, 20, blocked),
         Act::Reset(4, 1, true),
         Act::SendRoom(3),
+        Act::Poll(None),
+    ];
+    assert_eq!(rt; first_behind(rt.alloc(), setup(), &held_up(), &acts)?, None);
+    Ok(())
+}
+
+#[test]
+fn events_come_in_the_order_of_causes(rt: HostRuntime) -> Result<(), Fail> {
+    let opened = StreamEvent::Opened { dir: Dir::Bi };
+    let available = StreamEvent::Available { dir: Dir::Bi };
+    let stopped = StreamEvent::Stopped {
+        id: id(4),
+        error_code: number(3),
+    };
+    let acts = [
+        Act::MaxStreams(Dir::Bi, 9, None),
+        // the connection's credit, for those that have credit of their own
+        Act::MaxData(50),
+        Act::StopSending(4, 3, None),
+        // the first one's own
+        Act::MaxStreamData(0, 9, None),
+        // a stream of the peer's comes before all others
+        Act::Stream(1, 0, 0, false, None),
+        Act::Poll(Some(opened)),
+        Act::Poll(Some(available)),
+        writable(4),
+        writable(8),
+        Act::Poll(Some(stopped)),
+        writable(0),
+        Act::Poll(None),
+    ];
+    assert_eq!(rt; first_behind(rt.alloc(), setup(), &held_up(), &acts)?, None);
+    Ok(())
+}
+
+#[test]
+fn what_is_gone_by_the_poll_is_told(rt: HostRuntime) -> Result<(), Fail> {
+    let blocked = Err(WriteError::Blocked);
+    let acts = [
+        // credit for two bytes, which one stream uses up before the other is told
+        Act::MaxData(7),
+        Act::Write(4, 20, Ok(2)),
+        Act::Write(4, 20, blocked),
+        writable(4),
+        writable(8),
+        Act::Poll(None),
+        // a write that is blocked again is told again, behind what waits
+        Act::SendWindow(9),
+        Act::Poll(None),
+        Act::MaxData(8),
+        Act::Write(8, 20, Ok(1)),
+        Act::Write(4, 20, blocked),
+        Act::SendWindow(10),
+        Act::MaxData(9),
+        // and so is it where the connection was closed since, but nothing that comes later is
+        Act::Close,
+        Act::MaxData(50),
+        writable(4),
+        writable(4),
+        Act::Poll(None),
+    ];
+    assert_eq!(rt; first_behind(rt.alloc(), setup(), &held_up(), &acts)?, None);
+    Ok(())
+}
+
+#[test]
+fn one_cause_is_told_in_ascending_order(rt: HostRuntime) -> Result<(), Fail> {
+    let blocked = Err(WriteError::Blocked);
+    let acts = [
+        Act::Limits(limits(3, 3, 50, 20)),
+        Act::Open(Dir::Bi, Some(0)),
+        Act::Open(Dir::Bi, Some(4)),
+        Act::Open(Dir::Bi, Some(8)),
+        Act::Write(4, 20, Ok(7)),
+        Act::Finish(4, Ok(())),
+        Act::Write(8, 20, blocked),
+        Act::Write(0, 20, blocked),
+        Act::File,
+        Act::Part(100, Some((4, 0, 7, true))),
+        // the acknowledgement makes room, and is the last of its stream
+        Act::BytesAcked(4, 0, 7, true),
+        writable(0),
+        Act::Poll(Some(StreamEvent::Finished { id: id(4) })),
+        writable(8),
+        Act::Poll(None),
+    ];
+    assert_eq!(rt; first_of_client(rt.alloc(), setup(), &acts)?, None);
+    Ok(())
+}
+
+#[test]
+fn a_reset_and_new_parameters_make_streams_writable(rt: HostRuntime) -> Result<(), Fail> {
+    let blocked = Err(WriteError::Blocked);
+    let acts = [
+        // parameters that come again, with more credit on all streams
+        Act::Limits(limits(3, 3, 7, 4)),
+        writable(4),
+        writable(8),
+        Act::Write(4, 20, Ok(2)),
+        Act::MaxData(50),
+        Act::Write(8, 20, blocked),
+        Act::Poll(None),
+        // the bytes of a stream that is reset make room
+        Act::Reset(4, 1, true),
+        writable(8),
         Act::Poll(None),
     ];
     assert_eq!(rt; first_behind(rt.alloc(), setup(), &held_up(), &acts)?, None);

@@ -1,5 +1,6 @@
 use Rattle.std.proofs.Common.{◌∙◌, arith, length, sym}
 use Rattle.qc_streams.proofs.Fronts.{count_of, more_of, written_of}
+use Rattle.qc_streams.proofs.Refused.{unplaced_so}
 use Rattle.std.specs.List.{concat}
 use Rattle.qc_streams.proofs.chunks.write.Goals as goal
 
@@ -17,3 +18,7 @@ pub returns-clause-more : goal.returns-clause-more
 returns-clause-more c =
     more_of c.write_front.result.bytes _ c.args.sending.now c.test.new.sending c.write_front.new.buffer c.write_front.ensures.there
     c.in_ok-test.ensures.same c.write_front.ensures.written
+
+pub returns-clause-unplaced : goal.returns-clause-unplaced
+returns-clause-unplaced c =
+    unplaced_so c.args.most c.args.sending.now c.args.events.now c.put_by.new.events c.requires c.in_ok-put_by.ensures.added c.in_ok-test.ensures.fits
