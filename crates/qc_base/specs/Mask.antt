@@ -13,7 +13,7 @@ number_len_in packet = first_byte packet % 4 + 1
 
 -- the bits of a first byte that a mask byte changes: the low 4 of a long header's, the low 5 of a
 -- short one's
-abbrev pub first_changes : ℕ → ℕ → ℕ
+abbrev pub first_changes : (first : ℕ) → ℕ → ℕ
 first_changes first m = if nat_lt first 128 then m % 32 else m % 16
 
 -- the first byte changed
@@ -22,22 +22,22 @@ first_over [] m = []
 first_over (b ∷ bytes) m = bit_xor b (first_changes b m) ∷ bytes
 
 -- each mask byte changes one byte, in their order; the bytes behind stay
-abbrev pub mask_over : List ℕ → List ℕ → List ℕ
+abbrev pub mask_over : (bytes : List ℕ) → List ℕ → List ℕ
 mask_over bytes [] = bytes
 mask_over [] (m ∷ mask) = []
 mask_over (b ∷ bytes) (m ∷ mask) = bit_xor b m ∷ mask_over bytes mask
 
 -- the packet number changed, which has len bytes from pn_offset on, by all mask bytes but the first
-abbrev pub number_over : ℕ → ℕ → List ℕ → List ℕ → List ℕ
+abbrev pub number_over : (pn_offset len : ℕ) → (mask packet : List ℕ) → List ℕ
 number_over pn_offset len mask packet = take pn_offset packet ++ mask_over (drop pn_offset packet) (take len (drop 1 mask))
 
 -- the packet, whose number begins at pn_offset, under this mask
-unfoldable pub masked_by : ℕ → List ℕ → List ℕ → List ℕ
+unfoldable pub masked_by : ℕ → (mask packet : List ℕ) → List ℕ
 masked_by pn_offset mask packet =
     number_over pn_offset (number_len_in packet) mask (first_over packet (first_byte mask))
 
 -- the packet without it: the number's length is known once the first byte is
-unfoldable pub unmasked_by : ℕ → List ℕ → List ℕ → List ℕ
+unfoldable pub unmasked_by : ℕ → (mask packet : List ℕ) → List ℕ
 unmasked_by pn_offset mask packet =
     let unprotected = first_over packet (first_byte mask) in number_over pn_offset (number_len_in unprotected) mask unprotected
 

@@ -6,7 +6,7 @@ use Rattle.qc_base.specs.declared.packet_number.PacketNumber.TheVariants.{U8, U1
 
 -- the number n, where the peer acknowledged largest: as few bytes as tell more than twice as many
 -- numbers apart as n lies above largest
-unfoldable pub number_of : ℕ → ℕ → PacketNumber
+unfoldable pub number_of : ℕ → (largest : ℕ) → PacketNumber
 number_of n largest =
     if nat_lt (2 * (n - largest)) 0x100 then U8 (n % 0x100)
     else if nat_lt (2 * (n - largest)) 0x10000 then U16 (n % 0x10000)
@@ -48,11 +48,11 @@ abbrev pub distance : ℕ → ℕ → ℕ
 distance a b = (a - b) + (b - a)
 
 -- a packet number whose low bytes are low
-abbrev pub IsCandidate : ℕ → ℕ → ℕ → Type 0
+abbrev pub IsCandidate : (window low : ℕ) → ℕ → Type 0
 IsCandidate window low x = (x % window ≡ low) × (x < 2 ^ 62)
 
 -- the candidate nearest to the expected number, the greater one where two are as near
-unfoldable pub IsNearest : ℕ → ℕ → ℕ → ℕ → Type 0
+unfoldable pub IsNearest : (window low expected : ℕ) → ℕ → Type 0
 IsNearest window low expected x =
     IsCandidate window low x
     × ((y : ℕ) → IsCandidate window low y
@@ -60,5 +60,5 @@ IsNearest window low expected x =
     ⊎ ((distance x expected ≡ distance y expected) × (y ≤ x)))
 
 -- n lies in the window around the expected number: at most half a window above it, and less than half a window below
-abbrev pub IsInWindow : ℕ → ℕ → ℕ → Type 0
+abbrev pub IsInWindow : (window expected : ℕ) → ℕ → Type 0
 IsInWindow window expected n = (2 * n ≤ 2 * expected + window) × (2 * expected < 2 * n + window)

@@ -31,7 +31,7 @@ brought_by (Take name ∷ calls) = brought_by calls
 
 -- of the tokens that a test picks, no more are given than came: each is given at most once for each time that
 -- it came, and to the server's own name
-unfoldable pub GivesOnce : ℕ → ℕ → List CacheCall → Type 0
+unfoldable pub GivesOnce : (names tokens : ℕ) → List CacheCall → Type 0
 GivesOnce names tokens calls = (test : List ℕ × List ℕ → Bool) → count_by test (given_of calls (empty_cache names tokens)) ≤ count_by test (brought_by calls)
 
 -- what a list of calls leaves
@@ -52,7 +52,7 @@ others_in name (Take other ∷ calls) = (if is_name name other then 0 else 1) + 
 
 -- A token that was put in is given, as long as it isn't pushed out: by as many tokens of its server as there may be, or by as many
 -- other servers. It is given by later calls, or by takings of its server behind them.
-unfoldable pub GivesKept : ℕ → ℕ → List CacheCall → List ℕ → List ℕ → List CacheCall → Type 0
+unfoldable pub GivesKept : (names tokens : ℕ) → List CacheCall → (name token : List ℕ) → List CacheCall → Type 0
 GivesKept names tokens before name token calls =
     puts_of name calls < tokens → others_in name calls < names
     → Contains (given_of (calls ++ replicate tokens (Take name)) (cache_inserted (cache_run before (empty_cache names tokens)) name token)) (name, token)
@@ -70,11 +70,11 @@ brought_for name (Put other token ∷ calls) = (if is_name name other then token
 brought_for name (Take other ∷ calls) = brought_for name calls
 
 -- a list is what is left of another one, in its order, where some are left out
-abbrev pub IsPart : List (List ℕ) → List (List ℕ) → Type 0
+abbrev pub IsPart : List (List ℕ) → (ys : List (List ℕ)) → Type 0
 IsPart [] ys = Unit {0}
 IsPart (x ∷ xs) [] = ⊥
 IsPart (x ∷ xs) (y ∷ ys) = ((x ≡ y) × IsPart xs ys) ⊎ IsPart (x ∷ xs) ys
 
 -- the tokens of a server are given in the order in which they came, the oldest first
-unfoldable pub GivesInOrder : ℕ → ℕ → List ℕ → List CacheCall → Type 0
+unfoldable pub GivesInOrder : (names tokens : ℕ) → List ℕ → List CacheCall → Type 0
 GivesInOrder names tokens name calls = IsPart (given_to name calls (empty_cache names tokens)) (brought_for name calls)

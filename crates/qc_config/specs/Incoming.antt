@@ -21,11 +21,11 @@ abbrev pub validated : List ℕ → IncomingToken
 validated dst = record { retry_src_cid = None; orig_dst_cid = dst; validated = true }
 
 -- the same with a token of a Retry packet, which names the id that it first sent to
-abbrev pub retried : List ℕ → List ℕ → IncomingToken
+abbrev pub retried : (dst orig : List ℕ) → IncomingToken
 retried dst orig = record { retry_src_cid = Some dst; orig_dst_cid = orig; validated = true }
 
 -- the token is no longer valid
-abbrev pub is_expired : ℕ → ℕ → ℕ → Bool
+abbrev pub is_expired : (issued lifetime now : ℕ) → Bool
 is_expired issued lifetime now = nat_lt (plus issued lifetime) now
 
 -- what a server knows: its clock, how long tokens are valid, and what its log says of a token's nonce, time of
@@ -37,7 +37,7 @@ pub record Taker : Type 0 where
   pub takes : ℕ → ℕ → ℕ → Result (Unit {0}) TokenReuseError
 
 -- what a Retry token brings: from another address, or expired, it isn't valid
-unfoldable pub retry_row : (SocketAddr → SocketAddr → Bool) → Taker → List ℕ → SocketAddr → SocketAddr → List ℕ → ℕ → Result IncomingToken HeaderError
+unfoldable pub retry_row : (SocketAddr → SocketAddr → Bool) → Taker → List ℕ → (remote address : SocketAddr) → List ℕ → ℕ → Result IncomingToken HeaderError
 retry_row same taker dst remote address orig issued =
     if same address remote && not (is_expired issued taker.retry_lifetime taker.now) then Ok (retried dst orig) else Err (Retry (record {}))
 
@@ -51,7 +51,7 @@ is_fresh (Ok _) = true
 is_fresh (Err _) = false
 
 -- what a Validation token brings
-unfoldable pub validation_row : (IpAddr → IpAddr → Bool) → Taker → List ℕ → SocketAddr → IpAddr → ℕ → ℕ → IncomingToken
+unfoldable pub validation_row : (IpAddr → IpAddr → Bool) → Taker → List ℕ → SocketAddr → IpAddr → (issued nonce : ℕ) → IncomingToken
 validation_row same taker dst remote ip issued nonce =
     if asks_log same taker remote ip issued then (if is_fresh (taker.takes nonce issued taker.lifetime) then validated dst else unvalidated dst) else unvalidated dst
 

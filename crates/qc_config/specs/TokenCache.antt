@@ -11,7 +11,7 @@ pub record CacheValues : Type 0 where
   pub entries : List (List ℕ × List (List ℕ))
 
 -- a name is that one
-abbrev pub is_name : List ℕ → List ℕ → Bool
+abbrev pub is_name : (name other : List ℕ) → Bool
 is_name name other = pointwise nat_eq name other
 
 -- the queue of a name, if it is in the list
@@ -23,7 +23,7 @@ abbrev pub others : List ℕ → List (List ℕ × List (List ℕ)) → List (Li
 others name entries = remove_entry (is_name name) entries
 
 -- an empty cache
-abbrev pub empty_cache : ℕ → ℕ → CacheValues
+abbrev pub empty_cache : (names tokens : ℕ) → CacheValues
 empty_cache names tokens = record { max_server_names = names; max_tokens_per_server = tokens; entries = [] }
 
 -- the token goes to the end; where the queue is full, its oldest one is dropped
@@ -32,12 +32,12 @@ pushed most token queue = (if nat_le most (length queue) then drop 1 queue else 
 
 -- the token is put into its name's queue, and the name goes first; a new name drops the last one where there
 -- are as many as there may be
-abbrev pub with_token : ℕ → ℕ → List ℕ → List ℕ → List (List ℕ × List (List ℕ)) → Option (List (List ℕ)) → List (List ℕ × List (List ℕ))
+abbrev pub with_token : (names most : ℕ) → (name token : List ℕ) → List (List ℕ × List (List ℕ)) → Option (List (List ℕ)) → List (List ℕ × List (List ℕ))
 with_token names most name token entries (Some queue) = (name, pushed most token queue) ∷ others name entries
 with_token names most name token entries None = (name, token ∷ []) ∷ take (names - 1) entries
 
 -- the names with their queues, once a token was put in
-unfoldable pub entries_with : ℕ → ℕ → List ℕ → List ℕ → List (List ℕ × List (List ℕ)) → List (List ℕ × List (List ℕ))
+unfoldable pub entries_with : (names most : ℕ) → (name token : List ℕ) → List (List ℕ × List (List ℕ)) → List (List ℕ × List (List ℕ))
 entries_with names most name token entries = with_token names most name token entries (queue_of name entries)
 
 -- a cache that holds nothing
@@ -45,7 +45,7 @@ abbrev pub holds_nothing : CacheValues → Bool
 holds_nothing c = c.max_server_names == 0 || c.max_tokens_per_server == 0
 
 -- the cache once a token was put in
-unfoldable pub cache_inserted : CacheValues → List ℕ → List ℕ → CacheValues
+unfoldable pub cache_inserted : CacheValues → (name token : List ℕ) → CacheValues
 cache_inserted c name token = if holds_nothing c then c else record c { entries = entries_with c.max_server_names c.max_tokens_per_server name token c.entries }
 
 -- the name goes first, without its oldest token; without a token it goes

@@ -11,7 +11,7 @@ AnswersError answer OutOfMemory = Unit {0}
 
 -- What a refused reading leaves: the session after the bytes that it refuses, and for want of memory
 -- the session before.
-abbrev pub LeavesAfter : {S : Type 0} → S → S → S → SessionError → Type 0
+abbrev pub LeavesAfter : {S : Type 0} → (after before now : S) → SessionError → Type 0
 LeavesAfter after before now (Transport error) = now ≡ after
 LeavesAfter after before now OutOfMemory = now ≡ before
 

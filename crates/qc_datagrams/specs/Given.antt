@@ -50,7 +50,7 @@ all_given [] ds = []
 all_given (x ∷ xs) ds = given_by x ds ++ all_given xs (after_step x ds)
 
 -- The first list has some of the second one's, in their order, each once
-unfoldable pub AreInOrder : List (List ℕ) → List (List ℕ) → Type 0
+unfoldable pub AreInOrder : List (List ℕ) → (ys : List (List ℕ)) → Type 0
 AreInOrder [] ys = Unit {0}
 AreInOrder (x ∷ xs) [] = ⊥
 AreInOrder (x ∷ xs) (y ∷ ys) = ((x ≡ y) × AreInOrder xs ys) ⊎ AreInOrder (x ∷ xs) ys

@@ -39,7 +39,7 @@ is_acked ranges e = is_in ranges e.0
 
 -- A packet is lost if it was sent before a packet that is acknowledged, so that its number is below the greatest one
 -- acknowledged, and is a threshold of packets below that one, or was sent a delay ago or longer (RFC 9002, section 6.1).
-unfoldable pub is_lost : ℕ → ℕ → ℕ → ℕ → Entry → Bool
+unfoldable pub is_lost : (largest threshold now delay : ℕ) → Entry → Bool
 is_lost largest threshold now delay e = nat_lt e.0 largest && (nat_le (e.0 + threshold) largest || nat_le delay (now - e.1.at))
 
 -- the packets that pass a test, and the others
@@ -134,7 +134,7 @@ pub record PassesUpTo (limit : ℕ) (p : Entry → Bool) : Type 0 where
   pub none : (e : Entry) → limit < e.0 → p e ≡ false
 
 -- packets put in front of others one by one
-abbrev pub onto : List Entry → List Entry → List Entry
+abbrev pub onto : List Entry → (es : List Entry) → List Entry
 onto [] es = es
 onto (k ∷ ks) es = onto ks (k ∷ es)
 

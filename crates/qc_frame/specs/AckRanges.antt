@@ -9,7 +9,7 @@ use Rattle.qc_frame.specs.FrameFits.{RangesFit}
 use Rattle.qc_frame.specs.FrameSpelling.{numbers_of}
 
 -- the numbers from a greatest one down to that which lies so many below it
-abbrev pub range_down : ℕ → ℕ → NumberRange
+abbrev pub range_down : (largest len : ℕ) → NumberRange
 range_down largest len = record { first = largest - len; last = largest }
 
 -- a range that ends at the largest number, by its length, and those below it, by a gap and a length each:

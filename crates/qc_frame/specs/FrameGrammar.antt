@@ -14,7 +14,7 @@ use Rattle.qc_frame.specs.declared.fault.InvalidFrame.{InvalidFrame}
 -- ---- ACK (section 19.3). No range goes below 0: between two of them lie gap + 1 numbers.
 
 -- ranges below a smallest number, so many: of each the gap above it, and its length
-abbrev pub MoreRanges : ℕ → ℕ → Spelling (Unit {0})
+abbrev pub MoreRanges : ℕ → (smallest : ℕ) → Spelling (Unit {0})
 MoreRanges zero smallest = Is tt
 MoreRanges (suc count) smallest = do
   gap ← Varint
@@ -23,7 +23,7 @@ MoreRanges (suc count) smallest = do
     Where (len ≤ smallest - (gap + 2)) (MoreRanges count (smallest - (gap + 2) - len)))
 
 -- the first range, which ends at the largest number, by its length, and so many more
-abbrev pub Ranges : ℕ → ℕ → Spelling (Unit {0})
+abbrev pub Ranges : (count largest : ℕ) → Spelling (Unit {0})
 Ranges count largest = do
   first ← Varint
   Where (first ≤ largest) (MoreRanges count (largest - first))
@@ -75,7 +75,7 @@ Body false = Rest
 Body true = Blob
 
 -- STREAM: the stream, the offset, the body; whether there is an offset, a length and an end is said by the type
-abbrev pub Stream : Bool → Bool → Bool → Spelling FrameValue
+abbrev pub Stream : (has_offset has_length fin : Bool) → Spelling FrameValue
 Stream has_offset has_length fin = do
   id ← Varint
   offset ← Offset has_offset

@@ -37,7 +37,7 @@ word_at = or_fault UnexpectedEnd (word_of w64)
 -- ---- ACK (RFC 9000, section 19.3). Ranges go down; each is a gap and a length below the smallest number so far.
 
 -- ranges below a smallest number, so many; refused where one would fall below 0, once at its gap and once at its length
-unfoldable pub more_ranges_at : ℕ → ℕ → Reader FrameFault (Unit {0})
+unfoldable pub more_ranges_at : ℕ → (smallest : ℕ) → Reader FrameFault (Unit {0})
 more_ranges_at zero smallest = give tt
 more_ranges_at (suc count) smallest = do
   gap ← number_at
@@ -46,7 +46,7 @@ more_ranges_at (suc count) smallest = do
     refuse (nat_lt (smallest - (gap + 2)) len) Malformed (more_ranges_at count (smallest - (gap + 2) - len)))
 
 -- the first range, which ends at the largest number, and so many more
-unfoldable pub ranges_at : ℕ → ℕ → Reader FrameFault (Unit {0})
+unfoldable pub ranges_at : (count largest : ℕ) → Reader FrameFault (Unit {0})
 ranges_at count largest = do
   first ← number_at
   refuse (nat_lt largest first) Malformed (more_ranges_at count (largest - first))
@@ -98,7 +98,7 @@ body_at false = rest_at
 body_at true = blob_at
 
 -- STREAM, by the three bits of its type
-unfoldable pub stream_at : Bool → Bool → Bool → Reader FrameFault FrameValue
+unfoldable pub stream_at : (has_offset has_length fin : Bool) → Reader FrameFault FrameValue
 stream_at has_offset has_length fin = do
   id ← number_at
   offset ← offset_at has_offset

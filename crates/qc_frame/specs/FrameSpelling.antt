@@ -41,7 +41,7 @@ ack_spelling ack =
 -- ---- STREAM (RFC 9000, section 19.8)
 
 -- bit 4 says that there is an offset, bit 2 a length, bit 1 that the stream ends
-abbrev pub stream_type : Bool → Bool → Bool → ℕ
+abbrev pub stream_type : (has_offset has_length fin : Bool) → ℕ
 stream_type has_offset has_length fin = 0x08 + bit has_offset 4 + bit has_length 2 + bit fin 1
 
 -- no offset stands for 0

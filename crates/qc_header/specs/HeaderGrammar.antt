@@ -21,7 +21,7 @@ Id = do
   Where (len ≤ 20) (Bytes len)
 
 -- behind the ids of an Initial packet, whose datagram has size bytes (section 17.2.2)
-abbrev pub InitialFields : ℕ → List ℕ → List ℕ → ℕ → Spelling Heading
+abbrev pub InitialFields : ℕ → (dst_cid src_cid : List ℕ) → ℕ → Spelling Heading
 InitialFields size dst_cid src_cid version = do
   token_len ← Varint
   left ← Left
@@ -30,7 +30,7 @@ InitialFields size dst_cid src_cid version = do
   Is (Initial dst_cid src_cid (size - left) token_len version, Some payload_len)
 
 -- and of a 0-RTT or Handshake packet (sections 17.2.3 and 17.2.4)
-abbrev pub NumberedFields : LongType → List ℕ → List ℕ → ℕ → Spelling Heading
+abbrev pub NumberedFields : LongType → (dst_cid src_cid : List ℕ) → ℕ → Spelling Heading
 NumberedFields ty dst_cid src_cid version = do
   payload_len ← Varint
   Is (Long ty dst_cid src_cid version, Some payload_len)
@@ -58,7 +58,7 @@ LongFields size versions first = do
   TypeFields size versions first version dst_cid src_cid
 
 -- behind the first byte of a short header, whose id has the length that this end chose (section 17.3.1)
-abbrev pub ShortFields : ℕ → ℕ → Spelling Heading
+abbrev pub ShortFields : (local_cid_len first : ℕ) → Spelling Heading
 ShortFields local_cid_len first = do
   dst_cid ← Bytes local_cid_len
   Is (Short (first / 32 % 2 == 1) dst_cid, None)

@@ -31,7 +31,7 @@ unfoldable pub id_of : List ℕ → Option (List ℕ × List ℕ)
 id_of bytes = option_and_then (λ x. if nat_lt 20 x.0 then None else bytes_of x.0 x.1) (byte_of bytes)
 
 -- the fields behind the ids of an Initial packet (section 17.2.2); the packet has size bytes
-unfoldable pub initial_at : ℕ → List ℕ → List ℕ → ℕ → HeaderReader
+unfoldable pub initial_at : ℕ → (dst_cid src_cid : List ℕ) → ℕ → HeaderReader
 initial_at size dst_cid src_cid version = do
   token_len ← field varint_of
   left ← left_at
@@ -40,13 +40,13 @@ initial_at size dst_cid src_cid version = do
   give (Initial dst_cid src_cid (size - left) token_len version, Some payload_len)
 
 -- and of a 0-RTT or Handshake packet (sections 17.2.3 and 17.2.4)
-unfoldable pub numbered_at : LongType → List ℕ → List ℕ → ℕ → HeaderReader
+unfoldable pub numbered_at : LongType → (dst_cid src_cid : List ℕ) → ℕ → HeaderReader
 numbered_at ty dst_cid src_cid version = do
   payload_len ← field varint_of
   give (Long ty dst_cid src_cid version, Some payload_len)
 
 -- the type of a packet with a long header is bits 0x30 of its first byte
-unfoldable pub typed_at : ℕ → ℕ → List ℕ → List ℕ → ℕ → HeaderReader
+unfoldable pub typed_at : (size first : ℕ) → (dst_cid src_cid : List ℕ) → ℕ → HeaderReader
 typed_at size first dst_cid src_cid version =
     let ty = first / 16 % 4 in
     if ty == 0 then initial_at size dst_cid src_cid version
@@ -65,14 +65,14 @@ long_at size versions first = do
       (typed_at size first dst_cid src_cid version))
 
 -- a short header (section 17.3.1), whose id has the length that this end chose
-unfoldable pub short_at : ℕ → ℕ → HeaderReader
+unfoldable pub short_at : (local_cid_len first : ℕ) → HeaderReader
 short_at local_cid_len first = do
   dst_cid ← field (bytes_of local_cid_len)
   give (Short (first / 32 % 2 == 1) dst_cid, None)
 
 -- the header of a packet at the front of size bytes, where ids of this end have local_cid_len bytes,
 -- these versions are known, and the fixed bit may be 0 if it is greased (RFC 9287)
-unfoldable pub header_at : ℕ → ℕ → List ℕ → Bool → HeaderReader
+unfoldable pub header_at : (size local_cid_len : ℕ) → List ℕ → Bool → HeaderReader
 header_at size local_cid_len versions grease_quic_bit = do
   first ← field byte_of
   refuse (first / 64 % 2 == 0 && not grease_quic_bit) InvalidHeader

@@ -30,7 +30,7 @@ abbrev pub id_field : List ℕ → List ℕ
 id_field id = length id ∷ id
 
 -- what every long header begins with
-unfoldable pub long_start : ℕ → ℕ → List ℕ → List ℕ → List ℕ
+unfoldable pub long_start : (first version : ℕ) → (dst_cid src_cid : List ℕ) → List ℕ
 long_start first version dst_cid src_cid = first ∷ to_be_bytes w32 version ++ id_field dst_cid ++ id_field src_cid
 
 -- the Length field, always in the form of two bytes (RFC 9000, section 16), and the number
@@ -49,7 +49,7 @@ long_first ZeroRtt = 0xd0
 long_first Handshake = 0xe0
 
 -- a 1-RTT packet's header
-unfoldable pub short_spelling : Bool → Bool → List ℕ → PacketNumber → List ℕ
+unfoldable pub short_spelling : (spin key_phase : Bool) → List ℕ → PacketNumber → List ℕ
 short_spelling spin key_phase dst_cid number =
     (0x40 + bit spin 0x20 + bit key_phase 0x04 + number_tag number) ∷ dst_cid ++ number_bytes number
 

@@ -11,7 +11,7 @@ pieces_and (Ok piece) others = Ok piece.0 ∷ others piece.1
 pieces_and (Err fault) others = Err fault ∷ []
 
 -- the first items, at most so many
-abbrev pub pieces_within : ℕ → ℕ → List ℕ → Bool → List ℕ → List DatagramItem
+abbrev pub pieces_within : ℕ → (local_cid_len : ℕ) → List ℕ → Bool → List ℕ → List DatagramItem
 pieces_within zero local_cid_len versions grease_quic_bit bytes = []
 pieces_within (suc most) local_cid_len versions grease_quic_bit [] = []
 pieces_within (suc most) local_cid_len versions grease_quic_bit (b ∷ bytes) =

@@ -56,7 +56,7 @@ packet_of mask_of header length_field payload =
 
 -- the Length field counts number and payload, which have enough bytes for a sample; a packet of a form without one
 -- is the last of its datagram
-abbrev pub IsCounted : Header → ℕ → List ℕ → List ℕ → Type 0
+abbrev pub IsCounted : Header → ℕ → (payload rest : List ℕ) → Type 0
 IsCounted (Initial h) length_field payload rest =
     (length_field ≡ number_len h.number + length payload) × (20 ≤ length_field) × (length_field < 2 ^ 14)
 IsCounted (Long ty dst_cid src_cid number version) length_field payload rest =

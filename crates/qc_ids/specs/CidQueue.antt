@@ -6,7 +6,7 @@ use Rattle.qc_frame.specs.declared.frames.NewConnectionId.{NewConnectionId}
 use Rattle.qc_ids.specs.declared.cid_queue.KeptCid.{KeptCid}
 
 -- the numbers ascend, from low up to, but without, high
-abbrev pub Ascends : ℕ → ℕ → List KeptCid → Type 0
+abbrev pub Ascends : (low high : ℕ) → List KeptCid → Type 0
 Ascends low high [] = Unit {0}
 Ascends low high (x ∷ xs) = (low ≤ x.sequence) × (x.sequence < high) × Ascends (x.sequence + 1) high xs
 
@@ -44,11 +44,11 @@ abbrev pub given_cid : NewConnectionId → KeptCid
 given_cid new = record { sequence = new.sequence; id = new.id; reset_token = Some new.reset_token }
 
 -- the number lies from low up to, but not at, high
-abbrev pub is_between : ℕ → ℕ → KeptCid → Bool
+abbrev pub is_between : (low high : ℕ) → KeptCid → Bool
 is_between low high x = nat_le low x.sequence && nat_lt x.sequence high
 
 -- those with numbers from low up to, but without, high
-unfoldable pub kept_between : ℕ → ℕ → List KeptCid → List KeptCid
+unfoldable pub kept_between : (low high : ℕ) → List KeptCid → List KeptCid
 kept_between low high ids = filter (is_between low high) ids
 
 -- the number lies above n
@@ -65,7 +65,7 @@ unfoldable pub inserted : NewConnectionId → List KeptCid → List KeptCid
 inserted new ids = kept_between new.retire_prior_to new.sequence ids ++ given_cid new ∷ kept_above new.sequence ids
 
 -- the range from one number up to, but without, another
-abbrev pub numbers_from : ℕ → ℕ → Range ℕ
+abbrev pub numbers_from : (start end : ℕ) → Range ℕ
 numbers_from start end = record { start = start; end = end }
 
 -- the numbers that are to be retired where an active number gives way to a new one: from the old one up to the

@@ -6,7 +6,7 @@ use Rattle.qc_ids.specs.LocalCids.{LocalCids}
 use Rattle.qc_ids.specs.Numbers.{Rises}
 
 -- lists that were issued later end later, from low to high
-abbrev pub EndsRise : ℕ → ℕ → List CidExpiry → Type 0
+abbrev pub EndsRise : (low high : ℕ) → List CidExpiry → Type 0
 EndsRise low high [] = low ≤ high
 EndsRise low high (e ∷ es) = (low ≤ e.end) × EndsRise e.end high es
 

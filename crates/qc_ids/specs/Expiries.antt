@@ -4,7 +4,7 @@ use Rattle.qc_base.specs.Time.{plus}
 use Rattle.qc_ids.specs.declared.expiries.CidExpiry.{CidExpiry}
 
 -- ids up to this number, without it, expire one lifetime after now; without a lifetime they don't
-abbrev pub expiry_of : Option ℕ → ℕ → ℕ → List CidExpiry
+abbrev pub expiry_of : Option ℕ → (now end : ℕ) → List CidExpiry
 expiry_of None now end = []
 expiry_of (Some lifetime) now end = record { at = plus now lifetime; end = end } ∷ []
 

@@ -42,7 +42,7 @@ StaysRetired first before n calls =
     may_retire n (issue_run before first) ≡ true → is_active n (issue_run calls (retired n (issue_run before first))) ≡ false
 
 -- the number up to which the other end is asked to retire ids never falls
-unfoldable pub NeverFalls : LocalCids → List IssueCall → List IssueCall → Type 0
+unfoldable pub NeverFalls : LocalCids → (before calls : List IssueCall) → Type 0
 NeverFalls first before calls = (issue_run before first).retire_prior_to ≤ (issue_run calls (issue_run before first)).retire_prior_to
 
 -- the number that a call raises, as it was before; another call leaves the one that was raised before that
@@ -76,5 +76,5 @@ pub data Serves (limit issued : ℕ) : Bool → LocalCids → LocalCids → Type
       → length ids ≡ newly_asked t → Serves limit issued came s (issued_more ids now (timed_out t))
 
 -- no more ids are in force than the limit allows, which is 2 at least (RFC 9000, section 18.2)
-unfoldable pub KeepsLimit : ℕ → LocalCids → LocalCids → Type 0
+unfoldable pub KeepsLimit : ℕ → (first last : LocalCids) → Type 0
 KeepsLimit limit first last = 2 ≤ limit → (came : Bool) → Serves limit first.issued came first last → in_force last ≤ limit

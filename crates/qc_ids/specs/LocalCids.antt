@@ -21,7 +21,7 @@ abbrev pub numbers_up_to : ℕ → List ℕ
 numbers_up_to n = if n == 2 then 0 ∷ 1 ∷ [] else 0 ∷ []
 
 -- the ids of the handshake are active: those below issued
-unfoldable pub first_local_cids : ℕ → Option ℕ → ℕ → ℕ → LocalCids
+unfoldable pub first_local_cids : ℕ → Option ℕ → (now issued : ℕ) → LocalCids
 first_local_cids cid_len lifetime now issued = record {
   active = numbers_up_to issued;
   issued = issued;
@@ -62,7 +62,7 @@ unfoldable pub retired : ℕ → LocalCids → LocalCids
 retired sequence s = record s { active = without sequence s.active }
 
 -- how many numbers lie from low up to, but without, high
-unfoldable pub count_between : ℕ → ℕ → List ℕ → ℕ
+unfoldable pub count_between : (low high : ℕ) → List ℕ → ℕ
 count_between low high ns = count_by (λ n. nat_le low n && nat_lt n high) ns
 
 -- an id that the other end is asked to retire is still active

@@ -80,7 +80,7 @@ abbrev pub is_among : ℕ → List ℕ → Bool
 is_among n ns = list_any (λ k. k == n) ns
 
 -- a number whose id was kept and isn't any more was told to be retired (RFC 9000, section 5.1.2)
-unfoldable pub TellsDropped : List ℕ → List QueueCall → List QueueCall → ℕ → Type 0
+unfoldable pub TellsDropped : List ℕ → (before calls : List QueueCall) → ℕ → Type 0
 TellsDropped first before calls n =
     is_kept n (queue_run before (first_cid first)) ≡ true → is_kept n (queue_run calls (queue_run before (first_cid first))) ≡ false
     → is_among n (retired_in calls (queue_run before (first_cid first))) ≡ true

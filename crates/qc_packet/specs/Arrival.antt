@@ -85,7 +85,7 @@ pieces_as seal (s ∷ ss) = Ok (sealed_piece s.mask (seal s.sealer) s.flip s.hea
 
 -- a header's low bytes are those of this number, which lies within half a window of the one after rx, the greatest
 -- received before
-abbrev pub IsInReach : Option PacketNumber → ℕ → ℕ → Type 0
+abbrev pub IsInReach : Option PacketNumber → (rx number : ℕ) → Type 0
 IsInReach None rx number = ⊥
 IsInReach (Some low) rx number =
     (number % number_window low ≡ number_low low) × (number < 2 ^ 62) × IsInWindow (number_window low) (plus rx 1) number
@@ -95,6 +95,6 @@ abbrev pub HasKey : {P : Type 0} → OpenKeys P → Header → ℕ → P → Typ
 HasKey keys h number key = key_named h (option_copied keys.plain) (option_copied keys.early) (option_copied keys.ring) number ≡ Some key
 
 -- what is answered once it was opened
-abbrev pub arrival_answer : {P : Type 0} → Header → Option (Keyed P) → ℕ → ℕ → Result (Option DecryptPacketResult) OpenError
+abbrev pub arrival_answer : {P : Type 0} → Header → Option (Keyed P) → (rx number : ℕ) → Result (Option DecryptPacketResult) OpenError
 arrival_answer h ring rx number =
     if is_bad_update (which_in h ring number) ring rx number then Err KeyUpdate else Ok (Some (result_of (which_in h ring number) ring number))

@@ -59,7 +59,7 @@ lacks_room start h capacity =
 -- Why a packet can't be begun, the first that holds: its key sealed as many packets as it may (RFC 9001,
 -- section 6.6); its number is the last one or more, or too far above the greatest acknowledged one to be
 -- spelled (RFC 9000, sections 12.3 and 17.1); an Initial packet's token leaves no room for frames.
-unfoldable pub kill_of : Slot → Header → ℕ → ℕ → Option Kill
+unfoldable pub kill_of : Slot → Header → (start capacity : ℕ) → Option Kill
 kill_of slot h start capacity =
     if nat_le slot.limit slot.sealed then Some KeyLimit
     else (if nat_le 4611686018427387903 slot.number || nat_le (slot.largest_acked + 2147483648) slot.number then Some NumberLimit
@@ -70,7 +70,7 @@ abbrev pub sizes_of : ℕ → Header → ℕ → PacketSizes
 sizes_of start h capacity = record { min_size = min_size_of start h; max_size = max_size_of start h capacity }
 
 -- what a builder knows of a packet that begins at start
-abbrev pub builder_for : SpaceId → ℕ → Header → ℕ → ℕ → ℕ → Bool → PacketBuilder
+abbrev pub builder_for : SpaceId → ℕ → Header → (start capacity datagram_start : ℕ) → Bool → PacketBuilder
 builder_for space number h start capacity datagram_start ack_eliciting =
     record {
       space = space;

@@ -21,7 +21,7 @@ use Rattle.qc_rings.specs.Keyed.{Keyed, key_of}
 
 -- the full number of a packet, where rx is the greatest number received before: the one nearest to rx + 1
 -- that ends in the bytes that the header has, or to 2^64 - 1 where rx + 1 is more (RFC 9000, appendix A.3)
-abbrev pub IsNumberOf : Option PacketNumber → ℕ → ℕ → Type 0
+abbrev pub IsNumberOf : Option PacketNumber → (rx number : ℕ) → Type 0
 IsNumberOf None rx number = ⊥
 IsNumberOf (Some low) rx number = IsNearest (number_window low) (number_low low) (plus rx 1) number
 
@@ -37,7 +37,7 @@ ring_key (Some k) phase number = remote_of (key_of k (which_named k.ring phase n
 
 -- The key that a packet names: an Initial or Handshake packet that of its space, a 0-RTT packet the early
 -- key, and a 1-RTT packet one of the ring, by its phase and number.
-unfoldable pub key_named : {P : Type 0} → Header → Option P → Option P → Option (Keyed P) → ℕ → Option P
+unfoldable pub key_named : {P : Type 0} → Header → (plain early : Option P) → Option (Keyed P) → ℕ → Option P
 key_named (Initial h) plain early ring number = plain
 key_named (Long Handshake dst_cid src_cid low version) plain early ring number = plain
 key_named (Long ZeroRtt dst_cid src_cid low version) plain early ring number = early
@@ -92,7 +92,7 @@ is_unanswered (Some k) = k.ring.unanswered
 
 -- whether an update is one that the peer wasn't allowed to make: with a number that isn't above all received,
 -- or before its last update was answered (RFC 9001, sections 6.2 and 6.4)
-abbrev pub is_bad_update : {P : Type 0} → Option Which → Option (Keyed P) → ℕ → ℕ → Bool
+abbrev pub is_bad_update : {P : Type 0} → Option Which → Option (Keyed P) → (rx number : ℕ) → Bool
 is_bad_update which ring rx number = are_next which && (nat_le number rx || is_unanswered ring)
 
 -- what is told of a packet that these keys of the ring opened, if it is a 1-RTT packet: the peer answers an
@@ -106,7 +106,7 @@ result_of which ring number =
     }
 
 -- the answer for a packet with this header and first byte, which its key opened or didn't; the first row that holds
-unfoldable pub opening_answer : {P : Type 0} → Header → ℕ → Option (Keyed P) → ℕ → ℕ → Bool → Result (Option DecryptPacketResult) OpenError
+unfoldable pub opening_answer : {P : Type 0} → Header → ℕ → Option (Keyed P) → (rx number : ℕ) → Bool → Result (Option DecryptPacketResult) OpenError
 opening_answer h first ring rx number opened =
     let which = which_in h ring number in
     if opened then

@@ -21,7 +21,7 @@ is_key_missing p has_key = is_protected p.header && not has_key
 
 -- whether a packet is told, and whether it is told as a reset; nothing is told where the key is missing, nor
 -- where the sample is cut and it is no reset
-abbrev pub told_as : Bool → Bool → Bool → Option (Bool × Bool)
+abbrev pub told_as : Bool → (cut reset : Bool) → Option (Bool × Bool)
 told_as true cut reset = None
 told_as false true false = None
 told_as false true true = Some (false, true)

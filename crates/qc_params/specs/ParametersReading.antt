@@ -125,7 +125,7 @@ value_or read default None = Some default
 value_or read default (Some value) = read value
 
 -- the number under an id, with its default
-unfoldable pub number_in : ℕ → ℕ → List ℕ → Option ℕ
+unfoldable pub number_in : (id default : ℕ) → List ℕ → Option ℕ
 number_in id default bytes = option_and_then (value_or number_value default) (value_in id bytes)
 
 -- the number under an id, without a default

@@ -40,7 +40,7 @@ parameter id value = varint id ++ varint (length value) ++ value
 -- ---- the bytes of a value, or none where the parameter is left out
 
 -- a number is a varint, and left out where it equals its default
-unfoldable pub number_text : ℕ → ℕ → Option (List ℕ)
+unfoldable pub number_text : (default : ℕ) → ℕ → Option (List ℕ)
 number_text default n = if n == default then None else Some (varint n)
 
 -- a flag that is set is an empty value

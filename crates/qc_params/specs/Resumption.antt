@@ -3,7 +3,7 @@ use Rattle.std.specs.Prelude.{ℕ, ◌≤◌, Option, Some, None, IsTrue}
 use Rattle.qc_params.specs.declared.params.TransportParameters.{TransportParameters}
 
 -- with no limit on DATAGRAM frames there are none, which is less than any limit
-abbrev pub IsNoLower : Option ℕ → Option ℕ → Type 0
+abbrev pub IsNoLower : Option ℕ → (current : Option ℕ) → Type 0
 IsNoLower None current = Unit {0}
 IsNoLower (Some limit) None = ⊥
 IsNoLower (Some limit) (Some current) = limit ≤ current

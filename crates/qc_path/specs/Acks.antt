@@ -111,5 +111,5 @@ pub record TakesIn (n : ℕ) (old new : List NumberRange) : Type 0 where
   pub kept : new ≡ latest all
 
 -- when an ACK may next be bundled: a round trip, and the peer's delay, and 1 ms after an ACK was sent
-unfoldable pub next_bundle : ℕ → ℕ → ℕ → ℕ
+unfoldable pub next_bundle : (now rtt delay : ℕ) → ℕ
 next_bundle now rtt delay = plus now (plus (plus rtt delay) 1000000)

@@ -43,12 +43,12 @@ lowest None = 0
 lowest (Some greatest) = greatest - (remembered - 1)
 
 -- one of `count` numbers from a lowest one on hasn't come
-abbrev pub missing_from : Window → ℕ → ℕ → Bool
+abbrev pub missing_from : Window → (low : ℕ) → ℕ → Bool
 missing_from w low zero = false
 missing_from w low (suc count) = not (has_come w low) || missing_from w (suc low) count
 
 -- one of the numbers from `low` up to, but without, `high` is remembered not to have come
-unfoldable pub some_missing : Window → ℕ → ℕ → Bool
+unfoldable pub some_missing : Window → (low high : ℕ) → Bool
 some_missing w low high = missing_from w (max low (lowest w.greatest)) (high - max low (lowest w.greatest))
 
 -- ---- what the window stands for: all numbers that ever came

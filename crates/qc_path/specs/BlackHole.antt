@@ -42,7 +42,7 @@ sent_later b None = None
 sent_later b (Some p) = if nat_lt b.last p.number then Some p else None
 
 -- one burst more that counts, beside at most two; none where three count already
-abbrev pub placed_burst : LossBurst → Option LossBurst → Option LossBurst → Option LossBurst → Option AckedPacket → Option BlackHoleDetector
+abbrev pub placed_burst : LossBurst → Option LossBurst → (second third : Option LossBurst) → Option AckedPacket → Option BlackHoleDetector
 placed_burst b None second third acked = Some (record { first = Some b; second = second; third = third; acked = acked })
 placed_burst b (Some x) None third acked = Some (record { first = Some x; second = Some b; third = third; acked = acked })
 placed_burst b (Some x) (Some y) None acked = Some (record { first = Some x; second = Some y; third = Some b; acked = acked })

@@ -17,7 +17,7 @@ number_used next s = if next == s.skipped then next + 1 else next
 
 -- the filter once that packet is numbered: where a number was skipped, the next one to be skipped is one of the `span`
 -- numbers from `span` on, and the span doubles, up to 2^32
-unfoldable pub numbered : ℕ → ℕ → Skips → Skips
+unfoldable pub numbered : (next word : ℕ) → Skips → Skips
 numbered next word s =
     if next == s.skipped then record { skipped = s.span + word % s.span; span = min (2 * s.span) 4294967296; last = Some next } else s
 

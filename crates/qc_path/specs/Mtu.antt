@@ -23,7 +23,7 @@ capped None size = size
 capped (Some most) size = min size most
 
 -- a path's first size
-unfoldable pub first_mtu : ℕ → ℕ → Option ℕ → Option SearchSettings → Mtu
+unfoldable pub first_mtu : (initial least : ℕ) → Option ℕ → Option SearchSettings → Mtu
 first_mtu initial least peer settings =
     record { current = capped peer (max initial least); least = least; peer = peer; settings = settings; phase = Unbegun; holes = no_bursts }
 
@@ -70,12 +70,12 @@ probing number None m = m
 probing number (Some q) m = record m { phase = Searching (record q { probe = Some (number, middle q) }) }
 
 -- that packet was sent, by these settings
-abbrev pub probe_sent_if_set : ℕ → ℕ → Option SearchSettings → Mtu → Mtu
+abbrev pub probe_sent_if_set : (now number : ℕ) → Option SearchSettings → Mtu → Mtu
 probe_sent_if_set now number None m = m
 probe_sent_if_set now number (Some s) m = probing number (search_at now s m m.phase) m
 
 -- the probe that is due was sent
-unfoldable pub probe_sent : ℕ → ℕ → Mtu → Mtu
+unfoldable pub probe_sent : (now number : ℕ) → Mtu → Mtu
 probe_sent now number m = probe_sent_if_set now number m.settings m
 
 -- the probe in flight: the number of its packet, and its size
@@ -116,7 +116,7 @@ raised_if_searching now (Searching q) m = search_raised now m q q.probe
 raised_if_searching now _ m = m
 
 -- a packet is acknowledged: a probe raises the size, and each one above the least size clears bursts
-unfoldable pub mtu_acked : ℕ → ℕ → ℕ → Mtu → Mtu
+unfoldable pub mtu_acked : (now number size : ℕ) → Mtu → Mtu
 mtu_acked now number size m =
     if is_probe number m then raised_if_searching now m.phase m
     else if nat_lt m.least size then record m { holes = packet_passed (record { number = number; size = size }) m.holes } else m
@@ -150,7 +150,7 @@ after_burst now None m = record m { current = capped m.peer m.least; holes = no_
 -- packets of consecutive numbers were lost at once, probes aside, the smallest of them of this size, and the last with this
 -- number. The burst counts where all of them are above the least size, and no packet that was sent later, and is at least as
 -- large as the smallest, is known to be acknowledged. The fourth burst that counts shows a black hole
-unfoldable pub mtu_burst : ℕ → ℕ → ℕ → Mtu → Mtu
+unfoldable pub mtu_burst : (now smallest last : ℕ) → Mtu → Mtu
 mtu_burst now smallest last m =
     if nat_le smallest m.least || is_cleared m.holes.acked (record { smallest = smallest; last = last }) then m
     else after_burst now (with_burst (record { smallest = smallest; last = last }) m.holes) m

@@ -11,7 +11,7 @@ pub record Reno : Type 0 where
   pub mtu : ℕ  -- the size of a datagram in bytes
 
 -- a new controller; its window is below every threshold
-unfoldable pub new_reno : ℕ → ℕ → Reno
+unfoldable pub new_reno : (initial mtu : ℕ) → Reno
 new_reno initial mtu = record { window = initial; ssthresh = 18446744073709551615; recovery_start = None; bytes_acked = 0; mtu = mtu }
 
 -- sent after the last congestion event
@@ -33,7 +33,7 @@ grown_slowly bytes r =
     else record r { bytes_acked = counted }
 
 -- an acknowledgement of a packet
-unfoldable pub reno_acked : ℕ → ℕ → Bool → Reno → Reno
+unfoldable pub reno_acked : (sent bytes : ℕ) → Bool → Reno → Reno
 reno_acked sent bytes app_limited r =
     if app_limited || not (is_after r.recovery_start sent) then r
     else if nat_lt r.window r.ssthresh then grown_fast bytes r
@@ -44,7 +44,7 @@ abbrev pub halved : Reno → ℕ
 halved r = max (r.window / 2) (2 * r.mtu)
 
 -- a congestion event for a packet: once in each round trip, the window falls to a half; a persistent one leaves two datagrams
-unfoldable pub reno_congested : ℕ → ℕ → Bool → Reno → Reno
+unfoldable pub reno_congested : (now sent : ℕ) → Bool → Reno → Reno
 reno_congested now sent persistent r =
     if is_after r.recovery_start sent then record r {
       window = (if persistent then 2 * r.mtu else halved r);

@@ -29,7 +29,7 @@ abbrev pub is_for_other : (SocketAddr → SocketAddr → Bool) → SocketAddr �
 is_for_other eq remote r = not (eq r.remote remote)
 
 -- of two answers to one address the one that counts: to the packet with the greater number, on a tie the later one
-abbrev pub counting : PathResponse → PathResponse → PathResponse
+abbrev pub counting : (old new : PathResponse) → PathResponse
 counting old new = if nat_le old.number new.number then new else old
 
 -- an answer, where one to its address waits at a place, or none does: then fewer than 16 have to wait

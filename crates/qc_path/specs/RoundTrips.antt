@@ -18,34 +18,34 @@ abbrev pub distance : ℕ → ℕ → ℕ
 distance a b = (a - b) + (b - a)
 
 -- a sample less the time that the peer held its ACK back, unless less than the least sample would be left
-unfoldable pub adjusted : ℕ → ℕ → ℕ → ℕ
+unfoldable pub adjusted : (least delay sample : ℕ) → ℕ
 adjusted least delay sample = if nat_le (plus least delay) sample then sample - delay else sample
 
 -- an eighth of the new time, and seven of the smoothed one
-unfoldable pub smoother : ℕ → ℕ → ℕ
+unfoldable pub smoother : (smoothed time : ℕ) → ℕ
 smoother smoothed time = plus (times smoothed 7) time / 8
 
 -- a quarter of the new distance, and three of the variation
-unfoldable pub varied : ℕ → ℕ → ℕ → ℕ
+unfoldable pub varied : (var smoothed time : ℕ) → ℕ
 varied var smoothed time = plus (times var 3) (distance smoothed time) / 4
 
 -- the least sample with one more
-abbrev pub least_with : Option ℕ → ℕ → ℕ → ℕ
+abbrev pub least_with : Option ℕ → (least sample : ℕ) → ℕ
 least_with None least sample = sample
 least_with (Some smoothed) least sample = min least sample
 
 -- the smoothed time with one more sample
-abbrev pub smoothed_with : Option ℕ → ℕ → ℕ → ℕ
+abbrev pub smoothed_with : Option ℕ → (time sample : ℕ) → ℕ
 smoothed_with None time sample = sample
 smoothed_with (Some smoothed) time sample = smoother smoothed time
 
 -- the variation with one more sample
-abbrev pub var_with : Option ℕ → ℕ → ℕ → ℕ → ℕ
+abbrev pub var_with : Option ℕ → (var time sample : ℕ) → ℕ
 var_with None var time sample = sample / 2
 var_with (Some smoothed) var time sample = varied var smoothed time
 
 -- a sample is taken, of an ACK that was held back for a time
-unfoldable pub sampled : ℕ → ℕ → Rtt → Rtt
+unfoldable pub sampled : (delay sample : ℕ) → Rtt → Rtt
 sampled delay sample rtt =
     let time : ℕ = adjusted (least_with rtt.smoothed rtt.least sample) delay sample in
     record {
@@ -73,7 +73,7 @@ all_sampled [] rtt = rtt
 all_sampled ((delay, sample) ∷ samples) rtt = all_sampled samples (sampled delay sample rtt)
 
 -- each sample lies between these two times
-abbrev pub AllBetween : ℕ → ℕ → List (ℕ × ℕ) → Type 0
+abbrev pub AllBetween : (low high : ℕ) → List (ℕ × ℕ) → Type 0
 AllBetween low high [] = Unit {0}
 AllBetween low high ((delay, sample) ∷ samples) = (low ≤ sample) × (sample ≤ high) × AllBetween low high samples
 

@@ -58,11 +58,11 @@ time_of_loss delay None = None
 time_of_loss delay (Some at) = Some (plus at delay)
 
 -- the packets that are lost
-unfoldable pub lost_of : Limits → ℕ → ℕ → ℕ → SpaceRecovery → List Entry
+unfoldable pub lost_of : Limits → (now delay largest : ℕ) → SpaceRecovery → List Entry
 lost_of l now delay largest s = those (is_lost largest l.packet_threshold now delay) s.flight
 
 -- the space without the packets that are lost, and when the next one will be lost for its age
-unfoldable pub space_less : Limits → ℕ → ℕ → ℕ → SpaceRecovery → SpaceRecovery
+unfoldable pub space_less : Limits → (now delay largest : ℕ) → SpaceRecovery → SpaceRecovery
 space_less l now delay largest s =
     let rest : List Entry = others (is_lost largest l.packet_threshold now delay) s.flight in
     record s { flight = rest; loss_time = time_of_loss delay (earliest_of (those (is_below largest) rest)) }
@@ -83,14 +83,14 @@ first_noted (Some sample) space next = Some sample
 
 -- Counts that can't be: one falls, or that of ECT(1), a mark that is never sent, rises, or the two others together rise by
 -- less than the packets that are newly acknowledged (RFC 9000, section 13.4.2.1).
-unfoldable pub are_bad : EcnCounts → EcnCounts → ℕ → Bool
+unfoldable pub are_bad : (old new : EcnCounts) → ℕ → Bool
 are_bad old new acked =
     nat_lt new.ect0 old.ect0 || not (new.ect1 == old.ect1) || nat_lt new.ce old.ce || nat_lt ((new.ect0 - old.ect0) + (new.ce - old.ce)) acked
 
 -- What the counts of an ACK show. They are looked at where it raises the greatest number acknowledged: ACKs may come out of
 -- order, and such a one never ends marking (RFC 9000, section 13.4.2.1). Counts that can't be, of an ACK that newly
 -- acknowledges packets, end it; a rise of the count of CE is congestion (RFC 9002, section 7.1).
-abbrev pub counts_show : Bool → EcnCounts → EcnCounts → ℕ → EcnVerdict
+abbrev pub counts_show : Bool → (old new : EcnCounts) → ℕ → EcnVerdict
 counts_show raises old new acked =
     if not raises then ecn.Unread
     else if not (acked == 0) && are_bad old new acked then ecn.Bad
@@ -104,7 +104,7 @@ counts_or_none_show raises old None acked = if acked == 0 then ecn.Unread else e
 counts_or_none_show raises old (Some new) acked = counts_show raises old new acked
 
 -- what an ACK shows on a path whose packets carry a mark, or no longer do
-unfoldable pub ecn_shown : Bool → Bool → EcnCounts → Option EcnCounts → ℕ → EcnVerdict
+unfoldable pub ecn_shown : (marking raises : Bool) → EcnCounts → Option EcnCounts → ℕ → EcnVerdict
 ecn_shown marking raises old new acked = if marking then counts_or_none_show raises old new acked else ecn.Unread
 
 -- no packet came with a mark
@@ -141,11 +141,11 @@ module _ {C : Type 0} where
   acks_told m now space limited (e ∷ es) p = acks_told m now space limited es (ack_told m now limited e (size_told m now space e p))
 
   -- the controller is told that all packets of an ACK were
-  unfoldable pub end_told : Control C → ℕ → ℕ → Bool → Option ℕ → PathData C → PathData C
+  unfoldable pub end_told : Control C → (now in_flight : ℕ) → Bool → Option ℕ → PathData C → PathData C
   end_told m now in_flight limited largest p = record p { congestion = m.after_acks p.congestion now in_flight limited largest }
 
   -- A sample is the time since the greatest packet acknowledged was sent (RFC 9002, section 5.1).
-  unfoldable pub sample_taken : ℕ → SpaceId → ℕ → ℕ → ℕ → PathData C → PathData C
+  unfoldable pub sample_taken : ℕ → SpaceId → (next delay at : ℕ) → PathData C → PathData C
   sample_taken now space next delay at p = record p { rtt = sampled delay (now - at) p.rtt; first_sample = first_noted p.first_sample space next }
 
   -- ---- lost packets
@@ -192,7 +192,7 @@ module _ {C : Type 0} where
   -- ---- ECN
 
   -- what the marks show is told: marking ends, or the controller learns of congestion
-  unfoldable pub ecn_told : Control C → ℕ → ℕ → EcnVerdict → PathData C → PathData C
+  unfoldable pub ecn_told : Control C → (now at : ℕ) → EcnVerdict → PathData C → PathData C
   ecn_told m now at ecn.Missing p = record p { sending_ecn = false }
   ecn_told m now at ecn.Bad p = record p { sending_ecn = false }
   ecn_told m now at ecn.Congested p = record p { congestion = m.after_congestion p.congestion now at false 0 }

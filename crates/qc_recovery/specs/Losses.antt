@@ -58,7 +58,7 @@ abbrev pub is_in_burst : SpaceId → Mtu → Entry → Bool
 is_in_burst space m e = is_data space && not (is_probe e.0 m)
 
 -- a burst that begins with a packet of this number and size
-abbrev pub burst_begun : ℕ → ℕ → Burst
+abbrev pub burst_begun : (number size : ℕ) → Burst
 burst_begun number size = record { smallest = size; last = number }
 
 -- the burst that ends before a lost packet, whose number isn't the next one
@@ -67,7 +67,7 @@ burst_ended None number = None
 burst_ended (Some b) number = if number == b.last + 1 then None else Some b
 
 -- the burst that a lost packet goes on with, or that it begins
-abbrev pub burst_with : Option Burst → ℕ → ℕ → Burst
+abbrev pub burst_with : Option Burst → (number size : ℕ) → Burst
 burst_with None number size = burst_begun number size
 burst_with (Some b) number size = if number == b.last + 1 then record { smallest = min b.smallest size; last = number } else burst_begun number size
 
@@ -79,7 +79,7 @@ marks_span space m e = e.1.ack_eliciting && not (is_probe_in space m e)
 
 -- the least number of a space that is after the path's first sample: one of a later space than the sample's, or of the
 -- same space and above the number that was next there
-abbrev pub start_by : Bool → Bool → ℕ → Option ℕ
+abbrev pub start_by : Bool → (same : Bool) → ℕ → Option ℕ
 start_by true same next = Some 0
 start_by false true next = Some (plus next 1)
 start_by false false next = None
@@ -96,7 +96,7 @@ may_start (Some least) n = nat_le least n
 
 -- from a packet that was sent at a time and has the number before them, lost numbers run on without a gap to one that
 -- elicits an ACK and was sent more than a span later
-abbrev pub reaches : (Entry → Bool) → ℕ → ℕ → ℕ → List Entry → Bool
+abbrev pub reaches : (Entry → Bool) → (span from before : ℕ) → List Entry → Bool
 reaches marks span from before [] = false
 reaches marks span from before (e ∷ es) =
     (e.0 == before + 1) && ((marks e && nat_lt span (e.1.at - from)) || reaches marks span from e.0 es)

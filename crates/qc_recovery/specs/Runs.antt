@@ -35,7 +35,7 @@ abbrev pub no_fates : Fates
 no_fates = record { sent = []; acked = []; lost = []; dropped = [] }
 
 -- packets of a space, where that is the space in question
-abbrev pub in_space : SpaceId → SpaceId → List Entry → List Entry
+abbrev pub in_space : (id space : SpaceId) → List Entry → List Entry
 in_space id space es = if rank space == rank id then es else []
 
 -- the packets that the loss timer shows to be lost in a space

@@ -75,7 +75,7 @@ sooner (Some a) None = Some a
 sooner (Some a) (Some b) = if nat_lt b.0 a.0 then Some b else Some a
 
 -- A probe timeout is doubled each time that it expires without an answer (RFC 9002, section 6.2.1); here at most 16 times.
-unfoldable pub backed_off : ℕ → ℕ → ℕ
+unfoldable pub backed_off : (duration count : ℕ) → ℕ
 backed_off duration count = times duration (2 ^ min count 16)
 
 -- The probe timeout of a space: the smoothed round trip time and four times its variation, 1 ms at least, and in Data the time
@@ -174,7 +174,7 @@ pub record SpaceAfter (C : Type 0) : Type 0 where
   pub lost : List Entry
 
 -- these four values as what a call on one space leaves
-abbrev pub space_with : {C : Type 0} → SpaceRecovery → PathData C → List Entry → List Entry → SpaceAfter C
+abbrev pub space_with : {C : Type 0} → SpaceRecovery → PathData C → (acked lost : List Entry) → SpaceAfter C
 space_with s p acked lost = record { space = s; path = p; acked = acked; lost = lost }
 
 -- what a call leaves
@@ -185,7 +185,7 @@ pub record After (C : Type 0) : Type 0 where
   pub lost : List Entry
 
 -- these four values as what a call leaves
-abbrev pub after_with : {C : Type 0} → Recovery → PathData C → List Entry → List Entry → After C
+abbrev pub after_with : {C : Type 0} → Recovery → PathData C → (acked lost : List Entry) → After C
 after_with r p acked lost = record { recovery = r; path = p; acked = acked; lost = lost }
 
 -- what the timer leaves
@@ -204,7 +204,7 @@ abbrev pub count_after : Around → List Entry → ℕ → ℕ
 count_after around acked count = if around.peer_validated && not (length acked == 0) then 0 else count
 
 -- an ACK in a space
-abbrev pub occasion : ℕ → SpaceId → ℕ → ℕ → Recovery → Occasion
+abbrev pub occasion : ℕ → SpaceId → (next began : ℕ) → Recovery → Occasion
 occasion now id next began r = record { time = now; space = id; next = next; began = began; others = other_bytes id r }
 
 -- Two probes are due where something may be lost, so that one lost datagram costs no further timeout; else one (RFC 9002,
@@ -216,7 +216,7 @@ module _ {C : Type 0} where
   -- ---- an ACK
 
   -- a sample is taken, where one is to be
-  abbrev pub sampled_if : Bool → Occasion → ℕ → ℕ → PathData C → PathData C
+  abbrev pub sampled_if : Bool → Occasion → (delay at : ℕ) → PathData C → PathData C
   sampled_if true o delay at p = sample_taken o.time o.space o.next delay at p
   sampled_if false o delay at p = p
 
@@ -232,7 +232,7 @@ module _ {C : Type 0} where
   path_lost m l o around lost p = losses_told m o.time o.space (is_persistent_in l o.space around.max_ack_delay lost p) lost p
 
   -- the counts of the ACK are looked at
-  unfoldable pub marks_read : Control C → Occasion → AckValues → Bool → List Entry → List Entry → SpaceRecovery → PathData C → SpaceAfter C
+  unfoldable pub marks_read : Control C → Occasion → AckValues → Bool → (acked lost : List Entry) → SpaceRecovery → PathData C → SpaceAfter C
   marks_read m o a raises acked lost s p =
       space_with (record s { counts = counts_kept (ecn_shown p.sending_ecn raises s.counts a.ecn (length acked)) s.counts a.ecn })
       (ecn_told m o.time (unwrap_or s.kept_at o.began) (ecn_shown p.sending_ecn raises s.counts a.ecn (length acked)) p) acked lost
@@ -260,7 +260,7 @@ module _ {C : Type 0} where
   counted around a = record a { recovery = record a.recovery { count = count_after around a.acked a.recovery.count } }
 
   -- what an ACK leaves
-  unfoldable pub ack_after : Control C → ℕ → SpaceId → ℕ → ℕ → AckValues → List NumberRange → Around → Recovery → PathData C → After C
+  unfoldable pub ack_after : Control C → ℕ → SpaceId → (next began : ℕ) → AckValues → List NumberRange → Around → Recovery → PathData C → After C
   ack_after m now id next began a ranges around r p =
       counted around (placed id r (space_after m r.limits (occasion now id next began r) a ranges around (space_of id r) p))
 

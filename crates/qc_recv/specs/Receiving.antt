@@ -78,7 +78,7 @@ breaks_size end last r = is_past end r.size || (last && (is_other end r.size || 
 
 -- whether an end lies above the stream's credit, or takes more than the connection has room for: a peer that passes a
 -- limit breaks flow control (RFC 9000, section 4.1)
-unfoldable pub above_credit : ℕ → ℕ → Recv → Bool
+unfoldable pub above_credit : (end room : ℕ) → Recv → Bool
 above_credit end room r = nat_lt (credit r) end || nat_lt room (new_bytes end r)
 
 -- the first refusal of a table whose row holds
@@ -128,7 +128,7 @@ stream_taken o bs last r =
     if is_ended r || is_some r.reset then r else end_taken (o + length bs) last (bytes_taken o bs r)
 
 -- why a RESET_STREAM frame is refused; on a side that has ended none is
-unfoldable pub reset_refusal : ℕ → ℕ → Recv → Option Refusal
+unfoldable pub reset_refusal : (size room : ℕ) → Recv → Option Refusal
 reset_refusal size room r = if is_ended r then None else end_refusal size true room r
 
 -- a RESET_STREAM frame is taken: passed over on a side that has ended or after another; bytes that weren't read may be

@@ -36,7 +36,7 @@ keys_kept None = None
 keys_kept (Some previous) = Some previous.keys
 
 -- a ring that begins with these keys
-abbrev pub first_keyed : {P : Type 0} → KeyPair P → KeyPair P → Keyed P
+abbrev pub first_keyed : {P : Type 0} → (current next : KeyPair P) → Keyed P
 first_keyed current next = record { ring = first_ring; count = 0; current = current; next = next; previous = None }
 
 -- the keys that are named

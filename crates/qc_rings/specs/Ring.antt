@@ -36,7 +36,7 @@ abbrev pub phase_of : ℕ → Bool
 phase_of epoch = nat_eq (epoch % 2) 1
 
 -- whether two phase bits are the same
-abbrev pub same_phase : Bool → Bool → Bool
+abbrev pub same_phase : Bool → (phase : Bool) → Bool
 same_phase true phase = phase
 same_phase false phase = not phase
 

@@ -35,11 +35,11 @@ share_of None = 0
 share_of (Some share) = share
 
 -- The secret of a client's and a server's share.
-abbrev pub shared_secret : ℕ → ℕ → List ℕ
+abbrev pub shared_secret : (client server : ℕ) → List ℕ
 shared_secret client server = client ∷ server ∷ 0 ∷ 0 ∷ 0 ∷ []
 
 -- The secret of an end, of its own share and its peer's.
-abbrev pub secret_by : Side → ℕ → ℕ → List ℕ
+abbrev pub secret_by : Side → (own peer : ℕ) → List ℕ
 secret_by Client own peer = shared_secret own peer
 secret_by Server own peer = shared_secret peer own
 

@@ -35,11 +35,11 @@ is_congested (Some Ce) = true
 is_congested _ = false
 
 -- a packet that came
-abbrev pub arrival_of : ℕ → ℕ → Bool → Option EcnCodepoint → Arrival
+abbrev pub arrival_of : (number at : ℕ) → Bool → Option EcnCodepoint → Arrival
 arrival_of number at eliciting mark = record { number = number; at = at; ack_eliciting = eliciting; ce = is_congested mark }
 
 -- a packet came that was opened: its number, its arrival among those to acknowledge, and its mark
-unfoldable pub packet_received : Bool → ℕ → ℕ → Bool → Option EcnCodepoint → PacketSpace → PacketSpace
+unfoldable pub packet_received : Bool → (number at : ℕ) → Bool → Option EcnCodepoint → PacketSpace → PacketSpace
 packet_received in_data number at eliciting mark s = record s {
   seen = arrived number s.seen;
   acks = acks_received in_data (arrived number s.seen) (arrival_of number at eliciting mark) s.acks;

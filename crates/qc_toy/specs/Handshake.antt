@@ -183,7 +183,7 @@ read_answer None ready = Ok ready
 read_answer (Some alert) ready = Err (alert_error alert)
 
 -- what a session has read of its peer: the new bytes count only where no alert refuses them
-abbrev pub heard_after : Option ℕ → List ℕ → List ℕ → List ℕ
+abbrev pub heard_after : Option ℕ → (before joined : List ℕ) → List ℕ
 heard_after None before joined = joined
 heard_after (Some alert) before joined = before
 
@@ -276,21 +276,21 @@ unfoldable pub session_parameters : ToySession → Result (Option TransportParam
 session_parameters s = parameters_by s.side s
 
 -- The integrity tag of a Retry packet, of the id that the client first sent to: its key is 16 bytes 82.
-unfoldable pub retry_tag : List ℕ → List ℕ → List ℕ
+unfoldable pub retry_tag : (id packet : List ℕ) → List ℕ
 retry_tag id packet = tag (replicate 16 82) (checksum 0 (length id ∷ id) packet) 0
 
 -- A payload fits if its last 16 bytes are the tag of what stands before them.
-unfoldable pub fits_retry : List ℕ → List ℕ → List ℕ → Bool
+unfoldable pub fits_retry : (id header payload : List ℕ) → Bool
 fits_retry id header payload =
     nat_le 16 (length payload)
     && bytes_eq (drop (length payload - 16) payload) (retry_tag id (header ++ take (length payload - 16) payload))
 
 -- Byte i of the keying material of a label and a context.
-abbrev pub exported_byte : List ℕ → List ℕ → List ℕ → ℕ → ℕ
+abbrev pub exported_byte : (secret label context : List ℕ) → ℕ → ℕ
 exported_byte secret label context i = (slice_index secret (i % 5) + sum label + 3 * sum context + i) % 256
 
 -- the first n bytes of the keying material of a label and a context
-unfoldable pub exported_bytes : List ℕ → ℕ → List ℕ → List ℕ → List ℕ
+unfoldable pub exported_bytes : List ℕ → ℕ → (label context : List ℕ) → List ℕ
 exported_bytes secret n label context = tabulated (exported_byte secret label context) 0 n
 
 -- A client and a server are paired if they have the same secret.

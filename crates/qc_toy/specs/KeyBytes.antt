@@ -32,7 +32,7 @@ key_bytes secret level sender usage epoch =
     ∷ level_byte level ∷ sender_byte sender ∷ usage_byte usage ∷ to_be_bytes w64 epoch
 
 -- The sum of the bytes whose index, counted from `at` on, leaves `i` modulo 5.
-abbrev pub sum_of_fifths : ℕ → ℕ → List ℕ → ℕ
+abbrev pub sum_of_fifths : ℕ → (at : ℕ) → List ℕ → ℕ
 sum_of_fifths i at [] = 0
 sum_of_fifths i at (b ∷ bytes) = (if at % 5 == i then b else 0) + sum_of_fifths i (at + 1) bytes
 

@@ -22,7 +22,7 @@ unfoldable pub message : Kind → List ℕ → List ℕ
 message kind body = framed kind (take 65535 body)
 
 -- The same of a body in two parts that fits.
-abbrev pub message_by_parts : Kind → List ℕ → List ℕ → List ℕ
+abbrev pub message_by_parts : Kind → (first rest : List ℕ) → List ℕ
 message_by_parts kind first rest = kind_byte kind ∷ to_be_bytes w16 (length first + length rest) ++ first ++ rest
 
 -- a message cut off the front of some bytes: its type byte, its body, and the bytes that follow it
@@ -32,7 +32,7 @@ pub record Message : Type 0 where
   pub rest : List ℕ
 
 -- a message with n bytes of body, or none where the bytes behind the length are fewer
-abbrev pub message_by_length : ℕ → ℕ → List ℕ → Option Message
+abbrev pub message_by_length : (kind : ℕ) → ℕ → List ℕ → Option Message
 message_by_length kind n bytes =
     if nat_lt (length bytes) n then None else Some (record { kind = kind; body = take n bytes; rest = drop n bytes })
 
