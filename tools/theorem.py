@@ -240,7 +240,7 @@ class World:
             first, _, rest = word.partition(".")
             if first == skip and not rest:
                 continue
-            if first in scope.modules and (rest[:1].isupper() or first not in bound):
+            if rest and first in scope.modules and (rest[:1].isupper() or first not in bound):
                 found += self.follow_path(scope.modules[first], rest.split(".")[0] or None)
             elif first in bound:
                 continue
@@ -307,6 +307,8 @@ class World:
                 begin, after = (it + at for it in ghosts[member])
                 lines += source.lines[with_comment(source.lines, begin, "//") : after]
                 found += self.follow(source, "\n".join(source.lines[begin:after]))
+                # A member whose type names another one.
+                self.members[name] |= set(re.findall(r"\w+", "\n".join(source.lines[begin:after]))) & set(ghosts)
             for bound in re.findall(r"^    type \w+: (.*);", "\n".join(source.lines[at:end]), re.M):
                 found += self.follow_types(source, bound)
             item.text = "\n".join([*source.lines[first:at], *lines, "}"])
@@ -380,6 +382,8 @@ class World:
                 self.members.setdefault(generics[param], set()).add(member)
         for member in re.findall(r"\b\w+\.Random\.(\w+)", code):
             self.members.setdefault("Rng", set()).add(member)
+        for trait, member in re.findall(r"<\w+ as (\w+)>⟧\.(\w+)", code):
+            self.members.setdefault(trait, set()).add(member)
         for of, trait in re.findall(r"<(\w+) as (\w+)>", code):
             for it in self.sources.values():
                 if it.impl_of(trait, of):

@@ -2,7 +2,7 @@ pub mod Elicits
 pub mod Established
 pub mod Fitting
 pub mod Padding
-pub mod Payloads
+pub mod PayloadFrames
 pub mod Reasons
 pub mod Refusals
 pub mod Sessions

@@ -1,15 +1,20 @@
--- What a frame leaves of its packet.
-use Rattle.std.specs.Prelude.{◌≡◌, Option, Some}
-use Rattle.qc_admit.specs.declared.admitting.Behind.{Behind}
-use Rattle.qc_admit.specs.declared.admitting.Behind.TheVariants.{Ends, Goes, Closes}
-use Rattle.qc_state.specs.declared.life.ConnectionError.{ConnectionError}
+-- What a frame leaves of its packet and of a connection that stands so, and what the frames of a packet have made so far.
+use Rattle.qc_admit.specs.declared.behind.Behind.{Behind}
+use Rattle.qc_admit.specs.declared.behind.Behind.TheVariants.{Goes, Closes, Ends}
+use Rattle.qc_admit.specs.declared.behind.Course.{Course}
+use Rattle.qc_admit.specs.declared.behind.Course.TheVariants.{Reads, Ended}
+use Rattle.qc_state.specs.Receiving as receiving
 use Rattle.qc_state.specs.Types.{Types}
 use Rattle.qc_state.specs.View.{At}
 
 module _ {t : Types} where
-  -- What a frame leads to where `close` was the last close so far, by what it leaves: the packet ends, or the frames that are
-  -- left come behind, with the same last close or with this one.
-  abbrev pub Leads : Behind → (close : Option ConnectionError) → ((Option ConnectionError → At t → At t) → At t) → At t → Type 0
-  Leads Ends close makes b = (others : Option ConnectionError → At t → At t) → b ≡ makes others
-  Leads Goes close makes b = (others : Option ConnectionError → At t → At t) → others close b ≡ makes others
-  Leads (Closes why) close makes b = (others : Option ConnectionError → At t → At t) → others (Some why) b ≡ makes others
+  -- what a frame leaves
+  abbrev pub left_by : Behind → At t → receiving.Behind t
+  left_by Goes a = receiving.Goes a
+  left_by (Closes why) a = receiving.Closes why a
+  left_by Ends a = receiving.Ends a
+
+  -- what the frames made so far
+  abbrev pub course_of : Course → At t → receiving.Course t
+  course_of (Reads close) a = receiving.Reads close a
+  course_of Ended a = receiving.Ended a

@@ -3,17 +3,18 @@
 ghost use Rattle.std.specs.Prelude.{◌≡◌, ◌+◌, ◌-◌, ◌<◌, ◌≤◌, ◌^◌, ◌||◌, ◌&&◌, ◌==◌, nat_lt, nat_le, if◌then◌else◌, [], true, false, Some, None, length, OnOk, IfOk, IfSome, IfNone, is_none};
 ghost use Rattle.qc_assembler.specs.Assembly.{inserted, part_count};
 ghost use Rattle.qc_base.specs.declared.transport_error.TransportError.{TransportError};
+ghost use Rattle.qc_admit.specs.Behind.{left_by};
 ghost use Rattle.qc_admit.specs.Reading.{HasRead, HasWritten, keys_taken};
 ghost use Rattle.qc_state.specs.Lower.{ready_bytes, stream_of};
 ghost use Rattle.qc_state.specs.Progress.{ended_after, ids_fit, is_end, is_server_start, learned_after, learned_with, names_id, over_after, parameters_and, progress_after, token_after, written_after};
 ghost use Rattle.qc_state.specs.Life.{is_handshake};
 ghost use Rattle.qc_state.specs.Moves.{Confirm, Establish, Forget, armed_after, move_to};
 ghost use Rattle.qc_base.specs.declared.side.SpaceId.TheVariants.{Handshake};
-ghost use Rattle.qc_state.specs.Receiving.{answered_and, crypto_and, crypto_stop, expected_below, expected_space, given_and, is_below};
+ghost use Rattle.qc_state.specs.Receiving.{answered_after, bytes_given, crypto_stop, ended_by, expected_below, expected_space, is_below, kept_after};
 ghost use Rattle.qc_state.specs.Stopping.{internal_error_at};
-ghost use Rattle.qc_state.specs.Types.{meaning};
 ghost use Rattle.qc_state.specs.View.{At, ideal, held};
 
+use crate::behind::Behind;
 use bytes::Bytes;
 use qc_assembler::InsertError;
 use qc_base::{
@@ -23,7 +24,7 @@ use qc_core::Core;
 use qc_core::stopping::error_at;
 use qc_crypto::{Keys, Session, SessionError};
 use qc_params::TransportParameters;
-use qc_state::{Body, Dids, Layer, OneRttKeys, SoundSession, SpaceKeys, Suite};
+use qc_state::{Body, Coming, Dids, Layer, Means, OneRttKeys, SoundSession, SpaceKeys, Suite};
 use std::alloc::{AllocError, Global};
 
 /// Whether bytes at an offset reach past those that were read.
@@ -176,7 +177,7 @@ fn do_read<U: Suite>(
     did: &mut Dids,
     space: SpaceId,
 ) -> Result<Option<Result<bool, TransportError>>, AllocError>
-    ensures { IfOk result (λ told. HasRead (meaning U.Session.Session U.Session.HeaderKey.HeaderMask U.Session.PacketKey.PacketKey U.Control.Controller.Controller) space (ready_bytes (stream_of core.old.lower space)) told (held U.Random.stream core.old did.old) (held U.Random.stream core.new did.new)) }
+    ensures { IfOk result (λ told. HasRead ⟦<U as Means>⟧.meaning space (ready_bytes (stream_of core.old.lower space)) told (held U.Random.stream core.old did.old) (held U.Random.stream core.new did.new)) }
 {
     let bytes = core.lower.take_ready(alloc, space)?;
     if bytes.as_slice().is_empty() {
@@ -187,72 +188,72 @@ fn do_read<U: Suite>(
     Ok(Some(answer))
 }
 
-/// The session answered a read. Answers whether it refused the bytes, and this end closes.
+/// The session answered a read: where it refused the bytes, this end closes.
 fn answered<U: Suite>(
     core: &mut Core<U>,
     did: &mut Dids,
-    now: Instant,
+    coming: &Coming,
     answer: Result<bool, TransportError>,
-) -> Result<bool, AllocError>
-    ensures ends { IfOk result (λ ends. ends ≡ true → (others : At _ → At _) → (held U.Random.stream core.new did.new) ≡ answered_and now answer others (held U.Random.stream core.old did.old)) }
-    ensures goes { IfOk result (λ ends. ends ≡ false → (others : At _ → At _) → others (held U.Random.stream core.new did.new) ≡ answered_and now answer others (held U.Random.stream core.old did.old)) }
+) -> Result<Behind, AllocError>
+    ensures { IfOk result (λ behind. left_by behind (held U.Random.stream core.new did.new) ≡ answered_after coming.now answer (held U.Random.stream core.old did.old)) }
 {
     match answer {
         Err(error) => {
-            core.stopped(did, now, error)?;
-            Ok(true)
+            core.stopped(did, coming.time, error)?;
+            Ok(Behind::Ends)
         }
         Ok(ready) => {
             if ready {
                 core.do_ready();
+                return Ok(Behind::Goes);
             }
-            Ok(false)
+            Ok(Behind::Goes)
         }
     }
 }
 
-/// The session is given all bytes of the space's CRYPTO stream that can be read in order. Answers whether it refused
-/// them, and this end closes.
+/// The session is given all bytes of the space's CRYPTO stream that can be read in order.
 fn given<U: Suite>(
     core: &mut Core<U>,
     alloc: Global,
     did: &mut Dids,
-    now: Instant,
+    coming: &Coming,
     space: SpaceId,
-) -> Result<bool, AllocError>
-    ensures ends { IfOk result (λ ends. ends ≡ true → (others : At _ → At _) → (held U.Random.stream core.new did.new) ≡ given_and (meaning U.Session.Session U.Session.HeaderKey.HeaderMask U.Session.PacketKey.PacketKey U.Control.Controller.Controller) now space (ready_bytes (stream_of core.old.lower space)) others (held U.Random.stream core.old did.old)) }
-    ensures goes { IfOk result (λ ends. ends ≡ false → (others : At _ → At _) → others (held U.Random.stream core.new did.new) ≡ given_and (meaning U.Session.Session U.Session.HeaderKey.HeaderMask U.Session.PacketKey.PacketKey U.Control.Controller.Controller) now space (ready_bytes (stream_of core.old.lower space)) others (held U.Random.stream core.old did.old)) }
+) -> Result<Behind, AllocError>
+    ensures { IfOk result (λ behind. left_by behind (held U.Random.stream core.new did.new) ≡ bytes_given ⟦<U as Means>⟧.meaning coming.now space (ready_bytes (stream_of core.old.lower space)) (held U.Random.stream core.old did.old)) }
 {
     match do_read(core, alloc, did, space)? {
-        None => Ok(false),
-        Some(answer) => answered(core, did, now, answer),
+        None => Ok(Behind::Goes),
+        Some(answer) => answered(core, did, coming, answer),
     }
 }
 
-/// A CRYPTO frame. Answers whether it ends its packet: it does where it stops it, or the session refuses
-/// the bytes.
+/// A CRYPTO frame. It ends its packet where it stops it, or the session refuses the bytes.
 pub(crate) fn crypto<U: Suite>(
     core: &mut Core<U>,
     alloc: Global,
     did: &mut Dids,
-    now: Instant,
+    coming: &Coming,
     space: SpaceId,
     offset: u64,
     body: &[u8],
-) -> Result<bool, AllocError>
-    ensures ends { IfOk result (λ ends. ends ≡ true → (others : At _ → At _) → (held U.Random.stream core.new did.new) ≡ crypto_and (meaning U.Session.Session U.Session.HeaderKey.HeaderMask U.Session.PacketKey.PacketKey U.Control.Controller.Controller) now space offset body.now (crypto_stop (ideal U.Random.stream core.old) space offset body.now) others (held U.Random.stream core.old did.old)) }
-    ensures goes { IfOk result (λ ends. ends ≡ false → (others : At _ → At _) → others (held U.Random.stream core.new did.new) ≡ crypto_and (meaning U.Session.Session U.Session.HeaderKey.HeaderMask U.Session.PacketKey.PacketKey U.Control.Controller.Controller) now space offset body.now (crypto_stop (ideal U.Random.stream core.old) space offset body.now) others (held U.Random.stream core.old did.old)) }
+) -> Result<Behind, AllocError>
+    ensures { IfOk result (λ behind. left_by behind (held U.Random.stream core.new did.new) ≡ ended_by coming.now.time (crypto_stop (ideal U.Random.stream core.old) space offset body.now) (kept_after ⟦<U as Means>⟧.meaning coming.now space offset body.now) (held U.Random.stream core.old did.old)) }
 {
     if let Some(error) = crypto_refusal(core, space, offset, body) {
-        core.stopped(did, now, error)?;
-        return Ok(true);
+        core.stopped(did, coming.time, error)?;
+        return Ok(Behind::Ends);
     }
     let bytes = Bytes::copy_from_slice(alloc, body)?;
     match core.do_come(space, offset, bytes) {
-        Ok(()) => given(core, alloc, did, now, space),
+        Ok(()) => given(core, alloc, did, coming, space),
         Err(InsertError::TooManyParts) => {
-            core.stopped(did, now, error_at(TransportErrorCode::INTERNAL_ERROR, None))?;
-            Ok(true)
+            core.stopped(
+                did,
+                coming.time,
+                error_at(TransportErrorCode::INTERNAL_ERROR, None),
+            )?;
+            Ok(Behind::Ends)
         }
         Err(InsertError::OutOfMemory) => Err(AllocError),
     }
@@ -264,7 +265,7 @@ fn take_keys<U: Suite>(
     core: &mut Core<U>,
     keys: Option<Keys<<U::Session as Session>::HeaderKey, <U::Session as Session>::PacketKey>>,
 )
-    ensures leads { (ideal U.Random.stream core.new) ≡ keys_taken (meaning U.Session.Session U.Session.HeaderKey.HeaderMask U.Session.PacketKey.PacketKey U.Control.Controller.Controller) keys (ideal U.Random.stream core.old) }
+    ensures leads { (ideal U.Random.stream core.new) ≡ keys_taken ⟦<U as Means>⟧.meaning keys (ideal U.Random.stream core.old) }
     ensures left { U.Session.left core.new.lower.session ≤ U.Session.left core.old.lower.session }
 {
     let keys = match keys {
@@ -285,7 +286,7 @@ fn take_keys<U: Suite>(
 /// The session writes once. Answers whether it wrote something or gave keys; otherwise nothing changes. Want of memory
 /// is the only refusal.
 fn write_once<U: Suite>(core: &mut Core<U>, alloc: Global, did: &Dids) -> Result<bool, AllocError>
-    ensures { IfOk result (λ wrote. HasWritten (meaning U.Session.Session U.Session.HeaderKey.HeaderMask U.Session.PacketKey.PacketKey U.Control.Controller.Controller) wrote (held U.Random.stream core.old did.now) (held U.Random.stream core.new did.now)) }
+    ensures { IfOk result (λ wrote. HasWritten ⟦<U as Means>⟧.meaning wrote (held U.Random.stream core.old did.now) (held U.Random.stream core.new did.now)) }
 {
     let mut bytes = Vec::new(alloc);
     let keys = core.lower.session.write(&mut bytes)?;
@@ -300,7 +301,7 @@ fn write_once<U: Suite>(core: &mut Core<U>, alloc: Global, did: &Dids) -> Result
 
 /// The session writes until nothing is left. Want of memory is the only refusal.
 fn written<U: Suite>(core: &mut Core<U>, alloc: Global, did: &Dids) -> Result<(), AllocError>
-    ensures { OnOk result ((held U.Random.stream core.new did.now) ≡ written_after (meaning U.Session.Session U.Session.HeaderKey.HeaderMask U.Session.PacketKey.PacketKey U.Control.Controller.Controller) (held U.Random.stream core.old did.now)) }
+    ensures { OnOk result ((held U.Random.stream core.new did.now) ≡ written_after ⟦<U as Means>⟧.meaning (held U.Random.stream core.old did.now)) }
 {
     loop {
         if !write_once(core, alloc, did)? {
@@ -314,7 +315,7 @@ fn written<U: Suite>(core: &mut Core<U>, alloc: Global, did: &Dids) -> Result<()
 fn ids_fit<U: Suite>(core: &Core<U>, parameters: &TransportParameters) -> bool
     ensures { result ≡ ids_fit (ideal U.Random.stream core.now) parameters.now }
 {
-    let fits = names_id(parameters.initial_src_cid, core.paths.remote_cid);
+    let fits = names_id(parameters.initial_src_cid, core.paths.peer_id());
     match core.setup.fixed.side {
         Side::Client => {
             fits && (names_id(parameters.original_dst_cid, core.setup.fixed.first_cid)
@@ -326,12 +327,16 @@ fn ids_fit<U: Suite>(core: &Core<U>, parameters: &TransportParameters) -> bool
 
 /// A client is told a server's token for a stateless reset, where its parameters have one.
 #[tactic(auto, unfolding(qc_state::specs::Moves::move_to, qc_state::specs::Moves::deeds_move, qc_state::specs::Setup::ideal_setup))]
-fn tell_token<U: Suite>(core: &mut Core<U>, token: Option<ResetToken>, did: &Dids)
-    ensures { (held U.Random.stream core.new did.now) ≡ token_after core.old.setup.fixed.side token (held U.Random.stream core.old did.now) }
+fn tell_token<U: Suite>(
+    core: &mut Core<U>,
+    token: Option<ResetToken>,
+    did: &Dids,
+) -> Result<(), AllocError>
+    ensures { OnOk result ((held U.Random.stream core.new did.now) ≡ token_after core.old.setup.fixed.side token (held U.Random.stream core.old did.now)) }
 {
     match (core.setup.fixed.side, token) {
         (Side::Client, Some(token)) => core.do_token(token),
-        _ => {}
+        _ => Ok(()),
     }
 }
 
@@ -342,16 +347,16 @@ fn learn_with<U: Suite>(
     now: Instant,
     parameters: TransportParameters,
     did: &Dids,
-)
-    ensures { (held U.Random.stream core.new did.now) ≡ learned_with now parameters (held U.Random.stream core.old did.now) }
+) -> Result<(), AllocError>
+    ensures { OnOk result ((held U.Random.stream core.new did.now) ≡ learned_with now parameters (held U.Random.stream core.old did.now)) }
 {
     let has_no_ids = core.setup.fixed.local_cid.is_empty();
     let count = parameters.issue_cids_limit().saturating_sub(1);
     core.do_learn(parameters);
     if has_no_ids {
-        return;
+        return Ok(());
     }
-    core.do_want(now, count);
+    core.do_want(now, count)
 }
 
 /// The peer's parameters, as the session gives them. Answers whether they can be read and their ids fit; otherwise this end
@@ -370,9 +375,9 @@ fn learned<U: Suite>(
         Ok(None) => core.stopped(did, now, error_at(TransportErrorCode::crypto(0x6d), None))?,
         Ok(Some(parameters)) => {
             let fits = ids_fit(core, &parameters);
-            tell_token(core, parameters.stateless_reset_token, did);
+            tell_token(core, parameters.stateless_reset_token, did)?;
             if fits {
-                learn_with(core, now, parameters, did);
+                learn_with(core, now, parameters, did)?;
                 return Ok(true);
             }
             let error = error_at(TransportErrorCode::TRANSPORT_PARAMETER_ERROR, None);
@@ -391,7 +396,7 @@ fn learn<U: Suite>(
     now: Instant,
     before: SpaceId,
 ) -> Result<(), AllocError>
-    ensures { OnOk result ((held U.Random.stream core.new did.new) ≡ learned_after (meaning U.Session.Session U.Session.HeaderKey.HeaderMask U.Session.PacketKey.PacketKey U.Control.Controller.Controller) now before (held U.Random.stream core.old did.old)) }
+    ensures { OnOk result ((held U.Random.stream core.new did.new) ≡ learned_after ⟦<U as Means>⟧.meaning now before (held U.Random.stream core.old did.old)) }
 {
     if !is_server_start(core.setup.fixed.side, before, core.keys.highest) {
         return Ok(());
@@ -415,7 +420,7 @@ fn confirm<U: Suite>(core: &mut Core<U>, did: &mut Dids, now: Instant) -> Result
 /// The handshake is over: a client reads the server's parameters, a server confirms it.
 #[tactic(auto, unfolding(qc_state::specs::Setup::ideal_setup))]
 fn over<U: Suite>(core: &mut Core<U>, did: &mut Dids, now: Instant) -> Result<(), AllocError>
-    ensures { OnOk result ((held U.Random.stream core.new did.new) ≡ over_after (meaning U.Session.Session U.Session.HeaderKey.HeaderMask U.Session.PacketKey.PacketKey U.Control.Controller.Controller) now core.old.setup.fixed.side (held U.Random.stream core.old did.old)) }
+    ensures { OnOk result ((held U.Random.stream core.new did.new) ≡ over_after ⟦<U as Means>⟧.meaning now core.old.setup.fixed.side (held U.Random.stream core.old did.old)) }
 {
     match core.setup.fixed.side {
         Side::Client => {
@@ -444,7 +449,7 @@ fn ended<U: Suite>(
     now: Instant,
     space: SpaceId,
 ) -> Result<(), AllocError>
-    ensures { OnOk result ((held U.Random.stream core.new did.new) ≡ ended_after (meaning U.Session.Session U.Session.HeaderKey.HeaderMask U.Session.PacketKey.PacketKey U.Control.Controller.Controller) now space (held U.Random.stream core.old did.old)) }
+    ensures { OnOk result ((held U.Random.stream core.new did.new) ≡ ended_after ⟦<U as Means>⟧.meaning now space (held U.Random.stream core.old did.old)) }
 {
     if !is_ended(core, space) {
         return Ok(());
@@ -462,7 +467,7 @@ pub(crate) fn progress<U: Suite>(
     now: Instant,
     space: SpaceId,
 ) -> Result<(), AllocError>
-    ensures { OnOk result ((held U.Random.stream core.new did.new) ≡ progress_after (meaning U.Session.Session U.Session.HeaderKey.HeaderMask U.Session.PacketKey.PacketKey U.Control.Controller.Controller) now space (held U.Random.stream core.old did.old)) }
+    ensures { OnOk result ((held U.Random.stream core.new did.new) ≡ progress_after ⟦<U as Means>⟧.meaning now space (held U.Random.stream core.old did.old)) }
 {
     let before = core.keys.highest;
     written(core, alloc, did)?;

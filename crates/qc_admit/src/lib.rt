@@ -2,6 +2,10 @@
 #![tactic(auto)]
 
 mod admitting;
+mod behind;
+mod frames;
 mod handshake;
+mod payloads;
+mod stops;
 
 pub use admitting::{received, received_in};

@@ -9,6 +9,8 @@ use std::marker::Model;
 
 /// The settings of the connections that a client makes. `C` is what its sessions are started with
 /// ([`qc_crypto::ClientConfig`]), and `S` its store of tokens.
+///
+/// So far no endpoint reads them: who makes a connection hands over what it takes of them.
 #[derive(Drop)]
 pub struct ClientConfig<C, S> {
     transport: TransportConfig,

@@ -9,6 +9,8 @@ use std::alloc::{AllocError, Global};
 use std::marker::Model;
 
 /// The settings of an endpoint, which all of its connections share.
+///
+/// So far no endpoint reads them: who makes a connection hands over what it takes of them.
 #[derive(Drop)]
 pub struct EndpointConfig<H> {
     reset_key: H,

@@ -12,6 +12,8 @@ use std::net::{SocketAddrV4, SocketAddrV6};
 
 /// The settings of the connections that a server takes. `C` is what its sessions are started with
 /// ([`qc_crypto::ServerConfig`]), `K` the key of its tokens, `T` its clock, and `L` its log of used tokens.
+///
+/// So far no endpoint reads them: who makes a connection hands over what it takes of them.
 #[derive(Drop)]
 pub struct ServerConfig<C, K, T, L> {
     /// The settings that both clients and servers have.
@@ -126,7 +128,7 @@ impl<C: qc_crypto::ServerConfig, K: HandshakeTokenKey, T: TimeSource, L: TokenLo
         self.retry_token_lifetime
     }
 
-    /// Sets whether clients may move to other addresses (RFC 9000, section 9).
+    /// Sets whether clients may move to other addresses (RFC 9000, section 9). It has no effect yet: no connection follows.
     pub fn migration(&mut self, value: bool) -> &mut Self
         ensures same { result.ghost_name ≡ self.entry.ghost_name }
         ensures set { result.now ≡ record self.old { migration = value } }
@@ -142,7 +144,7 @@ impl<C: qc_crypto::ServerConfig, K: HandshakeTokenKey, T: TimeSource, L: TokenLo
         self.migration
     }
 
-    /// Sets the IPv4 address that clients are asked to move to (RFC 9000, section 9.6), if there is one.
+    /// Sets the IPv4 address that clients are asked to move to (RFC 9000, section 9.6), if there is one. It has no effect yet.
     pub fn preferred_address_v4(&mut self, value: Option<SocketAddrV4>) -> &mut Self
         ensures same { result.ghost_name ≡ self.entry.ghost_name }
         ensures set { result.now ≡ record self.old { preferred_address_v4 = value } }
@@ -158,7 +160,7 @@ impl<C: qc_crypto::ServerConfig, K: HandshakeTokenKey, T: TimeSource, L: TokenLo
         self.preferred_address_v4
     }
 
-    /// Sets the IPv6 address that clients are asked to move to (RFC 9000, section 9.6), if there is one.
+    /// Sets the IPv6 address that clients are asked to move to (RFC 9000, section 9.6), if there is one. It has no effect yet.
     pub fn preferred_address_v6(&mut self, value: Option<SocketAddrV6>) -> &mut Self
         ensures same { result.ghost_name ≡ self.entry.ghost_name }
         ensures set { result.now ≡ record self.old { preferred_address_v6 = value } }

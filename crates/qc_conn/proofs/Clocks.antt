@@ -26,7 +26,7 @@ none_done (Err x) e P is = tt
 module _ {t : Types} where
   -- an endpoint hands over what came
   pub handed_clock : (m : Meaning t) (event : ConnectionEvent) (s s' : View t) → s' ≡ (handed_after m event (began s (time_of_event event))).state → s'.timers.greatest ≡ max s.timers.greatest (time_of_event event)
-  handed_clock m (Datagram now remote ecn first_decode remaining) s s' is = event_clock m now ecn remote first_decode (rest_of remaining) s s' is
+  handed_clock m (Datagram now remote ecn first_decode remaining) s s' is = event_clock m (record { time = now; remote = remote; mark = ecn }) first_decode (rest_of remaining) s s' is
 
   -- a transmit
   pub sent_clock : (m : Meaning t) (time : ℕ) (s s' : View t) (sent : Option Transmit) (buffer : List ℕ) → Sends m time s s' sent buffer → s'.timers.greatest ≡ max s.timers.greatest time

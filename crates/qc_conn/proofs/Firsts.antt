@@ -10,6 +10,7 @@ use Rattle.qc_receive.specs.Events.{handed_after, time_of_event}
 use Rattle.qc_receive.specs.declared.events.ConnectionEvent.{ConnectionEvent}
 use Rattle.qc_receive.specs.declared.events.ConnectionEvent.TheVariants.{Datagram}
 use Rattle.qc_header.specs.Piece.{Piece}
+use Rattle.qc_state.specs.declared.coming.Coming.{Coming}
 use Rattle.qc_state.specs.declared.deeds.Did.{Did}
 use Rattle.qc_state.specs.Life.{is_drained}
 use Rattle.qc_state.specs.Moves.{Clock, state_move, life_move, setup_move}
@@ -36,10 +37,10 @@ module _ {t : Types} (m : Meaning t) where
   first_answer s mid now remote bytes taken told is = is ∙ ap (λ (v : View t). is_taken m v remote bytes) told
 
   -- what it leads to
-  pub first_leads : (s mid last : View t) (now : ℕ) (mark : Option EcnCodepoint) (remote : SocketAddr) (bytes : List ℕ) (ds es : List Did) → mid ≡ state_move (Clock now) s → ds ≡ [] → at last es ≡ datagram_after m now mark remote bytes (at mid ds) → last ≡ (datagram_after m now mark remote bytes (began s now)).state
+  pub first_leads : (s mid last : View t) (coming : Coming) (bytes : List ℕ) (ds es : List Did) → mid ≡ state_move (Clock coming.time) s → ds ≡ [] → at last es ≡ datagram_after m coming bytes (at mid ds) → last ≡ (datagram_after m coming bytes (began s coming.time)).state
   unfolding began
-  first_leads s mid last now mark remote bytes ds es told none is =
-      ap (λ (a : At t). a.state) is ∙ ap (λ (x : List Did). (datagram_after m now mark remote bytes (at mid x)).state) none ∙ ap (λ (v : View t). (datagram_after m now mark remote bytes (at v [])).state) told
+  first_leads s mid last coming bytes ds es told none is =
+      ap (λ (a : At t). a.state) is ∙ ap (λ (x : List Did). (datagram_after m coming bytes (at mid x)).state) none ∙ ap (λ (v : View t). (datagram_after m coming bytes (at v [])).state) told
 
 -- what a call leads to that is told the time first, and whose deeds no one keeps
 pub told_leads : {t : Types} (f : At t → At t) (s mid last : View t) (now : ℕ) (ds es : List Did) → mid ≡ state_move (Clock now) s → ds ≡ [] → at last es ≡ f (at mid ds) → last ≡ (f (began s now)).state
@@ -54,7 +55,7 @@ told_answer {t} f s mid now ds answer told none is = is ∙ ap (λ (x : List Did
 
 -- what an endpoint hands over
 pub event_leads : {t : Types} (m : Meaning t) (event : ConnectionEvent) (now : ℕ) (remote : SocketAddr) (mark : Option EcnCodepoint) (first : Piece) (behind : Option (BytesMut Global)) (s mid last : View t) (ds es : List Did) → event ≡ Datagram now remote mark first behind → mid ≡ state_move (Clock now) s → ds ≡ [] →
-    at last es ≡ event_after m now mark remote first (rest_of behind) (at mid ds) → last ≡ (handed_after m event (began s (time_of_event event))).state
+    at last es ≡ event_after m (record { time = now; remote = remote; mark = mark }) first (rest_of behind) (at mid ds) → last ≡ (handed_after m event (began s (time_of_event event))).state
 event_leads {t} m event now remote mark first behind s mid last ds es case told none is =
-    told_leads (event_after m now mark remote first (rest_of behind)) s mid last now ds es told none is
+    told_leads (event_after m (record { time = now; remote = remote; mark = mark }) first (rest_of behind)) s mid last now ds es told none is
     ∙ sym (ap (λ (e : ConnectionEvent). (handed_after m e (began s (time_of_event e))).state) case)

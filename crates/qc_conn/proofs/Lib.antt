@@ -4,3 +4,5 @@ pub mod Refusals
 pub mod RunsPlain
 pub mod Reports
 pub mod Firsts
+mod NewEnds
+mod Stores

@@ -1,16 +1,16 @@
 -- Inputs one after another, up to the first that is refused.
-use Rattle.std.proofs.Common.{◌≡◌, ℕ, ◌+◌, ◌<◌, ◌≤◌, suc, List, [], ◌∷◌, length, take, drop, get_or, refl, ap, sym, ◌∙◌, subst, Bool, true, false, nat_lt, if◌then◌else◌, Option, Some, None, arith}
+use Rattle.std.proofs.Common.{◌≡◌, ℕ, ◌+◌, ◌<◌, ◌≤◌, suc, List, [], ◌∷◌, ◌++◌, length, take, drop, get_or, refl, ap, sym, ◌∙◌, subst, Bool, true, false, nat_lt, if◌then◌else◌, Option, Some, None, arith}
 use Rattle.std.proofs.Math.Seq.{drop-cons}
 use Rattle.std.proofs.lemmas.Bool.Decides.{nat_tests}
-use Rattle.std.proofs.lemmas.List.{length-drop}
-use Rattle.std.specs.Option.{option_map, option_or}
+use Rattle.std.proofs.lemmas.List.{take_more}
+use Rattle.std.specs.Option.{option_map}
 use Rattle.qc_conn.specs.declared.driving.BadWhy.{BadWhy}
 use Rattle.qc_conn.specs.declared.driving.DriveKind.{DriveKind}
 use Rattle.qc_conn.specs.declared.driving.DriveKind.TheVariants.{TimeBack, BadCall}
-use Rattle.qc_conn.specs.Refusal.{bad_call, refusal_of, first_refusal, place_of, RefusedAt}
+use Rattle.qc_conn.specs.Refusal.{bad_call, refusal_of, place_of, RefusedAt, TakesAll}
 use Rattle.qc_state.specs.declared.input.Input.{Input}
 use Rattle.qc_state.specs.declared.trace.Step.{Step}
-use Rattle.qc_state.specs.Run.{time_of, Run}
+use Rattle.qc_state.specs.Run.{time_of, Adds, IsStep}
 use Rattle.qc_state.specs.Types.{Types, Meaning}
 use Rattle.qc_state.specs.View.{View}
 
@@ -18,50 +18,12 @@ forward_by : (k greatest time : ℕ) (b : Bool) (o : Option BadWhy) → nat_lt t
 forward_by k greatest time true o e h = cc
 forward_by k greatest time false o e h = grind (arith, nat_tests)
 
--- an input that isn't refused has a time that doesn't fall
-pub taken_forward : (k greatest : ℕ) (i : Input) → refusal_of k greatest i ≡ None → greatest ≤ time_of i
-taken_forward k greatest i h = forward_by k greatest (time_of i) (nat_lt (time_of i) greatest) (bad_call i) refl h
-
-or_none : (a b : Option DriveKind) → a ≡ None → option_or a b ≡ b
-or_none None b h = refl
-or_none (Some x) b h = cc
-
-or_some : (a b : Option DriveKind) (x : DriveKind) → a ≡ Some x → option_or a b ≡ Some x
-or_some None b x h = cc
-or_some (Some y) b x h = h
-
 -- the input at this place, and those behind it
 left_from : (is : List Input) (n : ℕ) (i : Input) → n < length is → i ≡ get_or is n i → drop n is ≡ i ∷ drop (n + 1) is
 left_from is n i h e =
     let cut : drop n is ≡ get_or is n i ∷ drop (suc n) is = drop-cons is n i h in
     let one : suc n ≡ n + 1 = omega arith in
     cut ∙ ap (λ (y : Input). y ∷ drop (suc n) is) (sym e) ∙ ap (λ (m : ℕ). i ∷ drop m is) one
-
--- past an input that isn't refused, the first refusal is that of the inputs behind it
-pub refusal_past : (greatest later n k : ℕ) (is : List Input) (i : Input) (o : Option DriveKind) → n < length is → i ≡ get_or is n i → k ≡ n → later ≡ time_of i →
-    refusal_of k greatest i ≡ None → first_refusal n greatest (drop n is) ≡ o → first_refusal (n + 1) later (drop (n + 1) is) ≡ o
-unfolding first_refusal
-refusal_past greatest later n k is i o h e place time none all =
-    let none' : refusal_of n greatest i ≡ None = subst (λ (m : ℕ). refusal_of m greatest i ≡ None) place none in
-    let here : first_refusal n greatest (i ∷ drop (n + 1) is) ≡ first_refusal (n + 1) (time_of i) (drop (n + 1) is) = or_none (refusal_of n greatest i) (first_refusal (n + 1) (time_of i) (drop (n + 1) is)) none' in
-    ap (λ (m : ℕ). first_refusal (n + 1) m (drop (n + 1) is)) time ∙ sym here ∙ ap (first_refusal n greatest) (sym (left_from is n i h e)) ∙ all
-
--- an input that is refused is the first
-pub refusal_here : (greatest n k : ℕ) (is : List Input) (i : Input) (o : Option DriveKind) (kind : DriveKind) → n < length is → i ≡ get_or is n i → k ≡ n →
-    refusal_of k greatest i ≡ Some kind → first_refusal n greatest (drop n is) ≡ o → o ≡ Some kind
-unfolding first_refusal
-refusal_here greatest n k is i o kind h e place some all =
-    let some' : refusal_of n greatest i ≡ Some kind = subst (λ (m : ℕ). refusal_of m greatest i ≡ Some kind) place some in
-    sym all ∙ ap (first_refusal n greatest) (left_from is n i h e) ∙ or_some (refusal_of n greatest i) (first_refusal (n + 1) (time_of i) (drop (n + 1) is)) kind some'
-
-no_refusal : (n greatest : ℕ) (is : List Input) → length is ≤ 0 → first_refusal n greatest is ≡ None
-unfolding first_refusal
-no_refusal n greatest [] h = refl
-no_refusal n greatest (i ∷ is) h = absurd (omega arith)
-
--- where all inputs were taken, none is refused
-pub refusal_done : (greatest n : ℕ) (is : List Input) (o : Option DriveKind) → length is ≤ n → first_refusal n greatest (drop n is) ≡ o → o ≡ None
-refusal_done greatest n is o h all = sym all ∙ no_refusal n greatest (drop n is) (omega (arith, length-drop n is))
 
 place_by : (k greatest time : ℕ) (b : Bool) (o : Option BadWhy) (kind : DriveKind) → (if b then Some (TimeBack k time greatest) else option_map (BadCall k) o) ≡ Some kind → place_of kind ≡ Some k
 place_by k greatest time true o kind h = ap place_or (sym h)
@@ -76,18 +38,56 @@ place_by k greatest time false (Some why) kind h = ap place_or (sym h)
     place_or None = None
     place_or (Some x) = place_of x
 
--- and its place is told
-pub refusal_place : (k greatest : ℕ) (i : Input) (kind : DriveKind) → refusal_of k greatest i ≡ Some kind → place_of kind ≡ Some k
-refusal_place k greatest i kind h = place_by k greatest (time_of i) _ (bad_call i) kind h
-
 module _ {t : Types} where
+  -- an input that isn't refused has a time that doesn't fall
+  pub taken_forward : (k : ℕ) (s : View t) (i : Input) → refusal_of k s i ≡ None → s.timers.greatest ≤ time_of i
+  taken_forward k s i h = forward_by k s.timers.greatest (time_of i) (nat_lt (time_of i) s.timers.greatest) (bad_call s i) refl h
+
+  -- and its place is told
+  pub refusal_place : (k : ℕ) (s : View t) (i : Input) (kind : DriveKind) → refusal_of k s i ≡ Some kind → place_of kind ≡ Some k
+  refusal_place k s i kind h = place_by k s.timers.greatest (time_of i) _ (bad_call s i) kind h
+
+  -- no inputs
+  pub takes_none : (m : Meaning t) (k : ℕ) (s : View t) (xs : List Step) → xs ≡ [] → TakesAll m k s [] xs s
+  unfolding TakesAll
+  takes_none m k s [] e = refl
+  takes_none m k s (x ∷ xs) e = cc
+
+  -- one input more
+  takes_more : (m : Meaning t) (k : ℕ) (s : View t) (is : List Input) (xs : List Step) (mid s' : View t) (i : Input) (x : Step) →
+      TakesAll m k s is xs mid → refusal_of (k + length xs) mid i ≡ None → IsStep m (k + length xs) mid i x s' → TakesAll m k s (is ++ i ∷ []) (xs ++ x ∷ []) s'
+  unfolding TakesAll
+  takes_more m k s [] [] mid s' i x e none h =
+      let same : k + 0 ≡ k = omega arith in
+      let here : refusal_of k s i ≡ None = subst (λ (v : View t). refusal_of k v i ≡ None) e (subst (λ (n : ℕ). refusal_of n mid i ≡ None) same none) in
+      (s', here, subst (λ (v : View t). IsStep m k v i x s') e (subst (λ (n : ℕ). IsStep m n mid i x s') same h), refl)
+  takes_more m k s (j ∷ is) (y ∷ xs) mid s' i x r none h =
+      let place : k + suc (length xs) ≡ k + 1 + length xs = omega arith in
+      (r.0, r.1, r.2, takes_more m (k + 1) r.0 is xs mid s' i x r.3 (subst (λ (n : ℕ). refusal_of n mid i ≡ None) place none) (subst (λ (n : ℕ). IsStep m n mid i x s') place h))
+  takes_more m k s [] (y ∷ xs) mid s' i x r none h = absurd r
+  takes_more m k s (j ∷ is) [] mid s' i x r none h = absurd r
+
+  -- the inputs up to the next, which isn't refused
+  pub takes_next : (m : Meaning t) (s : View t) (is : List Input) (xs ys : List Step) (mid s' : View t) (x : Input) (i k : ℕ) → i < length is → x ≡ get_or is i x → length xs ≡ i → k ≡ i →
+      refusal_of k mid x ≡ None → TakesAll m 0 s (take i is) xs mid → Adds m k mid x s' xs ys → TakesAll m 0 s (take (i + 1) is) ys s'
+  takes_next m s is xs ys mid s' x i k h e count place none r adds =
+      let more : take (i + 1) is ≡ take i is ++ x ∷ [] = take_more is i x h ∙ ap (λ (y : Input). take i is ++ y ∷ []) (sym e) in
+      let number : k ≡ 0 + length xs = omega arith in
+      subst (λ (js : List Input). TakesAll m 0 s js ys s') (sym more)
+      (subst (λ (zs : List Step). TakesAll m 0 s (take i is ++ x ∷ []) zs s') (sym adds.added)
+      (takes_more m 0 s (take i is) xs mid s' x adds.step r (subst (λ (n : ℕ). refusal_of n mid x ≡ None) number none) (subst (λ (n : ℕ). IsStep m n mid x adds.step s') number adds.is_step)))
+
   -- the inputs before were done, and this one is refused
   pub refused_at : (m : Meaning t) (s last : View t) (is : List Input) (i : Input) (kind : DriveKind) (xs : List Step) (n k : ℕ) (failed : Bool) →
-      n < length is → i ≡ get_or is n i → length xs ≡ n → k ≡ n → refusal_of k last.timers.greatest i ≡ Some kind →
-      first_refusal n last.timers.greatest (drop n is) ≡ first_refusal 0 s.timers.greatest is → Run m 0 s (take n is) xs last → failed ≡ false → RefusedAt m s is kind xs last failed
-  refused_at m s last is i kind xs n k failed h e count place some all run alive = record {
-    first = refusal_here last.timers.greatest n k is i (first_refusal 0 s.timers.greatest is) kind h e place some all;
-    place = refusal_place k last.timers.greatest i kind some ∙ ap Some (place ∙ sym count);
-    before = subst (λ (l : ℕ). Run m 0 s (take l is) xs last) (sym count) run;
-    alive = alive;
-  }
+      n < length is → i ≡ get_or is n i → length xs ≡ n → k ≡ n → refusal_of k last i ≡ Some kind → TakesAll m 0 s (take n is) xs last → failed ≡ false → RefusedAt m s is kind xs last failed
+  refused_at m s last is i kind xs n k failed h e count place some taken alive =
+      let number : k ≡ length xs = place ∙ sym count in
+      record {
+        input = i;
+        behind = drop (n + 1) is;
+        here = ap (λ (l : ℕ). drop l is) count ∙ left_from is n i h e;
+        first = subst (λ (l : ℕ). refusal_of l last i ≡ Some kind) number some;
+        place = refusal_place k last i kind some ∙ ap Some number;
+        before = subst (λ (l : ℕ). TakesAll m 0 s (take l is) xs last) (sym count) taken;
+        alive = alive;
+      }

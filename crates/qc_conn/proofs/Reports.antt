@@ -1,18 +1,16 @@
 -- The events that are reported behind a call, one after the other.
-use Rattle.std.proofs.Common.{◌≡◌, List, [], ◌++◌, refl, ap, sym, ◌∙◌, Bool, true, false, Option, Some, None, if◌then◌else◌}
+use Rattle.std.proofs.Common.{◌≡◌, List, [], ◌∷◌, ◌++◌, refl, ap, sym, ◌∙◌, Bool, true, false, Option, Some, None, if◌then◌else◌}
 use Rattle.std.proofs.lemmas.List.{append_assoc}
-use Rattle.std.specs.Prelude.{is_some, option_map, option_to_list}
+use Rattle.std.specs.Prelude.{is_some, option_map, option_to_list, slice_get}
 use Rattle.qc_state.specs.declared.events.Event.{Event}
 use Rattle.qc_state.specs.declared.events.Event.TheVariants as event
 use Rattle.qc_state.specs.declared.events.EndpointEvent.{EndpointEvent}
 use Rattle.qc_state.specs.declared.events.EndpointEvent.TheVariants as endpoint
 use Rattle.qc_state.specs.declared.life.ConnectionError.{ConnectionError}
 use Rattle.qc_state.specs.declared.life.Life.{Life}
-use Rattle.qc_state.specs.declared.life.PeerToken.{PeerToken}
-use Rattle.qc_state.specs.declared.life.Wanted.{Wanted}
-use Rattle.qc_state.specs.Life.{connected_event, connected_reported, drained_event, drained_reported, endpoint_events, event_if, lost_event, lost_reported, ready_event, ready_reported, token_event, token_reported, waiting_events, wanted_event, wanted_reported}
-use Rattle.qc_state.specs.Moves.{ReportReady, ReportConnected, ReportLost, ReportToken, ReportWanted, ReportDrained, keys_move, life_move, lower_move, numbers_move, paths_move, setup_move, state_move, timers_move, waiting_move}
-use Rattle.qc_state.specs.Polls.{first_endpoint_event, first_event}
+use Rattle.qc_state.specs.Life.{connected_event, connected_reported, drained_event, drained_reported, event_if, lost_event, lost_reported, notices_reported, ready_event, ready_reported}
+use Rattle.qc_state.specs.Moves.{ReportReady, ReportConnected, ReportLost, ReportNotices, ReportDrained, keys_move, life_move, lower_move, numbers_move, paths_move, setup_move, state_move, timers_move, waiting_move}
+use Rattle.qc_state.specs.Polls.{endpoint_events, first_endpoint_event, first_event, waiting_events}
 use Rattle.qc_state.specs.Types.{Types}
 use Rattle.qc_state.specs.View.{View}
 use Rattle.qc_state.proofs.Steps.{endpoint_wait, events_wait}
@@ -25,7 +23,7 @@ joined {A} e0 e1 e2 e3 x y z h0 h1 h2 h3 =
 module _ {t : Types} where
   -- the events that waited, each behind the report of the one before
   pub events_told : (s2 s3 s4 : View t) (e0 e1 e2 e3 : List Event) (x y z : Option Event) → e0 ≡ [] → x ≡ ready_event s2.life → s3 ≡ state_move ReportReady s2 → e1 ≡ e0 ++ option_to_list x →
-      y ≡ connected_event s3.life → s4 ≡ state_move ReportConnected s3 → e2 ≡ e1 ++ option_to_list y → z ≡ lost_event s4.life → e3 ≡ e2 ++ option_to_list z → e3 ≡ waiting_events s2.life
+      y ≡ connected_event s3.life → s4 ≡ state_move ReportConnected s3 → e2 ≡ e1 ++ option_to_list y → z ≡ lost_event s4.life → e3 ≡ e2 ++ option_to_list z → e3 ≡ waiting_events s2
   events_told s2 s3 s4 e0 e1 e2 e3 x y z h0 is_x is_s3 h1 is_y is_s4 h2 is_z h3 =
       joined e0 e1 e2 e3 (option_to_list x) (option_to_list y) (option_to_list z) h0 h1 h2 h3
       ∙ ap (λ (o : Option Event). option_to_list o ++ (option_to_list y ++ option_to_list z)) is_x
@@ -38,17 +36,13 @@ module _ {t : Types} where
   reports_lead s2 s3 s4 s5 is_s3 is_s4 is_s5 = is_s5 ∙ ap (λ (v : View t). state_move ReportLost v) (is_s4 ∙ ap (λ (v : View t). state_move ReportConnected v) is_s3)
 
   -- the same of what the endpoint is told
-  pub endpoint_told : (s5 s6 s7 : View t) (e0 e1 e2 e3 : List EndpointEvent) (x y z : Option EndpointEvent) → e0 ≡ [] → x ≡ token_event s5.life → s6 ≡ state_move ReportToken s5 → e1 ≡ e0 ++ option_to_list x →
-      y ≡ wanted_event s6.life → s7 ≡ state_move ReportWanted s6 → e2 ≡ e1 ++ option_to_list y → z ≡ drained_event s7.life → e3 ≡ e2 ++ option_to_list z → e3 ≡ endpoint_events s5.life
-  endpoint_told s5 s6 s7 e0 e1 e2 e3 x y z h0 is_x is_s6 h1 is_y is_s7 h2 is_z h3 =
-      joined e0 e1 e2 e3 (option_to_list x) (option_to_list y) (option_to_list z) h0 h1 h2 h3
-      ∙ ap (λ (o : Option EndpointEvent). option_to_list o ++ (option_to_list y ++ option_to_list z)) is_x
-      ∙ ap (λ (o : Option EndpointEvent). option_to_list (token_event s5.life) ++ (option_to_list o ++ option_to_list z)) is_y
-      ∙ ap (λ (o : Option EndpointEvent). option_to_list (token_event s5.life) ++ (option_to_list (wanted_event s6.life) ++ option_to_list o)) is_z
-      ∙ endpoint_wait s5 s6 s7 is_s6 is_s7
+  pub endpoint_told : (s5 s6 : View t) (e0 e1 : List EndpointEvent) (z : Option EndpointEvent) → e0 ≡ s5.life.notices → s6 ≡ state_move ReportNotices s5 →
+      z ≡ drained_event s6.life → e1 ≡ e0 ++ option_to_list z → e1 ≡ endpoint_events s5
+  endpoint_told s5 s6 e0 e1 z h0 is_s6 is_z h1 =
+      h1 ∙ ap (λ (l : List EndpointEvent). l ++ option_to_list z) h0 ∙ ap (λ (o : Option EndpointEvent). s5.life.notices ++ option_to_list o) is_z ∙ endpoint_wait s5 s6 is_s6
 
-  pub endpoint_leads : (s5 s6 s7 s8 : View t) → s6 ≡ state_move ReportToken s5 → s7 ≡ state_move ReportWanted s6 → s8 ≡ state_move ReportDrained s7 → s8 ≡ state_move ReportDrained (state_move ReportWanted (state_move ReportToken s5))
-  endpoint_leads s5 s6 s7 s8 is_s6 is_s7 is_s8 = is_s8 ∙ ap (λ (v : View t). state_move ReportDrained v) (is_s7 ∙ ap (λ (v : View t). state_move ReportWanted v) is_s6)
+  pub endpoint_leads : (s5 s6 s7 : View t) → s6 ≡ state_move ReportNotices s5 → s7 ≡ state_move ReportDrained s6 → s7 ≡ state_move ReportDrained (state_move ReportNotices s5)
+  endpoint_leads s5 s6 s7 is_s6 is_s7 = is_s7 ∙ ap (λ (v : View t). state_move ReportDrained v) is_s6
 
 -- where no event waits first, none of the three does
 none_first : (a b : Bool) (o : Option ConnectionError) → is_some (if a then event_if a event.HandshakeDataReady else if b then event_if b event.Connected else option_map event.ConnectionLost o) ≡ false → (a ≡ false) × (b ≡ false) × (o ≡ None)
@@ -58,29 +52,28 @@ none_first false false (Some why) h = cc
 none_first false false None h = (refl, refl, refl)
 
 -- so it is with the endpoint's
-none_told_first : (o : Option PeerToken) (w : Option Wanted) (d : Bool) →
-    is_some (if is_some o then option_map (λ k. endpoint.ResetToken k.remote k.token) o else if is_some w then option_map (λ k. endpoint.NeedIdentifiers k.now k.count) w else if d then Some endpoint.Drained else None) ≡ false → (o ≡ None) × (w ≡ None) × (d ≡ false)
-none_told_first (Some k) w d h = cc
-none_told_first None (Some k) d h = cc
-none_told_first None None true h = cc
-none_told_first None None false h = (refl, refl, refl)
+none_told_first : (es : List EndpointEvent) (d : Bool) → is_some (slice_get (es ++ option_to_list (if d then Some endpoint.Drained else None)) 0) ≡ false → (es ≡ []) × (d ≡ false)
+none_told_first (e ∷ es) d h = cc
+none_told_first [] true h = cc
+none_told_first [] false h = (refl, refl)
 
--- no event waits
-no_events : (v : Life) → is_some (first_event v) ≡ false → (v.ready ≡ false) × (v.connected ≡ false) × (v.lost ≡ None)
-unfolding first_event ready_event connected_event lost_event
-no_events v h = none_first v.ready v.connected v.lost h
+module _ {t : Types} where
+  -- no event waits
+  no_events : (s : View t) → is_some (first_event s) ≡ false → (s.life.ready ≡ false) × (s.life.connected ≡ false) × (s.life.lost ≡ None)
+  unfolding first_event ready_event connected_event lost_event
+  no_events s h = none_first s.life.ready s.life.connected s.life.lost h
 
-no_endpoint_events : (v : Life) → is_some (first_endpoint_event v) ≡ false → (v.reset_token ≡ None) × (v.wanted ≡ None) × (v.drained ≡ false)
-unfolding first_endpoint_event token_event wanted_event drained_event
-no_endpoint_events v h = none_told_first v.reset_token v.wanted v.drained h
+  no_endpoint_events : (s : View t) → is_some (first_endpoint_event s) ≡ false → (s.life.notices ≡ []) × (s.life.drained ≡ false)
+  unfolding first_endpoint_event endpoint_events drained_event
+  no_endpoint_events s h = none_told_first s.life.notices s.life.drained h
 
-pub none_waits : (v : Life) (has : Bool) (es : List Event) → has ≡ is_some (first_event v) → has ≡ false → es ≡ [] → es ≡ waiting_events v
-unfolding waiting_events ready_event connected_event lost_event
-none_waits v has es is none empty = let none = no_events v (sym is ∙ none) in rw (none.0, none.1, none.2) empty
+  pub none_waits : (s : View t) (has : Bool) (es : List Event) → has ≡ is_some (first_event s) → has ≡ false → es ≡ [] → es ≡ waiting_events s
+  unfolding waiting_events ready_event connected_event lost_event
+  none_waits s has es is none empty = let none = no_events s (sym is ∙ none) in rw (none.0, none.1, none.2) empty
 
-pub none_waits_endpoint : (v : Life) (has : Bool) (es : List EndpointEvent) → has ≡ is_some (first_endpoint_event v) → has ≡ false → es ≡ [] → es ≡ endpoint_events v
-unfolding endpoint_events token_event wanted_event drained_event
-none_waits_endpoint v has es is none empty = let none = no_endpoint_events v (sym is ∙ none) in rw (none.0, none.1, none.2) empty
+  pub none_waits_endpoint : (s : View t) (has : Bool) (es : List EndpointEvent) → has ≡ is_some (first_endpoint_event s) → has ≡ false → es ≡ [] → es ≡ endpoint_events s
+  unfolding endpoint_events drained_event
+  none_waits_endpoint s has es is none empty = let none = no_endpoint_events s (sym is ∙ none) in rw (none.0, none.1) empty
 
 -- what was reported of a life for which nothing waits is that life
 life_kept : (v : Life) → (v.ready ≡ false) × (v.connected ≡ false) × (v.lost ≡ None) → v ≡ lost_reported (connected_reported (ready_reported v))
@@ -89,18 +82,16 @@ life_kept v none =
     ap (λ (b : Bool). record v { ready = b }) none.0 ∙ ap (λ (b : Bool). record v { ready = false; connected = b }) none.1
     ∙ ap (λ (o : Option ConnectionError). record v { ready = false; connected = false; lost = o }) none.2
 
-life_kept_endpoint : (v : Life) → (v.reset_token ≡ None) × (v.wanted ≡ None) × (v.drained ≡ false) → v ≡ drained_reported (wanted_reported (token_reported v))
-unfolding drained_reported wanted_reported token_reported
-life_kept_endpoint v none =
-    ap (λ (o : Option PeerToken). record v { reset_token = o }) none.0 ∙ ap (λ (o : Option Wanted). record v { reset_token = None; wanted = o }) none.1
-    ∙ ap (λ (b : Bool). record v { reset_token = None; wanted = None; drained = b }) none.2
+life_kept_endpoint : (v : Life) → (v.notices ≡ []) × (v.drained ≡ false) → v ≡ drained_reported (notices_reported v)
+unfolding drained_reported notices_reported
+life_kept_endpoint v none = ap (λ (es : List EndpointEvent). record v { notices = es }) none.0 ∙ ap (λ (b : Bool). record v { notices = []; drained = b }) none.1
 
 module _ {t : Types} where
   -- where no event waits, the reports change nothing
-  pub none_leads : (s : View t) (has : Bool) → has ≡ is_some (first_event s.life) → has ≡ false → s ≡ state_move ReportLost (state_move ReportConnected (state_move ReportReady s))
+  pub none_leads : (s : View t) (has : Bool) → has ≡ is_some (first_event s) → has ≡ false → s ≡ state_move ReportLost (state_move ReportConnected (state_move ReportReady s))
   unfolding state_move numbers_move keys_move life_move paths_move timers_move waiting_move setup_move lower_move
-  none_leads s has is none = ap (λ (v : Life). record s { life = v }) (life_kept s.life (no_events s.life (sym is ∙ none)))
+  none_leads s has is none = ap (λ (v : Life). record s { life = v }) (life_kept s.life (no_events s (sym is ∙ none)))
 
-  pub none_leads_endpoint : (s : View t) (has : Bool) → has ≡ is_some (first_endpoint_event s.life) → has ≡ false → s ≡ state_move ReportDrained (state_move ReportWanted (state_move ReportToken s))
+  pub none_leads_endpoint : (s : View t) (has : Bool) → has ≡ is_some (first_endpoint_event s) → has ≡ false → s ≡ state_move ReportDrained (state_move ReportNotices s)
   unfolding state_move numbers_move keys_move life_move paths_move timers_move waiting_move setup_move lower_move
-  none_leads_endpoint s has is none = ap (λ (v : Life). record s { life = v }) (life_kept_endpoint s.life (no_endpoint_events s.life (sym is ∙ none)))
+  none_leads_endpoint s has is none = ap (λ (v : Life). record s { life = v }) (life_kept_endpoint s.life (no_endpoint_events s (sym is ∙ none)))

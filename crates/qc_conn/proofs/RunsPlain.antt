@@ -1,5 +1,5 @@
 -- The steps of a run leave nothing out of their text.
-use Rattle.std.specs.Prelude.{IfSome, is_none, option_map, option_to_list}
+use Rattle.std.specs.Prelude.{is_none, option_to_list}
 use Rattle.std.proofs.Common.{◌≡◌, ℕ, ◌+◌, ◌-◌, ◌<◌, ◌≤◌, ◌^◌, ◌==◌, ◌||◌, Bool, true, false, if◌then◌else◌, List, [], ◌∷◌, ◌++◌, length, replicate, take, zero, suc, Option, Some, None, refl, sym, ap, ◌∙◌, subst, arith}
 use Rattle.std.specs.Prelude.{nat_lt, nat_le}
 use Rattle.std.specs.List.{All, list_any}
@@ -8,23 +8,21 @@ use Rattle.std.proofs.lemmas.Bool.Decides.{nat_tests}
 use Rattle.std.proofs.lemmas.List.Elements.{All-nil, All-cons, All-append}
 use Rattle.rand_core.specs.Stream.{Stream}
 use Rattle.qc_base.specs.Varint.{IsNumber}
-use Rattle.qc_base.specs.declared.ecn.EcnCodepoint.{EcnCodepoint}
 use Rattle.qc_base.specs.declared.side.Side.{Side}
 use Rattle.qc_base.specs.declared.side.SpaceId.{SpaceId}
 use Rattle.qc_base.specs.declared.side.SpaceId.TheVariants.{Initial, Handshake, «Data»}
 use Rattle.qc_frame.specs.Frame.{FrameValue, AckValue}
 use Rattle.qc_frame.specs.FrameFits.{Fits, TypeFits}
-use Rattle.qc_flight.specs.Packets.{Entry, first_of}
-use Rattle.qc_flight.specs.declared.sent.SentPacket.{SentPacket}
+use Rattle.qc_flight.specs.Packets.{Entry}
 use Rattle.qc_frame.specs.FrameSpelling.{spelling, frames_spelling}
 use Rattle.qc_frame.specs.Sizes.{IsLongestReason}
 use Rattle.qc_frame.specs.declared.frames.FrameOf.TheVariants as frames
 use Rattle.qc_frame.proofs.Lengths.{length-application_close}
-use Rattle.qc_recovery.specs.Steps as recovery
 use Rattle.qc_recovery.specs.TransportValues.{TransportValues}
 use Rattle.qc_recovery.specs.declared.calls.Fired.{Fired}
 use Rattle.qc_recovery.specs.declared.calls.Fired.TheVariants as fired
 use Rattle.qc_send_stream.specs.Buffer.{bytes_written, discarded, nothing, range_lost, range_sealed}
+use Rattle.qc_state.specs.declared.coming.Coming.{Coming}
 use Rattle.qc_state.specs.Acks.{AckPart, SaysAck, is_ack, may_acknowledge}
 use Rattle.qc_state.specs.declared.deeds.Did.{Did}
 use Rattle.qc_state.specs.declared.deeds.Did.TheVariants as deed
@@ -35,31 +33,34 @@ use Rattle.qc_state.specs.declared.life.Close.TheVariants.{Connection, Applicati
 use Rattle.qc_state.specs.declared.events.EndpointEvent.TheVariants as endpoint
 use Rattle.qc_state.specs.declared.life.ConnectionError.{ConnectionError}
 use Rattle.qc_state.specs.declared.life.Life.{Life}
-use Rattle.qc_state.specs.declared.life.PeerToken.{PeerToken}
-use Rattle.qc_state.specs.declared.life.Wanted.{Wanted}
 use Rattle.qc_state.specs.declared.life.State.TheVariants.{Drained}
 use Rattle.qc_state.specs.declared.deeds.Verdict.{Verdict}
 use Rattle.qc_state.specs.declared.deeds.Verdict.TheVariants as verdict
+use Rattle.qc_state.specs.declared.events.EndpointEvent.{EndpointEvent}
 use Rattle.qc_state.specs.declared.paths.Paths.{Paths}
 use Rattle.qc_state.specs.declared.trace.Step.{Step}
 use Rattle.qc_state.specs.declared.trace.Answer.TheVariants as answer
 use Rattle.qc_state.specs.declared.waiting.SpaceWaiting.{SpaceWaiting}
 use Rattle.qc_state.specs.declared.waiting.Waiting.{Waiting}
-use Rattle.qc_state.specs.Life.{is_closed, is_open, data_ready, drained_event, endpoint_events, identifiers_wanted, life_closed, life_drained, life_established, life_raised, reason_given, token_event, token_learned, token_reported, wanted_event, wanted_reported, drained_reported, lost_reported, connected_reported, ready_reported}
-use Rattle.qc_state.specs.Moves.{Move, Take, Seal, Forget, Raise, Say, Give, Enter, Fail, Accept, Fix, Hear, Ack, Fire, Arm, Pace, Release, Begin, Skip, Come, Read, Write, Ready, Learn, Establish, Tell, Drain, Leave, Owe, Shut, IsTold, MayMove, state_move, move_to, deeds_move, life_move, paths_move, waiting_move, keys_move, Expect, Confirm, Token, Want}
+use Rattle.qc_state.specs.Life.{is_closed, is_open, data_ready, drained_event, identifiers_wanted, life_closed, life_drained, life_established, life_raised, reason_given, token_learned, notices_reported, drained_reported, lost_reported, connected_reported, ready_reported}
+use Rattle.qc_state.specs.Moves.{Move, Take, Seal, Forget, Raise, Say, Give, Enter, Fail, Accept, Fix, Hear, Ack, Fire, Arm, Pace, Release, Begin, Skip, Come, Read, Write, Ready, Learn, Establish, Tell, Drain, Leave, Owe, Shut, IsTold, MayMove, state_move, move_to, deeds_move, life_move, paths_move, waiting_move, keys_move, Expect, Confirm, Token, Want, Finish}
 use Rattle.qc_state.specs.Numbers.{next_number, received_number}
-use Rattle.qc_state.specs.Paths.{path_idle, path_sent, path_received, peer_fixed, path_accepted, path_spun}
+use Rattle.qc_state.specs.Paths.{path_idle, path_sent, path_received, peer_fixed, path_accepted, path_spun, new_path, only_path}
 use Rattle.qc_state.specs.Receiving.{datagram_after, is_taken}
 use Rattle.qc_state.specs.Run.{time_of, began, close_after, input_after, called, reported, step_after, IsAllowed, out_of, answer_of, IsStep, Run, Ran}
-use Rattle.qc_state.specs.Sending.{told_code, told_type, told_application_code, told_close, close_frame, closing_frame, IsKeptReason, frame_room, Closes, padded, padding_of, packet_size, Carries, transmit_after, MayTransmit, transmit_bytes, transmit_of, transmit_with, Choice}
+use Rattle.qc_state.specs.Sending.{told_code, told_type, told_application_code, told_close, close_frame, closing_frame, IsKeptReason, Closes, padded, padding_of, packet_size, Carries, transmit_after, MayTransmit, transmit_bytes, transmit_of, transmit_with, Choice, Ending, Went, Hushed, Died, sent_out, gone_after}
 use Rattle.qc_state.specs.Spaces.{space_of, with_space, is_space}
 use Rattle.qc_state.specs.Timeouts.{timeout_after}
 use Rattle.qc_state.specs.Types.{Types, Meaning}
 use Rattle.qc_state.specs.View.{Held, View, At, ideal}
-use Rattle.qc_state.specs.EventLaws.{OnlyDoneWaits}
+use Rattle.qc_state.specs.EventLaws.{OnlyDoneWaits, ends_in}
+use Rattle.qc_state.specs.Polls.{endpoint_events}
 use Rattle.qc_state.specs.First.{first_view, server_view}
 use Rattle.qc_state.specs.declared.setup.Fixed.{Fixed}
-use Rattle.qc_state.specs.Waiting.{again, all_again, lost_in, confirmed, all_confirmed, acked_in, packets_lost, packets_acked, probes_added, fired_in, packet_again, with_ping, wants_sending, probe_sent, begun_in, datagram_begun, ping_asked, waiting_without, close_begun, packet_told, untold, came_in, packet_came, ack_released, bundle_next, crypto_more, crypto_written, nothing_left, space_left, without, Waits, without_all, WaitAll, done_asked}
+use Rattle.qc_state.specs.Allowed.{Waits, WaitAll}
+use Rattle.qc_state.specs.Offers.{packet_begun}
+use Rattle.qc_state.specs.Waiting.{again, all_again, lost_in, confirmed, all_confirmed, acked_in, packets_lost, packets_acked, probes_added, probe_spent, frames_again, fired_in, ping_asked, waiting_without, close_begun, packet_told, untold, came_in, packet_came, ack_released, bundle_next, crypto_more, crypto_written, nothing_left, space_left, without, without_all, done_asked}
+use Rattle.qc_state.proofs.Probed.{begun_holds, taken_space}
 use Rattle.qc_state.proofs.Expired.{IsTimed, holds_timeout}
 use Rattle.qc_state.proofs.ReceivedMoves.{IsReceived}
 use Rattle.qc_state.proofs.Receives.{holds_datagram}
@@ -74,23 +75,27 @@ ack_spelled : (time : ℕ) (w : SpaceWaiting) (ack : AckValue) → SaysAck time 
 ack_spelled time w ack says =
     (says.fits, ap (λ (more : List ℕ). frames.Ack (record { largest = ack.largest; delay = ack.delay; additional = more; ecn = ack.ecn })) (sym says.shortest))
 
-frame_spelled : (time : ℕ) (bundled : Option ℕ) (w : SpaceWaiting) (f : FrameValue) → Waits time bundled w f → IsSpaceBelowLimit w → IsSpelled f × IsSpaceBelowLimit (without w f)
-unfolding Waits without Fits range_sealed
-frame_spelled time bundled w frames.HandshakeDone h b = ((tt, refl), b)
-frame_spelled time bundled w frames.Ping h b = ((tt, refl), b)
-frame_spelled time bundled w (frames.Ack ack) h b = (ack_spelled time w ack h.1, b)
-frame_spelled time bundled w (frames.Crypto offset body) h b =
-    let within : offset + length body ≤ w.crypto.written = h.within in
-    (((omega arith, omega arith), refl), b)
-frame_spelled time bundled w _ h b = absurd h
+module _ {t : Types} where
+  frame_spelled : (time : ℕ) (s : View t) (id : SpaceId) (f : FrameValue) → Waits time s id f → IsSpaceBelowLimit (space_of s.waiting.spaces id) → IsSpelled f × IsSpaceBelowLimit (without (space_of s.waiting.spaces id) f)
+  unfolding Waits without Fits range_sealed
+  frame_spelled time s id frames.HandshakeDone h b = ((tt, refl), b)
+  frame_spelled time s id frames.Ping h b = ((tt, refl), b)
+  frame_spelled time s id (frames.Ack ack) h b = (ack_spelled time (space_of s.waiting.spaces id) ack h.1, b)
+  frame_spelled time s id (frames.Crypto offset body) h b =
+      let within : offset + length body ≤ (space_of s.waiting.spaces id).crypto.written = h.within in
+      (((omega arith, omega arith), refl), b)
+  frame_spelled time s id _ h b = absurd h
 
-frames_spelled : (time : ℕ) (bundled : Option ℕ) (w : SpaceWaiting) (fs : List FrameValue) → WaitAll time bundled w fs → IsSpaceBelowLimit w → All IsSpelled fs × IsSpaceBelowLimit (without_all w fs)
-unfolding WaitAll without_all
-frames_spelled time bundled w [] h b = (All-nil IsSpelled, b)
-frames_spelled time bundled w (f ∷ fs) h b =
-    let first = frame_spelled time bundled w f h.0 b in
-    let others = frames_spelled time bundled (without w f) fs h.1 first.1 in
-    (All-cons IsSpelled f fs first.0 others.0, others.1)
+  frames_spelled : (time : ℕ) (s : View t) (id : SpaceId) (fs : List FrameValue) → WaitAll time s id fs → IsSpaceBelowLimit (space_of s.waiting.spaces id) →
+      All IsSpelled fs × IsSpaceBelowLimit (without_all (space_of s.waiting.spaces id) fs)
+  unfolding WaitAll without_all
+  frames_spelled time s id [] h b = (All-nil IsSpelled, b)
+  frames_spelled time s id (f ∷ fs) h b =
+      let v : View t = state_move (Take id (f ∷ [])) s in
+      let same : space_of v.waiting.spaces id ≡ without (space_of s.waiting.spaces id) f = taken_space id f s in
+      let first = frame_spelled time s id f h.0 b in
+      let others = frames_spelled time v id fs h.1 (subst IsSpaceBelowLimit (sym same) first.1) in
+      (All-cons IsSpelled f fs first.0 others.0, subst (λ (w : SpaceWaiting). IsSpaceBelowLimit (without_all w fs)) same others.1)
 
 -- a close, PADDING behind it, and the ACK in front of it
 padding_spelled : (n : ℕ) → All IsSpelled (replicate n frames.Padding)
@@ -293,32 +298,11 @@ fired_below w (fired.Lost id lost) h = set_below w id _ (lost_below (space_of w.
 fired_below w (fired.Probe id count) h = set_below w id _ (λ p. p) h
 fired_below w fired.Nothing h = h
 
--- a datagram is begun, which may spend a probe
-one_of_below : (b : Bool) (v w : SpaceWaiting) → IsSpaceBelowLimit v → IsSpaceBelowLimit w → IsSpaceBelowLimit (if b then v else w)
-one_of_below true v w h k = h
-one_of_below false v w h k = k
-
-packet_again_below : (w : SpaceWaiting) (oldest : Option SentPacket) → IsSpaceBelowLimit w → IsSpaceBelowLimit (packet_again w oldest)
-packet_again_below w None h = h
-packet_again_below w (Some packet) h = all_again_below w packet.frames h
-
-ping_below : (w : SpaceWaiting) → IsSpaceBelowLimit w → IsSpaceBelowLimit (with_ping w)
-ping_below w h = one_of_below (wants_sending w) w (record w { ping = true }) h h
-
-probe_below : (w : SpaceWaiting) (oldest : Option SentPacket) → IsSpaceBelowLimit w → IsSpaceBelowLimit (probe_sent w oldest)
-unfolding probe_sent
-probe_below w oldest h =
-    ping_below (if wants_sending w then w else packet_again w oldest) (one_of_below (wants_sending w) w (packet_again w oldest) h (packet_again_below w oldest h))
-
-begun_in_below : (w : SpaceWaiting) (oldest : Option SentPacket) → IsSpaceBelowLimit w → IsSpaceBelowLimit (begun_in w oldest)
-unfolding begun_in
-begun_in_below w oldest h =
-    let spent : SpaceWaiting = record w { probes = w.probes - 1 } in
-    one_of_below (w.probes == 0) w (probe_sent spent oldest) h (probe_below spent oldest h)
-
-datagram_below : (w : Waiting) (id : SpaceId) (oldest : Option SentPacket) → IsBelowLimit w → IsBelowLimit (datagram_begun w id oldest)
-unfolding datagram_begun
-datagram_below w id oldest h = set_below w id _ (begun_in_below (space_of w.spaces id) oldest) h
+-- a packet is begun, which may spend a probe
+packet_below : {t : Types} (s : View t) (id : SpaceId) (opens : Bool) → IsBelowLimit s.waiting → IsBelowLimit (packet_begun id opens s).waiting
+unfolding probe_spent frames_again ping_asked
+packet_below s id opens h =
+    begun_holds IsBelowLimit (λ w x b. set_below w x _ (λ p. p) b) (λ w x fs b. set_below w x _ (all_again_below (space_of w.spaces x) fs) b) (λ w x b. set_below w x _ (λ p. p) b) id opens s h
 
 one_more : (ds : List Did) (d : Did) → IsDeedPlain d → All IsDeedPlain ds → All IsDeedPlain (ds ++ d ∷ [])
 one_more ds d h p = All-append IsDeedPlain ds (d ∷ []) p (All-cons IsDeedPlain d [] h (All-nil IsDeedPlain))
@@ -333,134 +317,125 @@ done_plain true = tt
 done_plain false = tt
 
 -- accepting a packet leaves the address
-accepted_remote : (p : Paths) (id : SpaceId) (v : Verdict) → (path_accepted p id v).remote ≡ p.remote
+accepted_remote : (p : Paths) (id : SpaceId) (v : Verdict) → (path_accepted p id v).current.remote ≡ p.current.remote
 unfolding path_accepted
 accepted_remote p Handshake verdict.Admitted = refl
 accepted_remote p _ _ = refl
 
 -- so does its spin bit
-spun_remote : (p : Paths) (side : Side) (greatest bit : Bool) → (path_spun p side greatest bit).remote ≡ p.remote
+spun_remote : (p : Paths) (side : Side) (greatest bit : Bool) → (path_spun p side greatest bit).current.remote ≡ p.current.remote
 unfolding path_spun
 spun_remote p side true bit = refl
 spun_remote p side false bit = refl
 
--- a token that waits to be reported holds for such an address
-abbrev IsTokenPlain : Life → Type 0
-IsTokenPlain v = IfSome v.reset_token (λ peer. IsPlainAddress peer.remote)
+-- what waits to be reported to the endpoint leaves nothing out
+abbrev AreNoticesPlain : Life → Type 0
+AreNoticesPlain v = All IsEndpointPlain v.notices
 
-same_token : (v w : Life) → w.reset_token ≡ v.reset_token → IsTokenPlain v → IsTokenPlain w
-same_token v w same h = subst (λ (o : Option PeerToken). IfSome o (λ peer. IsPlainAddress peer.remote)) (sym same) h
+same_notices : (v w : Life) → w.notices ≡ v.notices → AreNoticesPlain v → AreNoticesPlain w
+same_notices v w same h = subst (All IsEndpointPlain) (sym same) h
 
 -- a reason leaves it
-given_token : (v : Life) (why : ConnectionError) → (reason_given v why).reset_token ≡ v.reset_token
+given_notices : (v : Life) (why : ConnectionError) → (reason_given v why).notices ≡ v.notices
 unfolding reason_given
-given_token v why = by_test (is_none v.reason)
+given_notices v why = by_test (is_none v.reason)
   where
-    by_test : (b : Bool) → (if b then record v { reason = Some why; lost = Some why } else v).reset_token ≡ v.reset_token
+    by_test : (b : Bool) → (if b then record v { reason = Some why; lost = Some why } else v).notices ≡ v.notices
     by_test true = refl
     by_test false = refl
 
+-- one more that leaves nothing out
+one_notice : (es : List EndpointEvent) (e : EndpointEvent) → IsEndpointPlain e → All IsEndpointPlain es → All IsEndpointPlain (es ++ e ∷ [])
+one_notice es e h k = All-append IsEndpointPlain es (e ∷ []) k (All-cons IsEndpointPlain e [] h (All-nil IsEndpointPlain))
+
 -- what is reported to the endpoint leaves nothing out then
-all_plain : (o : Option PeerToken) (w : Option Wanted) (d : Bool) → IfSome o (λ peer. IsPlainAddress peer.remote)
-    → All IsEndpointPlain (option_to_list (option_map (λ k. endpoint.ResetToken k.remote k.token) o) ++ (option_to_list (option_map (λ k. endpoint.NeedIdentifiers k.now k.count) w) ++ option_to_list (if d then Some endpoint.Drained else None)))
-all_plain o w d h =
-    All-append IsEndpointPlain _ _ (token_plain o h) (All-append IsEndpointPlain _ _ (wanted_plain w) (drained_plain d))
-  where
-    token_plain : (o : Option PeerToken) → IfSome o (λ peer. IsPlainAddress peer.remote) → All IsEndpointPlain (option_to_list (option_map (λ k. endpoint.ResetToken k.remote k.token) o))
-    token_plain None h = All-nil IsEndpointPlain
-    token_plain (Some peer) h = All-cons IsEndpointPlain (endpoint.ResetToken peer.remote peer.token) [] h (All-nil IsEndpointPlain)
+drained_plain : (d : Bool) → All IsEndpointPlain (option_to_list (if d then Some endpoint.Drained else None))
+drained_plain true = All-cons IsEndpointPlain endpoint.Drained [] tt (All-nil IsEndpointPlain)
+drained_plain false = All-nil IsEndpointPlain
 
-    wanted_plain : (w : Option Wanted) → All IsEndpointPlain (option_to_list (option_map (λ k. endpoint.NeedIdentifiers k.now k.count) w))
-    wanted_plain None = All-nil IsEndpointPlain
-    wanted_plain (Some wanted) = All-cons IsEndpointPlain (endpoint.NeedIdentifiers wanted.now wanted.count) [] tt (All-nil IsEndpointPlain)
+endpoint_plain : {t : Types} (s : View t) → AreNoticesPlain s.life → All IsEndpointPlain (endpoint_events s)
+unfolding endpoint_events drained_event
+endpoint_plain s h = All-append IsEndpointPlain s.life.notices (option_to_list (if s.life.drained then Some endpoint.Drained else None)) h (drained_plain s.life.drained)
 
-    drained_plain : (d : Bool) → All IsEndpointPlain (option_to_list (if d then Some endpoint.Drained else None))
-    drained_plain true = All-cons IsEndpointPlain endpoint.Drained [] tt (All-nil IsEndpointPlain)
-    drained_plain false = All-nil IsEndpointPlain
-
-endpoint_plain : (v : Life) → IsTokenPlain v → All IsEndpointPlain (endpoint_events v)
-unfolding endpoint_events token_event wanted_event drained_event
-endpoint_plain v h = all_plain v.reset_token v.wanted v.drained h
+-- the room of a datagram is below 2^62 bytes
+room_below : (room : ℕ) (acks : List FrameValue) → room ≤ 65527 → room - length (frames_spelling acks) < 2 ^ 62
+room_below room acks small = omega (arith, small)
 
 module _ {t : Types} where
-  room_below : (s : View t) (id : SpaceId) (acks : List FrameValue) → frame_room s id - length (frames_spelling acks) < 2 ^ 62
-  unfolding frame_room
-  room_below s id acks = omega arith
-
-  closes_plain : (time : ℕ) (s : View t) (id : SpaceId) (fs : List FrameValue) → Closes time s id fs → IsSpaceBelowLimit (space_of s.waiting.spaces id) → ArePlain (space_of s.waiting.spaces id) fs
-  closes_plain time s id fs (Closes.closing acks part kept is_kept is) h =
+  closes_plain : (time : ℕ) (s : View t) (id : SpaceId) (room : ℕ) (fs : List FrameValue) → room ≤ 65527 → Closes time s id room fs → IsSpaceBelowLimit (space_of s.waiting.spaces id) → ArePlain (space_of s.waiting.spaces id) fs
+  closes_plain time s id room fs small (Closes.closing acks part kept is_kept is) h =
       let w : SpaceWaiting = space_of s.waiting.spaces id in
-      subst (ArePlain w) (sym is) (close_plain time w (frame_room s id - 25) acks (may_acknowledge w.acks) id (frame_room s id - length (frames_spelling acks)) kept s.life part (room_below s id acks) is_kept h)
+      subst (ArePlain w) (sym is) (close_plain time w (room - 25) acks (may_acknowledge w.acks) id (room - length (frames_spelling acks)) kept s.life part (room_below room acks small) is_kept h)
 
-  carried_plain : (time : ℕ) (s : View t) (id : SpaceId) (fs : List FrameValue) → Carries time s id fs → IsSpaceBelowLimit (space_of s.waiting.spaces id) → ArePlain (space_of s.waiting.spaces id) fs
+  carried_plain : (closing : Bool) (time : ℕ) (s : View t) (id : SpaceId) (room : ℕ) (fs : List FrameValue) → room ≤ 65527 → Carries closing time s id room fs → IsSpaceBelowLimit (space_of s.waiting.spaces id) → ArePlain (space_of s.waiting.spaces id) fs
   unfolding padded
-  carried_plain time s id fs (Carries.a_close owed gs closes is) h =
+  carried_plain closing time s id room fs small (Carries.a_close owed gs closes is) h =
       let w : SpaceWaiting = space_of s.waiting.spaces id in
-      subst (ArePlain w) (sym is) (padded_plain w gs (padding_of s id gs) (closes_plain time s id gs closes h))
-  carried_plain time s id fs (Carries.what_waits free gs wait some is) h =
+      subst (ArePlain w) (sym is) (padded_plain w gs (padding_of s id gs) (closes_plain time s id room gs small closes h))
+  carried_plain closing time s id room fs small (Carries.what_waits free gs wait some is) h =
       let w : SpaceWaiting = space_of s.waiting.spaces id in
-      subst (ArePlain w) (sym is) (padded_plain w gs (padding_of s id gs) (frames_spelled time s.waiting.bundled w gs wait h))
+      subst (ArePlain w) (sym is) (padded_plain w gs (padding_of s id gs) (frames_spelled time s id gs wait h))
 
   -- what receiving and sending keep, from one moment to another: the deeds leave nothing out, what waits lies below the limit, and
   -- datagrams go to the same address
   record Keeps (a b : At t) : Type 0 where
     pub deeds : IsBelowLimit a.state.waiting → All IsDeedPlain a.did → All IsDeedPlain b.did
     pub crypto : IsBelowLimit a.state.waiting → IsBelowLimit b.state.waiting
-    pub path : b.state.paths.remote ≡ a.state.paths.remote
-    pub token : IsPlainAddress a.state.paths.remote → IsTokenPlain a.state.life → IsTokenPlain b.state.life
+    pub path : b.state.paths.current.remote ≡ a.state.paths.current.remote
+    pub notices : IsPlainAddress a.state.paths.current.remote → AreNoticesPlain a.state.life → AreNoticesPlain b.state.life
 
   keeps_here : (a : At t) → Keeps a a
-  keeps_here a = record { deeds = λ b p. p; crypto = λ p. p; path = refl; token = λ p k. k }
+  keeps_here a = record { deeds = λ b p. p; crypto = λ p. p; path = refl; notices = λ p k. k }
 
   keeps_next : (a b c : At t) → Keeps a b → Keeps b c → Keeps a c
-  keeps_next a b c g h = record { deeds = λ b p. h.deeds (g.crypto b) (g.deeds b p); crypto = λ p. h.crypto (g.crypto p); path = h.path ∙ g.path; token = λ p k. h.token (subst IsPlainAddress (sym g.path) p) (g.token p k) }
+  keeps_next a b c g h = record { deeds = λ b p. h.deeds (g.crypto b) (g.deeds b p); crypto = λ p. h.crypto (g.crypto p); path = h.path ∙ g.path; notices = λ p k. h.notices (subst IsPlainAddress (sym g.path) p) (g.notices p k) }
 
   keeps_move : (x : Move t) → IsReceived x → (a : At t) → MayMove x a.state → Keeps a (move_to x a)
   unfolding MayMove move_to state_move deeds_move waiting_move close_begun space_left packet_came came_in crypto_written done_asked paths_move path_received path_accepted peer_fixed life_move data_ready life_established life_drained life_closed life_raised token_learned identifiers_wanted
-  keeps_move (Forget id) r a h = record { deeds = λ b p. p; crypto = set_below a.state.waiting id _ (nothing_below (space_of a.state.waiting.spaces id)); path = refl; token = λ p k. k }
-  keeps_move (Enter id n v) r a h = record { deeds = λ b. one_more a.did _ tt; crypto = λ p. p; path = refl; token = λ p k. k }
-  keeps_move (Expect token) r a h = record { deeds = λ b p. p; crypto = λ p. p; path = refl; token = λ p k. k }
-  keeps_move Fail r a h = record { deeds = λ b p. p; crypto = λ p. p; path = refl; token = λ p k. k }
+  keeps_move (Forget id) r a h = record { deeds = λ b p. p; crypto = set_below a.state.waiting id _ (nothing_below (space_of a.state.waiting.spaces id)); path = refl; notices = λ p k. k }
+  keeps_move (Enter id n v) r a h = record { deeds = λ b. one_more a.did _ tt; crypto = λ p. p; path = refl; notices = λ p k. k }
+  keeps_move (Expect token) r a h = record { deeds = λ b p. p; crypto = λ p. p; path = refl; notices = λ p k. k }
+  keeps_move Fail r a h = record { deeds = λ b p. p; crypto = λ p. p; path = refl; notices = λ p k. k }
   keeps_move (Accept time id n e g v) r a h = record {
     deeds = λ b. one_more a.did _ tt;
     crypto = set_below a.state.waiting id _ (λ p. p);
     path = spun_remote (path_accepted a.state.paths id v) a.state.setup.fixed.side (nat_le (received_number a.state.numbers id) n) g.spin ∙ accepted_remote a.state.paths id v;
-    token = λ p k. k;
+    notices = λ p k. k;
   }
-  keeps_move (Fix cid) r a h = record { deeds = λ b p. p; crypto = λ p. p; path = refl; token = λ p k. k }
-  keeps_move (Hear bytes) r a h = record { deeds = λ b p. p; crypto = λ p. p; path = refl; token = λ p k. k }
-  keeps_move (Ack id n after) r a h = record { deeds = λ b p. p; crypto = settled_below a.state.waiting id after.acked after.lost; path = refl; token = λ p k. k }
-  keeps_move (Arm time) r a h = record { deeds = λ b p. p; crypto = λ p. p; path = refl; token = λ p k. k }
-  keeps_move (Come id offset bytes) r a h = record { deeds = λ b p. p; crypto = λ p. p; path = refl; token = λ p k. k }
-  keeps_move (Read id count session) r a h = record { deeds = λ b p. p; crypto = λ p. p; path = refl; token = λ p k. k }
-  keeps_move (Write bytes keys session) r a h = record { deeds = λ b p. p; crypto = set_below a.state.waiting a.state.keys.highest _ (more_below (space_of a.state.waiting.spaces a.state.keys.highest) bytes); path = refl; token = λ p k. k }
-  keeps_move Ready r a h = record { deeds = λ b p. p; crypto = λ p. p; path = refl; token = λ p k. k }
-  keeps_move (Token token) r a h = record { deeds = λ b p. p; crypto = λ p. p; path = refl; token = λ p k. p }
-  keeps_move (Learn parameters) r a h = record { deeds = λ b p. p; crypto = λ p. p; path = refl; token = λ p k. k }
-  keeps_move (Want time count) r a h = record { deeds = λ b p. p; crypto = λ p. p; path = refl; token = λ p k. k }
-  keeps_move Confirm r a h = record { deeds = λ b p. p; crypto = set_below a.state.waiting «Data» (record (space_of a.state.waiting.spaces «Data») { done = true }) (λ p. p); path = refl; token = λ p k. k }
-  keeps_move Establish r a h = record { deeds = λ b. one_more a.did _ tt; crypto = λ p. p; path = refl; token = λ p k. k }
-  keeps_move (Tell d) r a h = record { deeds = λ b. one_more a.did d (told_plain d h); crypto = λ p. p; path = refl; token = λ p k. k }
-  keeps_move Drain r a h = record { deeds = λ b. one_more a.did _ tt; crypto = λ p. p; path = refl; token = λ p k. k }
-  keeps_move (Leave time) r a h = record { deeds = λ b. one_more a.did _ tt; crypto = λ p. p; path = refl; token = λ p k. k }
-  keeps_move Owe r a h = record { deeds = λ b p. p; crypto = begun_below a.state.waiting a.state.waiting.close_owed; path = refl; token = λ p k. k }
-  keeps_move (Shut time close) r a h = record { deeds = λ b. one_more a.did _ tt; crypto = begun_below a.state.waiting a.state.waiting.close_owed; path = refl; token = λ p k. k }
-  keeps_move (Raise to) r a h = record { deeds = λ b. one_more a.did _ tt; crypto = λ p. p; path = refl; token = λ p k. k }
-  keeps_move (Give why) r a h = record { deeds = λ b. one_more a.did _ tt; crypto = λ p. p; path = refl; token = λ p k. same_token a.state.life (reason_given a.state.life why) (given_token a.state.life why) k }
+  keeps_move (Fix cid) r a h = record { deeds = λ b p. p; crypto = λ p. p; path = refl; notices = λ p k. k }
+  keeps_move (Hear bytes) r a h = record { deeds = λ b p. p; crypto = λ p. p; path = refl; notices = λ p k. k }
+  keeps_move (Ack id n after) r a h = record { deeds = λ b p. p; crypto = settled_below a.state.waiting id after.acked after.lost; path = refl; notices = λ p k. k }
+  keeps_move (Arm time) r a h = record { deeds = λ b p. p; crypto = λ p. p; path = refl; notices = λ p k. k }
+  keeps_move (Come id offset bytes) r a h = record { deeds = λ b p. p; crypto = λ p. p; path = refl; notices = λ p k. k }
+  keeps_move (Read id count session) r a h = record { deeds = λ b p. p; crypto = λ p. p; path = refl; notices = λ p k. k }
+  keeps_move (Write bytes keys session) r a h = record { deeds = λ b p. p; crypto = set_below a.state.waiting a.state.keys.highest _ (more_below (space_of a.state.waiting.spaces a.state.keys.highest) bytes); path = refl; notices = λ p k. k }
+  keeps_move Ready r a h = record { deeds = λ b p. p; crypto = λ p. p; path = refl; notices = λ p k. k }
+  keeps_move (Token token) r a h = record { deeds = λ b p. p; crypto = λ p. p; path = refl; notices = λ p k. one_notice a.state.life.notices (endpoint.ResetToken a.state.paths.current.remote token) p k }
+  keeps_move (Learn parameters) r a h = record { deeds = λ b p. p; crypto = λ p. p; path = refl; notices = λ p k. k }
+  keeps_move (Want time count) r a h = record { deeds = λ b p. p; crypto = λ p. p; path = refl; notices = λ p k. one_notice a.state.life.notices (endpoint.NeedIdentifiers time count) tt k }
+  keeps_move Confirm r a h = record { deeds = λ b p. p; crypto = set_below a.state.waiting «Data» (record (space_of a.state.waiting.spaces «Data») { done = true }) (λ p. p); path = refl; notices = λ p k. k }
+  keeps_move Establish r a h = record { deeds = λ b. one_more a.did _ tt; crypto = λ p. p; path = refl; notices = λ p k. k }
+  keeps_move (Tell d) r a h = record { deeds = λ b. one_more a.did d (told_plain d h); crypto = λ p. p; path = refl; notices = λ p k. k }
+  keeps_move Drain r a h = record { deeds = λ b. one_more a.did _ tt; crypto = λ p. p; path = refl; notices = λ p k. k }
+  keeps_move (Leave time) r a h = record { deeds = λ b. one_more a.did _ tt; crypto = λ p. p; path = refl; notices = λ p k. k }
+  keeps_move Owe r a h = record { deeds = λ b p. p; crypto = begun_below a.state.waiting a.state.waiting.close_owed; path = refl; notices = λ p k. k }
+  keeps_move (Shut time close) r a h = record { deeds = λ b. one_more a.did _ tt; crypto = begun_below a.state.waiting a.state.waiting.close_owed; path = refl; notices = λ p k. k }
+  keeps_move (Raise to) r a h = record { deeds = λ b. one_more a.did _ tt; crypto = λ p. p; path = refl; notices = λ p k. k }
+  keeps_move (Give why) r a h = record { deeds = λ b. one_more a.did _ tt; crypto = λ p. p; path = refl; notices = λ p k. same_notices a.state.life (reason_given a.state.life why) (given_notices a.state.life why) k }
   keeps_move _ r a h = absurd r
 
-  keeps_datagram : (m : Meaning t) (time : ℕ) (mark : Option EcnCodepoint) (remote : SocketAddr) (bytes : List ℕ) (a : At t) → Keeps a (datagram_after m time mark remote bytes a)
-  keeps_datagram m time mark remote bytes a = holds_datagram Keeps keeps_here keeps_next keeps_move m time mark remote bytes a
+  keeps_datagram : (m : Meaning t) (coming : Coming) (bytes : List ℕ) (a : At t) → Keeps a (datagram_after m coming bytes a)
+  keeps_datagram m coming bytes a = holds_datagram Keeps keeps_here keeps_next keeps_move m coming bytes a
 
   -- what a timer does keeps the same
   keeps_timed : (x : Move t) → IsTimed x → (a : At t) → MayMove x a.state → Keeps a (move_to x a)
   unfolding MayMove move_to state_move deeds_move waiting_move ack_released paths_move life_move life_raised
-  keeps_timed (Fire after) r a h = record { deeds = λ b p. p; crypto = fired_below a.state.waiting after.fired; path = refl; token = λ p k. k }
-  keeps_timed (Arm time) r a h = record { deeds = λ b p. p; crypto = λ p. p; path = refl; token = λ p k. k }
-  keeps_timed Pace r a h = record { deeds = λ b p. p; crypto = λ p. p; path = refl; token = λ p k. k }
-  keeps_timed Release r a h = record { deeds = λ b p. p; crypto = λ p. p; path = refl; token = λ p k. k }
-  keeps_timed (Raise to) r a h = record { deeds = λ b. one_more a.did _ tt; crypto = λ p. p; path = refl; token = λ p k. k }
-  keeps_timed (Give why) r a h = record { deeds = λ b. one_more a.did _ tt; crypto = λ p. p; path = refl; token = λ p k. same_token a.state.life (reason_given a.state.life why) (given_token a.state.life why) k }
+  keeps_timed (Fire after) r a h = record { deeds = λ b p. p; crypto = fired_below a.state.waiting after.fired; path = refl; notices = λ p k. k }
+  keeps_timed (Arm time) r a h = record { deeds = λ b p. p; crypto = λ p. p; path = refl; notices = λ p k. k }
+  keeps_timed Pace r a h = record { deeds = λ b p. p; crypto = λ p. p; path = refl; notices = λ p k. k }
+  keeps_timed Release r a h = record { deeds = λ b p. p; crypto = λ p. p; path = refl; notices = λ p k. k }
+  keeps_timed (Raise to) r a h = record { deeds = λ b. one_more a.did _ tt; crypto = λ p. p; path = refl; notices = λ p k. k }
+  keeps_timed (Give why) r a h = record { deeds = λ b. one_more a.did _ tt; crypto = λ p. p; path = refl; notices = λ p k. same_notices a.state.life (reason_given a.state.life why) (given_notices a.state.life why) k }
   keeps_timed _ r a h = absurd r
 
   keeps_timeout : (m : Meaning t) (time : ℕ) (a : At t) → Keeps a (timeout_after m time a)
@@ -468,58 +443,60 @@ module _ {t : Types} where
 
   -- what a transmit does keeps the same: each of its moves but those that take and seal
   keeps_sending : (x : Move t) → IsSending x → (a : At t) → MayMove x a.state → Keeps a (move_to x a)
-  unfolding MayMove move_to state_move deeds_move waiting_move close_begun space_left paths_move path_idle life_move life_closed life_raised
-  keeps_sending (Begin id) r a h = record { deeds = λ b p. p; crypto = datagram_below a.state.waiting id (first_of (recovery.space_of id a.state.lower.recovery).flight); path = refl; token = λ p k. k }
-  keeps_sending Skip r a h = record { deeds = λ b p. p; crypto = λ p. p; path = refl; token = λ p k. k }
-  keeps_sending (Arm time) r a h = record { deeds = λ b p. p; crypto = λ p. p; path = refl; token = λ p k. k }
-  keeps_sending (Forget id) r a h = record { deeds = λ b p. p; crypto = set_below a.state.waiting id _ (nothing_below (space_of a.state.waiting.spaces id)); path = refl; token = λ p k. k }
-  keeps_sending (Shut time close) r a h = record { deeds = λ b. one_more a.did _ tt; crypto = begun_below a.state.waiting a.state.waiting.close_owed; path = refl; token = λ p k. k }
-  keeps_sending (Raise to) r a h = record { deeds = λ b. one_more a.did _ tt; crypto = λ p. p; path = refl; token = λ p k. k }
-  keeps_sending (Give why) r a h = record { deeds = λ b. one_more a.did _ tt; crypto = λ p. p; path = refl; token = λ p k. same_token a.state.life (reason_given a.state.life why) (given_token a.state.life why) k }
-  keeps_sending (Say q) r a h = record { deeds = λ b. one_more a.did _ tt; crypto = λ p. p; path = refl; token = λ p k. k }
+  unfolding MayMove move_to state_move deeds_move waiting_move close_begun space_left paths_move path_idle path_sent life_move life_closed life_raised
+  keeps_sending (Begin id opens) r a h = record { deeds = λ b p. p; crypto = packet_below a.state id opens; path = refl; notices = λ p k. k }
+  keeps_sending Skip r a h = record { deeds = λ b p. p; crypto = λ p. p; path = refl; notices = λ p k. k }
+  keeps_sending (Arm time) r a h = record { deeds = λ b p. p; crypto = λ p. p; path = refl; notices = λ p k. k }
+  keeps_sending (Forget id) r a h = record { deeds = λ b p. p; crypto = set_below a.state.waiting id _ (nothing_below (space_of a.state.waiting.spaces id)); path = refl; notices = λ p k. k }
+  keeps_sending (Shut time close) r a h = record { deeds = λ b. one_more a.did _ tt; crypto = begun_below a.state.waiting a.state.waiting.close_owed; path = refl; notices = λ p k. k }
+  keeps_sending (Raise to) r a h = record { deeds = λ b. one_more a.did _ tt; crypto = λ p. p; path = refl; notices = λ p k. k }
+  keeps_sending (Give why) r a h = record { deeds = λ b. one_more a.did _ tt; crypto = λ p. p; path = refl; notices = λ p k. same_notices a.state.life (reason_given a.state.life why) (given_notices a.state.life why) k }
+  keeps_sending (Finish bytes) r a h = record { deeds = λ b p. p; crypto = λ p. p; path = refl; notices = λ p k. k }
+  keeps_sending (Say q) r a h = record { deeds = λ b. one_more a.did _ tt; crypto = λ p. p; path = refl; notices = λ p k. k }
   keeps_sending _ r a h = absurd r
 
   -- and those, as its frames leave nothing out
   keeps_sealed : (time : ℕ) (id : SpaceId) (fs : List FrameValue) (a : At t) → IsSealable time a.state id fs → Keeps a (move_to (Seal time id (next_number a.state.numbers id) (packet_size a.state id fs) fs) (move_to (Take id fs) a))
-  unfolding move_to state_move deeds_move waiting_move keys_move paths_move path_sent life_move
+  unfolding move_to state_move deeds_move waiting_move keys_move paths_move life_move
   keeps_sealed time id fs a may = record {
-    deeds = λ b. one_more a.did (deed.Sealed id (next_number a.state.numbers id) 0 false fs) ((λ e. refl), (carried_plain time a.state id fs may.carries (space_below a.state.waiting id b)).0);
-    crypto = λ h. sealed_below a.state.waiting id fs (is_space id a.state.keys.highest) _ h (carried_plain time a.state id fs may.carries (space_below a.state.waiting id h)).1;
+    deeds = λ b. one_more a.did (deed.Sealed id (next_number a.state.numbers id) 0 false fs) ((λ e. refl), (carried_plain may.closing time a.state id may.room fs may.small may.carries (space_below a.state.waiting id b)).0);
+    crypto = λ h. sealed_below a.state.waiting id fs (is_space id a.state.keys.highest) _ h (carried_plain may.closing time a.state id may.room fs may.small may.carries (space_below a.state.waiting id h)).1;
     path = refl;
-    token = λ p k. k;
+    notices = λ p k. k;
   }
 
-  keeps_transmit : (time : ℕ) (choice : Choice) (a : At t) → MayTransmit time a.state choice → Keeps a (transmit_after time choice a)
-  keeps_transmit time choice a may = holds_transmit Keeps keeps_here keeps_next keeps_sending keeps_sealed time choice a may
+  keeps_transmit : (m : Meaning t) (time : ℕ) (choice : Choice) (a : At t) → MayTransmit m time choice a → Keeps a (transmit_after m time choice a)
+  keeps_transmit m time choice a may = holds_transmit Keeps keeps_here keeps_next keeps_sending keeps_sealed m time choice a may
 
   -- the application closes, or has closed before
   keeps_closed : (time : ℕ) (close : Close) (a : At t) (b : Bool) → Keeps a (if b then move_to (Shut time close) a else a)
   unfolding move_to state_move deeds_move waiting_move close_begun paths_move life_move life_closed
-  keeps_closed time close a true = record { deeds = λ b. one_more a.did _ tt; crypto = begun_below a.state.waiting a.state.waiting.close_owed; path = refl; token = λ p k. k }
+  keeps_closed time close a true = record { deeds = λ b. one_more a.did _ tt; crypto = begun_below a.state.waiting a.state.waiting.close_owed; path = refl; notices = λ p k. k }
   keeps_closed time close a false = keeps_here a
 
   -- what an input does
-  keeps_input : (m : Meaning t) (i : Input) (choice : Choice) (a : At t) → IsAllowed i choice a.state → Keeps a (input_after m i choice a)
+  keeps_input : (m : Meaning t) (i : Input) (choice : Choice) (a : At t) → IsAllowed m i choice a → Keeps a (input_after m i choice a)
   unfolding IsAllowed input_after close_after move_to state_move deeds_move waiting_move ping_asked paths_move life_move
-  keeps_input m (input.Datagram time remote ecn bytes) choice a may = keeps_datagram m time ecn remote bytes a
+  keeps_input m (input.Datagram time remote ecn bytes) choice a may = keeps_datagram m (record { time = time; remote = remote; mark = ecn }) bytes a
   keeps_input m (input.Timeout time) choice a may = keeps_timeout m time a
-  keeps_input m (input.Transmit time max) choice a may = keeps_transmit time choice a may
+  keeps_input m (input.Transmit time max) choice a may = keeps_transmit m time choice a may
   keeps_input m (input.Close time code reason) choice a may = keeps_closed time _ a (is_open a.state.life.state)
-  keeps_input m (input.Ping time) choice a may = record { deeds = λ b p. p; crypto = set_below a.state.waiting a.state.keys.highest _ (λ p. p); path = refl; token = λ p k. k }
+  keeps_input m (input.Ping time) choice a may = record { deeds = λ b p. p; crypto = set_below a.state.waiting a.state.keys.highest _ (λ p. p); path = refl; notices = λ p k. k }
 
   -- what it answers
-  out_plain : (m : Meaning t) (choice : Choice) (s : View t) → IsPlainAddress s.paths.remote → IsAnswerPlain (out_of (transmit_of choice s) (transmit_bytes m choice s))
-  unfolding transmit_of transmit_with
-  out_plain m [] s h = tt
-  out_plain m (fs ∷ _) s h = h
+  out_plain : (e : Ending) (s : View t) (size : ℕ) (bytes : List ℕ) → IsPlainAddress s.paths.current.remote → IsAnswerPlain (out_of (sent_out e (transmit_with s size)) bytes)
+  unfolding transmit_with
+  out_plain Went s size bytes h = h
+  out_plain (Hushed quiet) s size bytes h = tt
+  out_plain (Died why) s size bytes h = tt
 
-  answer_plain : (m : Meaning t) (i : Input) (choice : Choice) (s : View t) → IsPlainAddress s.paths.remote → IsAnswerPlain (answer_of m i choice s)
-  unfolding answer_of
-  answer_plain m (input.Datagram time remote ecn bytes) choice s h = done_plain (is_taken m s remote bytes)
-  answer_plain m (input.Timeout time) choice s h = tt
-  answer_plain m (input.Transmit time max) choice s h = out_plain m choice s h
-  answer_plain m (input.Close time code reason) choice s h = tt
-  answer_plain m (input.Ping time) choice s h = tt
+  answer_plain : (m : Meaning t) (i : Input) (choice : Choice) (a : At t) → IsPlainAddress a.state.paths.current.remote → IsAnswerPlain (answer_of m i choice a)
+  unfolding answer_of transmit_of
+  answer_plain m (input.Datagram time remote ecn bytes) choice a h = done_plain (is_taken m a.state remote bytes)
+  answer_plain m (input.Timeout time) choice a h = tt
+  answer_plain m (input.Transmit time max) choice a h = out_plain choice.ending a.state (gone_after m time choice a).batch.total (transmit_bytes m time choice a) h
+  answer_plain m (input.Close time code reason) choice a h = tt
+  answer_plain m (input.Ping time) choice a h = tt
 
   -- what a step does before anything is reported
   keeps_step : (m : Meaning t) (k : ℕ) (s : View t) (i : Input) (x : Step) (s' : View t) (e : IsStep m k s i x s') → Keeps (began s (time_of i)) (called m s i e.choice)
@@ -534,18 +511,18 @@ module _ {t : Types} where
       (subst (All IsDeedPlain) (sym e.deeds) (there.deeds h (All-nil IsDeedPlain)), subst IsBelowLimit (sym e.waiting) (there.crypto h))
 
   -- its answer
-  step_answer : (m : Meaning t) (k : ℕ) (s : View t) (i : Input) (x : Step) (s' : View t) → IsStep m k s i x s' → IsPlainAddress s.paths.remote → IsAnswerPlain x.answer × IsPlainAddress s'.paths.remote
+  step_answer : (m : Meaning t) (k : ℕ) (s : View t) (i : Input) (x : Step) (s' : View t) → IsStep m k s i x s' → IsPlainAddress s.paths.current.remote → IsAnswerPlain x.answer × IsPlainAddress s'.paths.current.remote
   unfolding began step_after reported state_move paths_move
   step_answer m k s i x s' e h =
-      let same : s'.paths.remote ≡ s.paths.remote = ap (λ (p : Paths). p.remote) e.paths ∙ (keeps_step m k s i x s' e).path in
-      (subst IsAnswerPlain (sym e.answer) (answer_plain m i e.choice (began s (time_of i)).state h), subst IsPlainAddress (sym same) h)
+      let same : s'.paths.current.remote ≡ s.paths.current.remote = ap (λ (p : Paths). p.current.remote) e.paths ∙ (keeps_step m k s i x s' e).path in
+      (subst IsAnswerPlain (sym e.answer) (answer_plain m i e.choice (began s (time_of i)) h), subst IsPlainAddress (sym same) h)
 
   -- what it tells the endpoint
-  step_endpoint : (m : Meaning t) (k : ℕ) (s : View t) (i : Input) (x : Step) (s' : View t) → IsStep m k s i x s' → IsPlainAddress s.paths.remote → IsTokenPlain s.life → All IsEndpointPlain x.endpoint × IsTokenPlain s'.life
-  unfolding began step_after reported state_move life_move token_reported wanted_reported drained_reported lost_reported connected_reported ready_reported paths_move
+  step_endpoint : (m : Meaning t) (k : ℕ) (s : View t) (i : Input) (x : Step) (s' : View t) → IsStep m k s i x s' → IsPlainAddress s.paths.current.remote → AreNoticesPlain s.life → All IsEndpointPlain x.endpoint × AreNoticesPlain s'.life
+  unfolding began step_after reported state_move life_move notices_reported drained_reported lost_reported connected_reported ready_reported paths_move
   step_endpoint m k s i x s' e p h =
-      let there : IsTokenPlain (called m s i e.choice).state.life = (keeps_step m k s i x s' e).token p h in
-      (subst (All IsEndpointPlain) (sym e.endpoint) (endpoint_plain (called m s i e.choice).state.life there), subst IsTokenPlain (sym e.life) tt)
+      let there : AreNoticesPlain (called m s i e.choice).state.life = (keeps_step m k s i x s' e).notices p h in
+      (subst (All IsEndpointPlain) (sym e.endpoint) (endpoint_plain (called m s i e.choice).state there), subst AreNoticesPlain (sym e.life) (All-nil IsEndpointPlain))
 
   -- ---- runs
 
@@ -559,9 +536,9 @@ module _ {t : Types} where
   run_deeds m k s [] (x ∷ xs) s' r h = absurd r
   run_deeds m k s (i ∷ is) [] s' r h = absurd r
 
-  run_answers : (m : Meaning t) (k : ℕ) (s : View t) (is : List Input) (xs : List Step) (s' : View t) → Run m k s is xs s' → IsPlainAddress s.paths.remote → All (λ x. IsAnswerPlain x.answer) xs × IsPlainAddress s'.paths.remote
+  run_answers : (m : Meaning t) (k : ℕ) (s : View t) (is : List Input) (xs : List Step) (s' : View t) → Run m k s is xs s' → IsPlainAddress s.paths.current.remote → All (λ x. IsAnswerPlain x.answer) xs × IsPlainAddress s'.paths.current.remote
   unfolding Run
-  run_answers m k s [] [] s' r h = (All-nil (λ (x : Step). IsAnswerPlain x.answer), subst (λ (v : View t). IsPlainAddress v.paths.remote) (sym r) h)
+  run_answers m k s [] [] s' r h = (All-nil (λ (x : Step). IsAnswerPlain x.answer), subst (λ (v : View t). IsPlainAddress v.paths.current.remote) (sym r) h)
   run_answers m k s (i ∷ is) (x ∷ xs) s' r h =
       let first = step_answer m k s i x r.0 r.1 h in
       let others = run_answers m (k + 1) r.0 is xs s' r.2 first.1 in
@@ -569,9 +546,9 @@ module _ {t : Types} where
   run_answers m k s [] (x ∷ xs) s' r h = absurd r
   run_answers m k s (i ∷ is) [] s' r h = absurd r
 
-  run_endpoints : (m : Meaning t) (k : ℕ) (s : View t) (is : List Input) (xs : List Step) (s' : View t) → Run m k s is xs s' → IsPlainAddress s.paths.remote → IsTokenPlain s.life → All (λ x. All IsEndpointPlain x.endpoint) xs × IsTokenPlain s'.life
+  run_endpoints : (m : Meaning t) (k : ℕ) (s : View t) (is : List Input) (xs : List Step) (s' : View t) → Run m k s is xs s' → IsPlainAddress s.paths.current.remote → AreNoticesPlain s.life → All (λ x. All IsEndpointPlain x.endpoint) xs × AreNoticesPlain s'.life
   unfolding Run
-  run_endpoints m k s [] [] s' r p h = (All-nil (λ (x : Step). All IsEndpointPlain x.endpoint), subst (λ (v : View t). IsTokenPlain v.life) (sym r) h)
+  run_endpoints m k s [] [] s' r p h = (All-nil (λ (x : Step). All IsEndpointPlain x.endpoint), subst (λ (v : View t). AreNoticesPlain v.life) (sym r) h)
   run_endpoints m k s (i ∷ is) (x ∷ xs) s' r p h =
       let first = step_endpoint m k s i x r.0 r.1 p h in
       let others = run_endpoints m (k + 1) r.0 is xs s' r.2 (step_answer m k s i x r.0 r.1 p).1 first.1 in
@@ -584,12 +561,12 @@ module _ {t : Types} where
   run_plain m k s is xs s' r h =
       let deeds = run_deeds m k s is xs s' r h.crypto in
       let answers = run_answers m k s is xs s' r h.address in
-      let ends = run_endpoints m k s is xs s' r h.address h.token in
+      let ends = run_endpoints m k s is xs s' r h.address h.notices in
       λ n d l. record { did = deeds.0 n d l; answer = answers.0 n d l; endpoint = ends.0 n d l }
 
   -- and where it ends is a plain start again
   pub run_stays : (m : Meaning t) (k : ℕ) (s : View t) (is : List Input) (xs : List Step) (s' : View t) → Run m k s is xs s' → IsPlainStart s.waiting s.paths s.life → IsPlainStart s'.waiting s'.paths s'.life
-  run_stays m k s is xs s' r h = record { crypto = (run_deeds m k s is xs s' r h.crypto).1; address = (run_answers m k s is xs s' r h.address).1; token = (run_endpoints m k s is xs s' r h.address h.token).1 }
+  run_stays m k s is xs s' r h = record { crypto = (run_deeds m k s is xs s' r h.crypto).1; address = (run_answers m k s is xs s' r h.address).1; notices = (run_endpoints m k s is xs s' r h.address h.notices).1 }
 
   -- the same of a run over the first inputs
   pub ran_plain : (m : Meaning t) (k : ℕ) (s : View t) (is : List Input) (xs : List Step) → Ran m k s is xs → IsPlainStart s.waiting s.paths s.life → All IsPlain xs
@@ -599,25 +576,25 @@ module _ {t : Types} {R : Type 0} where
   -- a client that was just made, and its hello
   pub first_plain : (stream : R → Stream) (m : Meaning t) (session : t.S) (words : Stream) (fixed : Fixed) (remote : SocketAddr) (first_cid token : List ℕ) (transport : TransportValues) (congestion : t.C) (time : ℕ) (v : Held t R) → ideal stream v ≡ first_view m session words fixed remote first_cid token transport congestion time
       → v.waiting.spaces.initial.crypto.written < 2 ^ 62 → IsPlainAddress remote → IsPlainStart v.waiting v.paths v.life
-  unfolding first_view bytes_written nothing
+  unfolding first_view bytes_written nothing only_path new_path
   first_plain stream m session words fixed remote first_cid token transport congestion time v made hello plain =
       let after : v.waiting.spaces.handshake.crypto.written ≡ 0 = ap (λ (v : View t). v.waiting.spaces.handshake.crypto.written) made in
       let last : v.waiting.spaces.application.crypto.written ≡ 0 = ap (λ (v : View t). v.waiting.spaces.application.crypto.written) made in
-      let path : v.paths.remote ≡ remote = ap (λ (v : View t). v.paths.remote) made in
-      let none : v.life.reset_token ≡ None = ap (λ (v : View t). v.life.reset_token) made in
-      record { crypto = (hello, omega arith, omega arith); address = subst IsPlainAddress (sym path) plain; token = subst (λ (o : Option PeerToken). IfSome o (λ peer. IsPlainAddress peer.remote)) (sym none) tt }
+      let path : v.paths.current.remote ≡ remote = ap (λ (v : View t). v.paths.current.remote) made in
+      let none : v.life.notices ≡ [] = ap (λ (v : View t). v.life.notices) made in
+      record { crypto = (hello, omega arith, omega arith); address = subst IsPlainAddress (sym path) plain; notices = subst (All IsEndpointPlain) (sym none) (All-nil IsEndpointPlain) }
 
   -- a server that was just made
   pub server_plain : (stream : R → Stream) (m : Meaning t) (session : t.S) (words : Stream) (fixed : Fixed) (remote : SocketAddr) (remote_cid : List ℕ) (validated : Bool) (transport : TransportValues) (congestion : t.C) (time : ℕ) (v : Held t R) → ideal stream v ≡ server_view m session words fixed remote remote_cid validated transport congestion time
       → IsPlainAddress remote → IsPlainStart v.waiting v.paths v.life
-  unfolding server_view bytes_written nothing
+  unfolding server_view bytes_written nothing only_path new_path
   server_plain stream m session words fixed remote remote_cid validated transport congestion time v made plain =
       let before : v.waiting.spaces.initial.crypto.written ≡ 0 = ap (λ (v : View t). v.waiting.spaces.initial.crypto.written) made in
       let after : v.waiting.spaces.handshake.crypto.written ≡ 0 = ap (λ (v : View t). v.waiting.spaces.handshake.crypto.written) made in
       let last : v.waiting.spaces.application.crypto.written ≡ 0 = ap (λ (v : View t). v.waiting.spaces.application.crypto.written) made in
-      let path : v.paths.remote ≡ remote = ap (λ (v : View t). v.paths.remote) made in
-      let none : v.life.reset_token ≡ None = ap (λ (v : View t). v.life.reset_token) made in
-      record { crypto = (omega arith, omega arith, omega arith); address = subst IsPlainAddress (sym path) plain; token = subst (λ (o : Option PeerToken). IfSome o (λ peer. IsPlainAddress peer.remote)) (sym none) tt }
+      let path : v.paths.current.remote ≡ remote = ap (λ (v : View t). v.paths.current.remote) made in
+      let none : v.life.notices ≡ [] = ap (λ (v : View t). v.life.notices) made in
+      record { crypto = (omega arith, omega arith, omega arith); address = subst IsPlainAddress (sym path) plain; notices = subst (All IsEndpointPlain) (sym none) (All-nil IsEndpointPlain) }
 
 module _ {t : Types} {R : Type 0} where
   -- in a client that was just made nothing waits to be told
@@ -625,14 +602,14 @@ module _ {t : Types} {R : Type 0} where
       → OnlyDoneWaits v.life
   unfolding first_view
   first_told stream m session words fixed remote first_cid token transport congestion time v made =
-      record { lost = λ _. ap (λ (v : View t). v.life.lost) made; connected = λ _. ap (λ (v : View t). v.life.connected) made; drained = λ _. ap (λ (v : View t). v.life.drained) made }
+      record { lost = λ _. ap (λ (v : View t). v.life.lost) made; connected = λ _. ap (λ (v : View t). v.life.connected) made; drained = λ _. ap (λ (v : View t). v.life.drained) made; notices = ap (λ (v : View t). ends_in v.life.notices) made }
 
   -- nor in such a server
   pub server_told : (stream : R → Stream) (m : Meaning t) (session : t.S) (words : Stream) (fixed : Fixed) (remote : SocketAddr) (remote_cid : List ℕ) (validated : Bool) (transport : TransportValues) (congestion : t.C) (time : ℕ) (v : Held t R) → ideal stream v ≡ server_view m session words fixed remote remote_cid validated transport congestion time
       → OnlyDoneWaits v.life
   unfolding server_view
   server_told stream m session words fixed remote remote_cid validated transport congestion time v made =
-      record { lost = λ _. ap (λ (v : View t). v.life.lost) made; connected = λ _. ap (λ (v : View t). v.life.connected) made; drained = λ _. ap (λ (v : View t). v.life.drained) made }
+      record { lost = λ _. ap (λ (v : View t). v.life.lost) made; connected = λ _. ap (λ (v : View t). v.life.connected) made; drained = λ _. ap (λ (v : View t). v.life.drained) made; notices = ap (λ (v : View t). ends_in v.life.notices) made }
 
 -- ---- two runs
 

@@ -2,3 +2,4 @@ pub mod Refusal
 pub mod RefusedText
 pub mod Seen
 pub mod Opened
+pub mod Stored

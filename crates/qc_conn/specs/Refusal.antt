@@ -1,6 +1,6 @@
--- Inputs that are refused: those whose time falls, and those that ask for a call that can't be made.
-use Rattle.std.specs.Prelude.{◌≡◌, ℕ, ◌+◌, Bool, false, nat_lt, if◌then◌else◌, ◌==◌, List, [], ◌∷◌, length, take, Option, Some, None}
-use Rattle.std.specs.Option.{option_map, option_or}
+-- Inputs that are refused: those whose time falls, and those that ask for a call that can't be made of the connection as it is.
+use Rattle.std.specs.Prelude.{◌≡◌, ℕ, ◌+◌, Bool, false, nat_lt, if◌then◌else◌, ◌==◌, List, [], ◌∷◌, length, take, drop, Option, Some, None}
+use Rattle.std.specs.Option.{option_map}
 use Rattle.qc_conn.specs.declared.driving.BadWhy.{BadWhy}
 use Rattle.qc_conn.specs.declared.driving.BadWhy.TheVariants.{ZeroDatagrams}
 use Rattle.qc_conn.specs.declared.driving.DriveKind.{DriveKind}
@@ -8,27 +8,29 @@ use Rattle.qc_conn.specs.declared.driving.DriveKind.TheVariants.{OutOfMemory, Ti
 use Rattle.qc_state.specs.declared.input.Input.{Input}
 use Rattle.qc_state.specs.declared.input.Input.TheVariants.{Datagram, Timeout, Transmit, Close, Ping}
 use Rattle.qc_state.specs.declared.trace.Step.{Step}
-use Rattle.qc_state.specs.Run.{time_of, Run}
+use Rattle.qc_state.specs.Run.{time_of, IsStep}
 use Rattle.qc_state.specs.Types.{Types, Meaning}
 use Rattle.qc_state.specs.View.{View}
 
--- what is wrong with the call that an input asks for: a transmit has to be allowed at least one datagram
-abbrev pub bad_call : Input → Option BadWhy
-bad_call (Transmit time max) = if max == 0 then Some ZeroDatagrams else None
-bad_call (Datagram time remote ecn bytes) = None
-bad_call (Timeout time) = None
-bad_call (Close time code reason) = None
-bad_call (Ping time) = None
+module _ {t : Types} where
+  -- what is wrong with the call that an input asks for of a connection: a transmit has to be allowed at least one datagram
+  abbrev pub bad_call : View t → Input → Option BadWhy
+  bad_call s (Transmit time max) = if max == 0 then Some ZeroDatagrams else None
+  bad_call s (Datagram time remote ecn bytes) = None
+  bad_call s (Timeout time) = None
+  bad_call s (Close time code reason) = None
+  bad_call s (Ping time) = None
 
--- why the input with the number k is refused after this greatest time, if it is: its own time lies before that, or it
--- asks for a call that can't be made
-abbrev pub refusal_of : (k greatest : ℕ) → Input → Option DriveKind
-refusal_of k greatest i = if nat_lt (time_of i) greatest then Some (TimeBack k (time_of i) greatest) else option_map (BadCall k) (bad_call i)
+  -- why a connection refuses the input with the number k, if it does: its time lies before the greatest so far, or it asks for a call
+  -- that can't be made
+  abbrev pub refusal_of : (k : ℕ) → View t → Input → Option DriveKind
+  refusal_of k s i = if nat_lt (time_of i) s.timers.greatest then Some (TimeBack k (time_of i) s.timers.greatest) else option_map (BadCall k) (bad_call s i)
 
--- the first refusal among inputs, the first of which has the number k; None where none is refused
-unfoldable pub first_refusal : (k greatest : ℕ) → List Input → Option DriveKind
-first_refusal k greatest [] = None
-first_refusal k greatest (i ∷ is) = option_or (refusal_of k greatest i) (first_refusal (k + 1) (time_of i) is)
+  -- a run over inputs none of which is refused, each by the connection as those before left it; the first has the number k
+  unfoldable pub TakesAll : Meaning t → (k : ℕ) → View t → List Input → List Step → View t → Type 0
+  TakesAll m k s [] [] s' = s' ≡ s
+  TakesAll m k s (i ∷ is) (x ∷ xs) s' = (mid : View t) × (refusal_of k s i ≡ None) × IsStep m k s i x mid × TakesAll m (k + 1) mid is xs s'
+  TakesAll m k s _ _ s' = ⊥
 
 -- an error of `drive` that names an input
 abbrev pub NamesInput : DriveKind → Type 0
@@ -45,9 +47,12 @@ place_of (BadCall at why) = Some at
 place_of Failed = None
 
 module _ {t : Types} where
-  -- the inputs before the first that is to be refused were done, and nothing else
+  -- the inputs before this one were done, none of which was refused, and nothing else; it is the first that is
   pub record RefusedAt (m : Meaning t) (s : View t) (is : List Input) (kind : DriveKind) (xs : List Step) (s' : View t) (failed : Bool) : Type 0 where
-    pub first : first_refusal 0 s.timers.greatest is ≡ Some kind
+    pub input : Input
+    pub behind : List Input
+    pub here : drop (length xs) is ≡ input ∷ behind
+    pub first : refusal_of (length xs) s' input ≡ Some kind
     pub place : place_of kind ≡ Some (length xs)
-    pub before : Run m 0 s (take (length xs) is) xs s'
+    pub before : TakesAll m 0 s (take (length xs) is) xs s'
     pub alive : failed ≡ false

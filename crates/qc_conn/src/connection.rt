@@ -10,6 +10,7 @@ ghost use Rattle.qc_receive.specs.FirstPacket.{IsFirstPacket, first_reason, size
 ghost use Rattle.qc_recovery.specs.Paths.{first_size};
 ghost use Rattle.qc_state.specs.Receiving.{datagram_after, first_packet_after, is_taken};
 ghost use Rattle.qc_state.specs.Setup.{is_first_awaited};
+ghost use Rattle.qc_state.specs.EndLaws.{Ends};
 ghost use Rattle.qc_state.specs.EventLaws.{OnlyDoneWaits};
 ghost use Rattle.qc_state.specs.First.{first_view, server_view, fixed_of};
 ghost use Rattle.qc_state.specs.Life.{is_drained};
@@ -18,7 +19,6 @@ ghost use Rattle.qc_state.specs.Polls.{first_endpoint_event, first_event, polled
 ghost use Rattle.qc_state.specs.Run.{began, time_of, close_after, IsStep};
 ghost use Rattle.qc_state.specs.Timeouts.{timeout_after};
 ghost use Rattle.qc_state.specs.Timers.{has_come, next_timeout};
-ghost use Rattle.qc_state.specs.Types.{meaning};
 ghost use Rattle.qc_state.specs.View.{ideal};
 
 use crate::steps::{core_event, core_first, core_first_packet, core_send, core_step, core_timeout};
@@ -29,7 +29,9 @@ use qc_core::Core;
 use qc_header::InitialPacket;
 use qc_making::{ClientSetup, ServerSetup};
 use qc_receive::ConnectionEvent;
-use qc_state::{ConnectionError, EndpointEvent, Event, Input, Step, Suite, Transmit};
+use qc_state::{
+    Coming, ConnectionError, EndpointEvent, Event, Input, Means, Step, Suite, Transmit,
+};
 use std::alloc::{AllocError, Global};
 use std::marker::Model;
 use std::net::SocketAddr;
@@ -46,7 +48,7 @@ pub struct Connection<U: Suite> {
 }
 
 /// Why a server that was handed its first packet doesn't go on.
-#[derive(Drop)]
+#[derive(Debug, Drop, PartialEq, Eq)]
 pub enum FirstError {
     /// The packet gave this reason for the connection's end. The connection reports it as well, once.
     Lost(ConnectionError),
@@ -89,9 +91,10 @@ impl<U: Suite> Connection<U> {
     ) -> Result<Connection<U>, AllocError>
         requires fresh { U.Session.is_fresh setup.session }
         requires client { U.Session.side_of setup.session ≡ Side.Client }
-        ensures made { IfOk result (λ c. (ideal U.Random.stream c.core) ≡ first_view (meaning U.Session.Session U.Session.HeaderKey.HeaderMask U.Session.PacketKey.PacketKey U.Control.Controller.Controller) setup.session (U.Random.stream setup.random) (fixed_of Side.Client setup.version setup.local_cid setup.first_cid setup.local_ip setup.transport setup.grease_quic_bit (U.Random.stream setup.random)) setup.remote setup.first_cid (unwrap_or (G.taken store.old (string_bytes setup.server_name)) []) setup.transport (U.Control.built setup.control now (first_size setup.transport None)) now) }
+        ensures made { IfOk result (λ c. (ideal U.Random.stream c.core) ≡ first_view ⟦<U as Means>⟧.meaning setup.session (U.Random.stream setup.random) (fixed_of Side.Client setup.version setup.local_cid setup.first_cid setup.local_ip setup.transport setup.grease_quic_bit (U.Random.stream setup.random)) setup.remote setup.first_cid (unwrap_or (G.taken store.old (string_bytes setup.server_name)) []) setup.transport (U.Control.built setup.control now (first_size setup.transport None)) now) }
         ensures plain { IsPlainAddress setup.remote → IfOk result (λ c. IsPlainStart c.core.waiting c.core.paths c.core.life) }
         ensures told { IfOk result (λ c. OnlyDoneWaits c.core.life) }
+        ensures ends { IfOk result (λ c. Ends (ideal U.Random.stream c.core)) }
         ensures alive { IfOk result (λ c. c.failed ≡ false) }
         ensures store { OnOk result (store.new ≡ G.after_take store.old (string_bytes setup.server_name)) }
     {
@@ -116,9 +119,10 @@ impl<U: Suite> Connection<U> {
         now: Instant,
     ) -> Result<Connection<U>, AllocError>
         requires fresh { U.Session.is_fresh setup.session }
-        ensures made { IfOk result (λ c. (ideal U.Random.stream c.core) ≡ server_view (meaning U.Session.Session U.Session.HeaderKey.HeaderMask U.Session.PacketKey.PacketKey U.Control.Controller.Controller) setup.session (U.Random.stream setup.random) (fixed_of Side.Server setup.version setup.local_cid setup.first_cid setup.local_ip setup.transport setup.grease_quic_bit (U.Random.stream setup.random)) setup.remote setup.remote_cid setup.validated setup.transport (U.Control.built setup.control now (first_size setup.transport None)) now) }
+        ensures made { IfOk result (λ c. (ideal U.Random.stream c.core) ≡ server_view ⟦<U as Means>⟧.meaning setup.session (U.Random.stream setup.random) (fixed_of Side.Server setup.version setup.local_cid setup.first_cid setup.local_ip setup.transport setup.grease_quic_bit (U.Random.stream setup.random)) setup.remote setup.remote_cid setup.validated setup.transport (U.Control.built setup.control now (first_size setup.transport None)) now) }
         ensures plain { IsPlainAddress setup.remote → IfOk result (λ c. IsPlainStart c.core.waiting c.core.paths c.core.life) }
         ensures told { IfOk result (λ c. OnlyDoneWaits c.core.life) }
+        ensures ends { IfOk result (λ c. Ends (ideal U.Random.stream c.core)) }
         ensures alive { IfOk result (λ c. c.failed ≡ false) }
     {
         let core = qc_making::new_server(alloc, setup, now)?;
@@ -155,8 +159,8 @@ impl<U: Suite> Connection<U> {
         bytes: BytesMut,
     ) -> Result<bool, Fault>
         requires awaited { is_first_awaited self.old.core.setup ≡ true }
-        ensures answer { IfOk result (λ taken. taken ≡ is_taken (meaning U.Session.Session U.Session.HeaderKey.HeaderMask U.Session.PacketKey.PacketKey U.Control.Controller.Controller) (began (ideal U.Random.stream self.old.core) now).state remote bytes.items) }
-        ensures leads { OnOk result ((ideal U.Random.stream self.new.core) ≡ (datagram_after (meaning U.Session.Session U.Session.HeaderKey.HeaderMask U.Session.PacketKey.PacketKey U.Control.Controller.Controller) now ecn remote bytes.items (began (ideal U.Random.stream self.old.core) now)).state) }
+        ensures answer { IfOk result (λ taken. taken ≡ is_taken ⟦<U as Means>⟧.meaning (began (ideal U.Random.stream self.old.core) now).state remote bytes.items) }
+        ensures leads { OnOk result ((ideal U.Random.stream self.new.core) ≡ (datagram_after ⟦<U as Means>⟧.meaning (record { time = now; remote = remote; mark = ecn }) bytes.items (began (ideal U.Random.stream self.old.core) now)).state) }
         ensures clock { OnOk result (self.new.core.timers.greatest ≡ max self.old.core.timers.greatest now) }
         ensures alive { OnOk result (self.new.failed ≡ false) }
         ensures failed { self.old.failed ≡ true → (result ≡ Err Fault.Failed) × (self.new ≡ self.old) }
@@ -166,7 +170,12 @@ impl<U: Suite> Connection<U> {
         if self.failed {
             return Err(Fault::Failed);
         }
-        match core_first(&mut self.core, alloc, now, ecn, remote, bytes) {
+        let coming = Coming {
+            time: now,
+            remote,
+            mark: ecn,
+        };
+        match core_first(&mut self.core, alloc, &coming, bytes) {
             Ok(taken) => Ok(taken),
             Err(_) => {
                 self.failed = true;
@@ -192,7 +201,7 @@ impl<U: Suite> Connection<U> {
     ) -> Result<(), Fault>
         requires heard { is_first_awaited self.old.core.setup ≡ false }
         requires some { LeavesBytes event }
-        ensures leads { OnOk result ((ideal U.Random.stream self.new.core) ≡ (handed_after (meaning U.Session.Session U.Session.HeaderKey.HeaderMask U.Session.PacketKey.PacketKey U.Control.Controller.Controller) event (began (ideal U.Random.stream self.old.core) (time_of_event event))).state) }
+        ensures leads { OnOk result ((ideal U.Random.stream self.new.core) ≡ (handed_after ⟦<U as Means>⟧.meaning event (began (ideal U.Random.stream self.old.core) (time_of_event event))).state) }
         ensures clock { OnOk result (self.new.core.timers.greatest ≡ max self.old.core.timers.greatest (time_of_event event)) }
         ensures alive { OnOk result (self.new.failed ≡ false) }
         ensures failed { self.old.failed ≡ true → (result ≡ Err Fault.Failed) × (self.new ≡ self.old) }
@@ -236,23 +245,26 @@ impl<U: Suite> Connection<U> {
     ) -> Result<(), FirstError>
         requires first { IsFirstPacket self.old.core remote packet_number packet (rest_of remaining) }
         requires some { IfSome remaining (λ b. 0 < length b.items) }
-        ensures answer { OnDone result (lost_of result ≡ first_reason (meaning U.Session.Session U.Session.HeaderKey.HeaderMask U.Session.PacketKey.PacketKey U.Control.Controller.Controller) now ecn packet.header.src_cid packet.header.token packet_number packet.payload.items (began (ideal U.Random.stream self.old.core) now)) }
-        ensures leads { OnDone result ((ideal U.Random.stream self.new.core) ≡ (first_packet_after (meaning U.Session.Session U.Session.HeaderKey.HeaderMask U.Session.PacketKey.PacketKey U.Control.Controller.Controller) now ecn packet.header.src_cid packet.header.token packet_number packet.payload.items (rest_of remaining) (size_of packet (rest_of remaining)) (began (ideal U.Random.stream self.old.core) now)).state) }
+        ensures answer { OnDone result (lost_of result ≡ first_reason ⟦<U as Means>⟧.meaning (record { time = now; remote = remote; mark = ecn }) packet.header.src_cid packet.header.token packet_number packet.payload.items (began (ideal U.Random.stream self.old.core) now)) }
+        ensures leads { OnDone result ((ideal U.Random.stream self.new.core) ≡ (first_packet_after ⟦<U as Means>⟧.meaning (record { time = now; remote = remote; mark = ecn }) packet.header.src_cid packet.header.token packet_number packet.payload.items (rest_of remaining) (size_of packet (rest_of remaining)) (began (ideal U.Random.stream self.old.core) now)).state) }
         ensures clock { OnDone result (self.new.core.timers.greatest ≡ max self.old.core.timers.greatest now) }
         ensures alive { OnDone result (self.new.failed ≡ false) }
         ensures failed { self.old.failed ≡ true → (result ≡ Err (FirstError.Fault Fault.Failed)) × (self.new ≡ self.old) }
         ensures cause { result ≡ Err (FirstError.Fault Fault.Failed) → self.old.failed ≡ true }
         ensures memory { result ≡ Err (FirstError.Fault Fault.OutOfMemory) → self.new.failed ≡ true }
     {
-        let _path = remote;
         if self.failed {
             return Err(FirstError::Fault(Fault::Failed));
         }
+        let coming = Coming {
+            time: now,
+            remote,
+            mark: ecn,
+        };
         match core_first_packet(
             &mut self.core,
             alloc,
-            now,
-            ecn,
+            &coming,
             packet_number,
             packet,
             remaining,
@@ -279,7 +291,7 @@ impl<U: Suite> Connection<U> {
     /// `OutOfMemory` for want of memory; the connection is then marked as failed. `Failed` exactly where it was marked
     /// before; then nothing changes.
     pub fn handle_timeout(&mut self, alloc: Global, now: Instant) -> Result<(), Fault>
-        ensures leads { OnOk result ((ideal U.Random.stream self.new.core) ≡ (timeout_after (meaning U.Session.Session U.Session.HeaderKey.HeaderMask U.Session.PacketKey.PacketKey U.Control.Controller.Controller) now (began (ideal U.Random.stream self.old.core) now)).state) }
+        ensures leads { OnOk result ((ideal U.Random.stream self.new.core) ≡ (timeout_after ⟦<U as Means>⟧.meaning now (began (ideal U.Random.stream self.old.core) now)).state) }
         ensures idle { OnOk result (is_drained self.old.core.life.state ≡ false → has_come self.new.core.timers.idle now ≡ false) }
         ensures close { OnOk result (is_drained self.old.core.life.state ≡ false → has_come self.new.core.timers.close now ≡ false) }
         ensures paced { OnOk result (is_drained self.old.core.life.state ≡ false → has_come self.new.core.timers.pacing now ≡ false) }
@@ -320,7 +332,7 @@ impl<U: Suite> Connection<U> {
     ) -> Result<Option<Transmit>, Fault>
         requires some { 1 ≤ max_datagrams }
         requires empty { buf.old.items ≡ [] }
-        ensures sends { IfOk result (λ sent. Sends (meaning U.Session.Session U.Session.HeaderKey.HeaderMask U.Session.PacketKey.PacketKey U.Control.Controller.Controller) now (ideal U.Random.stream self.old.core) (ideal U.Random.stream self.new.core) sent buf.new.items) }
+        ensures sends { IfOk result (λ sent. Sends ⟦<U as Means>⟧.meaning now (ideal U.Random.stream self.old.core) (ideal U.Random.stream self.new.core) sent buf.new.items) }
         ensures clock { OnOk result (self.new.core.timers.greatest ≡ max self.old.core.timers.greatest now) }
         ensures alive { OnOk result (self.new.failed ≡ false) }
         ensures failed { self.old.failed ≡ true → (result ≡ Err Fault.Failed) × (self.new ≡ self.old) }
@@ -364,7 +376,7 @@ impl<U: Suite> Connection<U> {
 
     /// The next event for the application. None exactly where none waits.
     pub fn poll(&mut self) -> Option<Event>
-        ensures event { result ≡ first_event self.old.core.life }
+        ensures event { result ≡ first_event (ideal U.Random.stream self.old.core) }
         ensures leads { (ideal U.Random.stream self.new.core) ≡ polled (ideal U.Random.stream self.old.core) }
         ensures mark { self.new.failed ≡ self.old.failed }
     {
@@ -373,7 +385,7 @@ impl<U: Suite> Connection<U> {
 
     /// The next event for the endpoint. None exactly where none waits.
     pub fn poll_endpoint_events(&mut self) -> Option<EndpointEvent>
-        ensures event { result ≡ first_endpoint_event self.old.core.life }
+        ensures event { result ≡ first_endpoint_event (ideal U.Random.stream self.old.core) }
         ensures leads { (ideal U.Random.stream self.new.core) ≡ polled_endpoint (ideal U.Random.stream self.old.core) }
         ensures mark { self.new.failed ≡ self.old.failed }
     {
@@ -402,7 +414,7 @@ impl<U: Suite> Connection<U> {
     /// One input of `drive`: the call, and the reports after it.
     pub(crate) fn call(&mut self, alloc: Global, at: u64, input: &Input) -> Result<Step, Fault>
         requires { self.old.core.timers.greatest ≤ time_of input.now }
-        ensures step { IfOk result (λ x. IsStep (meaning U.Session.Session U.Session.HeaderKey.HeaderMask U.Session.PacketKey.PacketKey U.Control.Controller.Controller) at (ideal U.Random.stream self.old.core) input.now x (ideal U.Random.stream self.new.core)) }
+        ensures step { IfOk result (λ x. IsStep ⟦<U as Means>⟧.meaning at (ideal U.Random.stream self.old.core) input.now x (ideal U.Random.stream self.new.core)) }
         ensures alive { OnOk result (self.new.failed ≡ false) }
         ensures failed { self.old.failed ≡ true → (result ≡ Err Fault.Failed) × (self.new ≡ self.old) }
         ensures cause { result ≡ Err Fault.Failed → self.old.failed ≡ true }

@@ -1,24 +1,28 @@
 //! Driving a connection: inputs in, the trace out.
 
-ghost use Rattle.std.specs.Prelude.{◌≡◌, ◌≢◌, ◌≤◌, ◌<◌, [], length, true, false, None, OnOk, OnErr, IfOk, IfErr, IsErr};
+ghost use Rattle.std.specs.Prelude.{◌≡◌, ◌≢◌, ◌≤◌, ◌<◌, ℕ, List, [], length, true, false, None, OnOk, OnErr, IfOk, IfErr, IsErr};
 ghost use Rattle.std.specs.List.{All};
 ghost use Rattle.qc_text.specs.OneText.{IsPlain, IsPlainStart};
-ghost use Rattle.qc_conn.specs.Refusal.{bad_call, refusal_of, first_refusal, NamesInput, RefusedAt};
+ghost use Rattle.qc_conn.specs.Refusal.{bad_call, refusal_of, NamesInput, RefusedAt, TakesAll};
 ghost use Rattle.qc_conn.specs.Seen.{counted};
+ghost use Rattle.qc_state.specs.CryptoLaws.{KeepsBytes};
+ghost use Rattle.qc_state.specs.EndLaws.{Ends};
+ghost use Rattle.qc_conn.specs.Stored.{stored, tokens_in};
 ghost use Rattle.qc_state.specs.EventLaws.{EachTells, OnlyDoneWaits, TellsOnce, untold_of};
+ghost use Rattle.qc_state.specs.InitialLaws.{LeavesInitial};
 ghost use Rattle.qc_state.specs.KeyLaws.{KeysHold};
 ghost use Rattle.qc_state.specs.MarkLaws.{EachTold};
 ghost use Rattle.qc_state.specs.PathLaws.{PathHolds, all_from};
 ghost use Rattle.qc_state.specs.Headline.{deeds_of, EachRises, EachAdmitted, EachAcksKnown, Harmless, LifeRises, OnlyCloses, LosesOnce};
+ghost use Rattle.qc_state.specs.RecoveryLaws.{EachSettlesOnce, Recovers};
 ghost use Rattle.qc_state.specs.Run.{time_of, Adds, Run, Ran};
-ghost use Rattle.qc_state.specs.Types.{meaning};
 ghost use Rattle.qc_state.specs.View.{ideal};
 
 use crate::connection::Connection;
 use crate::steps::time;
 use qc_base::Instant;
 use qc_config::TokenStore;
-use qc_state::{Input, Suite, Trace};
+use qc_state::{Input, Means, Suite, Trace};
 use std::alloc::{AllocError, Global};
 
 /// What is wrong with a call that its input asks for.
@@ -73,7 +77,7 @@ fn add_step<U: Suite>(
 ) -> Result<(), AllocError>
     requires alive { connection.old.failed ≡ false }
     requires forward { connection.old.core.timers.greatest ≤ time_of input.now }
-    ensures adds { OnOk result (Adds (meaning U.Session.Session U.Session.HeaderKey.HeaderMask U.Session.PacketKey.PacketKey U.Control.Controller.Controller) at (ideal U.Random.stream connection.old.core) input.now (ideal U.Random.stream connection.new.core) trace.old trace.new) }
+    ensures adds { OnOk result (Adds ⟦<U as Means>⟧.meaning at (ideal U.Random.stream connection.old.core) input.now (ideal U.Random.stream connection.new.core) trace.old trace.new) }
     ensures time { OnOk result (connection.new.core.timers.greatest ≡ time_of input.now) }
     ensures alive { OnOk result (connection.new.failed ≡ false) }
     ensures mark { OnErr result (connection.new.failed ≡ true) }
@@ -96,9 +100,9 @@ fn add_step<U: Suite>(
     }
 }
 
-/// What is wrong with the call that the input asks for, if anything is.
-fn bad_call(input: &Input) -> Option<BadWhy>
-    ensures { result ≡ bad_call input.now }
+/// What is wrong with the call that the input asks for of the connection, if anything is. So far it is of no connection.
+fn bad_call<U: Suite>(_connection: &Connection<U>, input: &Input) -> Option<BadWhy>
+    ensures { result ≡ bad_call (ideal U.Random.stream _connection.now.core) input.now }
 {
     match input {
         Input::Transmit { max_datagrams, .. } => {
@@ -112,11 +116,12 @@ fn bad_call(input: &Input) -> Option<BadWhy>
     }
 }
 
-/// Why the input at this place is refused after this greatest time, if it is.
-fn refusal(at: u64, greatest: Instant, input: &Input) -> Option<DriveKind>
-    ensures { result ≡ refusal_of at greatest input.now }
+/// Why the connection refuses the input at this place, if it does.
+fn refusal<U: Suite>(connection: &Connection<U>, at: u64, input: &Input) -> Option<DriveKind>
+    ensures { result ≡ refusal_of at (ideal U.Random.stream connection.now.core) input.now }
 {
     let given = time(input);
+    let greatest = connection.greatest();
     if given.nanos() < greatest.nanos() {
         return Some(DriveKind::TimeBack {
             at,
@@ -124,7 +129,7 @@ fn refusal(at: u64, greatest: Instant, input: &Input) -> Option<DriveKind>
             greatest,
         });
     }
-    match bad_call(input) {
+    match bad_call(connection, input) {
         Some(why) => Some(DriveKind::BadCall { at, why }),
         None => None,
     }
@@ -137,12 +142,12 @@ fn drive_all<U: Suite>(
     inputs: &[Input],
 ) -> Result<Trace, DriveError>
     requires alive { connection.old.failed ≡ false }
-    ensures run { IfOk result (λ trace. Run (meaning U.Session.Session U.Session.HeaderKey.HeaderMask U.Session.PacketKey.PacketKey U.Control.Controller.Controller) 0 (ideal U.Random.stream connection.old.core) inputs.now trace (ideal U.Random.stream connection.new.core)) }
-    ensures valid { OnOk result (first_refusal 0 connection.old.core.timers.greatest inputs.now ≡ None) }
-    ensures part { IfErr result (λ e. Ran (meaning U.Session.Session U.Session.HeaderKey.HeaderMask U.Session.PacketKey.PacketKey U.Control.Controller.Controller) 0 (ideal U.Random.stream connection.old.core) inputs.now e.done) }
+    ensures run { IfOk result (λ trace. Run ⟦<U as Means>⟧.meaning 0 (ideal U.Random.stream connection.old.core) inputs.now trace (ideal U.Random.stream connection.new.core)) }
+    ensures valid { IfOk result (λ trace. TakesAll ⟦<U as Means>⟧.meaning 0 (ideal U.Random.stream connection.old.core) inputs.now trace (ideal U.Random.stream connection.new.core)) }
+    ensures part { IfErr result (λ e. Ran ⟦<U as Means>⟧.meaning 0 (ideal U.Random.stream connection.old.core) inputs.now e.done) }
     ensures alive { OnOk result (connection.new.failed ≡ false) }
     ensures memory { IfErr result (λ e. e.kind ≡ DriveKind.OutOfMemory → connection.new.failed ≡ true) }
-    ensures refused { IfErr result (λ e. NamesInput e.kind → RefusedAt (meaning U.Session.Session U.Session.HeaderKey.HeaderMask U.Session.PacketKey.PacketKey U.Control.Controller.Controller) (ideal U.Random.stream connection.old.core) inputs.now e.kind e.done (ideal U.Random.stream connection.new.core) connection.new.failed) }
+    ensures refused { IfErr result (λ e. NamesInput e.kind → RefusedAt ⟦<U as Means>⟧.meaning (ideal U.Random.stream connection.old.core) inputs.now e.kind e.done (ideal U.Random.stream connection.new.core) connection.new.failed) }
     ensures failed { IfErr result (λ e. e.kind ≢ DriveKind.Failed) }
     ensures count { IfOk result (λ trace. connection.new.steps ≡ counted connection.old.steps (length trace)) }
     ensures count_part { IfErr result (λ e. (connection.new.steps ≡ counted connection.old.steps (length e.done)) × (length e.done < length inputs.now)) }
@@ -151,7 +156,7 @@ fn drive_all<U: Suite>(
     let mut trace = Trace::new(alloc);
     let mut at = 0;
     for input in inputs {
-        if let Some(kind) = refusal(at, connection.greatest(), input) {
+        if let Some(kind) = refusal(connection, at, input) {
             return Err(DriveError { done: trace, kind });
         }
         match add_step(connection, alloc, at, input, &mut trace) {
@@ -177,7 +182,7 @@ fn drive_all<U: Suite>(
 /// name the first input whose time lies before the greatest so far, or which asks for a call that can't be made; the
 /// connection is as the inputs before left it, and their steps are carried. `OutOfMemory` for want of memory; the steps
 /// of the inputs before are carried, and the connection is marked as failed.
-#[tactic(auto, using(qc_state::proofs::PathsHold::path_run, qc_state::proofs::EventsTold::run_tells_done, qc_state::proofs::EventsTold::ran_tells_done, qc_state::proofs::EventsTold::run_tells_once, qc_state::proofs::EventsTold::ran_tells_once, qc_state::proofs::EventsTold::run_stays_done, qc_state::proofs::KeysHold::run_keys_hold, qc_state::proofs::HarmlessBytes::run_harmless, qc_state::proofs::Told::run_rises, qc_state::proofs::Told::run_admits, qc_state::proofs::Told::ran_admits, qc_state::proofs::AcksAccepted::run_acks_known, qc_state::proofs::AcksAccepted::ran_acks_known, qc_state::proofs::MarksTold::run_each_told, qc_state::proofs::MarksTold::ran_each_told, qc_state::proofs::Told::run_life_rises, qc_state::proofs::Told::run_closes, qc_state::proofs::Told::run_loses_once, qc_state::proofs::Told::ran_rises, qc_state::proofs::Told::ran_life_rises, qc_state::proofs::Told::ran_closes, qc_state::proofs::Told::ran_loses_once, crate::proofs::RunsPlain::run_plain, crate::proofs::RunsPlain::run_stays, crate::proofs::RunsPlain::ran_plain))]
+#[tactic(auto, using(qc_state::proofs::PathsHold::path_run, qc_state::proofs::EventsTold::run_tells_done, qc_state::proofs::EventsTold::ran_tells_done, qc_state::proofs::EventsTold::run_tells_once, qc_state::proofs::EventsTold::ran_tells_once, qc_state::proofs::EventsTold::run_stays_done, qc_state::proofs::KeysHold::run_keys_hold, qc_state::proofs::EndsHold::run_ends, qc_state::proofs::InitialLeft::run_leaves, qc_state::proofs::Recovers::run_recovers, qc_state::proofs::Recovers::run_settles_once, qc_state::proofs::CryptoKept::run_keeps_bytes, qc_state::proofs::HarmlessBytes::run_harmless, qc_state::proofs::Told::run_rises, qc_state::proofs::Told::run_admits, qc_state::proofs::Told::ran_admits, qc_state::proofs::AcksAccepted::run_acks_known, qc_state::proofs::AcksAccepted::ran_acks_known, qc_state::proofs::MarksTold::run_each_told, qc_state::proofs::MarksTold::ran_each_told, qc_state::proofs::Told::run_life_rises, qc_state::proofs::Told::run_closes, qc_state::proofs::Told::run_loses_once, qc_state::proofs::Told::ran_rises, qc_state::proofs::Told::ran_life_rises, qc_state::proofs::Told::ran_closes, qc_state::proofs::Told::ran_loses_once, crate::proofs::RunsPlain::run_plain, crate::proofs::RunsPlain::run_stays, crate::proofs::RunsPlain::ran_plain))]
 pub fn drive<U: Suite, G: TokenStore>(
     alloc: Global,
     connection: &mut Connection<U>,
@@ -185,8 +190,8 @@ pub fn drive<U: Suite, G: TokenStore>(
     store: &mut G,
 ) -> Result<Trace, DriveError>
     // The trace is a run from the connection's view at entry to its view at exit.
-    ensures run { IfOk result (λ trace. Run (meaning U.Session.Session U.Session.HeaderKey.HeaderMask U.Session.PacketKey.PacketKey U.Control.Controller.Controller) 0 (ideal U.Random.stream connection.old.core) inputs.now trace (ideal U.Random.stream connection.new.core)) }
-    ensures part { IfErr result (λ e. Ran (meaning U.Session.Session U.Session.HeaderKey.HeaderMask U.Session.PacketKey.PacketKey U.Control.Controller.Controller) 0 (ideal U.Random.stream connection.old.core) inputs.now e.done) }
+    ensures run { IfOk result (λ trace. Run ⟦<U as Means>⟧.meaning 0 (ideal U.Random.stream connection.old.core) inputs.now trace (ideal U.Random.stream connection.new.core)) }
+    ensures part { IfErr result (λ e. Ran ⟦<U as Means>⟧.meaning 0 (ideal U.Random.stream connection.old.core) inputs.now e.done) }
 
     // No step is lost: the connection counts the steps that were given of it, and the trace has them all. So want of memory leaves
     // one for each input before the one that met it.
@@ -194,8 +199,9 @@ pub fn drive<U: Suite, G: TokenStore>(
     ensures count_part { IfErr result (λ e. e.kind ≢ DriveKind.Failed → (connection.new.steps ≡ counted connection.old.steps (length e.done)) × (length e.done < length inputs.now)) }
 
     // No packet number is used twice, only packets that were accepted are acknowledged, and ACKs tell how many of them came with
-    // each mark of ECN; the life never falls, all that is sent after a close is the close, no key seals more than it may, and at
-    // most one reason for the end is given.
+    // each mark of ECN; the life never falls, all that is sent after a close is the close, no key seals more than it may, at most one
+    // reason for the end is given, the close timer stands from a close on until no timer does, and no Initial packet is sealed once the
+    // Initial space was left.
     ensures rising { IfOk result (λ trace. EachRises (ideal U.Random.stream connection.old.core) trace) }
     ensures rising_part { IfErr result (λ e. EachRises (ideal U.Random.stream connection.old.core) e.done) }
     ensures admitted { IfOk result (λ trace. EachAdmitted (ideal U.Random.stream connection.old.core) trace) }
@@ -208,8 +214,10 @@ pub fn drive<U: Suite, G: TokenStore>(
     ensures life_part { IfErr result (λ e. LifeRises (ideal U.Random.stream connection.old.core) e.done) }
     ensures closing { IfOk result (λ trace. OnlyCloses (ideal U.Random.stream connection.old.core) trace) }
     ensures closing_part { IfErr result (λ e. OnlyCloses (ideal U.Random.stream connection.old.core) e.done) }
-    ensures paths { IfOk result (λ trace. PathHolds (all_from connection.old.core.paths.remote inputs.now) (deeds_of trace) connection.old.core.paths connection.new.core.paths) }
+    ensures paths { IfOk result (λ trace. PathHolds (all_from connection.old.core.paths.current.remote inputs.now) (deeds_of trace) connection.old.core.paths.current connection.new.core.paths.current) }
     ensures keys { KeysHold connection.old.core.keys → OnOk result (KeysHold connection.new.core.keys) }
+    ensures ends { Ends (ideal U.Random.stream connection.old.core) → OnOk result (Ends (ideal U.Random.stream connection.new.core)) }
+    ensures initial { IfOk result (λ trace. LeavesInitial (deeds_of trace) (ideal U.Random.stream connection.old.core) (ideal U.Random.stream connection.new.core)) }
     ensures harmless { IfOk result (λ trace. Harmless (ideal U.Random.stream connection.old.core) inputs.now trace (ideal U.Random.stream connection.new.core)) }
     ensures reason { IfOk result (λ trace. LosesOnce (ideal U.Random.stream connection.old.core) trace) }
     ensures reason_part { IfErr result (λ e. LosesOnce (ideal U.Random.stream connection.old.core) e.done) }
@@ -222,21 +230,30 @@ pub fn drive<U: Suite, G: TokenStore>(
     ensures once_part { OnlyDoneWaits connection.old.core.life → IfErr result (λ e. TellsOnce connection.old.core.life e.done) }
     ensures told_end { OnlyDoneWaits connection.old.core.life → OnOk result (OnlyDoneWaits connection.new.core.life) }
 
+    // What loss recovery keeps is what its own steps leave, and each packet that is sealed, but for closes, is acknowledged, lost, dropped
+    // with its space or in flight, and that once; so each byte that the session wrote waits, is in flight or was acknowledged.
+    ensures recovers { Ends (ideal U.Random.stream connection.old.core) → IfOk result (λ trace. Recovers ⟦<U as Means>⟧.meaning (deeds_of trace) (ideal U.Random.stream connection.old.core) (ideal U.Random.stream connection.new.core)) }
+    ensures crypto { Ends (ideal U.Random.stream connection.old.core) → IfOk result (λ trace. KeepsBytes ⟦<U as Means>⟧.meaning (deeds_of trace) (ideal U.Random.stream connection.old.core) (ideal U.Random.stream connection.new.core)) }
+    ensures settles { Ends (ideal U.Random.stream connection.old.core) → IfOk result (λ trace. EachSettlesOnce (deeds_of trace) (ideal U.Random.stream connection.old.core) (ideal U.Random.stream connection.new.core)) }
+
     // Where the path's address has neither flow label nor scope, the trace's text leaves nothing out.
     ensures plain { IsPlainStart connection.old.core.waiting connection.old.core.paths connection.old.core.life → IfOk result (λ trace. All IsPlain trace) }
     ensures plain_part { IsPlainStart connection.old.core.waiting connection.old.core.paths connection.old.core.life → IfErr result (λ e. All IsPlain e.done) }
     ensures plain_end { IsPlainStart connection.old.core.waiting connection.old.core.paths connection.old.core.life → OnOk result (IsPlainStart connection.new.core.waiting connection.new.core.paths connection.new.core.life) }
 
     // The first input that is to be refused is named, with the values that don't fit, and changes nothing.
-    ensures valid { OnOk result (first_refusal 0 connection.old.core.timers.greatest inputs.now ≡ None) }
-    ensures refused { IfErr result (λ e. NamesInput e.kind → RefusedAt (meaning U.Session.Session U.Session.HeaderKey.HeaderMask U.Session.PacketKey.PacketKey U.Control.Controller.Controller) (ideal U.Random.stream connection.old.core) inputs.now e.kind e.done (ideal U.Random.stream connection.new.core) connection.new.failed) }
+    ensures valid { IfOk result (λ trace. TakesAll ⟦<U as Means>⟧.meaning 0 (ideal U.Random.stream connection.old.core) inputs.now trace (ideal U.Random.stream connection.new.core)) }
+    ensures refused { IfErr result (λ e. NamesInput e.kind → RefusedAt ⟦<U as Means>⟧.meaning (ideal U.Random.stream connection.old.core) inputs.now e.kind e.done (ideal U.Random.stream connection.new.core) connection.new.failed) }
 
     ensures alive { OnOk result (connection.new.failed ≡ false) }
     ensures failed { connection.old.failed ≡ true → IfErr result (λ e. (e.kind ≡ DriveKind.Failed) × (e.done ≡ [])) × (connection.new ≡ connection.old) }
     ensures ended { connection.old.failed ≡ true → IsErr result }
     ensures cause { IfErr result (λ e. e.kind ≡ DriveKind.Failed → connection.old.failed ≡ true) }
     ensures memory { IfErr result (λ e. e.kind ≡ DriveKind.OutOfMemory → connection.new.failed ≡ true) }
-    ensures store { store.new ≡ store.old }
+
+    // The store has what it was given, one token after another; of whichever server, since none is given so far.
+    ensures store { IfOk result (λ trace. (name : List ℕ) → store.new ≡ stored G.inserted name (tokens_in (deeds_of trace)) store.old) }
+    ensures store_part { IfErr result (λ e. (name : List ℕ) → store.new ≡ stored G.inserted name (tokens_in (deeds_of e.done)) store.old) }
 {
     let _store = store;
     if connection.is_failed() {

@@ -10,13 +10,24 @@ pub mod text;
 pub use connection::{Connection, FirstError};
 pub use driving::{BadWhy, DriveError, DriveKind, drive};
 pub use laws::text_tells_run;
-pub use qc_base::{EcnCodepoint, Fault, Instant, VarInt};
+// What the calls name, with all that stands in it.
+pub use bytes::{Bytes, BytesMut};
+pub use qc_base::{
+    ConnectionId, Duration, EcnCodepoint, Fault, Instant, PacketNumber, ResetToken, Side, SpaceId,
+    TransportError, TransportErrorCode, VarInt,
+};
 pub use qc_config::TokenStore;
 pub use qc_core::Core;
-pub use qc_header::{InitialPacket, PartialDecode};
+pub use qc_crypto::Session;
+pub use qc_frame::{FrameList, OwnedFrame};
+pub use qc_header::{InitialHeader, InitialPacket, PartialDecode};
 pub use qc_making::{ClientSetup, ServerSetup};
+pub use qc_path::ControllerFactory;
 pub use qc_receive::ConnectionEvent;
+pub use qc_recovery::TransportConfig;
 pub use qc_state::{
-    ConnectionError, EndpointEvent, Event, Input, Step, Suite, Trace, Transmit,
-    negotiate_max_idle_timeout,
+    Answer, ApplicationClose, Body, ConnectionClose, ConnectionError, Did, Dids, EndpointEvent,
+    EndpointEvents, Event, Events, Input, Layer, Means, Quiet, Step, Suite, Trace, Transmit,
+    Verdict, Word, negotiate_max_idle_timeout,
 };
+pub use rand_core::Rng;

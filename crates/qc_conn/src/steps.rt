@@ -5,14 +5,14 @@ ghost use Rattle.qc_conn.specs.Seen.{Sends};
 ghost use Rattle.qc_receive.specs.Cutting.{rest_of};
 ghost use Rattle.qc_receive.specs.Events.{LeavesBytes, handed_after, time_of_event};
 ghost use Rattle.qc_receive.specs.FirstPacket.{first_reason, size_of};
-ghost use Rattle.qc_state.specs.Life.{is_drained, waiting_events, endpoint_events};
-ghost use Rattle.qc_state.specs.Moves.{ReportReady, ReportConnected, ReportLost, ReportToken, ReportWanted, ReportDrained, state_move};
+ghost use Rattle.qc_state.specs.Life.{is_drained};
+ghost use Rattle.qc_state.specs.Moves.{ReportReady, ReportConnected, ReportLost, ReportNotices, ReportDrained, state_move};
+ghost use Rattle.qc_state.specs.Polls.{endpoint_events, waiting_events};
 ghost use Rattle.qc_state.specs.Receiving.{datagram_after, first_packet_after, is_taken};
 ghost use Rattle.qc_state.specs.Setup.{is_first_awaited};
 ghost use Rattle.qc_state.specs.Run.{began, time_of, word_of, out_of, close_after, Calls, IsStep};
 ghost use Rattle.qc_state.specs.Timeouts.{timeout_after};
 ghost use Rattle.qc_state.specs.Timers.{has_come};
-ghost use Rattle.qc_state.specs.Types.{meaning};
 ghost use Rattle.qc_state.specs.View.{ideal, held};
 
 use bytes::{Bytes, BytesMut};
@@ -22,8 +22,8 @@ use qc_header::InitialPacket;
 use qc_receive::{ConnectionEvent, datagram, first_datagram, first_packet};
 use qc_send::transmit;
 use qc_state::{
-    Answer, Body, ConnectionError, Dids, EndpointEvents, Event, Events, Input, Step, Suite,
-    Transmit, Word,
+    Answer, Body, Coming, ConnectionError, Dids, EndpointEvents, Event, Events, Input, Means, Step,
+    Suite, Transmit, Word,
 };
 use std::alloc::{AllocError, Global};
 use std::net::SocketAddr;
@@ -51,7 +51,7 @@ pub(crate) fn core_send<U: Suite>(
     buf: &mut Vec<u8>,
 ) -> Result<Option<Transmit>, AllocError>
     requires { buf.old.items ≡ [] }
-    ensures { IfOk result (λ sent. Sends (meaning U.Session.Session U.Session.HeaderKey.HeaderMask U.Session.PacketKey.PacketKey U.Control.Controller.Controller) now (ideal U.Random.stream core.old) (ideal U.Random.stream core.new) sent buf.new.items) }
+    ensures { IfOk result (λ sent. Sends ⟦<U as Means>⟧.meaning now (ideal U.Random.stream core.old) (ideal U.Random.stream core.new) sent buf.new.items) }
 {
     let mut did = Dids::new(alloc);
     core.clock(now);
@@ -59,23 +59,21 @@ pub(crate) fn core_send<U: Suite>(
     Ok(sent)
 }
 
-/// A datagram came from `remote` at `now` to a server that waits for its first packet, whose deeds no one keeps.
+/// A datagram came to a server that waits for its first packet, whose deeds no one keeps.
 #[tactic(auto, using(crate::proofs::Firsts::still_awaited, crate::proofs::Firsts::first_answer))]
 pub(crate) fn core_first<U: Suite>(
     core: &mut Core<U>,
     alloc: Global,
-    now: Instant,
-    mark: Option<EcnCodepoint>,
-    remote: SocketAddr,
+    coming: &Coming,
     bytes: BytesMut,
 ) -> Result<bool, AllocError>
     requires { is_first_awaited core.old.setup ≡ true }
-    ensures answer { IfOk result (λ taken. taken ≡ is_taken (meaning U.Session.Session U.Session.HeaderKey.HeaderMask U.Session.PacketKey.PacketKey U.Control.Controller.Controller) (began (ideal U.Random.stream core.old) now).state remote bytes.items) }
-    ensures leads { OnOk result ((ideal U.Random.stream core.new) ≡ (datagram_after (meaning U.Session.Session U.Session.HeaderKey.HeaderMask U.Session.PacketKey.PacketKey U.Control.Controller.Controller) now mark remote bytes.items (began (ideal U.Random.stream core.old) now)).state) }
+    ensures answer { IfOk result (λ taken. taken ≡ is_taken ⟦<U as Means>⟧.meaning (began (ideal U.Random.stream core.old) coming.now.time).state coming.now.remote bytes.items) }
+    ensures leads { OnOk result ((ideal U.Random.stream core.new) ≡ (datagram_after ⟦<U as Means>⟧.meaning coming.now bytes.items (began (ideal U.Random.stream core.old) coming.now.time)).state) }
 {
     let mut did = Dids::new(alloc);
-    core.clock(now);
-    let taken = first_datagram(core, alloc, &mut did, now, mark, remote, bytes)?;
+    core.clock(coming.time);
+    let taken = first_datagram(core, alloc, &mut did, coming, bytes)?;
     Ok(taken)
 }
 
@@ -86,7 +84,7 @@ pub(crate) fn core_event<U: Suite>(
     event: ConnectionEvent,
 ) -> Result<(), AllocError>
     requires { LeavesBytes event }
-    ensures { OnOk result ((ideal U.Random.stream core.new) ≡ (handed_after (meaning U.Session.Session U.Session.HeaderKey.HeaderMask U.Session.PacketKey.PacketKey U.Control.Controller.Controller) event (began (ideal U.Random.stream core.old) (time_of_event event))).state) }
+    ensures { OnOk result ((ideal U.Random.stream core.new) ≡ (handed_after ⟦<U as Means>⟧.meaning event (began (ideal U.Random.stream core.old) (time_of_event event))).state) }
 {
     let mut did = Dids::new(alloc);
     match event {
@@ -97,40 +95,35 @@ pub(crate) fn core_event<U: Suite>(
             first_decode,
             remaining,
         } => {
-            core.clock(now);
-            qc_receive::event(
-                core,
-                alloc,
-                &mut did,
-                now,
-                ecn,
+            let coming = Coming {
+                time: now,
                 remote,
-                first_decode,
-                remaining,
-            )?;
+                mark: ecn,
+            };
+            core.clock(now);
+            qc_receive::event(core, alloc, &mut did, &coming, first_decode, remaining)?;
             Ok(())
         }
     }
 }
 
-/// A server's first packet came at `now`, which opened with this number, and what is behind it; no one keeps the deeds.
+/// A server's first packet came, which opened with this number, and what is behind it; no one keeps the deeds.
 /// Answers the reason for the end that the packet gave.
 pub(crate) fn core_first_packet<U: Suite>(
     core: &mut Core<U>,
     alloc: Global,
-    now: Instant,
-    mark: Option<EcnCodepoint>,
+    coming: &Coming,
     number: u64,
     packet: InitialPacket,
     behind: Option<BytesMut>,
 ) -> Result<Option<ConnectionError>, AllocError>
     requires { IfSome behind (λ b. 0 < length b.items) }
-    ensures answer { IfOk result (λ why. why ≡ first_reason (meaning U.Session.Session U.Session.HeaderKey.HeaderMask U.Session.PacketKey.PacketKey U.Control.Controller.Controller) now mark packet.header.src_cid packet.header.token number packet.payload.items (began (ideal U.Random.stream core.old) now)) }
-    ensures leads { OnOk result ((ideal U.Random.stream core.new) ≡ (first_packet_after (meaning U.Session.Session U.Session.HeaderKey.HeaderMask U.Session.PacketKey.PacketKey U.Control.Controller.Controller) now mark packet.header.src_cid packet.header.token number packet.payload.items (rest_of behind) (size_of packet (rest_of behind)) (began (ideal U.Random.stream core.old) now)).state) }
+    ensures answer { IfOk result (λ why. why ≡ first_reason ⟦<U as Means>⟧.meaning coming.now packet.header.src_cid packet.header.token number packet.payload.items (began (ideal U.Random.stream core.old) coming.now.time)) }
+    ensures leads { OnOk result ((ideal U.Random.stream core.new) ≡ (first_packet_after ⟦<U as Means>⟧.meaning coming.now packet.header.src_cid packet.header.token number packet.payload.items (rest_of behind) (size_of packet (rest_of behind)) (began (ideal U.Random.stream core.old) coming.now.time)).state) }
 {
     let mut did = Dids::new(alloc);
-    core.clock(now);
-    let why = first_packet(core, alloc, &mut did, now, mark, number, packet, behind)?;
+    core.clock(coming.time);
+    let why = first_packet(core, alloc, &mut did, coming, number, packet, behind)?;
     Ok(why)
 }
 
@@ -140,7 +133,7 @@ pub(crate) fn core_timeout<U: Suite>(
     alloc: Global,
     now: Instant,
 ) -> Result<(), AllocError>
-    ensures leads { OnOk result ((ideal U.Random.stream core.new) ≡ (timeout_after (meaning U.Session.Session U.Session.HeaderKey.HeaderMask U.Session.PacketKey.PacketKey U.Control.Controller.Controller) now (began (ideal U.Random.stream core.old) now)).state) }
+    ensures leads { OnOk result ((ideal U.Random.stream core.new) ≡ (timeout_after ⟦<U as Means>⟧.meaning now (began (ideal U.Random.stream core.old) now)).state) }
     ensures idle { OnOk result (is_drained core.old.life.state ≡ false → has_come core.new.timers.idle now ≡ false) }
     ensures close { OnOk result (is_drained core.old.life.state ≡ false → has_come core.new.timers.close now ≡ false) }
     ensures paced { OnOk result (is_drained core.old.life.state ≡ false → has_come core.new.timers.pacing now ≡ false) }
@@ -161,7 +154,7 @@ fn transmit_call<U: Suite>(
     did: &mut Dids,
 ) -> Result<Answer, AllocError>
     requires { did.old ≡ [] }
-    ensures { IfOk result (λ answer. Calls (meaning U.Session.Session U.Session.HeaderKey.HeaderMask U.Session.PacketKey.PacketKey U.Control.Controller.Controller) (ideal U.Random.stream core.old) (Input.Transmit now max_datagrams) (held U.Random.stream core.new did.new) answer) }
+    ensures { IfOk result (λ answer. Calls ⟦<U as Means>⟧.meaning (ideal U.Random.stream core.old) (Input.Transmit now max_datagrams) (held U.Random.stream core.new did.new) answer) }
 {
     let mut buf = Vec::new(alloc);
     core.clock(now);
@@ -197,7 +190,7 @@ fn close_call<U: Suite>(
     did: &mut Dids,
 ) -> Result<Answer, AllocError>
     requires { did.old ≡ [] }
-    ensures { IfOk result (λ answer. Calls (meaning U.Session.Session U.Session.HeaderKey.HeaderMask U.Session.PacketKey.PacketKey U.Control.Controller.Controller) (ideal U.Random.stream core.old) (Input.Close now code reason.now) (held U.Random.stream core.new did.new) answer) }
+    ensures { IfOk result (λ answer. Calls ⟦<U as Means>⟧.meaning (ideal U.Random.stream core.old) (Input.Close now code reason.now) (held U.Random.stream core.new did.new) answer) }
 {
     let reason = Bytes::copy_from_slice(alloc, reason.as_slice())?;
     core.clock(now);
@@ -212,7 +205,7 @@ fn timeout_call<U: Suite>(
     did: &mut Dids,
 ) -> Result<Answer, AllocError>
     requires { did.old ≡ [] }
-    ensures { IfOk result (λ answer. Calls (meaning U.Session.Session U.Session.HeaderKey.HeaderMask U.Session.PacketKey.PacketKey U.Control.Controller.Controller) (ideal U.Random.stream core.old) (Input.Timeout now) (held U.Random.stream core.new did.new) answer) }
+    ensures { IfOk result (λ answer. Calls ⟦<U as Means>⟧.meaning (ideal U.Random.stream core.old) (Input.Timeout now) (held U.Random.stream core.new did.new) answer) }
 {
     core.clock(now);
     core.handle_timeout(now, did)?;
@@ -223,7 +216,7 @@ fn timeout_call<U: Suite>(
 #[tactic(auto, using(qc_state::proofs::Steps::calls_ping))]
 fn ping_call<U: Suite>(core: &mut Core<U>, now: Instant, did: &Dids) -> Answer
     requires { did.now ≡ [] }
-    ensures { Calls (meaning U.Session.Session U.Session.HeaderKey.HeaderMask U.Session.PacketKey.PacketKey U.Control.Controller.Controller) (ideal U.Random.stream core.old) (Input.Ping now) (held U.Random.stream core.new did.now) result }
+    ensures { Calls ⟦<U as Means>⟧.meaning (ideal U.Random.stream core.old) (Input.Ping now) (held U.Random.stream core.new did.now) result }
 {
     core.clock(now);
     core.ping();
@@ -241,11 +234,16 @@ fn datagram_call<U: Suite>(
     did: &mut Dids,
 ) -> Result<Answer, AllocError>
     requires { did.old ≡ [] }
-    ensures { IfOk result (λ answer. Calls (meaning U.Session.Session U.Session.HeaderKey.HeaderMask U.Session.PacketKey.PacketKey U.Control.Controller.Controller) (ideal U.Random.stream core.old) (Input.Datagram now remote ecn bytes.now) (held U.Random.stream core.new did.new) answer) }
+    ensures { IfOk result (λ answer. Calls ⟦<U as Means>⟧.meaning (ideal U.Random.stream core.old) (Input.Datagram now remote ecn bytes.now) (held U.Random.stream core.new did.new) answer) }
 {
     let bytes = BytesMut::copy_from_slice(alloc, bytes.as_slice())?;
     core.clock(now);
-    if datagram(core, alloc, did, now, ecn, remote, bytes)? {
+    let coming = Coming {
+        time: now,
+        remote,
+        mark: ecn,
+    };
+    if datagram(core, alloc, did, &coming, bytes)? {
         return Ok(Answer::Done);
     }
     Ok(Answer::Dropped)
@@ -259,7 +257,7 @@ fn call<U: Suite>(
     did: &mut Dids,
 ) -> Result<Answer, AllocError>
     requires { did.old ≡ [] }
-    ensures { IfOk result (λ answer. Calls (meaning U.Session.Session U.Session.HeaderKey.HeaderMask U.Session.PacketKey.PacketKey U.Control.Controller.Controller) (ideal U.Random.stream core.old) input.now (held U.Random.stream core.new did.new) answer) }
+    ensures { IfOk result (λ answer. Calls ⟦<U as Means>⟧.meaning (ideal U.Random.stream core.old) input.now (held U.Random.stream core.new did.new) answer) }
 {
     match input {
         Input::Datagram {
@@ -297,7 +295,7 @@ fn report_next(event: Option<Event>, events: &mut Events) -> Result<(), AllocErr
 
 /// What waits to be reported to the application, one after the other.
 fn take_events<U: Suite>(core: &mut Core<U>, alloc: Global) -> Result<Events, AllocError>
-    ensures events { IfOk result (λ events. events ≡ waiting_events core.old.life) }
+    ensures events { IfOk result (λ events. events ≡ waiting_events (ideal U.Random.stream core.old)) }
     ensures leads { OnOk result ((ideal U.Random.stream core.new) ≡ state_move ReportLost (state_move ReportConnected (state_move ReportReady (ideal U.Random.stream core.old)))) }
 {
     let mut events = Events::new(alloc);
@@ -310,7 +308,7 @@ fn take_events<U: Suite>(core: &mut Core<U>, alloc: Global) -> Result<Events, Al
 /// What waits to be reported to the application; mostly nothing does.
 #[tactic(auto, using(crate::proofs::Reports::none_waits, crate::proofs::Reports::none_leads))]
 fn report_events<U: Suite>(core: &mut Core<U>, alloc: Global) -> Result<Events, AllocError>
-    ensures events { IfOk result (λ events. events ≡ waiting_events core.old.life) }
+    ensures events { IfOk result (λ events. events ≡ waiting_events (ideal U.Random.stream core.old)) }
     ensures leads { OnOk result ((ideal U.Random.stream core.new) ≡ state_move ReportLost (state_move ReportConnected (state_move ReportReady (ideal U.Random.stream core.old)))) }
 {
     if core.has_events() {
@@ -324,12 +322,10 @@ fn take_endpoint_events<U: Suite>(
     core: &mut Core<U>,
     alloc: Global,
 ) -> Result<EndpointEvents, AllocError>
-    ensures events { IfOk result (λ events. events ≡ endpoint_events core.old.life) }
-    ensures leads { OnOk result ((ideal U.Random.stream core.new) ≡ state_move ReportDrained (state_move ReportWanted (state_move ReportToken (ideal U.Random.stream core.old)))) }
+    ensures events { IfOk result (λ events. events ≡ endpoint_events (ideal U.Random.stream core.old)) }
+    ensures leads { OnOk result ((ideal U.Random.stream core.new) ≡ state_move ReportDrained (state_move ReportNotices (ideal U.Random.stream core.old))) }
 {
-    let mut events = EndpointEvents::new(alloc);
-    events.push(core.poll_token())?;
-    events.push(core.poll_wanted())?;
+    let mut events = core.take_notices(alloc);
     events.push(core.poll_drained())?;
     Ok(events)
 }
@@ -340,8 +336,8 @@ fn report_endpoint<U: Suite>(
     core: &mut Core<U>,
     alloc: Global,
 ) -> Result<EndpointEvents, AllocError>
-    ensures events { IfOk result (λ events. events ≡ endpoint_events core.old.life) }
-    ensures leads { OnOk result ((ideal U.Random.stream core.new) ≡ state_move ReportDrained (state_move ReportWanted (state_move ReportToken (ideal U.Random.stream core.old)))) }
+    ensures events { IfOk result (λ events. events ≡ endpoint_events (ideal U.Random.stream core.old)) }
+    ensures leads { OnOk result ((ideal U.Random.stream core.new) ≡ state_move ReportDrained (state_move ReportNotices (ideal U.Random.stream core.old))) }
 {
     if core.has_endpoint_events() {
         return take_endpoint_events(core, alloc);
@@ -384,7 +380,7 @@ pub(crate) fn core_step<U: Suite>(
     input: &Input,
 ) -> Result<Step, AllocError>
     requires { core.old.timers.greatest ≤ time_of input.now }
-    ensures { IfOk result (λ x. IsStep (meaning U.Session.Session U.Session.HeaderKey.HeaderMask U.Session.PacketKey.PacketKey U.Control.Controller.Controller) at (ideal U.Random.stream core.old) input.now x (ideal U.Random.stream core.new)) }
+    ensures { IfOk result (λ x. IsStep ⟦<U as Means>⟧.meaning at (ideal U.Random.stream core.old) input.now x (ideal U.Random.stream core.new)) }
 {
     let mut did = Dids::new(alloc);
     let answer = call(core, alloc, input, &mut did)?;

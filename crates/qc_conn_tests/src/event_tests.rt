@@ -105,10 +105,10 @@ fn server(
 ) -> Option<Box<Connection<Toy>>>
     ensures awaited { IfSome result (λ s. is_first_awaited s.value.core.setup ≡ true) }
     ensures shakes { IfSome result (λ s. is_handshake s.value.core.life.state ≡ true) }
-    ensures remote { IfSome result (λ s. s.value.core.paths.remote ≡ remote) }
+    ensures remote { IfSome result (λ s. s.value.core.paths.current.remote ≡ remote) }
     ensures version { IfSome result (λ s. s.value.core.setup.fixed.version ≡ 1) }
     ensures first { IfSome result (λ s. s.value.core.setup.fixed.first_cid ≡ first_cid) }
-    ensures source { IfSome result (λ s. s.value.core.paths.remote_cid ≡ remote_cid) }
+    ensures source { IfSome result (λ s. s.value.core.paths.current.remote_cid ≡ remote_cid) }
 {
     let session = server_session(alloc)?;
     let setup = ServerSetup {

@@ -13,4 +13,6 @@ mod number_tests;
 #[cfg(test)]
 mod timeout_tests;
 #[cfg(test)]
+mod timer_tests;
+#[cfg(test)]
 mod token_tests;

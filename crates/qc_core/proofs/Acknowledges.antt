@@ -61,12 +61,11 @@ module _ {t : Types} {R : Type 0} (m : Meaning t) (stream : R → Stream) where
       fired_is m (ideal stream v) time blocked around after as_stands is_around (is ∙ ap (λ (x : Held t R). timeout_after m.control time around x.lower.recovery x.lower.path) same)
 
   -- the groups that change are those of the move
-  pub settled_parts : (v w : Held t R) (time : ℕ) (id : SpaceId) (ack : AckValue) (after : After t.C) (numbers : Numbers) (middle waiting : Waiting) (lower : Lower t.S t.C) → w ≡ v →
-      after ≡ settled_by m time id ack (ideal stream v) → lower ≡ packets_settled w.lower after → numbers ≡ number_acked w.numbers id ack.largest → middle ≡ packets_acked w.waiting id after.acked → waiting ≡ packets_lost middle id after.lost →
+  pub settled_parts : (v w : Held t R) (time : ℕ) (id : SpaceId) (ack : AckValue) (after : After t.C) (numbers : Numbers) (waiting : Waiting) (lower : Lower t.S t.C) → w ≡ v →
+      after ≡ settled_by m time id ack (ideal stream v) → lower ≡ packets_settled w.lower after → numbers ≡ number_acked w.numbers id ack.largest → waiting ≡ packets_lost (packets_acked w.waiting id after.acked) id after.lost →
       ideal stream (record w { numbers = numbers; waiting = waiting; lower = lower }) ≡ state_move (Ack id ack.largest (settled_by m time id ack (ideal stream v))) (ideal stream v)
   unfolding state_move numbers_move keys_move life_move paths_move timers_move waiting_move setup_move lower_move ideal_setup
-  settled_parts v w time id ack after numbers middle waiting lower same is is_lower is_numbers is_middle is_waiting =
-      let waits : waiting ≡ packets_lost (packets_acked w.waiting id after.acked) id after.lost = is_waiting ∙ ap (λ (x : Waiting). packets_lost x id after.lost) is_middle in
+  settled_parts v w time id ack after numbers waiting lower same is is_lower is_numbers is_waiting =
       subst (λ (x : Held t R). ideal stream (record w { numbers = numbers; waiting = waiting; lower = lower }) ≡ state_move (Ack id ack.largest after) (ideal stream x)) same
       (λ i. record {
         numbers = is_numbers i;
@@ -74,7 +73,7 @@ module _ {t : Types} {R : Type 0} (m : Meaning t) (stream : R → Stream) where
         life = w.life;
         paths = w.paths;
         timers = w.timers;
-        waiting = waits i;
+        waiting = is_waiting i;
         setup = ideal_setup stream w.setup;
         lower = is_lower i;
       })

@@ -1,4 +1,5 @@
 pub mod Accepts
 pub mod Acknowledges
+pub mod EndpointPolls
 pub mod Expiring
 pub mod Skips

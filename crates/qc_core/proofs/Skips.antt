@@ -1,5 +1,5 @@
 -- A number is skipped; and the next packet's number is near the greatest acknowledged one where it is spelled.
-use Rattle.std.proofs.Common.{◌≡◌, ℕ, ◌-◌, ◌<◌, ◌^◌, nat_le, ap, sym, ◌∙◌, subst, Bool, true, false, ◌||◌, arith}
+use Rattle.std.proofs.Common.{◌≡◌, ℕ, ◌-◌, ◌<◌, ◌^◌, nat_le, sym, ◌∙◌, subst, Bool, true, false, ◌||◌, arith}
 use Rattle.std.proofs.lemmas.Bool.Decides.{nat_tests}
 use Rattle.rand_core.specs.Stream.{Stream}
 use Rattle.qc_base.specs.declared.side.SpaceId.{SpaceId}
@@ -7,7 +7,7 @@ use Rattle.qc_base.specs.declared.side.SpaceId.TheVariants.{Initial, Handshake, 
 use Rattle.qc_state.specs.Draws.{behind, word}
 use Rattle.qc_state.specs.Moves.{Skip, state_move, numbers_move, keys_move, life_move, paths_move, timers_move, waiting_move, setup_move, lower_move}
 use Rattle.qc_state.specs.Numbers.{acked_number, coming_number, is_skipped, next_number, number_skipped}
-use Rattle.qc_state.specs.Sending.{is_past_limit, is_used_up, sending_space}
+use Rattle.qc_state.specs.Sending.{is_past_limit, is_used_up}
 use Rattle.qc_state.specs.Setup.{ideal_setup, word_drawn}
 use Rattle.qc_state.specs.Spaces.{is_space}
 use Rattle.qc_state.specs.Types.{Types}
@@ -58,7 +58,7 @@ near_in v Initial h e = near_by (next_number v Initial) (acked_number v Initial)
 near_in v Handshake h e = cc
 near_in v Data h e = cc
 
--- so is that of an Initial packet which is next
-pub near_first : {t : Types} (s : View t) (space : SpaceId) (b : Bool) → is_used_up s ≡ false → space ≡ sending_space s → b ≡ is_space space Initial → b ≡ true → next_number s.numbers Initial - acked_number s.numbers Initial < 2 ^ 31
+-- so is that of an Initial packet
+pub near_first : {t : Types} (s : View t) (space : SpaceId) (b : Bool) → is_used_up s space ≡ false → b ≡ is_space space Initial → b ≡ true → next_number s.numbers Initial - acked_number s.numbers Initial < 2 ^ 31
 unfolding is_used_up
-near_first s space b h is_first is_b holds = near_in s.numbers (sending_space s) h (sym (is_b ∙ ap (λ (id : SpaceId). is_space id Initial) is_first) ∙ holds)
+near_first s space b h is_b holds = near_in s.numbers space h (sym is_b ∙ holds)

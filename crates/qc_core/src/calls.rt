@@ -1,8 +1,8 @@
 //! The calls of a connection.
 
 ghost use Rattle.std.specs.Prelude.{◌≡◌, ◌<◌, ◌^◌, ◌≤◌, [], length, is_some, OnOk, IfOk};
-ghost use Rattle.qc_state.specs.Life.{is_open, ready_event, connected_event, lost_event, token_event, wanted_event, drained_event};
-ghost use Rattle.qc_state.specs.Moves.{Clock, Ask, ReportReady, ReportConnected, ReportLost, ReportToken, ReportWanted, ReportDrained, move_to, state_move};
+ghost use Rattle.qc_state.specs.Life.{is_open, ready_event, connected_event, lost_event, drained_event};
+ghost use Rattle.qc_state.specs.Moves.{Clock, Ask, ReportReady, ReportConnected, ReportLost, ReportNotices, ReportDrained, move_to, state_move};
 ghost use Rattle.qc_state.specs.Polls.{first_endpoint_event, first_event, polled, polled_endpoint};
 ghost use Rattle.qc_state.specs.Run.{close_after};
 ghost use Rattle.qc_state.specs.Timers.{next_timeout};
@@ -11,7 +11,8 @@ ghost use Rattle.qc_state.specs.View.{at, ideal, held};
 use crate::state::Core;
 use bytes::Bytes;
 use qc_base::{Instant, VarInt};
-use qc_state::{ApplicationClose, Close, EndpointEvent, Event, Suite};
+use qc_state::{ApplicationClose, Close, EndpointEvent, EndpointEvents, Event, Suite};
+use std::alloc::Global;
 
 impl<U: Suite> Core<U> {
     /// A PING waits from now on in the highest space (RFC 9000, section 19.2).
@@ -72,7 +73,7 @@ impl<U: Suite> Core<U> {
     /// Whether an event for the application waits.
     #[tactic(auto, unfolding(qc_state::specs::Polls::first_event, qc_state::specs::Life::ready_event, qc_state::specs::Life::connected_event, qc_state::specs::Life::lost_event))]
     pub fn has_events(&self) -> bool
-        ensures { result ≡ is_some (first_event self.now.life) }
+        ensures { result ≡ is_some (first_event (ideal U.Random.stream self.now)) }
     {
         self.life.ready || (self.life.connected || self.life.lost.is_some())
     }
@@ -80,7 +81,7 @@ impl<U: Suite> Core<U> {
     /// The next event for the application. None exactly where none waits.
     #[tactic(auto, unfolding(qc_state::specs::Polls::first_event, qc_state::specs::Polls::polled))]
     pub fn poll(&mut self) -> Option<Event>
-        ensures event { result ≡ first_event self.old.life }
+        ensures event { result ≡ first_event (ideal U.Random.stream self.old) }
         ensures leads { (ideal U.Random.stream self.new) ≡ polled (ideal U.Random.stream self.old) }
     {
         if self.life.ready {
@@ -92,20 +93,12 @@ impl<U: Suite> Core<U> {
         self.poll_lost()
     }
 
-    /// The report of the peer's token for a stateless reset. None exactly where it doesn't wait.
-    pub fn poll_token(&mut self) -> Option<EndpointEvent>
-        ensures event { result ≡ token_event self.old.life }
-        ensures leads { (ideal U.Random.stream self.new) ≡ state_move ReportToken (ideal U.Random.stream self.old) }
+    /// All that waits to be reported to the endpoint before the end.
+    pub fn take_notices(&mut self, alloc: Global) -> EndpointEvents
+        ensures events { result ≡ self.old.life.notices }
+        ensures leads { (ideal U.Random.stream self.new) ≡ state_move ReportNotices (ideal U.Random.stream self.old) }
     {
-        self.do_report_token()
-    }
-
-    /// The report of how many identifiers are wanted. None exactly where it doesn't wait.
-    pub fn poll_wanted(&mut self) -> Option<EndpointEvent>
-        ensures event { result ≡ wanted_event self.old.life }
-        ensures leads { (ideal U.Random.stream self.new) ≡ state_move ReportWanted (ideal U.Random.stream self.old) }
-    {
-        self.do_report_wanted()
+        self.do_report_notices(alloc)
     }
 
     /// The report of the end. None exactly where it doesn't wait.
@@ -117,26 +110,26 @@ impl<U: Suite> Core<U> {
     }
 
     /// Whether an event for the endpoint waits.
-    #[tactic(auto, unfolding(qc_state::specs::Polls::first_endpoint_event, qc_state::specs::Life::token_event, qc_state::specs::Life::wanted_event, qc_state::specs::Life::drained_event))]
+    #[tactic(auto, using(crate::proofs::EndpointPolls::some_wait, crate::proofs::EndpointPolls::end_waits))]
     pub fn has_endpoint_events(&self) -> bool
-        ensures { result ≡ is_some (first_endpoint_event self.now.life) }
+        ensures { result ≡ is_some (first_endpoint_event (ideal U.Random.stream self.now)) }
     {
-        self.life.reset_token.is_some() || (self.life.wanted.is_some() || self.life.drained)
+        if self.life.notices.is_empty() {
+            return self.life.drained;
+        }
+        true
     }
 
     /// The next event for the endpoint. None exactly where none waits.
-    #[tactic(auto, unfolding(qc_state::specs::Polls::first_endpoint_event, qc_state::specs::Polls::polled_endpoint))]
+    #[tactic(auto, using(crate::proofs::EndpointPolls::end_is_first, crate::proofs::EndpointPolls::end_polled, crate::proofs::EndpointPolls::notice_is_first, crate::proofs::EndpointPolls::notice_polled))]
     pub fn poll_endpoint_events(&mut self) -> Option<EndpointEvent>
-        ensures event { result ≡ first_endpoint_event self.old.life }
+        ensures event { result ≡ first_endpoint_event (ideal U.Random.stream self.old) }
         ensures leads { (ideal U.Random.stream self.new) ≡ polled_endpoint (ideal U.Random.stream self.old) }
     {
-        if self.life.reset_token.is_some() {
-            return self.poll_token();
+        if self.life.notices.is_empty() {
+            return self.poll_drained();
         }
-        if self.life.wanted.is_some() {
-            return self.poll_wanted();
-        }
-        self.poll_drained()
+        self.do_report_notice()
     }
 
     /// The greatest time that the connection was told, its creation included.

@@ -3,6 +3,7 @@
 
 mod calls;
 mod moves;
+mod offers;
 mod recovering;
 pub mod state;
 pub mod stopping;

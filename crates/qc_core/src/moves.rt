@@ -1,10 +1,10 @@
 //! The moves of a connection, one function each.
 
-ghost use Rattle.std.specs.Prelude.{◌≡◌, ◌+◌, ◌<◌, ◌≤◌, ◌^◌, ◌==◌, Err, true, length, not, if◌then◌else◌, OnOk, OnErr, IfOk};
+ghost use Rattle.std.specs.Prelude.{◌≡◌, [], ◌+◌, ◌<◌, ◌≤◌, ◌^◌, ◌==◌, Err, true, length, not, if◌then◌else◌, OnOk, OnErr, IfOk};
 ghost use Rattle.qc_assembler.specs.Assembly.{inserted, part_count};
 ghost use Rattle.qc_core.specs.Sealing.{sealed_drawn};
 ghost use Rattle.qc_state.specs.Acks.{AckPart, is_ack, may_acknowledge};
-ghost use Rattle.qc_state.specs.Life.{ready_event, connected_event, lost_event, token_event, wanted_event, drained_event};
+ghost use Rattle.qc_state.specs.Life.{ready_event, connected_event, lost_event, first_notice, drained_event};
 ghost use Rattle.qc_state.specs.Lower.{packet_flown, ready_bytes, stream_of};
 ghost use Rattle.qc_frame.specs.Frame.{ack_map};
 ghost use Rattle.qc_frame.specs.FrameFits.{Fits};
@@ -12,16 +12,15 @@ ghost use Rattle.qc_frame.specs.FrameSpelling.{elicits};
 ghost use Rattle.qc_frame.specs.declared.frames.FrameOf.TheVariants as frames;
 ghost use Rattle.std.specs.List.{list_any};
 ghost use Rattle.qc_state.specs.Flight.{flown_packet};
-ghost use Rattle.qc_state.specs.Moves.{Clock, Ask, Take, Forget, Expect, Enter, Fail, Accept, Fix, Hear, Ack, Fire, Arm, Begin, Come, Pace, Ready, Release, Skip, Token, Learn, Want, Confirm, Establish, Tell, Drain, Leave, Owe, Shut, Raise, Give, Say, ReportReady, ReportConnected, ReportLost, ReportToken, ReportWanted, ReportDrained, move_to, state_move, tells_congestion};
+ghost use Rattle.qc_state.specs.Moves.{Clock, Ask, Take, Forget, Expect, Enter, Fail, Accept, Fix, Hear, Ack, Fire, Arm, Come, Pace, Ready, Release, Skip, Token, Learn, Want, Confirm, Establish, Tell, Drain, Leave, Owe, Shut, Raise, Give, Finish, Say, ReportReady, ReportConnected, ReportLost, ReportNotice, ReportNotices, ReportDrained, move_to, state_move, tells_congestion};
 ghost use Rattle.qc_base.specs.declared.side.SpaceId.TheVariants.{«Data»};
 ghost use Rattle.qc_state.specs.Numbers.{is_skipped};
 ghost use Rattle.qc_state.specs.Recovering.{fired_by, probe_timeout_now, settled_by};
 ghost use Rattle.qc_state.specs.Setup.{idle_limit_now};
 ghost use Rattle.qc_state.specs.Spaces.{space_of};
 ghost use Rattle.qc_state.specs.Timers.{timers_acking, timers_sealed};
-ghost use Rattle.qc_state.specs.Types.{meaning};
-ghost use Rattle.qc_state.specs.View.{ideal, held};
-ghost use Rattle.qc_state.specs.Waiting.{TakenPart};
+ghost use Rattle.qc_state.specs.View.{at, ideal, held};
+ghost use Rattle.qc_state.specs.Taking.{TakenPart};
 
 use crate::recovering::shows_validated;
 use crate::state::Core;
@@ -35,8 +34,8 @@ use qc_state::flight::flown_packet;
 use qc_state::spaces::is_space;
 use qc_state::waiting::holds_ack;
 use qc_state::{
-    Body, Close, ConnectionError, Did, Dids, EndpointEvent, Event, Layer, Quiet, Signs, State,
-    Suite, Verdict,
+    Body, Close, ConnectionError, Did, Dids, EndpointEvent, EndpointEvents, Event, Layer, Means,
+    Quiet, Signs, State, Suite, Verdict,
 };
 use std::alloc::{AllocError, Global};
 
@@ -125,6 +124,30 @@ impl<U: Suite> Core<U> {
         self.lower.fly(space, number, packet)
     }
 
+    /// A packet with these frames is sealed, for which all was drawn before, but for its deed. Want of memory is the only refusal.
+    fn count_sealed(
+        &mut self,
+        alloc: Global,
+        now: Instant,
+        space: SpaceId,
+        number: u64,
+        size: u64,
+        frames: &FrameList,
+    ) -> Result<(), AllocError>
+        requires { number < 2 ^ 62 }
+        ensures { OnOk result ((ideal U.Random.stream self.new) ≡ (sealed_drawn now space number size frames.now (at (ideal U.Random.stream self.old) [])).state) }
+    {
+        let next = next_bundled_ack_time(now, self.lower.path.rtt.get(), self.setup.peer_delay());
+        self.time_packet(now, space, frames);
+        self.fly(alloc, now, space, number, size, frames)?;
+        let last = is_space(space, self.keys.highest);
+        self.numbers.used(space, number);
+        self.keys.used(space, number);
+        self.waiting.tell(space, last);
+        self.waiting.bundle_next(frames, next);
+        Ok(())
+    }
+
     /// A packet is sealed, for which all was drawn before.
     pub fn do_seal(
         &mut self,
@@ -139,16 +162,10 @@ impl<U: Suite> Core<U> {
         requires { number < 2 ^ 62 }
         ensures { OnOk result ((held U.Random.stream self.new did.new) ≡ sealed_drawn now space number size frames (held U.Random.stream self.old did.old)) }
     {
-        let next = next_bundled_ack_time(now, self.lower.path.rtt.get(), self.setup.peer_delay());
-        self.time_packet(now, space, &frames);
-        self.fly(alloc, now, space, number, size, &frames)?;
-        let last = is_space(space, self.keys.highest);
-        self.numbers.used(space, number);
-        self.keys.used(space, number);
-        self.paths.sent(size);
-        self.waiting.tell(space, last);
-        self.waiting.bundle_next(&frames, next);
-        did.push_sealed(space, number, frames)
+        match self.count_sealed(alloc, now, space, number, size, &frames) {
+            Ok(()) => did.push_sealed(space, number, frames),
+            Err(refused) => Err(refused),
+        }
     }
 
     /// The next number of 1-RTT packets is skipped; the one that is skipped behind it is drawn.
@@ -250,26 +267,25 @@ impl<U: Suite> Core<U> {
         ack: &Ack<'_>,
     ) -> Result<bool, AllocError>
         requires { Fits (frames.Ack (ack_map (λ bytes. bytes.now) ack.now)) }
-        ensures newly { IfOk result (λ newly. newly ≡ not (length (settled_by (meaning U.Session.Session U.Session.HeaderKey.HeaderMask U.Session.PacketKey.PacketKey U.Control.Controller.Controller) now space (ack_map (λ bytes. bytes.now) ack.now) (ideal U.Random.stream self.old)).acked == 0)) }
-        ensures leads { OnOk result ((ideal U.Random.stream self.new) ≡ state_move (Ack space ack.now.largest (settled_by (meaning U.Session.Session U.Session.HeaderKey.HeaderMask U.Session.PacketKey.PacketKey U.Control.Controller.Controller) now space (ack_map (λ bytes. bytes.now) ack.now) (ideal U.Random.stream self.old))) (ideal U.Random.stream self.old)) }
+        ensures newly { IfOk result (λ newly. newly ≡ not (length (settled_by ⟦<U as Means>⟧.meaning now space (ack_map (λ bytes. bytes.now) ack.now) (ideal U.Random.stream self.old)).acked == 0)) }
+        ensures leads { OnOk result ((ideal U.Random.stream self.new) ≡ state_move (Ack space ack.now.largest (settled_by ⟦<U as Means>⟧.meaning now space (ack_map (λ bytes. bytes.now) ack.now) (ideal U.Random.stream self.old))) (ideal U.Random.stream self.old)) }
     {
         let blocked = self.is_blocked();
         let around = self.around(blocked, shows_validated(space));
         let next = self.numbers.next(space);
         let began = self.numbers.began(space);
-        let mut settled = self
+        let settled = self
             .lower
             .settle(alloc, now, space, next, began, ack, &around)?;
         let newly = !settled.acked.is_empty();
         self.numbers.acked(space, ack.largest);
-        self.waiting.acknowledge(space, &mut settled.acked);
-        self.waiting.lose(space, &mut settled.lost)?;
+        self.waiting.settle(space, settled)?;
         Ok(newly)
     }
 
     /// The loss timer fires: packets are lost, or probes are due. Want of memory is the only refusal.
     pub fn do_fire(&mut self, now: Instant) -> Result<(), AllocError>
-        ensures { OnOk result ((ideal U.Random.stream self.new) ≡ state_move (Fire (fired_by (meaning U.Session.Session U.Session.HeaderKey.HeaderMask U.Session.PacketKey.PacketKey U.Control.Controller.Controller) now (ideal U.Random.stream self.old))) (ideal U.Random.stream self.old)) }
+        ensures { OnOk result ((ideal U.Random.stream self.new) ≡ state_move (Fire (fired_by ⟦<U as Means>⟧.meaning now (ideal U.Random.stream self.old))) (ideal U.Random.stream self.old)) }
     {
         let blocked = self.is_blocked();
         let around = self.around(blocked, false);
@@ -299,14 +315,6 @@ impl<U: Suite> Core<U> {
         self.timers.arm(at);
     }
 
-    /// A datagram is begun for a space: a probe that is due there is spent. Want of memory is the only refusal.
-    pub fn do_begin(&mut self, space: SpaceId) -> Result<(), AllocError>
-        ensures { OnOk result ((ideal U.Random.stream self.new) ≡ state_move (Begin space) (ideal U.Random.stream self.old)) }
-    {
-        let oldest = self.lower.recovery.oldest(space);
-        self.waiting.begin(space, oldest)
-    }
-
     /// Bytes of a CRYPTO stream came. `TooManyParts` exactly where too many separate parts would stand.
     pub fn do_come(&mut self, space: SpaceId, offset: u64, bytes: Bytes) -> Result<(), InsertError>
         requires { offset + length bytes < 2 ^ 64 }
@@ -326,17 +334,17 @@ impl<U: Suite> Core<U> {
     }
 
     /// The peer's token for a stateless reset was read.
-    pub fn do_token(&mut self, token: ResetToken)
-        ensures { (ideal U.Random.stream self.new) ≡ state_move (Token token) (ideal U.Random.stream self.old) }
+    pub fn do_token(&mut self, token: ResetToken) -> Result<(), AllocError>
+        ensures { OnOk result ((ideal U.Random.stream self.new) ≡ state_move (Token token) (ideal U.Random.stream self.old)) }
     {
-        self.life.learn_token(self.paths.remote, token);
+        self.life.learn_token(self.paths.current.remote, token)
     }
 
     /// So many identifiers are wanted.
-    pub fn do_want(&mut self, now: Instant, count: u64)
-        ensures { (ideal U.Random.stream self.new) ≡ state_move (Want now count) (ideal U.Random.stream self.old) }
+    pub fn do_want(&mut self, now: Instant, count: u64) -> Result<(), AllocError>
+        ensures { OnOk result ((ideal U.Random.stream self.new) ≡ state_move (Want now count) (ideal U.Random.stream self.old)) }
     {
-        self.life.want(now, count);
+        self.life.want(now, count)
     }
 
     /// The peer's parameters were read.
@@ -435,6 +443,13 @@ impl<U: Suite> Core<U> {
         did.push_lost(told)
     }
 
+    /// A transmit ends that sealed packets: so many bytes go to the path's address.
+    pub fn do_finish(&mut self, bytes: u64)
+        ensures { (ideal U.Random.stream self.new) ≡ state_move (Finish bytes) (ideal U.Random.stream self.old) }
+    {
+        self.paths.sent(bytes);
+    }
+
     /// A transmit sends nothing, for this cause.
     pub fn do_say(&mut self, did: &mut Dids, quiet: Quiet) -> Result<(), AllocError>
         ensures { OnOk result ((held U.Random.stream self.new did.new) ≡ move_to (Say quiet) (held U.Random.stream self.old did.old)) }
@@ -467,20 +482,20 @@ impl<U: Suite> Core<U> {
         self.life.take_lost()
     }
 
-    /// The peer's token is reported, where it waits.
-    pub fn do_report_token(&mut self) -> Option<EndpointEvent>
-        ensures event { result ≡ token_event self.old.life }
-        ensures leads { (ideal U.Random.stream self.new) ≡ state_move ReportToken (ideal U.Random.stream self.old) }
+    /// The first that waits for the endpoint before the end is reported, where something does.
+    pub fn do_report_notice(&mut self) -> Option<EndpointEvent>
+        ensures event { result ≡ first_notice self.old.life }
+        ensures leads { (ideal U.Random.stream self.new) ≡ state_move ReportNotice (ideal U.Random.stream self.old) }
     {
-        self.life.take_token()
+        self.life.take_notice()
     }
 
-    /// How many identifiers are wanted is reported, where it waits.
-    pub fn do_report_wanted(&mut self) -> Option<EndpointEvent>
-        ensures event { result ≡ wanted_event self.old.life }
-        ensures leads { (ideal U.Random.stream self.new) ≡ state_move ReportWanted (ideal U.Random.stream self.old) }
+    /// All that waits for the endpoint before the end is reported.
+    pub fn do_report_notices(&mut self, alloc: Global) -> EndpointEvents
+        ensures events { result ≡ self.old.life.notices }
+        ensures leads { (ideal U.Random.stream self.new) ≡ state_move ReportNotices (ideal U.Random.stream self.old) }
     {
-        self.life.take_wanted()
+        self.life.take_notices(alloc)
     }
 
     /// The end is reported, where it waits.

@@ -4,13 +4,12 @@ ghost use Rattle.std.specs.Prelude.{◌≡◌, false, OnOk};
 ghost use Rattle.qc_state.specs.Life.{is_drained};
 ghost use Rattle.qc_state.specs.Timeouts.{loss_expired, idle_expired, close_expired, pacing_expired, ack_expired, timeout_after};
 ghost use Rattle.qc_state.specs.Timers.{has_come};
-ghost use Rattle.qc_state.specs.Types.{meaning};
 ghost use Rattle.qc_state.specs.View.{held};
 
 use crate::state::Core;
 use qc_base::Instant;
 use qc_state::timers::has_come;
-use qc_state::{ConnectionError, Dids, State, Suite};
+use qc_state::{ConnectionError, Dids, Means, State, Suite};
 use std::alloc::AllocError;
 
 impl<U: Suite> Core<U> {
@@ -18,7 +17,7 @@ impl<U: Suite> Core<U> {
     /// only refusal.
     #[tactic(auto, unfolding(qc_state::specs::Timeouts::loss_expired, qc_state::specs::Moves::move_to, qc_state::specs::Moves::deeds_move))]
     fn expire_loss(&mut self, now: Instant, did: &Dids) -> Result<(), AllocError>
-        ensures { OnOk result ((held U.Random.stream self.new did.now) ≡ loss_expired (meaning U.Session.Session U.Session.HeaderKey.HeaderMask U.Session.PacketKey.PacketKey U.Control.Controller.Controller) now (held U.Random.stream self.old did.now)) }
+        ensures { OnOk result ((held U.Random.stream self.new did.now) ≡ loss_expired ⟦<U as Means>⟧.meaning now (held U.Random.stream self.old did.now)) }
     {
         if has_come(self.timers.loss_detection, now) {
             self.do_fire(now)?;
@@ -80,7 +79,7 @@ impl<U: Suite> Core<U> {
     /// `AllocError` for want of memory.
     #[tactic(auto, unfolding(qc_state::specs::Timeouts::timeout_after))]
     pub fn handle_timeout(&mut self, now: Instant, did: &mut Dids) -> Result<(), AllocError>
-        ensures leads { OnOk result ((held U.Random.stream self.new did.new) ≡ timeout_after (meaning U.Session.Session U.Session.HeaderKey.HeaderMask U.Session.PacketKey.PacketKey U.Control.Controller.Controller) now (held U.Random.stream self.old did.old)) }
+        ensures leads { OnOk result ((held U.Random.stream self.new did.new) ≡ timeout_after ⟦<U as Means>⟧.meaning now (held U.Random.stream self.old did.old)) }
         ensures idle { OnOk result (is_drained self.old.life.state ≡ false → has_come self.new.timers.idle now ≡ false) }
         ensures close { OnOk result (is_drained self.old.life.state ≡ false → has_come self.new.timers.close now ≡ false) }
         ensures paced { OnOk result (is_drained self.old.life.state ≡ false → has_come self.new.timers.pacing now ≡ false) }

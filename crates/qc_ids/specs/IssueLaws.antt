@@ -1,8 +1,8 @@
 -- What holds of the ids that this end issued, over any calls
-use Rattle.std.specs.Prelude.{◌≡◌, ℕ, ◌-◌, ◌≤◌, ◌==◌, Bool, true, false, List, [], ◌∷◌, length, count_by, nat_lt, nat_le, if◌then◌else◌}
+use Rattle.std.specs.Prelude.{◌≡◌, ℕ, ◌-◌, ◌≤◌, ◌==◌, Bool, true, false, List, [], ◌∷◌, length, count_by, nat_le, if◌then◌else◌}
 use Rattle.std.specs.List.{list_any}
 use Rattle.qc_base.specs.declared.ids.IssuedCid.{IssuedCid}
-use Rattle.qc_ids.specs.LocalCids.{AreNext, LocalCids, issued_more, may_retire, newly_asked, retired, timed_out}
+use Rattle.qc_ids.specs.LocalCids.{AreNext, LocalCids, allows_one_more, issued_more, may_retire, newly_asked, retired, timed_out}
 
 -- the calls that change what was issued; the first only with ids that are the next ones, as the call demands
 pub data IssueCall : Type 0 where
@@ -71,7 +71,7 @@ pub data Serves (limit issued : ℕ) : Bool → LocalCids → LocalCids → Type
   begins : (s t : LocalCids) (now : ℕ) (ids : List IssuedCid) → Serves limit issued false s t → AreNext t.issued ids
       → length ids ≡ limit - issued → Serves limit issued true s (issued_more ids now t)
   retires : (s t : LocalCids) (n now : ℕ) (ids : List IssuedCid) → Serves limit issued true s t → may_retire n t ≡ true → AreNext t.issued ids
-      → length ids ≡ (if nat_lt (length (retired n t).active) limit then 1 else 0) → Serves limit issued true s (issued_more ids now (retired n t))
+      → length ids ≡ (if allows_one_more limit (retired n t) then 1 else 0) → Serves limit issued true s (issued_more ids now (retired n t))
   expires : (came : Bool) (s t : LocalCids) (now : ℕ) (ids : List IssuedCid) → Serves limit issued came s t → AreNext t.issued ids
       → length ids ≡ newly_asked t → Serves limit issued came s (issued_more ids now (timed_out t))
 

@@ -61,6 +61,10 @@ without n ns = filter (λ k. not (k == n)) ns
 unfoldable pub retired : ℕ → LocalCids → LocalCids
 retired sequence s = record s { active = without sequence s.active }
 
+-- fewer ids are active than the other end's limit allows, so that one more may be issued (RFC 9000, section 5.1.1)
+abbrev pub allows_one_more : (limit : ℕ) → LocalCids → Bool
+allows_one_more limit s = nat_lt (length s.active) limit
+
 -- how many numbers lie from low up to, but without, high
 unfoldable pub count_between : (low high : ℕ) → List ℕ → ℕ
 count_between low high ns = count_by (λ n. nat_le low n && nat_lt n high) ns

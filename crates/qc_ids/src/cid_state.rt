@@ -3,7 +3,7 @@
 ghost use Rattle.std.specs.Prelude.{◌≡◌, ◌+◌, ◌<◌, ◌≤◌, ◌++◌, ◌⊎◌, ◌^◌, ℕ, Err, Some, None, IfOk, IfErr, IfSome, IfNone, OnOk, OnErr, length, nat_lt, is_ok, filter, not, ◌==◌, option_to_list, slice_index, ◌≢◌};
 ghost use Rattle.std.specs.List.{list_any};
 ghost use Rattle.qc_ids.specs.Expiries.{oldest_time};
-ghost use Rattle.qc_ids.specs.LocalCids.{AreNext, awaits_retirement, count_between, first_local_cids, issued_more, may_retire, newly_asked, numbers_up_to, retired, sequences, timed_out, without};
+ghost use Rattle.qc_ids.specs.LocalCids.{AreNext, allows_one_more, awaits_retirement, count_between, first_local_cids, issued_more, may_retire, newly_asked, numbers_up_to, retired, sequences, timed_out, without};
 ghost use Rattle.qc_ids.specs.Numbers.{Rises};
 ghost use Rattle.smallvec.specs.SmallVec.{HasRoomFor};
 
@@ -156,7 +156,7 @@ impl CidState {
     #[tactic(auto, using(crate::proofs::Numbers::without_rises, crate::proofs::Numbers::rises_wide), unfolding(crate::specs::LocalCids::may_retire, crate::specs::LocalCids::retired))]
     pub fn on_cid_retirement(&mut self, sequence: u64, limit: u64) -> Result<bool, TransportError>
         ensures allowed { is_ok result ≡ may_retire sequence self.old }
-        ensures answer { IfOk result (λ more. more ≡ nat_lt (length self.new.active) limit) }
+        ensures answer { IfOk result (λ more. more ≡ allows_one_more limit self.new) }
         ensures ok { OnOk result (self.new ≡ retired sequence self.old) }
         ensures error { IfErr result (λ e. e ≡ record { code = 10; frame = None }) }
         ensures err { OnErr result (self.new ≡ self.old) }

@@ -3,7 +3,6 @@
 ghost use Rattle.std.specs.Prelude.{◌≡◌, ◌<◌, ◌^◌, None, length, IfOk};
 ghost use Rattle.qc_state.specs.First.{first_view, fixed_of};
 ghost use Rattle.qc_recovery.specs.Paths.{first_size};
-ghost use Rattle.qc_state.specs.Types.{meaning};
 ghost use Rattle.qc_state.specs.View.{ideal};
 
 use crate::making::{Given, made};
@@ -12,7 +11,7 @@ use qc_base::{ConnectionId, Duration, Instant, Side};
 use qc_core::Core;
 use qc_path::ControllerFactory;
 use qc_recovery::{TransportConfig, first_mtu};
-use qc_state::{Paths, SoundSession, SpaceKeys, Suite};
+use qc_state::{Means, Path, Paths, SoundSession, SpaceKeys, Suite};
 use std::alloc::{AllocError, Global};
 use std::net::{IpAddr, SocketAddr};
 
@@ -35,7 +34,7 @@ pub struct ClientSetup<U: Suite> {
     pub first_cid: ConnectionId,
     /// The length of this end's ids, in bytes.
     pub cid_len: usize,
-    /// How long an id of this end is used; without a limit where there is none.
+    /// How long an id of this end is used; without a limit where there is none. So far it has no effect: only the first id is used.
     pub cid_lifetime: Option<Duration>,
     /// The peer's address.
     pub remote: SocketAddr,
@@ -43,7 +42,7 @@ pub struct ClientSetup<U: Suite> {
     pub local_ip: Option<IpAddr>,
     /// The version of QUIC (RFC 9000, 15).
     pub version: u32,
-    /// Whether larger datagrams are searched for (RFC 9000, 14.3).
+    /// Whether larger datagrams are searched for (RFC 9000, 14.3). So far it has no effect: a datagram has at most 1200 bytes.
     pub allow_mtud: bool,
     /// The server's name.
     pub server_name: String,
@@ -60,7 +59,7 @@ pub fn new_client<U: Suite>(
 ) -> Result<Core<U>, AllocError>
     requires fresh { U.Session.is_fresh setup.session }
     requires client { U.Session.side_of setup.session ≡ Side.Client }
-    ensures made { IfOk result (λ core. (ideal U.Random.stream core) ≡ first_view (meaning U.Session.Session U.Session.HeaderKey.HeaderMask U.Session.PacketKey.PacketKey U.Control.Controller.Controller) setup.session (U.Random.stream setup.random) (fixed_of Side.Client setup.version setup.local_cid setup.first_cid setup.local_ip setup.transport setup.grease_quic_bit (U.Random.stream setup.random)) setup.remote setup.first_cid token setup.transport (U.Control.built setup.control now (first_size setup.transport None)) now) }
+    ensures made { IfOk result (λ core. (ideal U.Random.stream core) ≡ first_view ⟦<U as Means>⟧.meaning setup.session (U.Random.stream setup.random) (fixed_of Side.Client setup.version setup.local_cid setup.first_cid setup.local_ip setup.transport setup.grease_quic_bit (U.Random.stream setup.random)) setup.remote setup.first_cid token setup.transport (U.Control.built setup.control now (first_size setup.transport None)) now) }
     ensures hello { IfOk result (λ core. core.waiting.spaces.initial.crypto.written < 2 ^ 62) }
 {
     let mut session = SoundSession::new(setup.session);
@@ -76,16 +75,8 @@ pub fn new_client<U: Suite>(
         grease_quic_bit: setup.grease_quic_bit,
     };
     let congestion = setup.control.build(now, first_mtu(&setup.transport, None));
-    let paths = Paths {
-        remote: setup.remote,
-        remote_cid: setup.first_cid,
-        peer_fixed: false,
-        validated: true,
-        spin: false,
-        sent: 0,
-        received: 0,
-        app_limited: false,
-    };
+    let path = Path::new(setup.remote, setup.first_cid, true);
+    let paths = Paths::new(path, None);
     made(
         alloc,
         keys,

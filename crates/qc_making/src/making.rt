@@ -18,8 +18,8 @@ use qc_path::{ControllerFactory, PacketNumberFilter, PendingAcks};
 use qc_recovery::{IdleTimeout, PathData, Recovery, TransportConfig};
 use qc_state::setup::limit_of_millis;
 use qc_state::{
-    CryptoQueue, Fixed, KeyGroup, Life, Lower, Numbers, Paths, Setup, SoundSession, SpaceKeys,
-    SpaceNumbers, SpaceWaiting, Spaces, State, Suite, Timers, Waiting,
+    CryptoQueue, EndpointEvents, Fixed, KeyGroup, Life, Lower, Numbers, Paths, Setup, SoundSession,
+    SpaceKeys, SpaceNumbers, SpaceWaiting, Spaces, State, Suite, Timers, Waiting,
 };
 use rand_core::Rng;
 use std::alloc::{AllocError, Global};
@@ -145,8 +145,8 @@ fn waiting(alloc: Global, hello: Vec<u8>) -> Result<Waiting, AllocError>
 }
 
 /// The life of a connection that was just made.
-fn life() -> Life
-    ensures { result ≡ record { state = State.Handshake; reason = None; ready = false; connected = false; lost = None; reset_token = None; wanted = None; drained = false; close = None } }
+fn life(alloc: Global) -> Life
+    ensures { result ≡ record { state = State.Handshake; reason = None; ready = false; connected = false; lost = None; notices = []; drained = false; close = None } }
 {
     Life {
         state: State::Handshake,
@@ -154,8 +154,7 @@ fn life() -> Life
         ready: false,
         connected: false,
         lost: None,
-        reset_token: None,
-        wanted: None,
+        notices: EndpointEvents::new(alloc),
         drained: false,
         close: None,
     }
@@ -195,17 +194,9 @@ pub(crate) fn made<U: Suite>(
             filter,
         },
         keys: KeyGroup::new(keys),
-        life: life(),
+        life: life(alloc),
         paths,
-        timers: Timers {
-            loss_detection: None,
-            idle: None,
-            close: None,
-            pacing: None,
-            max_ack_delay: None,
-            sets_idle: true,
-            greatest: now,
-        },
+        timers: Timers::new(now),
         waiting,
         setup: Setup {
             fixed,

@@ -3,7 +3,6 @@
 ghost use Rattle.std.specs.Prelude.{◌≡◌, None, IfOk};
 ghost use Rattle.qc_state.specs.First.{server_view, fixed_of};
 ghost use Rattle.qc_recovery.specs.Paths.{first_size};
-ghost use Rattle.qc_state.specs.Types.{meaning};
 ghost use Rattle.qc_state.specs.View.{ideal};
 
 use crate::making::{Given, made};
@@ -12,7 +11,7 @@ use qc_base::{ConnectionId, Duration, Instant, Side};
 use qc_core::Core;
 use qc_path::ControllerFactory;
 use qc_recovery::{TransportConfig, first_mtu};
-use qc_state::{Paths, SoundSession, SpaceKeys, Suite};
+use qc_state::{Means, Path, Paths, SoundSession, SpaceKeys, Suite};
 use std::alloc::{AllocError, Global};
 use std::net::{IpAddr, SocketAddr};
 
@@ -35,7 +34,7 @@ pub struct ServerSetup<U: Suite> {
     pub first_cid: ConnectionId,
     /// The length of this end's ids, in bytes.
     pub cid_len: usize,
-    /// How long an id of this end is used; without a limit where there is none.
+    /// How long an id of this end is used; without a limit where there is none. So far it has no effect: only the first id is used.
     pub cid_lifetime: Option<Duration>,
     /// The client's address.
     pub remote: SocketAddr,
@@ -43,13 +42,13 @@ pub struct ServerSetup<U: Suite> {
     pub local_ip: Option<IpAddr>,
     /// The version of QUIC (RFC 9000, 15).
     pub version: u32,
-    /// Whether larger datagrams are searched for (RFC 9000, 14.3).
+    /// Whether larger datagrams are searched for (RFC 9000, 14.3). So far it has no effect: a datagram has at most 1200 bytes.
     pub allow_mtud: bool,
     /// The client's id: the source id of its first packets (RFC 9000, 7.2).
     pub remote_cid: ConnectionId,
     /// Whether the client may go on from another address (RFC 9000, 9). So far it may not.
     pub migration: bool,
-    /// Whether this end announced a preferred address (RFC 9000, 9.6).
+    /// Whether this end announced a preferred address (RFC 9000, 9.6). So far it has no effect.
     pub preferred: bool,
     /// Whether it is known that the client gets what is sent to its address, by a token (RFC 9000, 8.1).
     pub validated: bool,
@@ -63,7 +62,7 @@ pub fn new_server<U: Suite>(
     now: Instant,
 ) -> Result<Core<U>, AllocError>
     requires fresh { U.Session.is_fresh setup.session }
-    ensures { IfOk result (λ core. (ideal U.Random.stream core) ≡ server_view (meaning U.Session.Session U.Session.HeaderKey.HeaderMask U.Session.PacketKey.PacketKey U.Control.Controller.Controller) setup.session (U.Random.stream setup.random) (fixed_of Side.Server setup.version setup.local_cid setup.first_cid setup.local_ip setup.transport setup.grease_quic_bit (U.Random.stream setup.random)) setup.remote setup.remote_cid setup.validated setup.transport (U.Control.built setup.control now (first_size setup.transport None)) now) }
+    ensures { IfOk result (λ core. (ideal U.Random.stream core) ≡ server_view ⟦<U as Means>⟧.meaning setup.session (U.Random.stream setup.random) (fixed_of Side.Server setup.version setup.local_cid setup.first_cid setup.local_ip setup.transport setup.grease_quic_bit (U.Random.stream setup.random)) setup.remote setup.remote_cid setup.validated setup.transport (U.Control.built setup.control now (first_size setup.transport None)) now) }
 {
     let session = SoundSession::new(setup.session);
     let keys = SpaceKeys::new(session.initial_keys(&setup.first_cid, Side::Server));
@@ -76,16 +75,8 @@ pub fn new_server<U: Suite>(
         grease_quic_bit: setup.grease_quic_bit,
     };
     let congestion = setup.control.build(now, first_mtu(&setup.transport, None));
-    let paths = Paths {
-        remote: setup.remote,
-        remote_cid: setup.remote_cid,
-        peer_fixed: true,
-        validated: setup.validated,
-        spin: false,
-        sent: 0,
-        received: 0,
-        app_limited: false,
-    };
+    let path = Path::new(setup.remote, setup.remote_cid, setup.validated);
+    let paths = Paths::new(path, Some(setup.remote_cid));
     made(
         alloc,
         keys,

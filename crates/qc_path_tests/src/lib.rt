@@ -1,4 +1,4 @@
-//! Tests of what one path and one packet number space keep, and of the timers. There is nothing here but tests and what they
+//! Tests of what one path and one packet number space keep. There is nothing here but tests and what they
 //! share.
 #![tactic(auto)]
 
@@ -18,7 +18,5 @@ mod round_trip_tests;
 mod skipping_tests;
 #[cfg(test)]
 mod space_tests;
-#[cfg(test)]
-mod timer_tests;
 #[cfg(test)]
 mod times;

@@ -2,9 +2,7 @@
 use Rattle.std.proofs.Common.{◌≡◌, ℕ, ◌<◌, List, [], ◌∷◌, length, refl, ap, sym, ◌∙◌, subst, Bool, true, false, Option, Some, None, Result, Ok, Err, is_ok, IsErr, arith}
 use Rattle.std.specs.Prelude.{◌&&◌, IfSome, IfNone, if◌then◌else◌}
 use Rattle.std.specs.Global.{Global}
-use Rattle.std.specs.declared.net.SocketAddr.{SocketAddr}
 use Rattle.bytes.specs.declared.unique.BytesMut.{BytesMut}
-use Rattle.qc_base.specs.declared.ecn.EcnCodepoint.{EcnCodepoint}
 use Rattle.qc_receive.specs.Cutting.{Cuts, front_of, rest_of, others_of}
 use Rattle.qc_receive.specs.declared.receiving.Cutting.{Cutting}
 use Rattle.qc_header.specs.HeaderGrammar.{DatagramItem}
@@ -14,6 +12,7 @@ use Rattle.qc_header.specs.Pieces.{pieces_of}
 use Rattle.qc_header.specs.declared.protected.PacketDecodeError.{PacketDecodeError}
 use Rattle.qc_header.proofs.Datagrams.{pieces_none, pieces_first, pieces_fault}
 use Rattle.qc_header.proofs.FrontPiece.{piece_ends}
+use Rattle.qc_state.specs.declared.coming.Coming.{Coming}
 use Rattle.qc_state.specs.Paths.{is_blocked}
 use Rattle.qc_state.specs.Receiving.{piece_after, pieces_after, lets_in, cut_of, is_readable, counted_after, heard_after}
 use Rattle.qc_state.specs.Types.{Types, Meaning}
@@ -27,30 +26,30 @@ pub front_first : (c : Cutting) (bytes : List ℕ) (p : Piece) (rest : List ℕ)
     pieces_of c.local_cid_len (c.version ∷ []) c.grease_quic_bit bytes ≡ Ok p ∷ pieces_of c.local_cid_len (c.version ∷ []) c.grease_quic_bit rest
 front_first c bytes p rest e = pieces_first c.local_cid_len (c.version ∷ []) c.grease_quic_bit bytes p rest (omega (arith, fewer c bytes p rest e)) e
 
-module _ {t : Types} (m : Meaning t) (time : ℕ) (mark : Option EcnCodepoint) (c : Cutting) where
+module _ {t : Types} (m : Meaning t) (coming : Coming) (c : Cutting) where
   -- nothing is left
-  pub none_left : (rest : Option (BytesMut Global)) (a target : At t) → rest ≡ None → pieces_after m time mark (others_of c rest) a ≡ target → a ≡ target
+  pub none_left : (rest : Option (BytesMut Global)) (a target : At t) → rest ≡ None → pieces_after m coming (others_of c rest) a ≡ target → a ≡ target
   none_left rest a target none h =
-      ap (λ (items : List DatagramItem). pieces_after m time mark items a) (sym (ap (others_of c) none ∙ pieces_none c.local_cid_len (c.version ∷ []) c.grease_quic_bit [] refl)) ∙ h
+      ap (λ (items : List DatagramItem). pieces_after m coming items a) (sym (ap (others_of c) none ∙ pieces_none c.local_cid_len (c.version ∷ []) c.grease_quic_bit [] refl)) ∙ h
 
   fault_by : (bytes : List ℕ) (a : At t) (v : Result (Piece × List ℕ) PacketDecodeError) → front_of c bytes ≡ v → IsErr v → 0 < length bytes →
-      a ≡ pieces_after m time mark (pieces_of c.local_cid_len (c.version ∷ []) c.grease_quic_bit bytes) a
+      a ≡ pieces_after m coming (pieces_of c.local_cid_len (c.version ∷ []) c.grease_quic_bit bytes) a
   fault_by bytes a (Ok x) e none some = cc none
-  fault_by bytes a (Err fault) e none some = ap (λ (items : List DatagramItem). pieces_after m time mark items a) (sym (pieces_fault c.local_cid_len (c.version ∷ []) c.grease_quic_bit bytes fault some e))
+  fault_by bytes a (Err fault) e none some = ap (λ (items : List DatagramItem). pieces_after m coming items a) (sym (pieces_fault c.local_cid_len (c.version ∷ []) c.grease_quic_bit bytes fault some e))
 
   -- bytes that begin with no packet are left
   pub fault_left : (rest : Option (BytesMut Global)) (bytes : BytesMut Global) (a target : At t) → rest ≡ Some bytes → IfSome rest (λ b. 0 < length b.items) → IsErr (front_of c bytes.items) →
-      pieces_after m time mark (others_of c rest) a ≡ target → a ≡ target
+      pieces_after m coming (others_of c rest) a ≡ target → a ≡ target
   fault_left rest bytes a target is some none h =
       fault_by bytes.items a (front_of c bytes.items) refl none (subst (λ (o : Option (BytesMut Global)). IfSome o (λ b. 0 < length b.items)) is some)
-      ∙ ap (λ (o : Option (BytesMut Global)). pieces_after m time mark (others_of c o) a) (sym is) ∙ h
+      ∙ ap (λ (o : Option (BytesMut Global)). pieces_after m coming (others_of c o) a) (sym is) ∙ h
 
   -- one packet is taken of what is left
   pub one_left : (rest : Option (BytesMut Global)) (bytes : BytesMut Global) (others : Option (BytesMut Global)) (p : Piece) (a b target : At t) → rest ≡ Some bytes → front_of c bytes.items ≡ Ok (p, rest_of others) →
-      b ≡ piece_after m time mark p a → pieces_after m time mark (others_of c rest) a ≡ target → pieces_after m time mark (others_of c others) b ≡ target
+      b ≡ piece_after m coming p a → pieces_after m coming (others_of c rest) a ≡ target → pieces_after m coming (others_of c others) b ≡ target
   one_left rest bytes others p a b target same e is h =
-      ap (λ (x : At t). pieces_after m time mark (others_of c others) x) is ∙ ap (λ (items : List DatagramItem). pieces_after m time mark items a) (sym (front_first c bytes.items p (rest_of others) e))
-      ∙ ap (λ (o : Option (BytesMut Global)). pieces_after m time mark (others_of c o) a) (sym same) ∙ h
+      ap (λ (x : At t). pieces_after m coming (others_of c others) x) is ∙ ap (λ (items : List DatagramItem). pieces_after m coming items a) (sym (front_first c bytes.items p (rest_of others) e))
+      ∙ ap (λ (o : Option (BytesMut Global)). pieces_after m coming (others_of c o) a) (sym same) ∙ h
 
 -- the bytes that are left are fewer
 pub fewer_left : (c : Cutting) (rest : Option (BytesMut Global)) (bytes : BytesMut Global) (others : Option (BytesMut Global)) (p : Piece) → rest ≡ Some bytes → front_of c bytes.items ≡ Ok (p, rest_of others) →
@@ -91,24 +90,24 @@ module _ {t : Types} where
       is_d ∙ ap (λ (x : Bool). counted_after time x n a) as_stands ∙ ap (λ (x : ℕ). counted_after time blocked' x a) is_n ∙ ap (λ (x : At t). counted_after time blocked' k x) is_a
 
   -- a datagram that counts
-  pub heard_is : (m : Meaning t) (time : ℕ) (mark : Option EcnCodepoint) (c : Cutting) (remote : SocketAddr) (bytes : List ℕ) (p : Piece) (rest : Option (BytesMut Global)) (len : ℕ) (blocked : Bool) (a b d : At t) → Cuts a.state c → front_of c bytes ≡ Ok (p, rest_of rest) →
-      true ≡ lets_in a.state remote → len ≡ length bytes → blocked ≡ is_blocked a.state.paths → b ≡ pieces_after m time mark (Ok p ∷ others_of c rest) a → d ≡ counted_after time blocked len b → d ≡ heard_after m time mark remote bytes a
+  pub heard_is : (m : Meaning t) (coming : Coming) (c : Cutting) (bytes : List ℕ) (p : Piece) (rest : Option (BytesMut Global)) (len : ℕ) (blocked : Bool) (a b d : At t) → Cuts a.state c → front_of c bytes ≡ Ok (p, rest_of rest) →
+      true ≡ lets_in a.state coming.remote → len ≡ length bytes → blocked ≡ is_blocked a.state.paths → b ≡ pieces_after m coming (Ok p ∷ others_of c rest) a → d ≡ counted_after coming.time blocked len b → d ≡ heard_after m coming bytes a
   unfolding heard_after
-  heard_is m time mark c remote bytes p rest len blocked a b d h e lets is_len as_stands is_b is_d =
+  heard_is m coming c bytes p rest len blocked a b d h e lets is_len as_stands is_b is_d =
       let readable : is_readable a.state bytes ≡ true = sym (readable_is c a.state bytes p (rest_of rest) h e) in
-      let inside : lets_in a.state remote ≡ true = sym lets in
-      rw (readable, inside) (counted_by time blocked (is_blocked a.state.paths) len (length bytes) b _ d as_stands is_len (is_b ∙ ap (λ (items : List DatagramItem). pieces_after m time mark items a) (sym (front_first c bytes p (rest_of rest) e) ∙ same_cut c a.state bytes h)) is_d)
+      let inside : lets_in a.state coming.remote ≡ true = sym lets in
+      rw (readable, inside) (counted_by coming.time blocked (is_blocked a.state.paths) len (length bytes) b _ d as_stands is_len (is_b ∙ ap (λ (items : List DatagramItem). pieces_after m coming items a) (sym (front_first c bytes p (rest_of rest) e) ∙ same_cut c a.state bytes h)) is_d)
 
   -- a datagram that doesn't count
-  pub unheard_is : (m : Meaning t) (time : ℕ) (mark : Option EcnCodepoint) (remote : SocketAddr) (bytes : List ℕ) (a : At t) → false ≡ lets_in a.state remote → a ≡ heard_after m time mark remote bytes a
+  pub unheard_is : (m : Meaning t) (coming : Coming) (bytes : List ℕ) (a : At t) → false ≡ lets_in a.state coming.remote → a ≡ heard_after m coming bytes a
   unfolding heard_after
-  unheard_is m time mark remote bytes a lets = unheard_by (is_readable a.state bytes) (lets_in a.state remote) (sym lets)
+  unheard_is m coming bytes a lets = unheard_by (is_readable a.state bytes) (lets_in a.state coming.remote) (sym lets)
     where
-      unheard_by : (x y : Bool) → y ≡ false → a ≡ (if x && y then counted_after time (is_blocked a.state.paths) (length bytes) (pieces_after m time mark (cut_of a.state bytes) a) else a)
+      unheard_by : (x y : Bool) → y ≡ false → a ≡ (if x && y then counted_after coming.time (is_blocked a.state.paths) (length bytes) (pieces_after m coming (cut_of a.state bytes) a) else a)
       unheard_by true true e = cc e
       unheard_by true false e = refl
       unheard_by false y e = refl
 
-  pub dropped_is : (m : Meaning t) (time : ℕ) (mark : Option EcnCodepoint) (c : Cutting) (remote : SocketAddr) (bytes : List ℕ) (a : At t) → Cuts a.state c → IsErr (front_of c bytes) → a ≡ heard_after m time mark remote bytes a
+  pub dropped_is : (m : Meaning t) (coming : Coming) (c : Cutting) (bytes : List ℕ) (a : At t) → Cuts a.state c → IsErr (front_of c bytes) → a ≡ heard_after m coming bytes a
   unfolding heard_after
-  dropped_is m time mark c remote bytes a h none = let not_readable : is_readable a.state bytes ≡ false = sym (unreadable_is c a.state bytes h none) in rw not_readable refl
+  dropped_is m coming c bytes a h none = let not_readable : is_readable a.state bytes ≡ false = sym (unreadable_is c a.state bytes h none) in rw not_readable refl

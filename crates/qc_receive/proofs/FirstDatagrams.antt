@@ -5,7 +5,6 @@ use Rattle.rand_core.specs.Stream.{Stream}
 use Rattle.std.specs.Global.{Global}
 use Rattle.std.specs.declared.net.SocketAddr.{SocketAddr}
 use Rattle.bytes.specs.declared.unique.BytesMut.{BytesMut}
-use Rattle.qc_base.specs.declared.ecn.EcnCodepoint.{EcnCodepoint}
 use Rattle.qc_base.specs.declared.side.SpaceId.{SpaceId}
 use Rattle.qc_base.specs.declared.side.SpaceId.TheVariants as space
 use Rattle.qc_receive.specs.Cutting.{Cuts, front_of, rest_of, others_of}
@@ -19,6 +18,7 @@ use Rattle.qc_header.specs.declared.protected.PacketDecodeError.{PacketDecodeErr
 use Rattle.qc_header.specs.declared.protected.ProtectedHeader.{ProtectedHeader}
 use Rattle.qc_header.specs.declared.protected.ProtectedHeader.TheVariants.{Initial, Long, Retry, Short, VersionNegotiate}
 use Rattle.qc_header.proofs.Datagrams.{pieces_none, pieces_fault}
+use Rattle.qc_state.specs.declared.coming.Coming.{Coming}
 use Rattle.qc_state.specs.declared.deeds.Did.{Did}
 use Rattle.qc_state.specs.declared.deeds.Verdict.TheVariants as verdict
 use Rattle.qc_state.specs.declared.life.State.{State}
@@ -90,17 +90,17 @@ module _ {t : Types} (m : Meaning t) where
   not_taken s remote bytes awaits none = rw (awaits, none) refl
 
   -- and changes nothing
-  pub left_alone : (time : ℕ) (mark : Option EcnCodepoint) (remote : SocketAddr) (bytes : List ℕ) (a : At t) → is_first_awaited a.state.setup ≡ true → first_token m a.state remote bytes ≡ None → a ≡ datagram_after m time mark remote bytes a
+  pub left_alone : (coming : Coming) (bytes : List ℕ) (a : At t) → is_first_awaited a.state.setup ≡ true → first_token m a.state coming.remote bytes ≡ None → a ≡ datagram_after m coming bytes a
   unfolding datagram_after
-  left_alone time mark remote bytes a awaits none = rw (awaits, none) refl
+  left_alone coming bytes a awaits none = rw (awaits, none) refl
 
   -- the test on length and address
-  may_is : (s : View t) (remote : SocketAddr) (bytes : List ℕ) (len : ℕ) (may : Bool) → may ≡ (is_handshake s.life.state && (nat_le DATAGRAM_SIZE len && same_address s.paths.remote remote)) → len ≡ length bytes →
-      (is_handshake s.life.state && (nat_le DATAGRAM_SIZE (length bytes) && same_address s.paths.remote remote)) ≡ may
-  may_is s remote bytes len may is is_len = sym (is ∙ ap (λ (n : ℕ). is_handshake s.life.state && (nat_le DATAGRAM_SIZE n && same_address s.paths.remote remote)) is_len)
+  may_is : (s : View t) (remote : SocketAddr) (bytes : List ℕ) (len : ℕ) (may : Bool) → may ≡ (is_handshake s.life.state && (nat_le DATAGRAM_SIZE len && same_address s.paths.current.remote remote)) → len ≡ length bytes →
+      (is_handshake s.life.state && (nat_le DATAGRAM_SIZE (length bytes) && same_address s.paths.current.remote remote)) ≡ may
+  may_is s remote bytes len may is is_len = sym (is ∙ ap (λ (n : ℕ). is_handshake s.life.state && (nat_le DATAGRAM_SIZE n && same_address s.paths.current.remote remote)) is_len)
 
   -- it comes too late, is too short, or comes from another address
-  pub may_not : (s : View t) (remote : SocketAddr) (bytes : List ℕ) (len : ℕ) (may : Bool) → may ≡ (is_handshake s.life.state && (nat_le DATAGRAM_SIZE len && same_address s.paths.remote remote)) → len ≡ length bytes → may ≡ false →
+  pub may_not : (s : View t) (remote : SocketAddr) (bytes : List ℕ) (len : ℕ) (may : Bool) → may ≡ (is_handshake s.life.state && (nat_le DATAGRAM_SIZE len && same_address s.paths.current.remote remote)) → len ≡ length bytes → may ≡ false →
       first_token m s remote bytes ≡ None
   unfolding first_token
   may_not s remote bytes len may is is_len fails = ap (λ (b : Bool). if b then token_in_items m s (cut_of s bytes) else None) (may_is s remote bytes len may is is_len ∙ fails)
@@ -126,7 +126,7 @@ module _ {t : Types} (m : Meaning t) where
 
   -- it may be one
   token_is : (c : Cutting) (s : View t) (remote : SocketAddr) (bytes : List ℕ) (p : Piece) (rest : Option (BytesMut Global)) (source token : List ℕ) (spin : Bool) (number : ℕ) (payload : List ℕ) → Cuts s c → front_of c bytes ≡ Ok (p, rest_of rest) →
-      (is_handshake s.life.state && (nat_le DATAGRAM_SIZE (length bytes) && same_address s.paths.remote remote)) ≡ true → has_first_ids s p.header ≡ true → opening_of m s p ≡ Opened source token spin number payload → first_token m s remote bytes ≡ Some token
+      (is_handshake s.life.state && (nat_le DATAGRAM_SIZE (length bytes) && same_address s.paths.current.remote remote)) ≡ true → has_first_ids s p.header ≡ true → opening_of m s p ≡ Opened source token spin number payload → first_token m s remote bytes ≡ Some token
   unfolding first_token token_in_first
   token_is c s remote bytes p rest source token spin number payload h e may ids opens =
       ap (λ (b : Bool). if b then token_in_items m s (cut_of s bytes) else None) may
@@ -136,55 +136,55 @@ module _ {t : Types} (m : Meaning t) where
 
   pub first_taken : (c : Cutting) (s : View t) (remote : SocketAddr) (bytes : List ℕ) (len : ℕ) (may : Bool) (p : Piece) (rest : Option (BytesMut Global)) (source token : List ℕ) (spin : Bool) (number : ℕ) (payload : List ℕ) →
       is_first_awaited s.setup ≡ true → Cuts s c → front_of c bytes ≡ Ok (p, rest_of rest) →
-      may ≡ (is_handshake s.life.state && (nat_le DATAGRAM_SIZE len && same_address s.paths.remote remote)) → len ≡ length bytes → may ≡ true → has_first_ids s p.header ≡ true → opening_of m s p ≡ Opened source token spin number payload →
+      may ≡ (is_handshake s.life.state && (nat_le DATAGRAM_SIZE len && same_address s.paths.current.remote remote)) → len ≡ length bytes → may ≡ true → has_first_ids s p.header ≡ true → opening_of m s p ≡ Opened source token spin number payload →
       true ≡ is_taken m s remote bytes
   unfolding is_taken
   first_taken c s remote bytes len may p rest source token spin number payload awaits h e is is_len holds ids opens =
       rw (awaits, token_is c s remote bytes p rest source token spin number payload h e (may_is s remote bytes len may is is_len ∙ holds) ids opens) refl
 
   -- its first packet does what a packet does that opened
-  first_piece : (time : ℕ) (mark : Option EcnCodepoint) (p : Piece) (source token : List ℕ) (spin : Bool) (number : ℕ) (payload : List ℕ) (a : At t) → is_handshake a.state.life.state ≡ true → has_first_ids a.state p.header ≡ true → opening_of m a.state p ≡ Opened source token spin number payload →
-      piece_after m time mark p a ≡ received_after m time space.Initial (record { mark = mark; spin = spin }) source token number payload a
+  first_piece : (coming : Coming) (p : Piece) (source token : List ℕ) (spin : Bool) (number : ℕ) (payload : List ℕ) (a : At t) → is_handshake a.state.life.state ≡ true → has_first_ids a.state p.header ≡ true → opening_of m a.state p ≡ Opened source token spin number payload →
+      piece_after m coming p a ≡ received_after m coming space.Initial spin source token number payload a
   unfolding piece_after has_first_ids
-  first_piece time mark p source token spin number payload a shakes ids opens =
-      ap (λ (x : Bool). if x then piece_told (space_of p.header) None verdict.Ignored a else opening_after m time mark (space_of p.header) (opening_of m a.state p) a) (handshake_not_over a.state.life.state shakes)
-      ∙ ap (λ (x : Option SpaceId). opening_after m time mark x (opening_of m a.state p) a) (initial_space a.state.setup.fixed.first_cid a.state.paths.remote_cid p.header ids)
-      ∙ ap (λ (o : Opening). opening_after m time mark (Some space.Initial) o a) opens
+  first_piece coming p source token spin number payload a shakes ids opens =
+      ap (λ (x : Bool). if x then piece_told (space_of p.header) None verdict.Ignored a else opening_after m coming (space_of p.header) (opening_of m a.state p) a) (handshake_not_over a.state.life.state shakes)
+      ∙ ap (λ (x : Option SpaceId). opening_after m coming x (opening_of m a.state p) a) (initial_space a.state.setup.fixed.first_cid a.state.paths.current.remote_cid p.header ids)
+      ∙ ap (λ (o : Opening). opening_after m coming (Some space.Initial) o a) opens
 
   -- its packets do what they do
-  heard_packets : (time : ℕ) (mark : Option EcnCodepoint) (c : Cutting) (remote : SocketAddr) (bytes : List ℕ) (p : Piece) (rest : Option (BytesMut Global)) (source token : List ℕ) (spin : Bool) (number : ℕ) (payload : List ℕ) (a : At t) → Cuts a.state c → front_of c bytes ≡ Ok (p, rest_of rest) →
-      is_handshake a.state.life.state ≡ true → same_address a.state.paths.remote remote ≡ true → has_first_ids a.state p.header ≡ true → opening_of m a.state p ≡ Opened source token spin number payload →
-      heard_after m time mark remote bytes a ≡ counted_after time (is_blocked a.state.paths) (length bytes) (pieces_after m time mark (others_of c rest) (received_after m time space.Initial (record { mark = mark; spin = spin }) source token number payload a))
+  heard_packets : (coming : Coming) (c : Cutting) (bytes : List ℕ) (p : Piece) (rest : Option (BytesMut Global)) (source token : List ℕ) (spin : Bool) (number : ℕ) (payload : List ℕ) (a : At t) → Cuts a.state c → front_of c bytes ≡ Ok (p, rest_of rest) →
+      is_handshake a.state.life.state ≡ true → same_address a.state.paths.current.remote coming.remote ≡ true → has_first_ids a.state p.header ≡ true → opening_of m a.state p ≡ Opened source token spin number payload →
+      heard_after m coming bytes a ≡ counted_after coming.time (is_blocked a.state.paths) (length bytes) (pieces_after m coming (others_of c rest) (received_after m coming space.Initial spin source token number payload a))
   unfolding heard_after lets_in
-  heard_packets time mark c remote bytes p rest source token spin number payload a h e shakes same ids opens =
-      let heard : At t = counted_after time (is_blocked a.state.paths) (length bytes) (pieces_after m time mark (cut_of a.state bytes) a) in
-      ap (λ (x : Bool). if x && lets_in a.state remote then heard else a) (sym (readable_is c a.state bytes p (rest_of rest) h e))
-      ∙ ap (λ (x : Bool). if x then heard else a) (both_hold (is_over a.state.life.state) (same_address a.state.paths.remote remote) (handshake_not_over a.state.life.state shakes) same)
-      ∙ ap (λ (items : List DatagramItem). counted_after time (is_blocked a.state.paths) (length bytes) (pieces_after m time mark items a)) (cut_first c a.state bytes p rest h e)
-      ∙ ap (λ (x : At t). counted_after time (is_blocked a.state.paths) (length bytes) (pieces_after m time mark (others_of c rest) x)) (first_piece time mark p source token spin number payload a shakes ids opens)
+  heard_packets coming c bytes p rest source token spin number payload a h e shakes same ids opens =
+      let heard : At t = counted_after coming.time (is_blocked a.state.paths) (length bytes) (pieces_after m coming (cut_of a.state bytes) a) in
+      ap (λ (x : Bool). if x && lets_in a.state coming.remote then heard else a) (sym (readable_is c a.state bytes p (rest_of rest) h e))
+      ∙ ap (λ (x : Bool). if x then heard else a) (both_hold (is_over a.state.life.state) (same_address a.state.paths.current.remote coming.remote) (handshake_not_over a.state.life.state shakes) same)
+      ∙ ap (λ (items : List DatagramItem). counted_after coming.time (is_blocked a.state.paths) (length bytes) (pieces_after m coming items a)) (cut_first c a.state bytes p rest h e)
+      ∙ ap (λ (x : At t). counted_after coming.time (is_blocked a.state.paths) (length bytes) (pieces_after m coming (others_of c rest) x)) (first_piece coming p source token spin number payload a shakes ids opens)
 
   -- that the token is expected changes nothing of that
-  heard_first : (time : ℕ) (mark : Option EcnCodepoint) (c : Cutting) (remote : SocketAddr) (bytes : List ℕ) (p : Piece) (rest : Option (BytesMut Global)) (source token : List ℕ) (spin : Bool) (number : ℕ) (payload : List ℕ) (a : At t) → Cuts a.state c → front_of c bytes ≡ Ok (p, rest_of rest) →
-      is_handshake a.state.life.state ≡ true → same_address a.state.paths.remote remote ≡ true → has_first_ids a.state p.header ≡ true → opening_of m a.state p ≡ Opened source token spin number payload →
-      heard_after m time mark remote bytes (move_to (Expect token) a) ≡ counted_after time (is_blocked a.state.paths) (length bytes) (pieces_after m time mark (others_of c rest) (received_after m time space.Initial (record { mark = mark; spin = spin }) source token number payload (move_to (Expect token) a)))
+  heard_first : (coming : Coming) (c : Cutting) (bytes : List ℕ) (p : Piece) (rest : Option (BytesMut Global)) (source token : List ℕ) (spin : Bool) (number : ℕ) (payload : List ℕ) (a : At t) → Cuts a.state c → front_of c bytes ≡ Ok (p, rest_of rest) →
+      is_handshake a.state.life.state ≡ true → same_address a.state.paths.current.remote coming.remote ≡ true → has_first_ids a.state p.header ≡ true → opening_of m a.state p ≡ Opened source token spin number payload →
+      heard_after m coming bytes (move_to (Expect token) a) ≡ counted_after coming.time (is_blocked a.state.paths) (length bytes) (pieces_after m coming (others_of c rest) (received_after m coming space.Initial spin source token number payload (move_to (Expect token) a)))
   unfolding has_first_ids opening_of move_to state_move numbers_move keys_move life_move paths_move setup_move token_expected
-  heard_first time mark c remote bytes p rest source token spin number payload a h e shakes same ids opens =
-      heard_packets time mark c remote bytes p rest source token spin number payload (move_to (Expect token) a) (record { len = h.len; version = h.version; grease = h.grease }) e shakes same ids opens
+  heard_first coming c bytes p rest source token spin number payload a h e shakes same ids opens =
+      heard_packets coming c bytes p rest source token spin number payload (move_to (Expect token) a) (record { len = h.len; version = h.version; grease = h.grease }) e shakes same ids opens
 
   expect_moved : (token : List ℕ) (s s1 : View t) (ds : List Did) → s1 ≡ state_move (Expect token) s → at s1 ds ≡ move_to (Expect token) (at s ds)
   unfolding move_to deeds_move
   expect_moved token s s1 ds is = ap (λ (v : View t). at v ds) is
 
-  pub first_heard : (time : ℕ) (mark : Option EcnCodepoint) (c : Cutting) (remote : SocketAddr) (bytes : List ℕ) (len : ℕ) (may : Bool) (p : Piece) (rest : Option (BytesMut Global)) (source token copy : List ℕ) (spin : Bool) (number : ℕ) (payload : List ℕ) (blocked : Bool) (s s1 : View t) (ds : List Did) (b d : At t) (e' : At t) →
+  pub first_heard : (coming : Coming) (c : Cutting) (bytes : List ℕ) (len : ℕ) (may : Bool) (p : Piece) (rest : Option (BytesMut Global)) (source token copy : List ℕ) (spin : Bool) (number : ℕ) (payload : List ℕ) (blocked : Bool) (s s1 : View t) (ds : List Did) (b d : At t) (e' : At t) →
       is_first_awaited s.setup ≡ true → Cuts s c → front_of c bytes ≡ Ok (p, rest_of rest) →
-      may ≡ (is_handshake s.life.state && (nat_le DATAGRAM_SIZE len && same_address s.paths.remote remote)) → len ≡ length bytes → may ≡ true → has_first_ids s p.header ≡ true → opening_of m s p ≡ Opened source token spin number payload →
-      copy ≡ token → s1 ≡ state_move (Expect copy) s → b ≡ received_after m time space.Initial (record { mark = mark; spin = spin }) source token number payload (at s1 ds) → d ≡ pieces_after m time mark (others_of c rest) b → blocked ≡ is_blocked s.paths → e' ≡ counted_after time blocked len d →
-      e' ≡ datagram_after m time mark remote bytes (at s ds)
+      may ≡ (is_handshake s.life.state && (nat_le DATAGRAM_SIZE len && same_address s.paths.current.remote coming.remote)) → len ≡ length bytes → may ≡ true → has_first_ids s p.header ≡ true → opening_of m s p ≡ Opened source token spin number payload →
+      copy ≡ token → s1 ≡ state_move (Expect copy) s → b ≡ received_after m coming space.Initial spin source token number payload (at s1 ds) → d ≡ pieces_after m coming (others_of c rest) b → blocked ≡ is_blocked s.paths → e' ≡ counted_after coming.time blocked len d →
+      e' ≡ datagram_after m coming bytes (at s ds)
   unfolding datagram_after
-  first_heard time mark c remote bytes len may p rest source token copy spin number payload blocked s s1 ds b d e' awaits h e is is_len holds ids opens is_copy is_s1 is_b is_d free is_e =
-      let whole : (is_handshake s.life.state && (nat_le DATAGRAM_SIZE (length bytes) && same_address s.paths.remote remote)) ≡ true = may_is s remote bytes len may is is_len ∙ holds in
+  first_heard coming c bytes len may p rest source token copy spin number payload blocked s s1 ds b d e' awaits h e is is_len holds ids opens is_copy is_s1 is_b is_d free is_e =
+      let whole : (is_handshake s.life.state && (nat_le DATAGRAM_SIZE (length bytes) && same_address s.paths.current.remote coming.remote)) ≡ true = may_is s coming.remote bytes len may is is_len ∙ holds in
       let moved : at s1 ds ≡ move_to (Expect token) (at s ds) = expect_moved copy s s1 ds is_s1 ∙ ap (λ (x : List ℕ). move_to (Expect x) (at s ds)) is_copy in
-      counted_by time blocked (is_blocked s.paths) len (length bytes) d _ e' free is_len (is_d ∙ ap (λ (x : At t). pieces_after m time mark (others_of c rest) x) (is_b ∙ ap (λ (x : At t). received_after m time space.Initial (record { mark = mark; spin = spin }) source token number payload x) moved)) is_e
-      ∙ sym (heard_first time mark c remote bytes p rest source token spin number payload (at s ds) h e (first_of (is_handshake s.life.state) (nat_le DATAGRAM_SIZE (length bytes)) (same_address s.paths.remote remote) whole) (third_of (is_handshake s.life.state) (nat_le DATAGRAM_SIZE (length bytes)) (same_address s.paths.remote remote) whole) ids opens)
-      ∙ sym (ap (λ (x : Bool). if x then first_after m time mark remote bytes (first_token m s remote bytes) (at s ds) else heard_after m time mark remote bytes (at s ds)) awaits
-      ∙ ap (λ (x : Option (List ℕ)). first_after m time mark remote bytes x (at s ds)) (token_is c s remote bytes p rest source token spin number payload h e whole ids opens))
+      counted_by coming.time blocked (is_blocked s.paths) len (length bytes) d _ e' free is_len (is_d ∙ ap (λ (x : At t). pieces_after m coming (others_of c rest) x) (is_b ∙ ap (λ (x : At t). received_after m coming space.Initial spin source token number payload x) moved)) is_e
+      ∙ sym (heard_first coming c bytes p rest source token spin number payload (at s ds) h e (first_of (is_handshake s.life.state) (nat_le DATAGRAM_SIZE (length bytes)) (same_address s.paths.current.remote coming.remote) whole) (third_of (is_handshake s.life.state) (nat_le DATAGRAM_SIZE (length bytes)) (same_address s.paths.current.remote coming.remote) whole) ids opens)
+      ∙ sym (ap (λ (x : Bool). if x then first_after m coming bytes (first_token m s coming.remote bytes) (at s ds) else heard_after m coming bytes (at s ds)) awaits
+      ∙ ap (λ (x : Option (List ℕ)). first_after m coming bytes x (at s ds)) (token_is c s coming.remote bytes p rest source token spin number payload h e whole ids opens))

@@ -4,11 +4,9 @@ use Rattle.std.proofs.lemmas.Bool.Decides.{nat_tests}
 use Rattle.std.proofs.lemmas.List.{take-append-drop, take_at, length-take-le, length-drop}
 use Rattle.std.specs.Prelude.{◌&&◌, ◌-◌, ◌/◌, ◌%◌, ◌==◌, nat_lt, cond, if◌then◌else◌, Result, Ok}
 use Rattle.std.specs.Global.{Global}
-use Rattle.std.specs.declared.net.SocketAddr.{SocketAddr}
 use Rattle.bytes.specs.declared.unique.BytesMut.{BytesMut}
 use Rattle.qc_base.specs.Mask.{first_byte, number_len_in, unmasked}
 use Rattle.qc_base.specs.Time.{plus}
-use Rattle.qc_base.specs.declared.ecn.EcnCodepoint.{EcnCodepoint}
 use Rattle.qc_base.specs.declared.packet_number.PacketNumber.{PacketNumber}
 use Rattle.qc_receive.specs.Cutting.{Cuts, front_of, others_of, rest_of}
 use Rattle.qc_receive.specs.Short.{short_in}
@@ -26,6 +24,7 @@ use Rattle.qc_header.proofs.Datagrams.{pieces_none}
 use Rattle.qc_header.proofs.ReadHeaders.{short_piece}
 use Rattle.qc_packet.specs.OpenedPacket.{key_named, opened_by as opened_under_key, ring_key}
 use Rattle.qc_rings.specs.Keyed.{Keyed}
+use Rattle.qc_state.specs.declared.coming.Coming.{Coming}
 use Rattle.qc_state.specs.declared.opening.Opening.{Opening}
 use Rattle.qc_state.specs.declared.opening.Opening.TheVariants.{Unreadable, Unopened}
 use Rattle.qc_state.specs.Expansion.{expanded}
@@ -115,8 +114,8 @@ front_short c (b ∷ rest) short is h =
     front_by c b rest high within
 
 -- it counts
-pub heard_alone : {t : Types} (m : Meaning t) (time : ℕ) (mark : Option EcnCodepoint) (c : Cutting) (remote : SocketAddr) (bytes : List ℕ) (p : Piece) (len : ℕ) (blocked : Bool) (a b d : At t) → Cuts a.state c → front_of c bytes ≡ Ok (p, []) →
-    true ≡ lets_in a.state remote → len ≡ length bytes → blocked ≡ is_blocked a.state.paths → b ≡ piece_after m time mark p a → d ≡ counted_after time blocked len b → d ≡ heard_after m time mark remote bytes a
-heard_alone m time mark c remote bytes p len blocked a b d h e lets is_len as_stands is_b is_d =
-    heard_is m time mark c remote bytes p None len blocked a b d h e lets is_len as_stands
-    (is_b ∙ sym (ap (λ (items : List DatagramItem). pieces_after m time mark items (piece_after m time mark p a)) (pieces_none c.local_cid_len (c.version ∷ []) c.grease_quic_bit [] refl))) is_d
+pub heard_alone : {t : Types} (m : Meaning t) (coming : Coming) (c : Cutting) (bytes : List ℕ) (p : Piece) (len : ℕ) (blocked : Bool) (a b d : At t) → Cuts a.state c → front_of c bytes ≡ Ok (p, []) →
+    true ≡ lets_in a.state coming.remote → len ≡ length bytes → blocked ≡ is_blocked a.state.paths → b ≡ piece_after m coming p a → d ≡ counted_after coming.time blocked len b → d ≡ heard_after m coming bytes a
+heard_alone m coming c bytes p len blocked a b d h e lets is_len as_stands is_b is_d =
+    heard_is m coming c bytes p None len blocked a b d h e lets is_len as_stands
+    (is_b ∙ sym (ap (λ (items : List DatagramItem). pieces_after m coming items (piece_after m coming p a)) (pieces_none c.local_cid_len (c.version ∷ []) c.grease_quic_bit [] refl))) is_d

@@ -17,4 +17,4 @@ LeavesBytes (Datagram now remote ecn first_decode remaining) = IfSome remaining 
 
 -- what it does: a datagram's packets count, and its bytes
 abbrev pub handed_after : {t : Types} → Meaning t → ConnectionEvent → At t → At t
-handed_after m (Datagram now remote ecn first_decode remaining) a = event_after m now ecn remote first_decode (rest_of remaining) a
+handed_after m (Datagram now remote ecn first_decode remaining) a = event_after m (record { time = now; remote = remote; mark = ecn }) first_decode (rest_of remaining) a

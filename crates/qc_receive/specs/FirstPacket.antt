@@ -1,8 +1,8 @@
 -- A server's first packet that its endpoint opened.
 use Rattle.std.specs.Prelude.{◌≡◌, ℕ, ◌+◌, ◌^◌, ◌<◌, ◌≤◌, true, if◌then◌else◌, List, length, Option, None, is_none}
 use Rattle.std.specs.declared.net.SocketAddr.{SocketAddr}
-use Rattle.qc_base.specs.declared.ecn.EcnCodepoint.{EcnCodepoint}
 use Rattle.qc_header.specs.declared.finish.InitialPacket.{InitialPacket}
+use Rattle.qc_state.specs.declared.coming.Coming.{Coming}
 use Rattle.qc_state.specs.declared.life.ConnectionError.{ConnectionError}
 use Rattle.qc_state.specs.declared.transmit.TheConstants.{DATAGRAM_SIZE}
 use Rattle.qc_state.specs.Life.{is_handshake}
@@ -23,8 +23,8 @@ module _ {t : Types} where
   reason_between before after = if is_none before.life.reason then after.life.reason else None
 
   -- the reason for the end that a server's first packet gives
-  abbrev pub first_reason : Meaning t → (time : ℕ) → (mark : Option EcnCodepoint) → (source token : List ℕ) → (number : ℕ) → (payload : List ℕ) → At t → Option ConnectionError
-  first_reason m time mark source token number payload a = reason_between a.state (opened_first m time mark source token number payload a).state
+  abbrev pub first_reason : Meaning t → Coming → (source token : List ℕ) → (number : ℕ) → (payload : List ℕ) → At t → Option ConnectionError
+  first_reason m coming source token number payload a = reason_between a.state (opened_first m coming source token number payload a).state
 
 -- A packet may be the first one of a server that waits for it: the handshake goes on, it comes from the path's address, it has this
 -- version and the ids that the server was made with, its number can be one (RFC 9000, section 12.3), and its datagram is long
@@ -32,9 +32,9 @@ module _ {t : Types} where
 pub record IsFirstPacket {t : Types} {R : Type 0} (c : Held t R) (remote : SocketAddr) (packet_number : ℕ) (p : InitialPacket) (behind : List ℕ) : Type 0 where
   pub awaited : is_first_awaited c.setup ≡ true
   pub shakes : is_handshake c.life.state ≡ true
-  pub path : same_address c.paths.remote remote ≡ true
+  pub path : same_address c.paths.current.remote remote ≡ true
   pub version : p.header.version ≡ c.setup.fixed.version
   pub destination : p.header.dst_cid ≡ c.setup.fixed.first_cid
-  pub source : p.header.src_cid ≡ c.paths.remote_cid
+  pub source : p.header.src_cid ≡ c.paths.current.remote_cid
   pub numbered : packet_number < 2 ^ 62
   pub long : DATAGRAM_SIZE ≤ size_of p behind

@@ -5,7 +5,6 @@ ghost use Rattle.qc_base.specs.Time.{plus};
 ghost use Rattle.qc_receive.specs.Cutting.{rest_of};
 ghost use Rattle.qc_receive.specs.FirstPacket.{first_reason, reason_between, size_of};
 ghost use Rattle.qc_state.specs.Receiving.{event_after, opened_first, first_packet_after};
-ghost use Rattle.qc_state.specs.Types.{meaning};
 ghost use Rattle.qc_state.specs.View.{ideal, held};
 
 use crate::receiving::{counted, cutting_of, lets_in, others, pieces};
@@ -14,7 +13,7 @@ use qc_admit::received;
 use qc_base::{ConnectionId, EcnCodepoint, Instant, SpaceId};
 use qc_core::Core;
 use qc_header::{InitialHeader, InitialPacket, PartialDecode};
-use qc_state::{ConnectionError, Dids, Signs, Suite};
+use qc_state::{Coming, ConnectionError, Dids, Means, Suite};
 use std::alloc::{AllocError, Global};
 use std::net::SocketAddr;
 
@@ -32,7 +31,7 @@ pub enum ConnectionEvent {
         ecn: Option<EcnCodepoint>,
         /// Its first packet.
         first_decode: PartialDecode,
-        /// What is behind that.
+        /// What is behind that: None where nothing is, so never no bytes.
         remaining: Option<BytesMut>,
     },
 }
@@ -57,28 +56,26 @@ fn opened_len(packet: &InitialPacket, behind: &Option<BytesMut>) -> u64
         .saturating_add(len_behind(behind) as u64)
 }
 
-/// A datagram came from `remote` at `now` that was cut already into its first packet and what is behind it. Want of memory is
+/// A datagram came that was cut already into its first packet and what is behind it. Want of memory is
 /// the only refusal.
 #[tactic(auto, using(crate::proofs::Handed::no_event))]
 pub fn event<U: Suite>(
     core: &mut Core<U>,
     alloc: Global,
     did: &mut Dids,
-    now: Instant,
-    mark: Option<EcnCodepoint>,
-    remote: SocketAddr,
+    coming: &Coming,
     first: PartialDecode,
     behind: Option<BytesMut>,
 ) -> Result<(), AllocError>
     requires some { IfSome behind (λ b. 0 < length b.items) }
-    ensures { OnOk result ((held U.Random.stream core.new did.new) ≡ event_after (meaning U.Session.Session U.Session.HeaderKey.HeaderMask U.Session.PacketKey.PacketKey U.Control.Controller.Controller) now mark remote first (rest_of behind) (held U.Random.stream core.old did.old)) }
+    ensures { OnOk result ((held U.Random.stream core.new did.new) ≡ event_after ⟦<U as Means>⟧.meaning coming.now first (rest_of behind) (held U.Random.stream core.old did.old)) }
 {
-    if lets_in(core, remote) {
+    if lets_in(core, coming.remote) {
         let len = first.len() as u64 + len_behind(&behind) as u64;
         let blocked = core.is_blocked();
         let cutting = cutting_of(core);
-        pieces(core, alloc, did, now, mark, cutting, first, behind)?;
-        counted(core, did, now, blocked, len);
+        pieces(core, alloc, did, coming, cutting, first, behind)?;
+        counted(core, did, coming.time, blocked, len);
     }
     Ok(())
 }
@@ -108,27 +105,25 @@ fn opened_first<U: Suite>(
     core: &mut Core<U>,
     alloc: Global,
     did: &mut Dids,
-    now: Instant,
-    mark: Option<EcnCodepoint>,
+    coming: &Coming,
     source: ConnectionId,
     token: Bytes,
     number: u64,
     payload: Bytes,
 ) -> Result<Option<ConnectionError>, AllocError>
     ensures answer { IfOk result (λ why. why ≡ reason_between (ideal U.Random.stream core.old) (ideal U.Random.stream core.new)) }
-    ensures leads { OnOk result ((held U.Random.stream core.new did.new) ≡ opened_first (meaning U.Session.Session U.Session.HeaderKey.HeaderMask U.Session.PacketKey.PacketKey U.Control.Controller.Controller) now mark source token number payload (held U.Random.stream core.old did.old)) }
+    ensures leads { OnOk result ((held U.Random.stream core.new did.new) ≡ opened_first ⟦<U as Means>⟧.meaning coming.now source token number payload (held U.Random.stream core.old did.old)) }
 {
     let stood = core.life.reason.is_some();
     let expected = token.clone()?;
     core.do_expect(expected);
-    let signs = Signs { mark, spin: false };
     received(
         core,
         alloc,
         did,
-        now,
+        coming,
         SpaceId::Initial,
-        signs,
+        false,
         source,
         token,
         number,
@@ -138,21 +133,20 @@ fn opened_first<U: Suite>(
     Ok(why)
 }
 
-/// A server's first packet came at `now`, which opened with this number, and what is behind it in its datagram. Answers the
+/// A server's first packet came, which opened with this number, and what is behind it in its datagram. Answers the
 /// reason for the end that the packet gave. Want of memory is the only refusal.
 pub fn first_packet<U: Suite>(
     core: &mut Core<U>,
     alloc: Global,
     did: &mut Dids,
-    now: Instant,
-    mark: Option<EcnCodepoint>,
+    coming: &Coming,
     number: u64,
     packet: InitialPacket,
     behind: Option<BytesMut>,
 ) -> Result<Option<ConnectionError>, AllocError>
     requires some { IfSome behind (λ b. 0 < length b.items) }
-    ensures answer { IfOk result (λ why. why ≡ first_reason (meaning U.Session.Session U.Session.HeaderKey.HeaderMask U.Session.PacketKey.PacketKey U.Control.Controller.Controller) now mark packet.header.src_cid packet.header.token number packet.payload.items (held U.Random.stream core.old did.old)) }
-    ensures leads { OnOk result ((held U.Random.stream core.new did.new) ≡ first_packet_after (meaning U.Session.Session U.Session.HeaderKey.HeaderMask U.Session.PacketKey.PacketKey U.Control.Controller.Controller) now mark packet.header.src_cid packet.header.token number packet.payload.items (rest_of behind) (size_of packet (rest_of behind)) (held U.Random.stream core.old did.old)) }
+    ensures answer { IfOk result (λ why. why ≡ first_reason ⟦<U as Means>⟧.meaning coming.now packet.header.src_cid packet.header.token number packet.payload.items (held U.Random.stream core.old did.old)) }
+    ensures leads { OnOk result ((held U.Random.stream core.new did.new) ≡ first_packet_after ⟦<U as Means>⟧.meaning coming.now packet.header.src_cid packet.header.token number packet.payload.items (rest_of behind) (size_of packet (rest_of behind)) (held U.Random.stream core.old did.old)) }
 {
     let len = opened_len(&packet, &behind);
     let blocked = core.is_blocked();
@@ -167,8 +161,8 @@ pub fn first_packet<U: Suite>(
         Ok(payload) => payload,
         Err(_) => return Err(AllocError),
     };
-    let why = opened_first(core, alloc, did, now, mark, src_cid, token, number, payload)?;
-    others(core, alloc, did, now, mark, cutting, behind)?;
-    counted(core, did, now, blocked, len);
+    let why = opened_first(core, alloc, did, coming, src_cid, token, number, payload)?;
+    others(core, alloc, did, coming, cutting, behind)?;
+    counted(core, did, coming.time, blocked, len);
     Ok(why)
 }

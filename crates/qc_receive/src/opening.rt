@@ -6,7 +6,6 @@ ghost use Rattle.qc_receive.specs.Told.{opening_told};
 ghost use Rattle.qc_header.specs.HeaderSpelling.{header_number};
 ghost use Rattle.qc_packet.specs.OpenedPacket.{IsNumberOf};
 ghost use Rattle.qc_state.specs.Opening.{names_next, opened_space, source_of, spin_of, token_of, whole_number, opened_by, opened_under, opening_of};
-ghost use Rattle.qc_state.specs.Types.{meaning};
 ghost use Rattle.qc_state.specs.View.{ideal};
 
 use bytes::Bytes;
@@ -17,7 +16,7 @@ use qc_header::{Header, Packet, PartialDecode, ProtectedHeader};
 use qc_packet::{
     DecryptPacketResult, KeyRing, OpenError, OpenKeys, Which, decrypt_packet_body, unprotect_header,
 };
-use qc_state::{Opening, Suite};
+use qc_state::{Means, Opening, Suite};
 use std::alloc::AllocError;
 
 /// The space whose keys open packets of this form. None where the form isn't taken so far.
@@ -181,7 +180,7 @@ pub(crate) fn open_piece<U: Suite>(
     core: &Core<U>,
     partial: PartialDecode,
 ) -> Result<Opening, AllocError>
-    ensures { IfOk result (λ o. o ≡ opening_of (meaning U.Session.Session U.Session.HeaderKey.HeaderMask U.Session.PacketKey.PacketKey U.Control.Controller.Controller) (ideal U.Random.stream core.now) partial) }
+    ensures { IfOk result (λ o. o ≡ opening_of ⟦<U as Means>⟧.meaning (ideal U.Random.stream core.now) partial) }
 {
     let space = match opened_space(partial.header()) {
         None => return Ok(Opening::Unreadable),

@@ -4,7 +4,6 @@ ghost use Rattle.std.specs.Prelude.{◌≡◌, ◌<◌, ◌≤◌, ◌++◌, ◌
 ghost use Rattle.qc_receive.specs.Cutting.{Cuts, front_of, rest_of, others_of};
 ghost use Rattle.qc_receive.specs.Short.{short_in};
 ghost use Rattle.qc_state.specs.Receiving.{is_readable, is_taken, lets_in, has_first_ids, token_in_first, counted_after, heard_after, datagram_after, failed_after, opening_after, pieces_after, piece_after};
-ghost use Rattle.qc_state.specs.Types.{meaning};
 ghost use Rattle.qc_state.specs.View.{ideal, held};
 ghost use Rattle.qc_state.specs.Life.{is_handshake};
 ghost use Rattle.qc_state.specs.Opening.{opening_of};
@@ -15,12 +14,12 @@ use crate::opening::open_piece;
 use crate::short::{is_short, short_piece};
 use bytes::{Bytes, BytesMut};
 use qc_admit::received;
-use qc_base::{ConnectionId, EcnCodepoint, Instant, SpaceId};
+use qc_base::{ConnectionId, Instant, SpaceId};
 use qc_core::Core;
 use qc_core::stopping::key_limit_error;
 use qc_header::{PacketDecodeError, PartialDecode, ProtectedHeader};
 use qc_state::paths::same_address;
-use qc_state::{ConnectionError, DATAGRAM_SIZE, Dids, Opening, Signs, Suite, Verdict};
+use qc_state::{Coming, ConnectionError, DATAGRAM_SIZE, Dids, Means, Opening, Suite, Verdict};
 use std::alloc::{AllocError, Global};
 use std::net::SocketAddr;
 
@@ -107,19 +106,18 @@ fn opened<U: Suite>(
     core: &mut Core<U>,
     alloc: Global,
     did: &mut Dids,
-    now: Instant,
-    mark: Option<EcnCodepoint>,
+    coming: &Coming,
     space: Option<SpaceId>,
     opening: Opening,
 ) -> Result<(), AllocError>
-    ensures { OnOk result ((held U.Random.stream core.new did.new) ≡ opening_after (meaning U.Session.Session U.Session.HeaderKey.HeaderMask U.Session.PacketKey.PacketKey U.Control.Controller.Controller) now mark space opening (held U.Random.stream core.old did.old)) }
+    ensures { OnOk result ((held U.Random.stream core.new did.new) ≡ opening_after ⟦<U as Means>⟧.meaning coming.now space opening (held U.Random.stream core.old did.old)) }
 {
     match opening {
         Opening::Unreadable => core.do_tell_piece(did, space, None, Verdict::Ignored),
         Opening::Unopened => failed(core, did, space),
         Opening::Reserved { number } => {
             core.do_tell_piece(did, space, Some(number), Verdict::BadBits)?;
-            core.violated(did, now)
+            core.violated(did, coming.time)
         }
         Opening::Opened {
             source,
@@ -130,9 +128,8 @@ fn opened<U: Suite>(
         } => match space {
             None => core.do_tell_piece(did, None, None, Verdict::Ignored),
             Some(space) => {
-                let signs = Signs { mark, spin };
                 received(
-                    core, alloc, did, now, space, signs, source, token, number, payload,
+                    core, alloc, did, coming, space, spin, source, token, number, payload,
                 )
             }
         },
@@ -145,18 +142,17 @@ fn one_piece<U: Suite>(
     core: &mut Core<U>,
     alloc: Global,
     did: &mut Dids,
-    now: Instant,
-    mark: Option<EcnCodepoint>,
+    coming: &Coming,
     partial: PartialDecode,
 ) -> Result<(), AllocError>
-    ensures { OnOk result ((held U.Random.stream core.new did.new) ≡ piece_after (meaning U.Session.Session U.Session.HeaderKey.HeaderMask U.Session.PacketKey.PacketKey U.Control.Controller.Controller) now mark partial (held U.Random.stream core.old did.old)) }
+    ensures { OnOk result ((held U.Random.stream core.new did.new) ≡ piece_after ⟦<U as Means>⟧.meaning coming.now partial (held U.Random.stream core.old did.old)) }
 {
     let space = partial.space();
     if core.life.is_over() {
         return core.do_tell_piece(did, space, None, Verdict::Ignored);
     }
     let opening = open_piece(core, partial)?;
-    opened(core, alloc, did, now, mark, space, opening)
+    opened(core, alloc, did, coming, space, opening)
 }
 
 /// The packets of a datagram behind its first one. Want of memory is the only refusal.
@@ -164,21 +160,20 @@ pub(crate) fn others<U: Suite>(
     core: &mut Core<U>,
     alloc: Global,
     did: &mut Dids,
-    now: Instant,
-    mark: Option<EcnCodepoint>,
+    coming: &Coming,
     cutting: Cutting,
     behind: Option<BytesMut>,
 ) -> Result<(), AllocError>
     requires fits { cutting.local_cid_len ≤ 20 }
     requires some { IfSome behind (λ b. 0 < length b.items) }
-    ensures { OnOk result ((held U.Random.stream core.new did.new) ≡ pieces_after (meaning U.Session.Session U.Session.HeaderKey.HeaderMask U.Session.PacketKey.PacketKey U.Control.Controller.Controller) now mark (others_of cutting behind) (held U.Random.stream core.old did.old)) }
+    ensures { OnOk result ((held U.Random.stream core.new did.new) ≡ pieces_after ⟦<U as Means>⟧.meaning coming.now (others_of cutting behind) (held U.Random.stream core.old did.old)) }
 {
     let mut rest = behind;
     while let Some(bytes) = rest {
         match cut(cutting, bytes)? {
             None => return Ok(()),
             Some((piece, others)) => {
-                one_piece(core, alloc, did, now, mark, piece)?;
+                one_piece(core, alloc, did, coming, piece)?;
                 rest = others;
             }
         }
@@ -191,18 +186,17 @@ pub(crate) fn pieces<U: Suite>(
     core: &mut Core<U>,
     alloc: Global,
     did: &mut Dids,
-    now: Instant,
-    mark: Option<EcnCodepoint>,
+    coming: &Coming,
     cutting: Cutting,
     first: PartialDecode,
     behind: Option<BytesMut>,
 ) -> Result<(), AllocError>
     requires fits { cutting.local_cid_len ≤ 20 }
     requires some { IfSome behind (λ b. 0 < length b.items) }
-    ensures { OnOk result ((held U.Random.stream core.new did.new) ≡ pieces_after (meaning U.Session.Session U.Session.HeaderKey.HeaderMask U.Session.PacketKey.PacketKey U.Control.Controller.Controller) now mark (Ok first ∷ others_of cutting behind) (held U.Random.stream core.old did.old)) }
+    ensures { OnOk result ((held U.Random.stream core.new did.new) ≡ pieces_after ⟦<U as Means>⟧.meaning coming.now (Ok first ∷ others_of cutting behind) (held U.Random.stream core.old did.old)) }
 {
-    one_piece(core, alloc, did, now, mark, first)?;
-    others(core, alloc, did, now, mark, cutting, behind)
+    one_piece(core, alloc, did, coming, first)?;
+    others(core, alloc, did, coming, cutting, behind)
 }
 
 /// A datagram of so many bytes has come, all of which count as received on the path. Where no datagram could be begun before
@@ -223,59 +217,55 @@ pub(crate) fn counted<U: Suite>(
     }
 }
 
-/// A datagram came from `remote` at `now` that is one 1-RTT packet. Want of memory is the only refusal.
+/// A datagram came that is one 1-RTT packet. Want of memory is the only refusal.
 fn heard_short<U: Suite>(
     core: &mut Core<U>,
     alloc: Global,
     did: &mut Dids,
-    now: Instant,
-    mark: Option<EcnCodepoint>,
-    remote: SocketAddr,
+    coming: &Coming,
     cutting: Cutting,
     bytes: BytesMut,
 ) -> Result<(), AllocError>
     requires cuts { Cuts (ideal U.Random.stream core.old) cutting }
     requires fits { cutting.local_cid_len ≤ 20 }
     requires front { front_of cutting bytes.items ≡ Ok (short_in cutting.local_cid_len bytes.items, []) }
-    ensures { OnOk result ((held U.Random.stream core.new did.new) ≡ heard_after (meaning U.Session.Session U.Session.HeaderKey.HeaderMask U.Session.PacketKey.PacketKey U.Control.Controller.Controller) now mark remote bytes.items (held U.Random.stream core.old did.old)) }
+    ensures { OnOk result ((held U.Random.stream core.new did.new) ≡ heard_after ⟦<U as Means>⟧.meaning coming.now bytes.items (held U.Random.stream core.old did.old)) }
 {
-    if lets_in(core, remote) {
+    if lets_in(core, coming.remote) {
         let len = bytes.len() as u64;
         let blocked = core.is_blocked();
-        short_piece(core, alloc, did, now, mark, cutting.local_cid_len, bytes)?;
-        counted(core, did, now, blocked, len);
+        short_piece(core, alloc, did, coming, cutting.local_cid_len, bytes)?;
+        counted(core, did, coming.time, blocked, len);
     }
     Ok(())
 }
 
-/// A datagram came from `remote` at `now` to an end that doesn't wait for its first packet. Answers whether it begins with a
+/// A datagram came to an end that doesn't wait for its first packet. Answers whether it begins with a
 /// packet; otherwise it changes nothing. Want of memory is the only refusal.
 #[tactic(auto, unfolding(qc_state::specs::Moves::move_to, qc_state::specs::Moves::deeds_move), using(crate::proofs::Behind::readable_is, crate::proofs::Behind::unreadable_is, crate::proofs::Behind::heard_is, crate::proofs::Behind::unheard_is, crate::proofs::Behind::dropped_is))]
 fn heard<U: Suite>(
     core: &mut Core<U>,
     alloc: Global,
     did: &mut Dids,
-    now: Instant,
-    mark: Option<EcnCodepoint>,
-    remote: SocketAddr,
+    coming: &Coming,
     bytes: BytesMut,
 ) -> Result<bool, AllocError>
     ensures answer { IfOk result (λ read. read ≡ is_readable (ideal U.Random.stream core.old) bytes.items) }
-    ensures leads { OnOk result ((held U.Random.stream core.new did.new) ≡ heard_after (meaning U.Session.Session U.Session.HeaderKey.HeaderMask U.Session.PacketKey.PacketKey U.Control.Controller.Controller) now mark remote bytes.items (held U.Random.stream core.old did.old)) }
+    ensures leads { OnOk result ((held U.Random.stream core.new did.new) ≡ heard_after ⟦<U as Means>⟧.meaning coming.now bytes.items (held U.Random.stream core.old did.old)) }
 {
     let len = bytes.len() as u64;
     let cutting = cutting_of(core);
     if is_short(cutting.local_cid_len, bytes.as_slice()) {
-        heard_short(core, alloc, did, now, mark, remote, cutting, bytes)?;
+        heard_short(core, alloc, did, coming, cutting, bytes)?;
         return Ok(true);
     }
     match cut(cutting, bytes)? {
         None => Ok(false),
         Some((first, behind)) => {
-            if lets_in(core, remote) {
+            if lets_in(core, coming.remote) {
                 let blocked = core.is_blocked();
-                pieces(core, alloc, did, now, mark, cutting, first, behind)?;
-                counted(core, did, now, blocked, len);
+                pieces(core, alloc, did, coming, cutting, first, behind)?;
+                counted(core, did, coming.time, blocked, len);
             }
             Ok(true)
         }
@@ -285,10 +275,10 @@ fn heard<U: Suite>(
 /// Whether a datagram of this length from this address may be a server's first one: while the handshake goes on, it has at
 /// least 1200 bytes (RFC 9000, section 14.1), and comes from the path's address.
 fn may_begin<U: Suite>(core: &Core<U>, remote: SocketAddr, len: usize) -> bool
-    ensures { result ≡ (is_handshake core.now.life.state && (nat_le DATAGRAM_SIZE len && same_address core.now.paths.remote remote)) }
+    ensures { result ≡ (is_handshake core.now.life.state && (nat_le DATAGRAM_SIZE len && same_address core.now.paths.current.remote remote)) }
 {
     core.life.is_handshake()
-        && (DATAGRAM_SIZE <= len as u64 && same_address(core.paths.remote, remote))
+        && (DATAGRAM_SIZE <= len as u64 && same_address(core.paths.current.remote, remote))
 }
 
 /// Whether a packet has the form and the ids of a server's first one.
@@ -303,7 +293,7 @@ fn has_first_ids<U: Suite>(core: &Core<U>, header: &ProtectedHeader) -> bool
             ..
         } => {
             dst_cid.as_slice() == core.setup.fixed.first_cid.as_slice()
-                && src_cid.as_slice() == core.paths.remote_cid.as_slice()
+                && src_cid.as_slice() == core.paths.current.remote_cid.as_slice()
         }
         _ => false,
     }
@@ -313,8 +303,8 @@ fn has_first_ids<U: Suite>(core: &Core<U>, header: &ProtectedHeader) -> bool
 /// has another form or other ids, it doesn't open, or its reserved bits aren't 0. Want of memory is the only refusal.
 #[tactic(auto, unfolding(qc_state::specs::Receiving::token_in_first))]
 fn first_opened<U: Suite>(core: &Core<U>, first: PartialDecode) -> Result<Option<First>, AllocError>
-    ensures some { IfOk result (λ r. IfSome r (λ x. (has_first_ids (ideal U.Random.stream core.now) first.header ≡ true) × (opening_of (meaning U.Session.Session U.Session.HeaderKey.HeaderMask U.Session.PacketKey.PacketKey U.Control.Controller.Controller) (ideal U.Random.stream core.now) first ≡ Opening.Opened x.source x.token x.spin x.number x.payload))) }
-    ensures none { IfOk result (λ r. IfNone r (token_in_first (meaning U.Session.Session U.Session.HeaderKey.HeaderMask U.Session.PacketKey.PacketKey U.Control.Controller.Controller) (ideal U.Random.stream core.now) first ≡ None)) }
+    ensures some { IfOk result (λ r. IfSome r (λ x. (has_first_ids (ideal U.Random.stream core.now) first.header ≡ true) × (opening_of ⟦<U as Means>⟧.meaning (ideal U.Random.stream core.now) first ≡ Opening.Opened x.source x.token x.spin x.number x.payload))) }
+    ensures none { IfOk result (λ r. IfNone r (token_in_first ⟦<U as Means>⟧.meaning (ideal U.Random.stream core.now) first ≡ None)) }
 {
     if !has_first_ids(core, first.header()) {
         return Ok(None);
@@ -337,24 +327,22 @@ fn first_opened<U: Suite>(core: &Core<U>, first: PartialDecode) -> Result<Option
     }
 }
 
-/// A datagram came from `remote` at `now` to a server that waits for its first packet. Answers whether it is taken: it may be
+/// A datagram came to a server that waits for its first packet. Answers whether it is taken: it may be
 /// the server's first one, and its first packet's token is expected from then on; otherwise it changes nothing. Want of
 /// memory is the only refusal.
 pub fn first_datagram<U: Suite>(
     core: &mut Core<U>,
     alloc: Global,
     did: &mut Dids,
-    now: Instant,
-    mark: Option<EcnCodepoint>,
-    remote: SocketAddr,
+    coming: &Coming,
     bytes: BytesMut,
 ) -> Result<bool, AllocError>
     requires { is_first_awaited core.old.setup ≡ true }
-    ensures answer { IfOk result (λ taken. taken ≡ is_taken (meaning U.Session.Session U.Session.HeaderKey.HeaderMask U.Session.PacketKey.PacketKey U.Control.Controller.Controller) (ideal U.Random.stream core.old) remote bytes.items) }
-    ensures leads { OnOk result ((held U.Random.stream core.new did.new) ≡ datagram_after (meaning U.Session.Session U.Session.HeaderKey.HeaderMask U.Session.PacketKey.PacketKey U.Control.Controller.Controller) now mark remote bytes.items (held U.Random.stream core.old did.old)) }
+    ensures answer { IfOk result (λ taken. taken ≡ is_taken ⟦<U as Means>⟧.meaning (ideal U.Random.stream core.old) coming.now.remote bytes.items) }
+    ensures leads { OnOk result ((held U.Random.stream core.new did.new) ≡ datagram_after ⟦<U as Means>⟧.meaning coming.now bytes.items (held U.Random.stream core.old did.old)) }
 {
     let len = bytes.len();
-    if !may_begin(core, remote, len) {
+    if !may_begin(core, coming.remote, len) {
         return Ok(false);
     }
     let cutting = cutting_of(core);
@@ -368,48 +356,42 @@ pub fn first_datagram<U: Suite>(
             let blocked = core.is_blocked();
             let token = first.token.clone()?;
             core.do_expect(token);
-            let signs = Signs {
-                mark,
-                spin: first.spin,
-            };
             received(
                 core,
                 alloc,
                 did,
-                now,
+                coming,
                 SpaceId::Initial,
-                signs,
+                first.spin,
                 first.source,
                 first.token,
                 first.number,
                 first.payload,
             )?;
-            others(core, alloc, did, now, mark, cutting, behind)?;
-            counted(core, did, now, blocked, len as u64);
+            others(core, alloc, did, coming, cutting, behind)?;
+            counted(core, did, coming.time, blocked, len as u64);
             Ok(true)
         }
     }
 }
 
-/// A datagram came from `remote` at `now`. Answers whether it is taken: it begins with a packet, and where a server waits for
+/// A datagram came. Answers whether it is taken: it begins with a packet, and where a server waits for
 /// its first packet it may be that; otherwise it changes nothing. Want of memory is the only refusal.
 #[tactic(auto, unfolding(qc_state::specs::Receiving::datagram_after, qc_state::specs::Receiving::is_taken, qc_state::specs::Setup::ideal_setup, qc_state::specs::Setup::is_first_awaited))]
 pub fn datagram<U: Suite>(
     core: &mut Core<U>,
     alloc: Global,
     did: &mut Dids,
-    now: Instant,
-    mark: Option<EcnCodepoint>,
-    remote: SocketAddr,
+    coming: &Coming,
     bytes: BytesMut,
 ) -> Result<bool, AllocError>
-    ensures answer { IfOk result (λ taken. taken ≡ is_taken (meaning U.Session.Session U.Session.HeaderKey.HeaderMask U.Session.PacketKey.PacketKey U.Control.Controller.Controller) (ideal U.Random.stream core.old) remote bytes.items) }
-    ensures leads { OnOk result ((held U.Random.stream core.new did.new) ≡ datagram_after (meaning U.Session.Session U.Session.HeaderKey.HeaderMask U.Session.PacketKey.PacketKey U.Control.Controller.Controller) now mark remote bytes.items (held U.Random.stream core.old did.old)) }
+    ensures answer { IfOk result (λ taken. taken ≡ is_taken ⟦<U as Means>⟧.meaning (ideal U.Random.stream core.old) coming.now.remote bytes.items) }
+    ensures leads { OnOk result ((held U.Random.stream core.new did.new) ≡ datagram_after ⟦<U as Means>⟧.meaning coming.now bytes.items (held U.Random.stream core.old did.old)) }
 {
     if core.setup.is_first_awaited() {
-        return first_datagram(core, alloc, did, now, mark, remote, bytes);
+        return first_datagram(core, alloc, did, coming, bytes);
     }
-    heard(core, alloc, did, now, mark, remote, bytes)
+    heard(core, alloc, did, coming, bytes)
 }
 
 /// Whether datagrams from this address count.
@@ -417,5 +399,5 @@ pub fn datagram<U: Suite>(
 pub(crate) fn lets_in<U: Suite>(core: &Core<U>, remote: SocketAddr) -> bool
     ensures { result ≡ lets_in (ideal U.Random.stream core.now) remote }
 {
-    !core.life.is_over() && same_address(core.paths.remote, remote)
+    !core.life.is_over() && same_address(core.paths.current.remote, remote)
 }

@@ -10,18 +10,17 @@ ghost use Rattle.qc_packet.specs.OpenedPacket.{opened_by as opened_under_key, re
 ghost use Rattle.qc_state.specs.declared.opening.Opening.TheVariants.{Unreadable};
 ghost use Rattle.qc_state.specs.Opening.{judged, names_next, opened_by, opened_under, opening_of};
 ghost use Rattle.qc_state.specs.Receiving.{opening_after, piece_after};
-ghost use Rattle.qc_state.specs.Types.{meaning};
 ghost use Rattle.qc_state.specs.View.{ideal, held};
 
 use crate::receiving::failed;
 use bytes::BytesMut;
 use qc_admit::received_in;
-use qc_base::{ConnectionId, EcnCodepoint, HeaderMask, Instant, SpaceId};
+use qc_base::{ConnectionId, HeaderMask, SpaceId};
 use qc_core::Core;
 use qc_crypto::{KeyPair, PacketKey};
 use qc_header::{ShortHeader, finish_short, leading_byte};
 use qc_packet::{KeyRing, Which};
-use qc_state::{Dids, Signs, Suite, Verdict};
+use qc_state::{Coming, Dids, Means, Suite, Verdict};
 use std::alloc::{AllocError, Global};
 
 /// How many bytes a short header has at most: the first one, 20 of an id and 4 of a number.
@@ -166,7 +165,7 @@ fn open_short_with<H: HeaderMask, P: PacketKey>(
 fn open_short<U: Suite>(core: &Core<U>, pn_offset: usize, bytes: &mut BytesMut) -> Told
     requires { pn_offset ≤ 21 }
     ensures { (dst : List ℕ)
-        → short_told result bytes.new.items ≡ opening_of (meaning U.Session.Session U.Session.HeaderKey.HeaderMask U.Session.PacketKey.PacketKey U.Control.Controller.Controller) (ideal U.Random.stream core.now) (short_packet dst pn_offset bytes.old.items) }
+        → short_told result bytes.new.items ≡ opening_of ⟦<U as Means>⟧.meaning (ideal U.Random.stream core.now) (short_packet dst pn_offset bytes.old.items) }
 {
     let rx = core.numbers.received(SpaceId::Data);
     match core.keys.unmasking(SpaceId::Data) {
@@ -181,28 +180,27 @@ fn told_short<U: Suite>(
     core: &mut Core<U>,
     alloc: Global,
     did: &mut Dids,
-    now: Instant,
-    mark: Option<EcnCodepoint>,
+    coming: &Coming,
     told: Told,
     payload: &[u8],
 ) -> Result<(), AllocError>
-    ensures { OnOk result ((held U.Random.stream core.new did.new) ≡ opening_after (meaning U.Session.Session U.Session.HeaderKey.HeaderMask U.Session.PacketKey.PacketKey U.Control.Controller.Controller) now mark (Some Data) (short_told told payload.now) (held U.Random.stream core.old did.old)) }
+    ensures { OnOk result ((held U.Random.stream core.new did.new) ≡ opening_after ⟦<U as Means>⟧.meaning coming.now (Some Data) (short_told told payload.now) (held U.Random.stream core.old did.old)) }
 {
     match told {
         Told::Unreadable => { core.do_tell_piece(did, Some(SpaceId::Data), None, Verdict::Ignored) }
         Told::Unopened => failed(core, did, Some(SpaceId::Data)),
         Told::Reserved { number } => {
             core.do_tell_piece(did, Some(SpaceId::Data), Some(number), Verdict::BadBits)?;
-            core.violated(did, now)
+            core.violated(did, coming.time)
         }
         Told::Opened { number, spin } => {
             received_in(
                 core,
                 alloc,
                 did,
-                now,
+                coming,
                 SpaceId::Data,
-                Signs { mark, spin },
+                spin,
                 ConnectionId::new(&[]),
                 &[],
                 number,
@@ -218,18 +216,17 @@ pub(crate) fn short_piece<U: Suite>(
     core: &mut Core<U>,
     alloc: Global,
     did: &mut Dids,
-    now: Instant,
-    mark: Option<EcnCodepoint>,
+    coming: &Coming,
     local_cid_len: usize,
     bytes: BytesMut,
 ) -> Result<(), AllocError>
     requires { local_cid_len ≤ 20 }
-    ensures { OnOk result ((held U.Random.stream core.new did.new) ≡ piece_after (meaning U.Session.Session U.Session.HeaderKey.HeaderMask U.Session.PacketKey.PacketKey U.Control.Controller.Controller) now mark (short_in local_cid_len bytes.items) (held U.Random.stream core.old did.old)) }
+    ensures { OnOk result ((held U.Random.stream core.new did.new) ≡ piece_after ⟦<U as Means>⟧.meaning coming.now (short_in local_cid_len bytes.items) (held U.Random.stream core.old did.old)) }
 {
     if core.life.is_over() {
         return core.do_tell_piece(did, Some(SpaceId::Data), None, Verdict::Ignored);
     }
     let mut bytes = bytes;
     let told = open_short(core, 1 + local_cid_len, &mut bytes);
-    told_short(core, alloc, did, now, mark, told, bytes.as_slice())
+    told_short(core, alloc, did, coming, told, bytes.as_slice())
 }

@@ -11,7 +11,7 @@ use Rattle.qc_text.specs.OneText.{IsInRange, IsPlain, IsPlainAddress}
 use Rattle.qc_conn.specs.Seen.{Seen}
 use Rattle.qc_conn.specs.RefusedText.{refused_text}
 use Rattle.qc_text.specs.TraceText.{trace_text}
-use Rattle.qc_conn.specs.Refusal.{first_refusal, NamesInput, RefusedAt}
+use Rattle.qc_conn.specs.Refusal.{NamesInput, RefusedAt, TakesAll}
 use Rattle.qc_conn.specs.declared.driving.DriveError.{DriveError}
 use Rattle.qc_conn.specs.declared.driving.DriveKind.{DriveKind}
 use Rattle.qc_run.specs.declared.perform.Told.{Told}
@@ -39,17 +39,17 @@ use Rattle.qc_run.specs.RunText.{IsScriptAddress, IsAddressOf, IsScriptEnd, IsTo
 
 -- its trace, as a text
 toy_run_of : (s : Sessions) (h : HeaderMaskGhosts ToyHeaderKey) (p : PacketKeyGhosts ToyPacketKey) (c : ControllerGhosts Reno) (set : Settings) (end : Seen toy ScriptRandom) (inputs : List Input) (steps : List Step) (last : View toy) (text : List ℕ)
-    → IsScriptEnd s h p c set end → first_refusal 0 end.core.timers.greatest inputs ≡ None → Run (meaning s h p c) 0 (ideal words_of end.core) inputs steps last → text ≡ trace_text steps
+    → IsScriptEnd s h p c set end → TakesAll (meaning s h p c) 0 (ideal words_of end.core) inputs steps last → Run (meaning s h p c) 0 (ideal words_of end.core) inputs steps last → text ≡ trace_text steps
     → ((other : List Step) → All IsInRange other → All IsPlain other → text ≡ trace_text other → other ≡ steps) → IsToyRun s h p c set inputs text
 toy_run_of s h p c set end inputs steps last text is_end valid run spelled only = record {
   remote = is_end.remote;
   address = is_end.address;
-  run = record { steps = steps; last = last; valid = subst (λ (v : View toy). first_refusal 0 v.timers.greatest inputs ≡ None) is_end.made valid; run = subst (λ (v : View toy). Run (meaning s h p c) 0 v inputs steps last) is_end.made run; spelled = spelled; only = only };
+  run = record { steps = steps; last = last; valid = subst (λ (v : View toy). TakesAll (meaning s h p c) 0 v inputs steps last) is_end.made valid; run = subst (λ (v : View toy). Run (meaning s h p c) 0 v inputs steps last) is_end.made run; spelled = spelled; only = only };
 }
 
 -- so for inputs under another name
 pub toy_run : (s : Sessions) (h : HeaderMaskGhosts ToyHeaderKey) (p : PacketKeyGhosts ToyPacketKey) (c : ControllerGhosts Reno) (set : Settings) (end : Seen toy ScriptRandom) (given inputs : List Input) (steps : List Step) (last : View toy) (text : List ℕ)
-    → given ≡ inputs → IsScriptEnd s h p c set end → first_refusal 0 end.core.timers.greatest given ≡ None → Run (meaning s h p c) 0 (ideal words_of end.core) given steps last → text ≡ trace_text steps
+    → given ≡ inputs → IsScriptEnd s h p c set end → TakesAll (meaning s h p c) 0 (ideal words_of end.core) given steps last → Run (meaning s h p c) 0 (ideal words_of end.core) given steps last → text ≡ trace_text steps
     → ((other : List Step) → All IsInRange other → All IsPlain other → text ≡ trace_text other → other ≡ steps) → IsToyRun s h p c set inputs text
 toy_run s h p c set end given inputs steps last text is is_end valid run spelled only = subst (λ (x : List Input). IsToyRun s h p c set x text) is (toy_run_of s h p c set end given steps last text is_end valid run spelled only)
 
@@ -64,7 +64,7 @@ toy_refusal s h p c set end inputs steps kind last text failed is_end refused sp
     kind = kind;
     last = last;
     refused = subst (λ (v : View toy). RefusedAt (meaning s h p c) v inputs kind steps last false) is_end.made
-        (record { first = refused.first; place = refused.place; before = refused.before; alive = refl });
+        (record { input = refused.input; behind = refused.behind; here = refused.here; first = refused.first; place = refused.place; before = refused.before; alive = refl });
     spelled = spelled;
   };
 }

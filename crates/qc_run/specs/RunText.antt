@@ -13,7 +13,7 @@ use Rattle.qc_config.specs.Announcement.{announced_parameters}
 use Rattle.qc_text.specs.OneText.{IsInRange, IsPlain}
 use Rattle.qc_conn.specs.declared.driving.DriveError.{DriveError}
 use Rattle.qc_conn.specs.declared.driving.DriveKind.{DriveKind}
-use Rattle.qc_conn.specs.Refusal.{first_refusal, NamesInput, RefusedAt}
+use Rattle.qc_conn.specs.Refusal.{NamesInput, RefusedAt, TakesAll}
 use Rattle.qc_conn.specs.Seen.{Seen}
 use Rattle.qc_conn.specs.RefusedText.{refused_text}
 use Rattle.qc_text.specs.TraceText.{trace_text}
@@ -128,7 +128,7 @@ server_session s = session_of (settings_of s) Server (server_parameters_of s)
 pub record IsRunText {t : Types} (m : Meaning t) (first : View t) (inputs : List Input) (text : List ℕ) : Type 0 where
   pub steps : List Step
   pub last : View t
-  pub valid : first_refusal 0 first.timers.greatest inputs ≡ None
+  pub valid : TakesAll m 0 first inputs steps last
   pub run : Run m 0 first inputs steps last
   pub spelled : text ≡ trace_text steps
   pub only : (other : List Step) → All IsInRange other → All IsPlain other → text ≡ trace_text other → other ≡ steps
@@ -141,12 +141,16 @@ Sessions = SessionGhosts ToySession ToyHeaderKey ToyPacketKey (Unit {0}) (Unit {
 -- its congestion controller mean
 abbrev pub script_client : Sessions → HeaderMaskGhosts ToyHeaderKey → PacketKeyGhosts ToyPacketKey → ControllerGhosts Reno → Settings → SocketAddr → View toy
 script_client s h p c set remote =
-    first_view (meaning s h p c) (client_session set) (words_named set.random) (fixed_of Client 1 (local_of set) (remote_of set) None (transport_of set.idle) true (words_named set.random)) remote (remote_of set) (token_of set) (transport_of set.idle) (control_of (transport_of set.idle)) (start_of set)
+    first_view (meaning s h p c) (client_session set) (words_named set.random)
+    (fixed_of Client 1 (local_of set) (remote_of set) None (transport_of set.idle) true (words_named set.random))
+    remote (remote_of set) (token_of set) (transport_of set.idle) (control_of (transport_of set.idle)) (start_of set)
 
 -- so the server, whose client's address isn't validated
 abbrev pub script_server : Sessions → HeaderMaskGhosts ToyHeaderKey → PacketKeyGhosts ToyPacketKey → ControllerGhosts Reno → Settings → SocketAddr → View toy
 script_server s h p c set remote =
-    server_view (meaning s h p c) (server_session set) (words_named set.random) (fixed_of Server 1 (local_of set) (first_of set) None (transport_of set.idle) true (words_named set.random)) remote (remote_of set) false (transport_of set.idle) (control_of (transport_of set.idle)) (start_of set)
+    server_view (meaning s h p c) (server_session set) (words_named set.random)
+    (fixed_of Server 1 (local_of set) (first_of set) None (transport_of set.idle) true (words_named set.random))
+    remote (remote_of set) false (transport_of set.idle) (control_of (transport_of set.idle)) (start_of set)
 
 -- the end of this side
 abbrev pub view_for : Side → Sessions → HeaderMaskGhosts ToyHeaderKey → PacketKeyGhosts ToyPacketKey → ControllerGhosts Reno → Settings → SocketAddr → View toy

@@ -21,16 +21,16 @@ use Rattle.qc_state.specs.Draws.{bit}
 use Rattle.qc_state.specs.Moves.{Seal, move_to, state_move, numbers_move, keys_move, life_move, paths_move, timers_move, waiting_move, setup_move, lower_move, deeds_move}
 use Rattle.qc_state.specs.Recovering.{around_of, is_validated_by_peer, probe_timeout_now}
 use Rattle.qc_state.specs.declared.keys.KeyUse.{KeyUse}
-use Rattle.qc_state.specs.declared.transmit.TheConstants.{DATAGRAM_SIZE}
 use Rattle.qc_state.specs.Keys.{has_keys, header_key, packet_key, reaches_limit, usage_of}
 use Rattle.qc_state.specs.Numbers.{acked_number, next_number}
-use Rattle.qc_state.specs.Sending.{flips_now, frame_room, header_in, is_flown, least_size, packet_bytes, packet_size, padded, padding_of, sealed_with, slot_with, spin_now}
+use Rattle.qc_state.specs.Sending.{flips_now, room_of, header_in, is_flown, least_size, packet_bytes, packet_size, padded, padding_of, sealed_with, slot_with, spin_now}
 use Rattle.qc_state.specs.Setup.{behind_spin, ideal_setup, idle_limit_now, packet_drawn, takes_grease}
 use Rattle.qc_state.specs.declared.setup.Setup.{Setup}
 use Rattle.qc_state.specs.Spaces.{is_space}
 use Rattle.qc_state.specs.Types.{Types, Meaning}
 use Rattle.qc_state.specs.View.{Held, View, At, at, ideal}
-use Rattle.qc_state.proofs.Seals.{fresh_use, keyed_header, keyed_packet, keyed_usage, least_wide, no_kill, padded_size_is}
+use Rattle.qc_send.proofs.Built.{fresh_use, keyed_header, keyed_packet, keyed_usage, least_wide, no_kill}
+use Rattle.qc_send.proofs.Fits.{padded_size_is}
 
 -- a number has a byte at least
 one_of : (n m : ℕ) (a b c : Bool) → 1 ≤ length (if a then spelled one n else if b then spelled two n else if c then spelled four n else spelled eight m)
@@ -98,10 +98,10 @@ module _ {t : Types} where
   spelled_len s Data = omega arith
 
   -- the room for frames, by the length of the header without a token
-  pub room_is : (s : View t) (id : SpaceId) (h : Header) (token none : List ℕ) (bare room more n : ℕ) → none ≡ [] → h ≡ header_with s id false none → bare ≡ length (header_spelling h 0) → room ≡ 1184 - bare →
-      token ≡ s.setup.initial_token → more ≡ token_bytes id token → n ≡ room - more → n ≡ frame_room s id
-  unfolding frame_room
-  room_is s id h token none bare room more n is_none is_h is_bare is_room is_token is_more is_n =
+  pub room_is : (left : ℕ) (s : View t) (id : SpaceId) (h : Header) (token none : List ℕ) (bare room more n : ℕ) → none ≡ [] → h ≡ header_with s id false none → bare ≡ length (header_spelling h 0) → room ≡ left - 16 - bare →
+      token ≡ s.setup.initial_token → more ≡ token_bytes id token → n ≡ room - more → n ≡ room_of left s id
+  unfolding room_of
+  room_is left s id h token none bare room more n is_none is_h is_bare is_room is_token is_more is_n =
       let first : bare ≡ length (header_spelling (header_with s id false []) 0) = is_bare ∙ ap (λ (x : Header). length (header_spelling x 0)) (is_h ∙ ap (λ (x : List ℕ). header_with s id false x) is_none) in
       let rest : more ≡ token_bytes id s.setup.initial_token = is_more ∙ ap (λ (x : List ℕ). token_bytes id x) is_token in
       omega (arith, spelled_len s id, first, is_room, rest, is_n)
@@ -112,10 +112,10 @@ module _ {t : Types} where
   keyed_still s s' id is_s h = subst (λ (v : View t). has_keys v.keys id ≡ true) (sym is_s) h
 
   -- the packet can be begun by what the view before said, where its key may seal one more
-  begins_with : (s : View t) (id : SpaceId) (known : Option KeyUse) → reaches_limit 0 known ≡ false → next_number s.numbers id < 2 ^ 62 - 1 → next_number s.numbers id - acked_number s.numbers id < 2 ^ 31 → 25 ≤ frame_room s id →
-      IfSome known (λ usage. kill_of (slot_with s id usage) (header_in s id) 0 DATAGRAM_SIZE ≡ None)
-  begins_with s id None fresh low near wide = tt
-  begins_with s id (Some usage) fresh low near wide = no_kill s id usage (fresh_use usage fresh) low near wide
+  begins_with : (capacity : ℕ) (s : View t) (id : SpaceId) (known : Option KeyUse) → capacity ≤ 16383 → reaches_limit 0 known ≡ false → next_number s.numbers id < 2 ^ 62 - 1 → next_number s.numbers id - acked_number s.numbers id < 2 ^ 31 → 25 ≤ room_of capacity s id →
+      IfSome known (λ usage. kill_of (slot_with s id usage) (header_in s id) 0 capacity ≡ None)
+  begins_with capacity s id None most fresh low near wide = tt
+  begins_with capacity s id (Some usage) most fresh low near wide = no_kill capacity s id usage most (fresh_use usage fresh) low near wide
 
   slot_stays : (s : View t) (id : SpaceId) (usage : KeyUse) → slot_drawn (drawn_for id s) id (flips_now s id) usage ≡ slot_with s id usage
   unfolding drawn_for
@@ -125,29 +125,29 @@ module _ {t : Types} where
   unfolding drawn_for
   usage_stays s id = refl
 
-  begins_after : (s : View t) (id : SpaceId) (known : Option KeyUse) → IfSome known (λ usage. kill_of (slot_with s id usage) (header_in s id) 0 DATAGRAM_SIZE ≡ None) →
-      IfSome known (λ usage. kill_of (slot_drawn (drawn_for id s) id (flips_now s id) usage) (header_in s id) 0 DATAGRAM_SIZE ≡ None)
-  begins_after s id None h = tt
-  begins_after s id (Some usage) h = ap (λ (x : Slot). kill_of x (header_in s id) 0 DATAGRAM_SIZE) (slot_stays s id usage) ∙ h
+  begins_after : (capacity : ℕ) (s : View t) (id : SpaceId) (known : Option KeyUse) → IfSome known (λ usage. kill_of (slot_with s id usage) (header_in s id) 0 capacity ≡ None) →
+      IfSome known (λ usage. kill_of (slot_drawn (drawn_for id s) id (flips_now s id) usage) (header_in s id) 0 capacity ≡ None)
+  begins_after capacity s id None h = tt
+  begins_after capacity s id (Some usage) h = ap (λ (x : Slot). kill_of x (header_in s id) 0 capacity) (slot_stays s id usage) ∙ h
 
   -- and so it can by the view behind
-  pub begins_still : (s s' : View t) (id : SpaceId) (h : Header) (flip : Bool) → s' ≡ drawn_for id s → h ≡ header_in s id → flip ≡ flips_now s id → reaches_limit 0 (usage_of s.keys id) ≡ false →
-      next_number s.numbers id < 2 ^ 62 - 1 → next_number s.numbers id - acked_number s.numbers id < 2 ^ 31 → 25 ≤ frame_room s id →
-      IfSome (usage_of s'.keys id) (λ usage. kill_of (slot_drawn s' id flip usage) h 0 DATAGRAM_SIZE ≡ None)
-  begins_still s s' id h flip is_s is_h is_flip fresh low near wide =
-      let first : IfSome (usage_of s.keys id) (λ usage. kill_of (slot_drawn (drawn_for id s) id (flips_now s id) usage) (header_in s id) 0 DATAGRAM_SIZE ≡ None) =
-      begins_after s id (usage_of s.keys id) (begins_with s id (usage_of s.keys id) fresh low near wide) in
-      let drawn : IfSome (usage_of (drawn_for id s).keys id) (λ usage. kill_of (slot_drawn (drawn_for id s) id (flips_now s id) usage) (header_in s id) 0 DATAGRAM_SIZE ≡ None) =
-      subst (λ (x : Option KeyUse). IfSome x (λ usage. kill_of (slot_drawn (drawn_for id s) id (flips_now s id) usage) (header_in s id) 0 DATAGRAM_SIZE ≡ None)) (sym (usage_stays s id)) first in
-      let headed : IfSome (usage_of (drawn_for id s).keys id) (λ usage. kill_of (slot_drawn (drawn_for id s) id (flips_now s id) usage) h 0 DATAGRAM_SIZE ≡ None) =
-      subst (λ (x : Header). IfSome (usage_of (drawn_for id s).keys id) (λ usage. kill_of (slot_drawn (drawn_for id s) id (flips_now s id) usage) x 0 DATAGRAM_SIZE ≡ None)) (sym is_h) drawn in
-      let flipped : IfSome (usage_of (drawn_for id s).keys id) (λ usage. kill_of (slot_drawn (drawn_for id s) id flip usage) h 0 DATAGRAM_SIZE ≡ None) =
-      subst (λ (x : Bool). IfSome (usage_of (drawn_for id s).keys id) (λ usage. kill_of (slot_drawn (drawn_for id s) id x usage) h 0 DATAGRAM_SIZE ≡ None)) (sym is_flip) headed in
-      subst (λ (v : View t). IfSome (usage_of v.keys id) (λ usage. kill_of (slot_drawn v id flip usage) h 0 DATAGRAM_SIZE ≡ None)) (sym is_s) flipped
+  pub begins_still : (capacity : ℕ) (s s' : View t) (id : SpaceId) (h : Header) (flip : Bool) → capacity ≤ 16383 → s' ≡ drawn_for id s → h ≡ header_in s id → flip ≡ flips_now s id → reaches_limit 0 (usage_of s.keys id) ≡ false →
+      next_number s.numbers id < 2 ^ 62 - 1 → next_number s.numbers id - acked_number s.numbers id < 2 ^ 31 → 25 ≤ room_of capacity s id →
+      IfSome (usage_of s'.keys id) (λ usage. kill_of (slot_drawn s' id flip usage) h 0 capacity ≡ None)
+  begins_still capacity s s' id h flip most is_s is_h is_flip fresh low near wide =
+      let first : IfSome (usage_of s.keys id) (λ usage. kill_of (slot_drawn (drawn_for id s) id (flips_now s id) usage) (header_in s id) 0 capacity ≡ None) =
+      begins_after capacity s id (usage_of s.keys id) (begins_with capacity s id (usage_of s.keys id) most fresh low near wide) in
+      let drawn : IfSome (usage_of (drawn_for id s).keys id) (λ usage. kill_of (slot_drawn (drawn_for id s) id (flips_now s id) usage) (header_in s id) 0 capacity ≡ None) =
+      subst (λ (x : Option KeyUse). IfSome x (λ usage. kill_of (slot_drawn (drawn_for id s) id (flips_now s id) usage) (header_in s id) 0 capacity ≡ None)) (sym (usage_stays s id)) first in
+      let headed : IfSome (usage_of (drawn_for id s).keys id) (λ usage. kill_of (slot_drawn (drawn_for id s) id (flips_now s id) usage) h 0 capacity ≡ None) =
+      subst (λ (x : Header). IfSome (usage_of (drawn_for id s).keys id) (λ usage. kill_of (slot_drawn (drawn_for id s) id (flips_now s id) usage) x 0 capacity ≡ None)) (sym is_h) drawn in
+      let flipped : IfSome (usage_of (drawn_for id s).keys id) (λ usage. kill_of (slot_drawn (drawn_for id s) id flip usage) h 0 capacity ≡ None) =
+      subst (λ (x : Bool). IfSome (usage_of (drawn_for id s).keys id) (λ usage. kill_of (slot_drawn (drawn_for id s) id x usage) h 0 capacity ≡ None)) (sym is_flip) headed in
+      subst (λ (v : View t). IfSome (usage_of v.keys id) (λ usage. kill_of (slot_drawn v id flip usage) h 0 capacity ≡ None)) (sym is_s) flipped
 
   -- its header leaves room for what each packet needs
-  pub sized_still : (s : View t) (id : SpaceId) (h : Header) → h ≡ header_in s id → 25 ≤ frame_room s id → min_size_of 0 h + 16 ≤ DATAGRAM_SIZE
-  sized_still s id h is_h wide = subst (λ (x : Header). min_size_of 0 x + 16 ≤ DATAGRAM_SIZE) (sym is_h) (least_wide s id wide)
+  pub sized_still : (capacity : ℕ) (s : View t) (id : SpaceId) (h : Header) → h ≡ header_in s id → 25 ≤ room_of capacity s id → min_size_of 0 h + 16 ≤ capacity
+  sized_still capacity s id h is_h wide = subst (λ (x : Header). min_size_of 0 x + 16 ≤ capacity) (sym is_h) (least_wide capacity s id wide)
 
   -- the frames have the PADDING that they need
   pub filled : (s : View t) (id : SpaceId) (h : Header) (least : ℕ) (fs gs : List FrameValue) → h ≡ header_in s id → least ≡ least_size s id fs → gs ≡ fs ++ replicate (padding_len h fs (padded_size h fs least)) Padding → gs ≡ padded s id fs

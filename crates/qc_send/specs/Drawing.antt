@@ -31,14 +31,14 @@ module _ {t : Types} where
   -- the header of the next packet in a space, with this spin bit where it is a 1-RTT packet, and this token where it is an Initial one
   abbrev pub header_with : View t → SpaceId → (spin : Bool) → (token : List ℕ) → Header
   header_with s Initial spin token = header.Initial (record {
-    dst_cid = s.paths.remote_cid;
+    dst_cid = s.paths.current.remote_cid;
     src_cid = s.setup.fixed.local_cid;
     token = token;
     number = number_of (next_number s.numbers Initial) (acked_number s.numbers Initial);
     version = s.setup.fixed.version;
   })
-  header_with s Handshake spin token = header.Long long.Handshake s.paths.remote_cid s.setup.fixed.local_cid (number_of (next_number s.numbers Handshake) (acked_number s.numbers Handshake)) s.setup.fixed.version
-  header_with s Data spin token = header.Short spin (phase_now s.keys) s.paths.remote_cid (number_of (next_number s.numbers Data) (acked_number s.numbers Data))
+  header_with s Handshake spin token = header.Long long.Handshake s.paths.current.remote_cid s.setup.fixed.local_cid (number_of (next_number s.numbers Handshake) (acked_number s.numbers Handshake)) s.setup.fixed.version
+  header_with s Data spin token = header.Short spin (phase_now s.keys) s.paths.current.remote_cid (number_of (next_number s.numbers Data) (acked_number s.numbers Data))
 
   -- what the builder is given of the next packet in a space, where all was drawn for it: its fixed bit is flipped so
   abbrev pub slot_drawn : View t → SpaceId → (flip : Bool) → KeyUse → Slot

@@ -1,1 +1,4 @@
+pub mod Choosing
 pub mod Drawing
+pub mod Failing
+pub mod Taking

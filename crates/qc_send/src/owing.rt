@@ -1,20 +1,29 @@
 //! What is owed, in which space, and when nothing is sent.
 
-ghost use Rattle.std.specs.Prelude.{◌≡◌, ◌+◌, ◌-◌, ◌<◌, ◌≤◌, ◌^◌, ◌++◌, ◌||◌, [], ◌∷◌, true, false, None, if◌then◌else◌, OnOk};
+ghost use Rattle.std.specs.Prelude.{◌≡◌, ◌+◌, ◌-◌, ◌<◌, ◌≤◌, ◌^◌, ◌++◌, ◌||◌, [], ◌∷◌, ◌==◌, not, true, false, nat_lt, None, if◌then◌else◌};
 ghost use Rattle.qc_base.specs.declared.side.SpaceId.TheVariants.{Initial};
-ghost use Rattle.qc_state.specs.Keys.{reaches_limit, usage_of};
-ghost use Rattle.qc_state.specs.Numbers.{next_number};
-ghost use Rattle.qc_state.specs.Sending.{is_silent, owes, owes_in, sending_space, is_used_up, is_key_used_up, is_key_nearly_used_up, is_token_too_long, limit_met, may_be_quiet, owed_quiet_after, quiet_after};
-ghost use Rattle.qc_state.specs.View.{ideal, held};
+ghost use Rattle.qc_state.specs.Numbers.{acked_number, next_number};
+ghost use Rattle.qc_state.specs.Sending.{is_silent, owes_in, is_used_up, is_key_used_up, is_key_nearly_used_up, is_token_too_long, kill_in, room_of};
+ghost use Rattle.qc_state.specs.Spaces.{space_of};
+ghost use Rattle.qc_state.specs.View.{ideal};
+ghost use Rattle.qc_send.specs.Choosing.{first_owing, turn_of};
+ghost use Rattle.qc_state.specs.declared.life.ConnectionError.TheVariants as lost;
 
 use crate::sealing::{GREATEST_CLOSE, frame_room};
 use qc_base::{SpaceId, TransportError, TransportErrorCode};
 use qc_core::Core;
 use qc_core::stopping::key_limit_error;
 use qc_packet::NUMBER_LIMIT;
-use qc_state::spaces::is_space;
-use qc_state::{ConnectionError, Dids, Quiet, Suite};
-use std::alloc::AllocError;
+use qc_state::{ConnectionError, DATAGRAM_SIZE, Quiet, Suite};
+
+/// What a transmit begins with.
+#[derive(Clone, Copy)]
+pub(crate) enum Turn {
+    /// A packet of this space, whose turn it is.
+    Begins(SpaceId),
+    /// It seals nothing, for this cause.
+    Holds(Quiet),
+}
 
 /// The greatest packet number, which is never used (RFC 9000, 12.3).
 const GREATEST_NUMBER: u64 = (1 << 62) - 1;
@@ -30,148 +39,134 @@ fn is_silent<U: Suite>(core: &Core<U>) -> bool
     !core.life.is_open() && !core.waiting.close_owed
 }
 
-/// Whether the space owes something: it has keys, and something waits in it; while a close is owed, where it sealed no
-/// packet since.
+/// Whether the space owes something: it has keys, and something waits in it; in a transmit that began with a close owed, where it
+/// sealed no packet since.
 #[tactic(auto, unfolding(qc_state::specs::Sending::owes_in))]
-fn owes_in<U: Suite>(core: &Core<U>, space: SpaceId) -> bool
-    ensures { result ≡ owes_in (ideal U.Random.stream core.now) space }
+fn owes_in<U: Suite>(core: &Core<U>, closing: bool, space: SpaceId) -> bool
+    ensures { result ≡ owes_in closing (ideal U.Random.stream core.now) space }
 {
     if !core.keys.has(space) {
         return false;
     }
-    if core.waiting.close_owed {
+    if closing {
         return !core.waiting.spaces.get(space).told;
     }
-    core.waiting.waits(space)
+    core.waits(space)
 }
 
-/// The space of the next packet: the first one that owes something.
-#[tactic(auto, unfolding(qc_state::specs::Sending::sending_space))]
-pub(crate) fn sending_space<U: Suite>(core: &Core<U>) -> SpaceId
-    ensures { result ≡ sending_space (ideal U.Random.stream core.now) }
+/// The first space that owes something. None where none does.
+#[tactic(auto, unfolding(crate::specs::Choosing::first_owing))]
+fn first_owing<U: Suite>(core: &Core<U>, closing: bool) -> Option<SpaceId>
+    ensures { result ≡ first_owing closing (ideal U.Random.stream core.now) }
 {
-    if owes_in(core, SpaceId::Initial) {
-        SpaceId::Initial
-    } else if owes_in(core, SpaceId::Handshake) {
-        SpaceId::Handshake
-    } else {
-        SpaceId::Data
+    if owes_in(core, closing, SpaceId::Initial) {
+        return Some(SpaceId::Initial);
+    }
+    if owes_in(core, closing, SpaceId::Handshake) {
+        return Some(SpaceId::Handshake);
+    }
+    if owes_in(core, closing, SpaceId::Data) {
+        return Some(SpaceId::Data);
+    }
+    None
+}
+
+/// What a transmit now begins with.
+#[tactic(auto, unfolding(crate::specs::Choosing::turn_of))]
+pub(crate) fn turn_now<U: Suite>(core: &Core<U>) -> Turn
+    ensures { result ≡ turn_of (ideal U.Random.stream core.now) }
+{
+    if is_silent(core) {
+        return Turn::Holds(Quiet::Silent);
+    }
+    match first_owing(core, core.waiting.close_owed) {
+        None => Turn::Holds(Quiet::NothingOwed),
+        Some(space) => {
+            if core.is_blocked() {
+                return Turn::Holds(Quiet::Amplification);
+            }
+            Turn::Begins(space)
+        }
     }
 }
 
-/// Whether something is owed.
-#[tactic(auto, unfolding(qc_state::specs::Sending::owes))]
-fn owes<U: Suite>(core: &Core<U>) -> bool
-    ensures { result ≡ owes (ideal U.Random.stream core.now) }
-{
-    owes_in(core, sending_space(core))
-}
-
-/// Whether no packet can spell the next number: it lies too far above the greatest acknowledged one, or is the
+/// Whether no packet can spell the space's next number: it lies too far above the greatest acknowledged one, or is the
 /// greatest of all (RFC 9000, 12.3 and 17.1).
 #[tactic(auto, unfolding(qc_state::specs::Sending::is_used_up))]
-fn is_used_up<U: Suite>(core: &Core<U>) -> bool
-    ensures { result ≡ is_used_up (ideal U.Random.stream core.now) }
+fn is_used_up<U: Suite>(core: &Core<U>, space: SpaceId) -> bool
+    ensures { result ≡ is_used_up (ideal U.Random.stream core.now) space }
 {
-    let space = sending_space(core);
     let number = core.numbers.coming(space);
     let acked = core.numbers.acked_number(space);
     GREATEST_NUMBER <= number || NUMBER_LIMIT <= number - acked
 }
 
-/// Whether the key of the next packet has sealed as many packets as it may, with so many more.
-fn key_reaches<U: Suite>(core: &Core<U>, more: u64) -> bool
-    ensures { result ≡ reaches_limit more (usage_of core.now.keys (sending_space (ideal U.Random.stream core.now))) }
-{
-    core.keys.reaches_limit(sending_space(core), more)
-}
-
-/// Whether the key of the next packet has sealed as many packets as it may (RFC 9001, 6.6).
+/// Whether the key of the space's next packet has sealed as many packets as it may (RFC 9001, 6.6).
 #[tactic(auto, unfolding(qc_state::specs::Sending::is_key_used_up))]
-fn is_key_used_up<U: Suite>(core: &Core<U>) -> bool
-    ensures { result ≡ is_key_used_up (ideal U.Random.stream core.now) }
+fn is_key_used_up<U: Suite>(core: &Core<U>, space: SpaceId) -> bool
+    ensures { result ≡ is_key_used_up (ideal U.Random.stream core.now) space }
 {
-    key_reaches(core, 0)
+    core.keys.reaches_limit(space, 0)
 }
 
 /// Whether it will have with two packets more: only one may be sealed behind the next one.
 #[tactic(auto, unfolding(qc_state::specs::Sending::is_key_nearly_used_up))]
-pub(crate) fn is_key_nearly_used_up<U: Suite>(core: &Core<U>) -> bool
-    ensures { result ≡ is_key_nearly_used_up (ideal U.Random.stream core.now) }
+pub(crate) fn is_key_nearly_used_up<U: Suite>(core: &Core<U>, space: SpaceId) -> bool
+    ensures { result ≡ is_key_nearly_used_up (ideal U.Random.stream core.now) space }
 {
-    key_reaches(core, 2)
+    core.keys.reaches_limit(space, 2)
 }
 
-/// Whether the token of the next packet, an Initial one, leaves no room for the greatest close without a reason.
+/// Whether a probe is due in the space.
+pub(crate) fn is_probe_due<U: Suite>(core: &Core<U>, space: SpaceId) -> bool
+    ensures { result ≡ not ((space_of core.now.waiting.spaces space).probes == 0) }
+{
+    core.waiting.owes_probe(space)
+}
+
+/// Whether the token of the next Initial packet leaves no room for the greatest close without a reason.
+fn lacks_room<U: Suite>(core: &Core<U>) -> bool
+    requires { next_number core.now.numbers Initial - acked_number core.now.numbers Initial < 2 ^ 31 }
+    ensures { result ≡ nat_lt (room_of DATAGRAM_SIZE (ideal U.Random.stream core.now) Initial) 25 }
+{
+    frame_room(core, DATAGRAM_SIZE as usize, SpaceId::Initial) < GREATEST_CLOSE
+}
+
+/// Whether the token of the space's next packet, an Initial one, leaves no room for the greatest close without a reason.
 #[tactic(auto, unfolding(qc_state::specs::Sending::is_token_too_long))]
-fn is_token_too_long<U: Suite>(core: &Core<U>) -> bool
-    requires { is_used_up (ideal U.Random.stream core.now) ≡ false }
-    ensures { result ≡ is_token_too_long (ideal U.Random.stream core.now) }
+fn is_token_too_long<U: Suite>(core: &Core<U>, space: SpaceId) -> bool
+    requires { is_used_up (ideal U.Random.stream core.now) space ≡ false }
+    ensures { result ≡ is_token_too_long (ideal U.Random.stream core.now) space }
 {
-    is_space(sending_space(core), SpaceId::Initial)
-        && frame_room(core, SpaceId::Initial) < GREATEST_CLOSE
-}
-
-/// Whether the next packet can't be spelled: its number lies past the limit, or else its token leaves no room for frames.
-fn is_unspelled<U: Suite>(core: &Core<U>) -> bool
-    ensures { result ≡ (is_used_up (ideal U.Random.stream core.now) || is_token_too_long (ideal U.Random.stream core.now)) }
-{
-    is_used_up(core) || is_token_too_long(core)
-}
-
-/// Whether a transmit now would send nothing.
-#[tactic(auto, unfolding(qc_state::specs::Sending::may_be_quiet))]
-pub(crate) fn may_be_quiet<U: Suite>(core: &Core<U>) -> bool
-    ensures { result ≡ may_be_quiet (ideal U.Random.stream core.now) }
-{
-    is_silent(core)
-        || (!owes(core)
-            || (core.paths.is_blocked() || (is_key_used_up(core) || is_unspelled(core))))
-}
-
-/// Why the connection ends where something is owed and the path is free: the next packet's key has sealed as many packets as
-/// it may, or the packet numbers are used up, or else its token leaves no room for frames.
-#[tactic(auto, unfolding(qc_state::specs::Sending::limit_met))]
-fn limit_met<U: Suite>(core: &Core<U>) -> ConnectionError
-    ensures { result ≡ limit_met (ideal U.Random.stream core.now) }
-{
-    if is_key_used_up(core) {
-        return ConnectionError::TransportError(key_limit_error());
+    match space {
+        SpaceId::Initial => lacks_room(core),
+        SpaceId::Handshake | SpaceId::Data => false,
     }
-    let code = if is_used_up(core) {
-        TransportErrorCode::INTERNAL_ERROR
-    } else {
-        TransportErrorCode::PROTOCOL_VIOLATION
-    };
+}
+
+/// The end for an error with this code, at no frame.
+fn ended_with(code: TransportErrorCode) -> ConnectionError
+    ensures { result ≡ lost.TransportError (record { code = code; frame = None }) }
+{
     ConnectionError::TransportError(TransportError { code, frame: None })
 }
 
-/// A transmit sends nothing of what is owed: because the path is blocked, or because of a limit, which is the end now.
-#[tactic(auto, unfolding(qc_state::specs::Sending::owed_quiet_after))]
-fn owed_quiet<U: Suite>(core: &mut Core<U>, did: &mut Dids) -> Result<(), AllocError>
-    ensures { OnOk result ((held U.Random.stream core.new did.new) ≡ owed_quiet_after (held U.Random.stream core.old did.old)) }
+/// Why the connection ends as a packet of the space is about to begin: its key has sealed as many packets as it may, or the
+/// packet numbers are used up, or its token leaves no room for frames. None where it may begin.
+#[tactic(auto, unfolding(qc_state::specs::Sending::kill_in))]
+pub(crate) fn kill<U: Suite>(core: &Core<U>, space: SpaceId) -> Option<ConnectionError>
+    ensures { result ≡ kill_in (ideal U.Random.stream core.now) space }
 {
-    if core.paths.is_blocked() {
-        return core.do_say(did, Quiet::Amplification);
+    if is_key_used_up(core, space) {
+        return Some(ConnectionError::TransportError(key_limit_error()));
     }
-    let why = limit_met(core);
-    core.kill(did, why)?;
-    core.do_say(did, Quiet::Killed)
-}
-
-/// A transmit sends nothing: because the end came before, because the path is blocked, because of a limit, which is the end
-/// now, or because nothing was owed.
-#[tactic(auto, unfolding(qc_state::specs::Sending::quiet_after))]
-pub(crate) fn quiet<U: Suite>(core: &mut Core<U>, did: &mut Dids) -> Result<(), AllocError>
-    ensures { OnOk result ((held U.Random.stream core.new did.new) ≡ quiet_after (held U.Random.stream core.old did.old)) }
-{
-    if is_silent(core) {
-        return core.do_say(did, Quiet::Silent);
+    if is_used_up(core, space) {
+        return Some(ended_with(TransportErrorCode::INTERNAL_ERROR));
     }
-    if owes(core) {
-        return owed_quiet(core, did);
+    if is_token_too_long(core, space) {
+        return Some(ended_with(TransportErrorCode::PROTOCOL_VIOLATION));
     }
-    core.do_say(did, Quiet::NothingOwed)
+    None
 }
 
 /// The number of the space's next packet.

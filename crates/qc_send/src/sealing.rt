@@ -2,6 +2,7 @@
 
 ghost use Rattle.std.specs.Prelude.{◌≡◌, ◌+◌, ◌-◌, ◌<◌, ◌≤◌, ◌^◌, ◌++◌, ◌||◌, [], ◌∷◌, true, false, Some, None, IsSome, IfSome, if◌then◌else◌, length, option_map, replicate, OnOk, IfOk};
 ghost use Rattle.qc_send.specs.Drawing.{drawn_for, header_with, slot_drawn, token_bytes, token_in};
+ghost use Rattle.qc_send.specs.Taking.{TakenNow};
 ghost use Rattle.qc_base.specs.declared.side.SpaceId.TheVariants.{Initial};
 ghost use Rattle.qc_frame.specs.FrameSpelling.{frames_spelling};
 ghost use Rattle.qc_frame.specs.declared.frames.FrameOf.TheVariants.{Padding};
@@ -11,9 +12,8 @@ ghost use Rattle.qc_header.specs.HeaderSpelling.{header_spelling, header_number}
 ghost use Rattle.qc_state.specs.Keys.{has_keys, header_key, packet_key, reaches_limit, usage_of};
 ghost use Rattle.qc_state.specs.Moves.{Take, Seal, move_to, state_move};
 ghost use Rattle.qc_state.specs.Numbers.{next_number, acked_number};
-ghost use Rattle.qc_state.specs.Sending.{TakenNow, is_key_nearly_used_up, flips_now, header_in, frame_room, spared_after, begun_after, skipped_after, fills, packet_size, least_size, padded, packet_bytes, is_flown, sealed_with, transmit_with};
+ghost use Rattle.qc_state.specs.Sending.{is_key_nearly_used_up, flips_now, header_in, room_of, finished_after, spared_after, begun_after, skipped_after, fills, packet_size, least_size, padded, packet_bytes, is_flown, sealed_with, transmit_with};
 ghost use Rattle.qc_state.specs.Spaces.{is_space};
-ghost use Rattle.qc_state.specs.Types.{meaning};
 ghost use Rattle.qc_state.specs.View.{ideal, held};
 
 use crate::closing::{closing_frame, kept_reason};
@@ -25,7 +25,7 @@ use qc_core::stopping::key_limit_error;
 use qc_frame::FrameList;
 use qc_header::{Header, InitialHeader};
 use qc_packet::{Slot, seal_padded};
-use qc_state::{DATAGRAM_SIZE, Dids, Suite, Transmit};
+use qc_state::{Batch, DATAGRAM_SIZE, Dids, Means, Suite, Transmit};
 use std::alloc::{AllocError, Global};
 
 /// The size of a packet's tag, in bytes (RFC 9001, 5.3).
@@ -73,7 +73,7 @@ fn header_with<U: Suite>(core: &Core<U>, space: SpaceId, spin: bool, token: Byte
     ensures { result ≡ header_with (ideal U.Random.stream core.now) space spin token }
 {
     let number = PacketNumber::new(core.numbers.next(space), core.numbers.acked_number(space));
-    let dst_cid = core.paths.remote_cid;
+    let dst_cid = core.paths.current.remote_cid;
     let src_cid = core.setup.fixed.local_cid;
     let version = core.setup.fixed.version;
     match space {
@@ -100,15 +100,17 @@ fn header_with<U: Suite>(core: &Core<U>, space: SpaceId, spin: bool, token: Byte
     }
 }
 
-/// How much room for frames a datagram has behind the header of the space's next packet, and before its tag.
+/// How much room for frames the space's next packet has where so many bytes are left in its datagram: behind its header, and before
+/// its tag.
 #[tactic(auto, unfolding(qc_state::specs::Setup::ideal_setup))]
-pub(crate) fn frame_room<U: Suite>(core: &Core<U>, space: SpaceId) -> usize
-    requires { next_number core.now.numbers space - acked_number core.now.numbers space < 2 ^ 31 }
-    ensures value { result ≡ frame_room (ideal U.Random.stream core.now) space }
+pub(crate) fn frame_room<U: Suite>(core: &Core<U>, left: usize, space: SpaceId) -> usize
+    requires large { DATAGRAM_SIZE ≤ left }
+    requires near { next_number core.now.numbers space - acked_number core.now.numbers space < 2 ^ 31 }
+    ensures value { result ≡ room_of left (ideal U.Random.stream core.now) space }
     ensures wide { is_space space Initial ≡ false → 25 ≤ result }
 {
     let bare = header_with(core, space, false, Bytes::new()).encoded_len();
-    let room = (DATAGRAM_SIZE as usize - TAG).saturating_sub(bare);
+    let room = (left - TAG).saturating_sub(bare);
     room.saturating_sub(token_bytes(space, core.setup.initial_token.as_slice()))
 }
 
@@ -144,12 +146,12 @@ fn take_close<U: Suite>(
     core: &mut Core<U>,
     alloc: Global,
     now: Instant,
+    closing: bool,
     space: SpaceId,
     room: usize,
 ) -> Result<FrameList, AllocError>
-    requires owed { core.old.waiting.close_owed ≡ true }
-    requires room { room ≡ frame_room (ideal U.Random.stream core.old) space }
-    ensures frames { IfOk result (λ frames. TakenNow now (ideal U.Random.stream core.old) space room frames) }
+    requires owed { closing ≡ true }
+    ensures frames { IfOk result (λ frames. TakenNow closing now (ideal U.Random.stream core.old) space room frames) }
     ensures leads { IfOk result (λ frames. (ideal U.Random.stream core.new) ≡ state_move (Take space frames) (ideal U.Random.stream core.old)) }
 {
     let most = room.saturating_sub(GREATEST_CLOSE);
@@ -160,23 +162,26 @@ fn take_close<U: Suite>(
     Ok(frames)
 }
 
-/// Takes frames at a time for a packet of the space, with what room for them there is beside its header: the close where one is
-/// owed, with an ACK in front, else frames that wait.
-#[tactic(auto, using(qc_state::proofs::Seals::takes_waiting))]
+/// Takes frames at a time for a packet of the space, with what room for them there is beside its header: in a transmit that began
+/// with a close owed, the close, with an ACK in front; else frames that wait.
+#[tactic(auto, using(crate::proofs::Takes::takes_waiting))]
 pub(crate) fn take<U: Suite>(
     core: &mut Core<U>,
     alloc: Global,
     now: Instant,
+    closing: bool,
+    capacity: usize,
     space: SpaceId,
 ) -> Result<FrameList, AllocError>
-    requires { next_number core.old.numbers space - acked_number core.old.numbers space < 2 ^ 31 }
-    ensures wide { OnOk result (is_space space Initial ≡ false → 25 ≤ frame_room (ideal U.Random.stream core.old) space) }
-    ensures frames { IfOk result (λ frames. TakenNow now (ideal U.Random.stream core.old) space (frame_room (ideal U.Random.stream core.old) space) frames) }
+    requires large { DATAGRAM_SIZE ≤ capacity }
+    requires near { next_number core.old.numbers space - acked_number core.old.numbers space < 2 ^ 31 }
+    ensures wide { OnOk result (is_space space Initial ≡ false → 25 ≤ room_of capacity (ideal U.Random.stream core.old) space) }
+    ensures frames { IfOk result (λ frames. TakenNow closing now (ideal U.Random.stream core.old) space (room_of capacity (ideal U.Random.stream core.old) space) frames) }
     ensures leads { IfOk result (λ frames. (ideal U.Random.stream core.new) ≡ state_move (Take space frames) (ideal U.Random.stream core.old)) }
 {
-    let room = frame_room(core, space);
-    if core.waiting.close_owed {
-        return take_close(core, alloc, now, space, room);
+    let room = frame_room(core, capacity, space);
+    if closing {
+        return take_close(core, alloc, now, closing, space, room);
     }
     core.do_take(alloc, now, space, room)
 }
@@ -193,27 +198,48 @@ fn least_size<U: Suite>(core: &Core<U>, space: SpaceId, frames: &FrameList) -> u
     0
 }
 
-/// A datagram is begun for the space: a probe that is due there is spent, and the number that would be next is skipped where it is
-/// to be. Want of memory is the only refusal.
+/// A packet of the space is begun, and a datagram with it where it opens one: a probe that is due there is spent then, and the number
+/// that would be next is skipped where it is to be. Want of memory is the only refusal.
 #[tactic(auto, unfolding(qc_state::specs::Sending::begun_after, qc_state::specs::Sending::skipped_after, qc_state::specs::Moves::move_to, qc_state::specs::Moves::deeds_move))]
-pub(crate) fn begin_datagram<U: Suite>(
+pub(crate) fn begin_packet<U: Suite>(
     core: &mut Core<U>,
     space: SpaceId,
+    opens: bool,
     did: &Dids,
 ) -> Result<(), AllocError>
-    ensures { OnOk result ((held U.Random.stream core.new did.now) ≡ begun_after space (held U.Random.stream core.old did.now)) }
+    ensures { OnOk result ((held U.Random.stream core.new did.now) ≡ begun_after space opens (held U.Random.stream core.old did.now)) }
 {
-    core.do_begin(space)?;
+    core.do_begin(space, opens)?;
     if core.numbers.is_skipped(space) {
         core.do_skip();
     }
     Ok(())
 }
 
+/// What a transmit does once, behind its packets: a client that sealed a Handshake packet leaves the Initial space, this end closes
+/// where the key of the last packet may seal only one more, and the bytes of the datagrams go to the path's address. Want of memory is
+/// the only refusal.
+#[tactic(auto, unfolding(qc_state::specs::Sending::finished_after, qc_state::specs::Moves::move_to, qc_state::specs::Moves::deeds_move))]
+pub(crate) fn finish<U: Suite>(
+    core: &mut Core<U>,
+    did: &mut Dids,
+    now: Instant,
+    batch: Batch,
+) -> Result<(), AllocError>
+    ensures { OnOk result ((held U.Random.stream core.new did.new) ≡ finished_after now batch (held U.Random.stream core.old did.old)) }
+{
+    if batch.shook {
+        core.leave_initial(Side::Client, false, now, SpaceId::Handshake, did);
+    }
+    spare(core, did, now, batch.worn)?;
+    core.do_finish(batch.total);
+    Ok(())
+}
+
 /// This end closes behind a packet that was sealed, where its key may seal only one more, so that this one can be the close
 /// (RFC 9001, section 6.6). `nearly` is what `is_key_nearly_used_up` said before the packet.
 #[tactic(auto, unfolding(qc_state::specs::Sending::spared_after))]
-pub(crate) fn spare<U: Suite>(
+fn spare<U: Suite>(
     core: &mut Core<U>,
     did: &mut Dids,
     now: Instant,
@@ -243,7 +269,7 @@ pub(crate) fn transmit_to<U: Suite>(core: &Core<U>, size: usize) -> Transmit
     ensures { result ≡ transmit_with (ideal U.Random.stream core.now) size }
 {
     Transmit {
-        destination: core.paths.remote,
+        destination: core.paths.current.remote,
         ecn: mark(core),
         size,
         segment_size: None,
@@ -278,18 +304,20 @@ fn seal_with<U: Suite>(
     flip: bool,
     header: &Header,
     frames: &mut FrameList,
+    capacity: usize,
     least: usize,
     buf: &mut Vec<u8>,
 ) -> Result<(), AllocError>
     requires empty { buf.old.items ≡ [] }
     requires keyed { has_keys core.now.keys space ≡ true }
     requires numbered { IsSome (header_number header.now) }
-    requires begins { IfSome (usage_of core.now.keys space) (λ usage. kill_of (slot_drawn (ideal U.Random.stream core.now) space flip usage) header.now 0 DATAGRAM_SIZE ≡ None) }
-    requires sized { min_size_of 0 header.now + 16 ≤ DATAGRAM_SIZE }
-    requires room { length (header_spelling header.now 0) + length (frames_spelling frames.old) + 16 ≤ DATAGRAM_SIZE }
-    requires small { least ≤ DATAGRAM_SIZE }
+    requires begins { IfSome (usage_of core.now.keys space) (λ usage. kill_of (slot_drawn (ideal U.Random.stream core.now) space flip usage) header.now 0 capacity ≡ None) }
+    requires sized { min_size_of 0 header.now + 16 ≤ capacity }
+    requires room { length (header_spelling header.now 0) + length (frames_spelling frames.old) + 16 ≤ capacity }
+    requires small { least ≤ capacity }
+    requires most { capacity ≤ 16383 }
     ensures frames { OnOk result (frames.new ≡ frames.old ++ replicate (padding_len header.now frames.old (padded_size header.now frames.old least)) Padding) }
-    ensures bytes { OnOk result (buf.new.items ≡ sealed_with (meaning U.Session.Session U.Session.HeaderKey.HeaderMask U.Session.PacketKey.PacketKey U.Control.Controller.Controller) (header_key core.now.keys space) (packet_key core.now.keys space) flip header.now (next_number core.now.numbers space) (frames_spelling frames.new)) }
+    ensures bytes { OnOk result (buf.new.items ≡ sealed_with ⟦<U as Means>⟧.meaning (header_key core.now.keys space) (packet_key core.now.keys space) flip header.now (next_number core.now.numbers space) (frames_spelling frames.new)) }
     ensures full { OnOk result (length buf.new.items ≡ padded_size header.now frames.old least) }
 {
     let header_key = match core.keys.header_key(space) {
@@ -305,14 +333,7 @@ fn seal_with<U: Suite>(
         None => unreachable!(),
     };
     match seal_padded(
-        header_key,
-        packet_key,
-        &slot,
-        header,
-        frames,
-        DATAGRAM_SIZE as usize,
-        least,
-        buf,
+        header_key, packet_key, &slot, header, frames, capacity, least, buf,
     ) {
         Ok(()) => Ok(()),
         Err(_) => Err(AllocError),
@@ -327,18 +348,21 @@ pub(crate) fn seal<U: Suite>(
     did: &mut Dids,
     now: Instant,
     space: SpaceId,
+    capacity: usize,
     frames: FrameList,
     buf: &mut Vec<u8>,
 ) -> Result<bool, AllocError>
+    requires large { DATAGRAM_SIZE ≤ capacity }
+    requires most { capacity ≤ 16383 }
     requires empty { buf.old.items ≡ [] }
     requires low { next_number core.old.numbers space < 2 ^ 62 - 1 }
     requires near { next_number core.old.numbers space - acked_number core.old.numbers space < 2 ^ 31 }
     requires keyed { has_keys core.old.keys space ≡ true }
     requires fresh { reaches_limit 0 (usage_of core.old.keys space) ≡ false }
-    requires wide { 25 ≤ frame_room (ideal U.Random.stream core.old) space }
-    requires room { length (header_spelling (header_in (ideal U.Random.stream core.old) space) 0) + length (frames_spelling frames) + 16 ≤ DATAGRAM_SIZE }
+    requires wide { 25 ≤ room_of capacity (ideal U.Random.stream core.old) space }
+    requires room { length (header_spelling (header_in (ideal U.Random.stream core.old) space) 0) + length (frames_spelling frames) + 16 ≤ capacity }
     ensures leads { OnOk result ((held U.Random.stream core.new did.new) ≡ move_to (Seal now space (next_number core.old.numbers space) (length buf.new.items) (padded (ideal U.Random.stream core.old) space frames)) (held U.Random.stream core.old did.old)) }
-    ensures bytes { OnOk result (buf.new.items ≡ packet_bytes (meaning U.Session.Session U.Session.HeaderKey.HeaderMask U.Session.PacketKey.PacketKey U.Control.Controller.Controller) (ideal U.Random.stream core.old) space (padded (ideal U.Random.stream core.old) space frames)) }
+    ensures bytes { OnOk result (buf.new.items ≡ packet_bytes ⟦<U as Means>⟧.meaning (ideal U.Random.stream core.old) space (padded (ideal U.Random.stream core.old) space frames)) }
     ensures size { OnOk result (length buf.new.items ≡ packet_size (ideal U.Random.stream core.old) space (padded (ideal U.Random.stream core.old) space frames)) }
     ensures counts { IfOk result (λ counts. counts ≡ is_flown (ideal U.Random.stream core.old) (padded (ideal U.Random.stream core.old) space frames)) }
 {
@@ -346,7 +370,16 @@ pub(crate) fn seal<U: Suite>(
     let number = next_number(core, space);
     let least = least_size(core, space, &frames);
     let (header, flip) = header_and_flip(core, space)?;
-    seal_with(core, space, flip, &header, &mut frames, least, buf)?;
+    seal_with(
+        core,
+        space,
+        flip,
+        &header,
+        &mut frames,
+        capacity,
+        least,
+        buf,
+    )?;
     let counts = core.is_flown(&frames);
     core.do_seal(alloc, did, now, space, number, buf.len() as u64, frames)?;
     Ok(counts)

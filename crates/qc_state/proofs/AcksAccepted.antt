@@ -1,5 +1,5 @@
 -- Each number that a run acknowledges is that of a packet which was accepted before.
-use Rattle.std.proofs.Common.{◌≡◌, ℕ, ◌+◌, ◌⊎◌, inl, inr, List, [], ◌∷◌, ◌++◌, length, take, refl, ap, sym, ◌∙◌, subst, Bool, true, false, Option, Some, None, if◌then◌else◌, append_assoc, append-nil}
+use Rattle.std.proofs.Common.{◌≡◌, ℕ, ◌+◌, ◌-◌, ◌⊎◌, inl, inr, List, [], ◌∷◌, ◌++◌, length, take, refl, ap, sym, ◌∙◌, subst, Bool, true, false, Option, Some, None, if◌then◌else◌, append_assoc, append-nil}
 use Rattle.std.specs.List.{list_any}
 use Rattle.std.specs.declared.net.SocketAddr.{SocketAddr}
 use Rattle.qc_base.specs.RangeSet.{Member}
@@ -7,24 +7,25 @@ use Rattle.qc_base.specs.declared.ecn.EcnCodepoint.{EcnCodepoint}
 use Rattle.qc_base.specs.declared.side.SpaceId.{SpaceId}
 use Rattle.qc_base.specs.declared.side.SpaceId.TheVariants.{Initial, Handshake, «Data»}
 use Rattle.qc_frame.specs.Frame.{FrameValue}
-use Rattle.qc_flight.specs.Packets.{Entry, first_of}
-use Rattle.qc_flight.specs.declared.sent.SentPacket.{SentPacket}
+use Rattle.qc_flight.specs.Packets.{Entry}
 use Rattle.qc_path.specs.Arrived.{Window, arrived}
 use Rattle.qc_path.specs.declared.pending_acks.Arrival.{Arrival}
+use Rattle.qc_state.specs.declared.coming.Coming.{Coming}
 use Rattle.qc_state.specs.declared.deeds.Did.{Did}
 use Rattle.qc_state.specs.declared.deeds.Did.TheVariants as did
 use Rattle.qc_state.specs.declared.deeds.Verdict.{Verdict}
 use Rattle.qc_state.specs.declared.input.Input.{Input}
 use Rattle.qc_state.specs.declared.input.Input.TheVariants as input
 use Rattle.qc_state.specs.declared.life.Close.{Close}
-use Rattle.qc_state.specs.declared.life.State.TheVariants as state
 use Rattle.qc_state.specs.declared.trace.Step.{Step}
 use Rattle.qc_state.specs.declared.waiting.SpaceWaiting.{SpaceWaiting}
 use Rattle.qc_state.specs.declared.waiting.Waiting.{Waiting}
 use Rattle.qc_state.specs.Headline.{deeds_of, KnownBehind, AcksOnly, SealsKnown, AcksKnown, IsKept, EachAcksKnown}
 use Rattle.qc_state.specs.Life.{is_open}
-use Rattle.qc_state.specs.Moves.{Move, Clock, Ask, Take, Seal, Forget, Enter, Expect, Fail, Accept, Fix, Hear, Ack, Fire, Arm, Pace, Release, Begin, Skip, Come, Read, Write, Ready, Token, Learn, Want, Confirm, Establish, Tell, Drain, Leave, Owe, Shut, Raise, Give, Say, ReportReady, ReportConnected, ReportLost, ReportToken, ReportWanted, ReportDrained, accepts, state_move, move_to, deeds_move, waiting_move, numbers_move, life_move, MayMove, IsTold, told, arrival_of}
+use Rattle.qc_state.specs.Moves.{Move, Clock, Ask, Take, Seal, Forget, Enter, Expect, Fail, Accept, Fix, Hear, Ack, Fire, Arm, Pace, Release, Begin, Skip, Come, Read, Write, Ready, Token, Learn, Want, Confirm, Establish, Tell, Drain, Leave, Owe, Shut, Raise, Give, Say, ReportReady, ReportConnected, ReportLost, ReportNotice, ReportNotices, ReportDrained, accepts, state_move, move_to, deeds_move, waiting_move, numbers_move, keys_move, life_move, MayMove, IsTold, told, arrival_of, Finish}
 use Rattle.qc_state.specs.Numbers.{next_number}
+use Rattle.qc_state.specs.Offers.{packet_begun}
+use Rattle.qc_state.proofs.Probed.{begun_holds}
 use Rattle.qc_state.specs.Numbers as numbers
 use Rattle.qc_state.specs.Run.{time_of, began, close_after, input_after, called, reported, step_after, IsAllowed, IsStep, Run, Ran}
 use Rattle.qc_state.specs.Sending.{packet_size, transmit_after, MayTransmit, Choice}
@@ -33,9 +34,8 @@ use Rattle.qc_state.specs.Receiving.{datagram_after}
 use Rattle.qc_state.specs.Timeouts.{timeout_after}
 use Rattle.qc_state.specs.Types.{Types, Meaning}
 use Rattle.qc_state.specs.View.{View, At}
-use Rattle.qc_state.specs.Waiting.{done_asked, ping_asked, waiting_without, close_begun, packet_told, untold, lost_in, packets_lost, acked_in, packets_acked, fired_in, probes_added, begun_in, datagram_begun, came_in, packet_came, crypto_written, nothing_left, space_left, released, ack_released, bundle_next}
-use Rattle.qc_state.proofs.AcksKnown.{acked_had, begun_keeps, lost_keeps, received_has, KnownSince, known_more, since_more, known_append, since_append, only_more, without_all_keeps, carries_known}
-use Rattle.qc_recovery.specs.Steps as recovery
+use Rattle.qc_state.specs.Waiting.{done_asked, ping_asked, waiting_without, close_begun, packet_told, untold, lost_in, packets_lost, acked_in, packets_acked, fired_in, probes_added, probe_spent, frames_again, all_again, came_in, packet_came, crypto_written, nothing_left, space_left, released, ack_released, bundle_next}
+use Rattle.qc_state.proofs.AcksKnown.{acked_had, all_again_keeps, lost_keeps, received_has, KnownSince, known_more, since_more, known_append, since_append, only_more, without_all_keeps, carries_known}
 use Rattle.qc_recovery.specs.declared.calls.Fired.{Fired}
 use Rattle.qc_recovery.specs.declared.calls.Fired.TheVariants as fired
 use Rattle.qc_path.specs.Acks.{PendingValues, next_bundle}
@@ -89,10 +89,13 @@ fired_kept id v (fired.Lost space es) n m = lost_kept id space v es n m
 fired_kept id v (fired.Probe space count) n m = same_kept id space v _ refl n m
 fired_kept id v fired.Nothing n m = m
 
--- a datagram was begun
-datagram_kept : (id space : SpaceId) (v : Waiting) (oldest : Option SentPacket) (n : ℕ) → IsKept id (datagram_begun v space oldest) n → IsKept id v n
-unfolding datagram_begun
-datagram_kept id space v oldest = same_kept id space v (begun_in (space_of v.spaces space) oldest) (ap (λ (p : PendingValues). p.ranges) (begun_keeps (space_of v.spaces space) oldest))
+-- a packet was begun
+packet_kept : {t : Types} (id space : SpaceId) (opens : Bool) (s : View t) (n : ℕ) → IsKept id (packet_begun space opens s).waiting n → IsKept id s.waiting n
+unfolding probe_spent frames_again ping_asked
+packet_kept id space opens s =
+    begun_holds (λ w. (n : ℕ) → IsKept id w n → IsKept id s.waiting n) (λ w x h n m. h n (same_kept id x w (record (space_of w.spaces x) { probes = (space_of w.spaces x).probes - 1 }) refl n m))
+    (λ w x fs h n m. h n (same_kept id x w (all_again (space_of w.spaces x) fs) (ap (λ (p : PendingValues). p.ranges) (all_again_keeps (space_of w.spaces x) fs)) n m))
+    (λ w x h n m. h n (same_kept id x w (record (space_of w.spaces x) { ping = true }) refl n m)) space opens s (λ n m. m)
 
 -- the frames of a packet were taken
 taken_kept : (space : SpaceId) (v : Waiting) (fs : List FrameValue) (n : ℕ) → IsKept space v n → IsKept space (waiting_without v space fs) n
@@ -231,7 +234,7 @@ module _ {t : Types} where
   knows_move id Pace a h k = silent_knows id Pace a refl (λ n m. m)
   knows_move id Release a h k = silent_knows id Release a refl (released_kept id a.state.waiting)
   knows_move id Skip a h k = silent_knows id Skip a refl (λ n m. m)
-  knows_move id (Begin space) a h k = silent_knows id (Begin space) a refl (datagram_kept id space a.state.waiting (first_of (recovery.space_of space a.state.lower.recovery).flight))
+  knows_move id (Begin space opens) a h k = silent_knows id (Begin space opens) a refl (packet_kept id space opens a.state)
   knows_move id (Come space offset bytes) a h k = silent_knows id (Come space offset bytes) a refl (λ n m. m)
   knows_move id (Read space count session) a h k = silent_knows id (Read space count session) a refl (λ n m. m)
   knows_move id (Write bytes keys session) a h k = silent_knows id (Write bytes keys session) a refl (same_kept id a.state.keys.highest a.state.waiting _ refl)
@@ -248,12 +251,13 @@ module _ {t : Types} where
   knows_move id (Shut time close) a h k = deed_knows id (Shut time close) _ a refl tt (begun_kept id a.state.waiting a.state.waiting.close_owed)
   knows_move id (Raise to) a h k = deed_knows id (Raise to) _ a refl tt (λ n m. m)
   knows_move id (Give why) a h k = deed_knows id (Give why) _ a refl tt (λ n m. m)
+  knows_move id (Finish bytes) a h k = silent_knows id (Finish bytes) a refl (λ n m. m)
   knows_move id (Say q) a h k = deed_knows id (Say q) _ a refl tt (λ n m. m)
   knows_move id ReportReady a h k = silent_knows id ReportReady a refl (λ n m. m)
   knows_move id ReportConnected a h k = silent_knows id ReportConnected a refl (λ n m. m)
   knows_move id ReportLost a h k = silent_knows id ReportLost a refl (λ n m. m)
-  knows_move id ReportToken a h k = silent_knows id ReportToken a refl (λ n m. m)
-  knows_move id ReportWanted a h k = silent_knows id ReportWanted a refl (λ n m. m)
+  knows_move id ReportNotice a h k = silent_knows id ReportNotice a refl (λ n m. m)
+  knows_move id ReportNotices a h k = silent_knows id ReportNotices a refl (λ n m. m)
   knows_move id ReportDrained a h k = silent_knows id ReportDrained a refl (λ n m. m)
 
   -- ---- inputs
@@ -289,32 +293,33 @@ module _ {t : Types} where
 
   -- what a transmit does beside sealing accepts nothing
   sending_knows : (x : Move t) (s : View t) → IsSending x → IsKnowing x s
-  sending_knows (Begin id) s r = tt
+  sending_knows (Begin id opens) s r = tt
   sending_knows Skip s r = tt
   sending_knows (Arm at) s r = tt
   sending_knows (Forget id) s r = tt
   sending_knows (Shut time close) s r = tt
   sending_knows (Raise to) s r = tt
   sending_knows (Give why) s r = tt
+  sending_knows (Finish bytes) s r = tt
   sending_knows (Say q) s r = tt
   sending_knows _ s r = absurd r
 
   -- a packet is taken and sealed
   knows_packet : (id : SpaceId) (time : ℕ) (space : SpaceId) (fs : List FrameValue) (a : At t) → IsSealable time a.state space fs →
       Knows id a (move_to (Seal time space (next_number a.state.numbers space) (packet_size a.state space fs) fs) (move_to (Take space fs) a))
-  unfolding MayMove move_to state_move numbers_move life_move waiting_move
+  unfolding MayMove move_to state_move numbers_move keys_move life_move waiting_move
   knows_packet id time space fs a may =
       let b : At t = move_to (Take space fs) a in
       let said : AcksOnly (IsKept space (waiting_without a.state.waiting space fs)) fs =
-      only_more (IsKept space a.state.waiting) (IsKept space (waiting_without a.state.waiting space fs)) (taken_kept space a.state.waiting fs) fs (carries_known time a.state space fs may.carries) in
+      only_more (IsKept space a.state.waiting) (IsKept space (waiting_without a.state.waiting space fs)) (taken_kept space a.state.waiting fs) fs (carries_known may.closing time a.state space may.room fs may.carries) in
       knows_next id a b _ (knows_move id (Take space fs) a tt tt)
-      (knows_move id (Seal time space (next_number a.state.numbers space) (packet_size a.state space fs) fs) b (refl, may.closes) said)
+      (knows_move id (Seal time space (next_number a.state.numbers space) (packet_size a.state space fs) fs) b (refl, may.closes, may.alive, may.keyed) said)
 
   -- a transmit
-  knows_transmit : (id : SpaceId) (time : ℕ) (choice : Choice) (a : At t) → MayTransmit time a.state choice → Knows id a (transmit_after time choice a)
-  knows_transmit id time choice a may =
+  knows_transmit : (id : SpaceId) (m : Meaning t) (time : ℕ) (choice : Choice) (a : At t) → MayTransmit m time choice a → Knows id a (transmit_after m time choice a)
+  knows_transmit id m time choice a may =
       holds_transmit (Knows id) (knows_here id) (knows_next id) (λ x sends b h. knows_move id x b h (sending_knows x b.state sends))
-      (λ at_time space fs b h. knows_packet id at_time space fs b h) time choice a may
+      (λ at_time space fs b h. knows_packet id at_time space fs b h) m time choice a may
 
   -- the application closes, or has closed before
   closed_by : (id : SpaceId) (time : ℕ) (close : Close) (a : At t) (b : Bool) → is_open a.state.life.state ≡ b → Knows id a (if b then move_to (Shut time close) a else a)
@@ -323,9 +328,9 @@ module _ {t : Types} where
   closed_by id time close a false h = knows_here id a
 
   -- a datagram
-  knows_datagram : (id : SpaceId) (m : Meaning t) (time : ℕ) (mark : Option EcnCodepoint) (remote : SocketAddr) (bytes : List ℕ) (a : At t) → Knows id a (datagram_after m time mark remote bytes a)
-  knows_datagram id m time mark remote bytes a =
-      holds_datagram (Knows id) (knows_here id) (knows_next id) (λ x received b may. knows_move id x b may (received_knows x b.state received)) m time mark remote bytes a
+  knows_datagram : (id : SpaceId) (m : Meaning t) (coming : Coming) (bytes : List ℕ) (a : At t) → Knows id a (datagram_after m coming bytes a)
+  knows_datagram id m coming bytes a =
+      holds_datagram (Knows id) (knows_here id) (knows_next id) (λ x received b may. knows_move id x b may (received_knows x b.state received)) m coming bytes a
 
   -- what a timer does seals nothing, and accepts nothing
   timed_knows : (x : Move t) (s : View t) → IsTimed x → IsKnowing x s
@@ -342,11 +347,11 @@ module _ {t : Types} where
   knows_timeout id m time a = holds_timeout (Knows id) (knows_here id) (knows_next id) (λ x timed b may. knows_move id x b may (timed_knows x b.state timed)) m time a
 
   -- each input
-  knows_input : (id : SpaceId) (m : Meaning t) (i : Input) (choice : Choice) (a : At t) → IsAllowed i choice a.state → Knows id a (input_after m i choice a)
+  knows_input : (id : SpaceId) (m : Meaning t) (i : Input) (choice : Choice) (a : At t) → IsAllowed m i choice a → Knows id a (input_after m i choice a)
   unfolding IsAllowed input_after close_after MayMove
-  knows_input id m (input.Datagram time remote ecn bytes) choice a h = knows_datagram id m time ecn remote bytes a
+  knows_input id m (input.Datagram time remote ecn bytes) choice a h = knows_datagram id m (record { time = time; remote = remote; mark = ecn }) bytes a
   knows_input id m (input.Timeout time) choice a h = knows_timeout id m time a
-  knows_input id m (input.Transmit time max) choice a h = knows_transmit id time choice a h
+  knows_input id m (input.Transmit time max) choice a h = knows_transmit id m time choice a h
   knows_input id m (input.Close time code reason) choice a h = closed_by id time _ a _ refl
   knows_input id m (input.Ping time) choice a h = knows_move id (Ask a.state.keys.highest) a tt tt
 

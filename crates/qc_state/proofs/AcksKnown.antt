@@ -1,5 +1,5 @@
 -- The numbers that are kept to be acknowledged, and the ACKs that are made of them.
-use Rattle.std.proofs.Common.{◌≡◌, ℕ, zero, suc, ◌+◌, ◌-◌, ◌≤◌, ◌⊎◌, inl, inr, List, [], ◌∷◌, ◌++◌, length, replicate, drop, refl, sym, ◌∙◌, subst, Bool, true, false, Option, Some, None, if◌then◌else◌, nat_lt, nat_le, ◌==◌, arith}
+use Rattle.std.proofs.Common.{◌≡◌, ℕ, zero, suc, ◌+◌, ◌-◌, ◌≤◌, ◌⊎◌, inl, inr, List, [], ◌∷◌, ◌++◌, length, replicate, drop, refl, ap, sym, ◌∙◌, subst, Bool, true, false, Option, Some, None, if◌then◌else◌, nat_lt, nat_le, ◌==◌, arith}
 use Rattle.std.proofs.lemmas.Bool.Decides.{nat_tests}
 use Rattle.qc_base.specs.RangeSet.{Member}
 use Rattle.qc_base.specs.declared.range_set.NumberRange.{NumberRange}
@@ -10,14 +10,12 @@ use Rattle.qc_frame.specs.AckRanges.{Acknowledges}
 use Rattle.qc_frame.specs.declared.frames.FrameOf.TheVariants as frames
 use Rattle.qc_frame.proofs.RangesUp.{reverse_member}
 use Rattle.qc_flight.specs.Packets.{Entry}
-use Rattle.qc_flight.specs.declared.sent.SentPacket.{SentPacket}
 use Rattle.qc_path.specs.AckRanges.{from_number, raised_to, with_number}
 use Rattle.qc_path.specs.Acks.{PendingValues, acks_confirmed, acks_received}
 use Rattle.qc_base.specs.Time.{plus}
 use Rattle.qc_path.specs.Arrived.{Window}
 use Rattle.qc_path.specs.declared.pending_acks.Arrival.{Arrival}
-use Rattle.qc_state.specs.Acks.{AckPart, SaysAck, ack_sent}
-use Rattle.qc_send_stream.specs.Buffer.{range_sealed}
+use Rattle.qc_state.specs.Acks.{AckPart, SaysAck}
 use Rattle.qc_state.specs.declared.deeds.Did.{Did}
 use Rattle.qc_state.specs.declared.deeds.Did.TheVariants as did
 use Rattle.qc_state.specs.declared.life.Close.{Close}
@@ -29,7 +27,10 @@ use Rattle.qc_state.specs.Sending.{Carries, Closes, application_close, close_fra
 use Rattle.qc_state.specs.Spaces.{space_of}
 use Rattle.qc_state.specs.Types.{Types}
 use Rattle.qc_state.specs.View.{View}
-use Rattle.qc_state.specs.Waiting.{without, Waits, WaitAll, without_all, again, all_again, lost_in, confirmed, all_confirmed, acked_in, packet_again, probe_sent, begun_in, wants_sending}
+use Rattle.qc_state.specs.Waiting.{without, without_all, again, all_again, lost_in, confirmed, all_confirmed, acked_in}
+use Rattle.qc_state.specs.Allowed.{Waits, WaitAll}
+use Rattle.qc_state.specs.Moves.{Take, state_move}
+use Rattle.qc_state.proofs.Probed.{taken_space}
 
 -- ---- one number more among those to acknowledge
 
@@ -128,7 +129,7 @@ again_keeps w frames.HandshakeDone = refl
 again_keeps w (frames.Crypto offset body) = refl
 again_keeps w _ = refl
 
-all_again_keeps : (w : SpaceWaiting) (fs : List FrameValue) → (all_again w fs).acks ≡ w.acks
+pub all_again_keeps : (w : SpaceWaiting) (fs : List FrameValue) → (all_again w fs).acks ≡ w.acks
 all_again_keeps w [] = refl
 all_again_keeps w (f ∷ fs) = all_again_keeps (again w f) fs ∙ again_keeps w f
 
@@ -136,30 +137,6 @@ all_again_keeps w (f ∷ fs) = all_again_keeps (again w f) fs ∙ again_keeps w 
 pub lost_keeps : (w : SpaceWaiting) (es : List Entry) → (lost_in w es).acks ≡ w.acks
 lost_keeps w [] = refl
 lost_keeps w (e ∷ es) = lost_keeps (all_again w e.1.frames) es ∙ all_again_keeps w e.1.frames
-
--- and a datagram that is begun
-pinged_keeps : (w : SpaceWaiting) (b : Bool) → (if b then w else record w { ping = true }).acks ≡ w.acks
-pinged_keeps w true = refl
-pinged_keeps w false = refl
-
-oldest_keeps : (w : SpaceWaiting) (oldest : Option SentPacket) (b : Bool) → (if b then w else packet_again w oldest).acks ≡ w.acks
-oldest_keeps w oldest true = refl
-oldest_keeps w None false = refl
-oldest_keeps w (Some packet) false = all_again_keeps w packet.frames
-
-probed_keeps : (w : SpaceWaiting) (oldest : Option SentPacket) → (probe_sent w oldest).acks ≡ w.acks
-unfolding probe_sent
-probed_keeps w oldest =
-    let v : SpaceWaiting = if wants_sending w then w else packet_again w oldest in
-    pinged_keeps v (wants_sending v) ∙ oldest_keeps w oldest (wants_sending w)
-
-begun_by : (w : SpaceWaiting) (oldest : Option SentPacket) (b : Bool) → (if b then w else probe_sent (record w { probes = w.probes - 1 }) oldest).acks ≡ w.acks
-begun_by w oldest true = refl
-begun_by w oldest false = probed_keeps (record w { probes = w.probes - 1 }) oldest
-
-pub begun_keeps : (w : SpaceWaiting) (oldest : Option SentPacket) → (begun_in w oldest).acks ≡ w.acks
-unfolding begun_in
-begun_keeps w oldest = begun_by w oldest (w.probes == 0)
 
 -- ---- what is known behind deeds
 
@@ -248,16 +225,6 @@ part_known time w room acks true (AckPart.one ack says fits is) = subst (AcksOnl
 part_known time w room acks true (AckPart.left_out ack says long is) = subst (AcksOnly (λ n. Member n w.acks.ranges)) (sym is) tt
 part_known time w room acks false (AckPart.none is) = subst (AcksOnly (λ n. Member n w.acks.ranges)) (sym is) tt
 
--- so do the frames that wait
-wait_known : (time : ℕ) (bundled : Option ℕ) (w : SpaceWaiting) (fs : List FrameValue) → WaitAll time bundled w fs → AcksOnly (λ n. Member n w.acks.ranges) fs
-unfolding WaitAll Waits without
-wait_known time bundled w [] h = tt
-wait_known time bundled w (frames.HandshakeDone ∷ fs) h = wait_known time bundled (record w { done = false }) fs h.1
-wait_known time bundled w (frames.Ping ∷ fs) h = wait_known time bundled (record w { ping = false }) fs h.1
-wait_known time bundled w (frames.Ack ack ∷ fs) h = (says_known time w ack h.0.1, wait_known time bundled (record w { acks = ack_sent w.acks }) fs h.1)
-wait_known time bundled w (frames.Crypto offset body ∷ fs) h = wait_known time bundled (record w { crypto = range_sealed offset (offset + length body) w.crypto }) fs h.1
-wait_known time bundled w (_ ∷ fs) h = absurd h.0
-
 -- frames that are sealed leave the numbers to acknowledge
 without_keeps : (w : SpaceWaiting) (f : FrameValue) → (without w f).acks.ranges ≡ w.acks.ranges
 unfolding without
@@ -273,9 +240,25 @@ without_all_keeps w [] = refl
 without_all_keeps w (f ∷ fs) = without_all_keeps (without w f) fs ∙ without_keeps w f
 
 module _ {t : Types} where
+  -- a frame that waits in a space acknowledges what is kept there
+  first_known : (time : ℕ) (s : View t) (id : SpaceId) (f : FrameValue) (fs : List FrameValue) → Waits time s id f → AcksOnly (IsKept id s.waiting) fs → AcksOnly (IsKept id s.waiting) (f ∷ fs)
+  unfolding Waits
+  first_known time s id (frames.Ack ack) fs wait behind = (says_known time (space_of s.waiting.spaces id) ack wait.1, behind)
+  first_known time s id _ fs wait behind = behind
+
+  -- so do the frames that wait
+  wait_known : (time : ℕ) (s : View t) (id : SpaceId) (fs : List FrameValue) → WaitAll time s id fs → AcksOnly (IsKept id s.waiting) fs
+  unfolding WaitAll
+  wait_known time s id [] h = tt
+  wait_known time s id (f ∷ fs) h =
+      let v : View t = state_move (Take id (f ∷ [])) s in
+      let same : (space_of v.waiting.spaces id).acks.ranges ≡ (space_of s.waiting.spaces id).acks.ranges =
+      ap (λ (w : SpaceWaiting). w.acks.ranges) (taken_space id f s) ∙ without_keeps (space_of s.waiting.spaces id) f in
+      first_known time s id f fs h.0 (only_more (IsKept id v.waiting) (IsKept id s.waiting) (λ n. subst (Member n) same) fs (wait_known time v id fs h.1))
+
   -- an ACK and a close behind it acknowledge what is kept in their space
-  closes_known : (time : ℕ) (s : View t) (id : SpaceId) (gs : List FrameValue) → Closes time s id gs → AcksOnly (IsKept id s.waiting) gs
-  closes_known time s id gs (Closes.closing acks part kept fits is) =
+  closes_known : (time : ℕ) (s : View t) (id : SpaceId) (room : ℕ) (gs : List FrameValue) → Closes time s id room gs → AcksOnly (IsKept id s.waiting) gs
+  closes_known time s id room gs (Closes.closing acks part kept fits is) =
       let w : SpaceWaiting = space_of s.waiting.spaces id in
       let K : ℕ → Type 0 = λ k. Member k w.acks.ranges in
       subst (AcksOnly K) (sym is) (only_append K acks (closing_frame id kept s.life ∷ []) (part_known time w _ acks _ part) (close_only K (is_closed s.life.state) id kept s.life.close))
@@ -286,6 +269,6 @@ module _ {t : Types} where
   padded_known K s id fs gs is known = subst (AcksOnly K) (sym is) (only_append K gs (replicate (padding_of s id gs) frames.Padding) known (padding_only K (padding_of s id gs)))
 
   -- what a packet carries acknowledges what is kept in its space
-  pub carries_known : (time : ℕ) (s : View t) (id : SpaceId) (fs : List FrameValue) → Carries time s id fs → AcksOnly (IsKept id s.waiting) fs
-  carries_known time s id fs (Carries.a_close owed gs closes is) = padded_known (IsKept id s.waiting) s id fs gs is (closes_known time s id gs closes)
-  carries_known time s id fs (Carries.what_waits free gs wait some is) = padded_known (IsKept id s.waiting) s id fs gs is (wait_known time s.waiting.bundled (space_of s.waiting.spaces id) gs wait)
+  pub carries_known : (closing : Bool) (time : ℕ) (s : View t) (id : SpaceId) (room : ℕ) (fs : List FrameValue) → Carries closing time s id room fs → AcksOnly (IsKept id s.waiting) fs
+  carries_known closing time s id room fs (Carries.a_close owed gs closes is) = padded_known (IsKept id s.waiting) s id fs gs is (closes_known time s id room gs closes)
+  carries_known closing time s id room fs (Carries.what_waits free gs wait some is) = padded_known (IsKept id s.waiting) s id fs gs is (wait_known time s id gs wait)

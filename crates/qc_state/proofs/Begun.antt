@@ -1,15 +1,14 @@
--- What a datagram that is begun for the next packet leaves: a number may be skipped before it.
+-- What a packet that is begun leaves: a number may be skipped before it.
 use Rattle.std.proofs.Common.{◌≡◌, List, [], refl, Bool, true, false, if◌then◌else◌}
 use Rattle.qc_base.specs.declared.side.SpaceId.{SpaceId}
 use Rattle.qc_base.specs.declared.side.SpaceId.TheVariants.{Initial, Handshake, «Data»}
 use Rattle.qc_state.specs.declared.deeds.Did.{Did}
 use Rattle.qc_state.specs.declared.numbers.Numbers.{Numbers}
-use Rattle.qc_state.specs.Moves.{Begin, Skip, MayMove, deeds_move, keys_move, life_move, move_to, paths_move, state_move, waiting_move}
+use Rattle.qc_state.specs.Moves.{Begin, Skip, MayMove, deeds_move, keys_move, life_move, move_to, state_move}
 use Rattle.qc_state.specs.Numbers.{is_skipped}
-use Rattle.qc_state.specs.Sending.{begun_after, begun_view, sending_space, skipped_after}
+use Rattle.qc_state.specs.Sending.{begun_after, begun_view, skipped_after}
 use Rattle.qc_state.specs.Types.{Types}
 use Rattle.qc_state.specs.View.{View, At, at}
-use Rattle.qc_state.specs.Waiting.{datagram_begun}
 
 -- only 1-RTT packets have numbers that are skipped
 skipped_data : (v : Numbers) (id : SpaceId) → is_skipped v id ≡ true → is_skipped v «Data» ≡ true
@@ -25,64 +24,36 @@ module _ {t : Types} where
   skipped_by s ds es true = refl
   skipped_by s ds es false = refl
 
-  pub begun_same : (a : At t) → (begun_after (sending_space a.state) a).state ≡ begun_view a.state
+  pub begun_same : (id : SpaceId) (opens : Bool) (a : At t) → (begun_after id opens a).state ≡ begun_view a.state id opens
   unfolding begun_view begun_after skipped_after move_to deeds_move
-  begun_same a = skipped_by (state_move (Begin (sending_space a.state)) a.state) a.did [] (is_skipped (state_move (Begin (sending_space a.state)) a.state).numbers (sending_space a.state))
+  begun_same id opens a = skipped_by (state_move (Begin id opens) a.state) a.did [] (is_skipped (state_move (Begin id opens) a.state).numbers id)
 
-  -- no deed is told
-  skipped_did : (a : At t) (b : Bool) → (if b then move_to Skip a else a).did ≡ a.did
-  unfolding move_to deeds_move
-  skipped_did a true = refl
-  skipped_did a false = refl
-
-  pub begun_did : (id : SpaceId) (a : At t) → (begun_after id a).did ≡ a.did
-  unfolding begun_after skipped_after move_to deeds_move
-  begun_did id a = let b : At t = move_to (Begin id) a in skipped_did b (is_skipped b.state.numbers id)
-
-  -- the keys, the life, the path, and whether a close is owed stay
+  -- the keys and the life stay
   skipped_keys : (a : At t) (b : Bool) → (if b then move_to Skip a else a).state.keys ≡ a.state.keys
   unfolding move_to state_move keys_move
   skipped_keys a true = refl
   skipped_keys a false = refl
 
-  pub begun_keys : (id : SpaceId) (a : At t) → (begun_after id a).state.keys ≡ a.state.keys
+  pub begun_keys : (id : SpaceId) (opens : Bool) (a : At t) → (begun_after id opens a).state.keys ≡ a.state.keys
   unfolding begun_after skipped_after move_to state_move keys_move
-  begun_keys id a = let b : At t = move_to (Begin id) a in skipped_keys b (is_skipped b.state.numbers id)
+  begun_keys id opens a = let b : At t = move_to (Begin id opens) a in skipped_keys b (is_skipped b.state.numbers id)
 
   skipped_life : (a : At t) (b : Bool) → (if b then move_to Skip a else a).state.life ≡ a.state.life
   unfolding move_to state_move life_move
   skipped_life a true = refl
   skipped_life a false = refl
 
-  pub begun_life : (id : SpaceId) (a : At t) → (begun_after id a).state.life ≡ a.state.life
+  pub begun_life : (id : SpaceId) (opens : Bool) (a : At t) → (begun_after id opens a).state.life ≡ a.state.life
   unfolding begun_after skipped_after move_to state_move life_move
-  begun_life id a = let b : At t = move_to (Begin id) a in skipped_life b (is_skipped b.state.numbers id)
+  begun_life id opens a = let b : At t = move_to (Begin id opens) a in skipped_life b (is_skipped b.state.numbers id)
 
-  skipped_paths : (a : At t) (b : Bool) → (if b then move_to Skip a else a).state.paths ≡ a.state.paths
-  unfolding move_to state_move paths_move
-  skipped_paths a true = refl
-  skipped_paths a false = refl
-
-  pub begun_paths : (id : SpaceId) (a : At t) → (begun_after id a).state.paths ≡ a.state.paths
-  unfolding begun_after skipped_after move_to state_move paths_move
-  begun_paths id a = let b : At t = move_to (Begin id) a in skipped_paths b (is_skipped b.state.numbers id)
-
-  skipped_owed : (a : At t) (b : Bool) → (if b then move_to Skip a else a).state.waiting.close_owed ≡ a.state.waiting.close_owed
-  unfolding move_to state_move waiting_move
-  skipped_owed a true = refl
-  skipped_owed a false = refl
-
-  pub begun_owed : (id : SpaceId) (a : At t) → (begun_after id a).state.waiting.close_owed ≡ a.state.waiting.close_owed
-  unfolding begun_after skipped_after move_to state_move waiting_move datagram_begun
-  begun_owed id a = let b : At t = move_to (Begin id) a in skipped_owed b (is_skipped b.state.numbers id)
-
--- what holds of no move, of two moves one after the other, and of each of its moves, holds of a datagram that is begun
+-- what holds of no move, of two moves one after the other, and of each of its moves, holds of a packet that is begun
 module _ {t : Types} (R : At t → At t → Type 0) (here : (a : At t) → R a a) (next : (a b c : At t) → R a b → R b c → R a c) where
   skip_by : (id : SpaceId) (a : At t) (b : Bool) → is_skipped a.state.numbers id ≡ b → ((c : At t) → MayMove Skip c.state → R c (move_to Skip c)) → R a (if b then move_to Skip a else a)
   unfolding MayMove
   skip_by id a true h skip = skip a (skipped_data a.state.numbers id h)
   skip_by id a false h skip = here a
 
-  pub holds_begun : (id : SpaceId) (a : At t) → ((c : At t) → R c (move_to (Begin id) c)) → ((c : At t) → MayMove Skip c.state → R c (move_to Skip c)) → R a (begun_after id a)
+  pub holds_begun : (id : SpaceId) (opens : Bool) (a : At t) → ((c : At t) → R c (move_to (Begin id opens) c)) → ((c : At t) → MayMove Skip c.state → R c (move_to Skip c)) → R a (begun_after id opens a)
   unfolding begun_after skipped_after
-  holds_begun id a begin skip = let b : At t = move_to (Begin id) a in next a b _ (begin a) (skip_by id b (is_skipped b.state.numbers id) refl skip)
+  holds_begun id opens a begin skip = let b : At t = move_to (Begin id opens) a in next a b _ (begin a) (skip_by id b (is_skipped b.state.numbers id) refl skip)

@@ -12,20 +12,19 @@ use Rattle.qc_state.specs.declared.events.Event.TheVariants.{HandshakeDataReady,
 use Rattle.qc_state.specs.declared.input.Input.{Input}
 use Rattle.qc_state.specs.declared.life.ConnectionError.{ConnectionError}
 use Rattle.qc_state.specs.declared.life.Life.{Life}
-use Rattle.qc_state.specs.declared.life.PeerToken.{PeerToken}
 use Rattle.qc_state.specs.declared.life.State.{State}
 use Rattle.qc_state.specs.declared.life.State.TheVariants as state
-use Rattle.qc_state.specs.declared.life.Wanted.{Wanted}
 use Rattle.qc_state.specs.declared.trace.Step.{Step}
 use Rattle.qc_state.specs.EventLaws.{EachTells, OnlyDoneWaits, TellsDone, TellsOnce, Untold, all_told, connections_in, endpoint_events_of, ends_in, events_of, losses_in, once, rises_to, untold_of}
 use Rattle.qc_state.specs.Headline.{LifeRises, LosesOnce, RisesFrom, deeds_of, lives_in, reasons_in}
-use Rattle.qc_state.specs.Life.{connected_event, connected_reported, data_ready, drained_event, drained_reported, endpoint_events, event_if, identifiers_wanted, is_drained, life_closed, life_drained, life_established, life_raised, lost_event, lost_reported, rank_of, ready_event, ready_reported, reason_given, token_event, token_learned, token_reported, waiting_events, wanted_event, wanted_reported}
-use Rattle.qc_state.specs.Moves.{IsTold, MayMove, Move, Accept, Clock, Drain, Enter, Establish, Give, Leave, Raise, Ready, ReportConnected, ReportDrained, ReportLost, ReportReady, ReportToken, ReportWanted, Say, Seal, Shut, Tell, Token, Want, deeds_move, life_move, move_to, state_move}
+use Rattle.qc_state.specs.Life.{connected_event, connected_reported, data_ready, drained_event, drained_reported, event_if, identifiers_wanted, is_drained, life_closed, life_drained, life_established, life_raised, lost_event, lost_reported, rank_of, ready_event, ready_reported, reason_given, token_learned, notices_reported}
+use Rattle.qc_state.specs.Moves.{IsTold, MayMove, Move, Accept, Clock, Drain, Enter, Establish, Give, Leave, Raise, Ready, ReportConnected, ReportDrained, ReportLost, ReportReady, ReportNotice, ReportNotices, Say, Seal, Shut, Tell, Token, Want, deeds_move, life_move, move_to, state_move}
+use Rattle.qc_state.specs.Polls.{endpoint_events, waiting_events}
 use Rattle.qc_state.specs.Run.{IsStep, Ran, Run, began, called, input_after, reported, step_after, time_of}
 use Rattle.qc_state.specs.Types.{Types, Meaning}
 use Rattle.qc_state.specs.View.{View, At}
 use Rattle.qc_state.proofs.Inputs.{IsMade, holds_input}
-use Rattle.qc_state.proofs.Telling.{told_appends}
+use Rattle.qc_state.proofs.Telling.{closed_rank, told_appends}
 use Rattle.qc_state.proofs.Told.{run_life_rises, run_loses_once}
 
 -- ---- deeds and events, one list behind another
@@ -99,12 +98,13 @@ waits_next ds es u v w g h = record {
 
 -- the life rises below its end, and not to Established
 passed_waits : (rank : ℕ) (v v' : Life) → (rank == 1) ≡ false → (rank == 4) ≡ false → rank_of v.state < 4 → 1 ≤ rank_of v'.state →
-    v'.reason ≡ v.reason → v'.lost ≡ v.lost → v'.connected ≡ v.connected → v'.drained ≡ v.drained → OnlyDoneWaits v → Waits (did.Rose rank ∷ []) v v'
-passed_waits rank v v' first last low high reason lost connected drained h = record {
+    v'.reason ≡ v.reason → v'.lost ≡ v.lost → v'.connected ≡ v.connected → v'.drained ≡ v.drained → v'.notices ≡ v.notices → OnlyDoneWaits v → Waits (did.Rose rank ∷ []) v v'
+passed_waits rank v v' first last low high reason lost connected drained notices h = record {
   done = record {
     lost = λ e. lost ∙ h.lost (ap is_none (sym reason) ∙ e);
     connected = λ e. absurd (omega (arith, e, high));
     drained = λ e. drained ∙ h.drained low;
+    notices = ap ends_in notices ∙ h.notices;
   };
   lost = ap option_to_list lost ∙ sym (append-nil (option_to_list v.lost));
   connected = rw first (ap once connected ∙ omega arith);
@@ -116,10 +116,14 @@ told_waits (did.Piece space number v) life h w = same_waits (did.Piece space num
 told_waits (did.Gave layer body) life h w = same_waits (did.Gave layer body ∷ []) life refl refl refl w
 told_waits _ life h w = absurd h
 
+-- one event more, which isn't the end
+one_notice : (es : List EndpointEvent) (e : EndpointEvent) → ends_in (e ∷ []) ≡ 0 → ends_in es ≡ 0 → ends_in (es ++ e ∷ []) ≡ 0
+one_notice es e here none = let both : ends_in (es ++ e ∷ []) ≡ ends_in es + ends_in (e ∷ []) = ends_append es (e ∷ []) in omega (arith, both, here, none)
+
 established_waits : (v : Life) → rank_of v.state < 1 → OnlyDoneWaits v → Waits (did.Rose 1 ∷ []) v (life_established v)
 unfolding life_established
 established_waits v low h = record {
-  done = record { lost = h.lost; connected = λ e. absurd (omega (arith, e)); drained = λ e. h.drained (omega (arith, low)) };
+  done = record { lost = h.lost; connected = λ e. absurd (omega (arith, e)); drained = λ e. h.drained (omega (arith, low)); notices = h.notices };
   lost = sym (append-nil (option_to_list v.lost));
   connected = rw (h.connected low) refl;
   drained = omega arith;
@@ -128,7 +132,7 @@ established_waits v low h = record {
 ended_waits : (v : Life) → rank_of v.state < 4 → OnlyDoneWaits v → Waits (did.Rose 4 ∷ []) v (life_raised v state.Drained)
 unfolding life_raised
 ended_waits v low h = record {
-  done = record { lost = h.lost; connected = λ e. absurd (omega (arith, e)); drained = λ e. absurd (omega (arith, e)) };
+  done = record { lost = h.lost; connected = λ e. absurd (omega (arith, e)); drained = λ e. absurd (omega (arith, e)); notices = h.notices };
   lost = sym (append-nil (option_to_list v.lost));
   connected = omega arith;
   drained = rw (h.drained low) refl;
@@ -138,7 +142,7 @@ given_waits : (v : Life) (why : ConnectionError) → v.reason ≡ None → OnlyD
 unfolding reason_given
 given_waits v why none h =
     let before : v.lost ≡ None = h.lost (ap is_none none) in
-    rw none (record { done = record { lost = λ e. cc e; connected = h.connected; drained = h.drained }; lost = rw before refl; connected = omega arith; drained = omega arith })
+    rw none (record { done = record { lost = λ e. cc e; connected = h.connected; drained = h.drained; notices = h.notices }; lost = rw before refl; connected = omega arith; drained = omega arith })
 
 module _ {t : Types} where
   -- from one moment to another: the deeds between, and what waits behind them
@@ -165,21 +169,21 @@ module _ {t : Types} where
   life_waits (Accept time id n e g v) s r h w = same_waits _ s.life refl refl refl w
   life_waits (Say q) s r h w = same_waits _ s.life refl refl refl w
   life_waits (Tell d) s r h w = told_waits d s.life h w
-  life_waits Ready s r h w = record { done = record { lost = w.lost; connected = w.connected; drained = w.drained }; lost = sym (append-nil (option_to_list s.life.lost)); connected = omega arith; drained = omega arith }
-  life_waits (Token token) s r h w = record { done = record { lost = w.lost; connected = w.connected; drained = w.drained }; lost = sym (append-nil (option_to_list s.life.lost)); connected = omega arith; drained = omega arith }
-  life_waits (Want time count) s r h w = record { done = record { lost = w.lost; connected = w.connected; drained = w.drained }; lost = sym (append-nil (option_to_list s.life.lost)); connected = omega arith; drained = omega arith }
+  life_waits Ready s r h w = record { done = record { lost = w.lost; connected = w.connected; drained = w.drained; notices = w.notices }; lost = sym (append-nil (option_to_list s.life.lost)); connected = omega arith; drained = omega arith }
+  life_waits (Token token) s r h w = record { done = record { lost = w.lost; connected = w.connected; drained = w.drained; notices = one_notice s.life.notices (endpoint.ResetToken s.paths.current.remote token) refl w.notices }; lost = sym (append-nil (option_to_list s.life.lost)); connected = omega arith; drained = omega arith }
+  life_waits (Want time count) s r h w = record { done = record { lost = w.lost; connected = w.connected; drained = w.drained; notices = one_notice s.life.notices (endpoint.NeedIdentifiers time count) refl w.notices }; lost = sym (append-nil (option_to_list s.life.lost)); connected = omega arith; drained = omega arith }
   life_waits Establish s r h w = established_waits s.life h w
-  life_waits (Shut time close) s r h w = passed_waits 2 s.life (life_closed s.life close) refl refl (omega (arith, h)) (omega arith) refl refl refl refl w
-  life_waits (Leave time) s r h w = passed_waits 3 s.life (life_drained s.life) refl refl (omega (arith, h)) (omega arith) refl refl refl refl w
-  life_waits Drain s r h w = passed_waits 3 s.life (life_drained s.life) refl refl (omega (arith, h)) (omega arith) refl refl refl refl w
+  life_waits (Shut time close) s r h w = passed_waits 2 s.life (life_closed s.life close) refl refl (omega (arith, h)) (omega arith) refl refl refl refl refl w
+  life_waits (Leave time) s r h w = passed_waits 3 s.life (life_drained s.life) refl refl (omega (arith, h)) (omega arith) refl refl refl refl refl w
+  life_waits Drain s r h w = passed_waits 3 s.life (life_drained s.life) refl refl (let low : rank_of s.life.state < 3 = closed_rank s.life.state h in omega (arith, low)) (omega arith) refl refl refl refl refl w
   life_waits (Raise to) s r h w =
       subst (λ (y : State). Waits (did.Rose (rank_of y) ∷ []) s.life (life_raised s.life y)) (sym r) (ended_waits s.life (subst (λ (y : State). rank_of s.life.state < rank_of y) r h) w)
   life_waits (Give why) s r h w = given_waits s.life why h w
   life_waits ReportReady s r h w = absurd r
   life_waits ReportConnected s r h w = absurd r
   life_waits ReportLost s r h w = absurd r
-  life_waits ReportToken s r h w = absurd r
-  life_waits ReportWanted s r h w = absurd r
+  life_waits ReportNotice s r h w = absurd r
+  life_waits ReportNotices s r h w = absurd r
   life_waits ReportDrained s r h w = absurd r
   life_waits _ s r h w = same_waits [] s.life refl refl refl w
 
@@ -213,34 +217,34 @@ waiting_connections false false (Some why) = refl
 waiting_connections false false None = refl
 
 -- of those for the endpoint, those that tell of the end
-waiting_ends : (p : Option PeerToken) (w : Option Wanted) (d : Bool) →
-    ends_in (option_to_list (option_map (λ k. endpoint.ResetToken k.remote k.token) p) ++ (option_to_list (option_map (λ k. endpoint.NeedIdentifiers k.now k.count) w) ++ option_to_list (if d then Some endpoint.Drained else None))) ≡ once d
-waiting_ends None None true = refl
-waiting_ends None None false = refl
-waiting_ends None (Some w) true = refl
-waiting_ends None (Some w) false = refl
-waiting_ends (Some p) None true = refl
-waiting_ends (Some p) None false = refl
-waiting_ends (Some p) (Some w) true = refl
-waiting_ends (Some p) (Some w) false = refl
-
-losses_wait : (v : Life) → losses_in (waiting_events v) ≡ option_to_list v.lost
-unfolding waiting_events ready_event connected_event lost_event
-losses_wait v = waiting_losses v.ready v.connected v.lost
-
-connections_wait : (v : Life) → connections_in (waiting_events v) ≡ once v.connected
-unfolding waiting_events ready_event connected_event lost_event
-connections_wait v = waiting_connections v.ready v.connected v.lost
-
-ends_wait : (v : Life) → ends_in (endpoint_events v) ≡ once v.drained
-unfolding endpoint_events token_event wanted_event drained_event
-ends_wait v = waiting_ends v.reset_token v.wanted v.drained
+waiting_ends : (d : Bool) → ends_in (option_to_list (if d then Some endpoint.Drained else None)) ≡ once d
+waiting_ends true = refl
+waiting_ends false = refl
 
 module _ {t : Types} where
+  losses_wait : (s : View t) → losses_in (waiting_events s) ≡ option_to_list s.life.lost
+  unfolding waiting_events ready_event connected_event lost_event
+  losses_wait s = waiting_losses s.life.ready s.life.connected s.life.lost
+
+  connections_wait : (s : View t) → connections_in (waiting_events s) ≡ once s.life.connected
+  unfolding waiting_events ready_event connected_event lost_event
+  connections_wait s = waiting_connections s.life.ready s.life.connected s.life.lost
+
+  ends_wait : (s : View t) → ends_in s.life.notices ≡ 0 → ends_in (endpoint_events s) ≡ once s.life.drained
+  unfolding endpoint_events drained_event
+  ends_wait s none =
+      let both : ends_in (s.life.notices ++ option_to_list (if s.life.drained then Some endpoint.Drained else None)) ≡ ends_in s.life.notices + ends_in (option_to_list (if s.life.drained then Some endpoint.Drained else None)) =
+      ends_append s.life.notices (option_to_list (if s.life.drained then Some endpoint.Drained else None)) in
+      omega (arith, both, none, waiting_ends s.life.drained)
+
   -- nothing waits behind the reports
   reported_told : (s : View t) → untold_of (reported s).life ≡ all_told
-  unfolding reported state_move life_move ready_reported connected_reported lost_reported token_reported wanted_reported drained_reported
+  unfolding reported state_move life_move ready_reported connected_reported lost_reported notices_reported drained_reported
   reported_told s = refl
+
+  reported_notices : (s : View t) → (reported s).life.notices ≡ []
+  unfolding reported state_move life_move ready_reported connected_reported lost_reported notices_reported drained_reported
+  reported_notices s = refl
 
   -- a step tells what waited before it, and what its deeds did
   step_tells : (m : Meaning t) (k : ℕ) (s : View t) (i : Input) (x : Step) (s' : View t) → IsStep m k s i x s' → OnlyDoneWaits s.life → TellsDone (untold_of s.life) x
@@ -252,9 +256,9 @@ module _ {t : Types} where
       let deeds : kept.since ≡ x.did = sym (h.deeds ∙ kept.appended) in
       let waits : Waits x.did s.life b.state.life = subst (λ (ds : List Did). Waits ds s.life b.state.life) deeds (kept.waits w) in
       record {
-        losses = ap losses_in h.events ∙ losses_wait b.state.life ∙ waits.lost;
-        connections = ap connections_in h.events ∙ connections_wait b.state.life ∙ waits.connected;
-        ends = ap ends_in h.endpoint ∙ ends_wait b.state.life ∙ waits.drained;
+        losses = ap losses_in h.events ∙ losses_wait b.state ∙ waits.lost;
+        connections = ap connections_in h.events ∙ connections_wait b.state ∙ waits.connected;
+        ends = ap ends_in h.endpoint ∙ ends_wait b.state waits.done.notices ∙ waits.drained;
       }
 
   -- and behind it nothing waits
@@ -262,9 +266,13 @@ module _ {t : Types} where
   unfolding step_after
   step_told m k s i x s' h = ap untold_of h.life ∙ reported_told (called m s i h.choice).state
 
+  step_notices : (m : Meaning t) (k : ℕ) (s : View t) (i : Input) (x : Step) (s' : View t) → IsStep m k s i x s' → s'.life.notices ≡ []
+  unfolding step_after
+  step_notices m k s i x s' h = ap (λ (v : Life). v.notices) h.life ∙ reported_notices (called m s i h.choice).state
+
 -- where nothing waits, only what came to pass does
-told_done : (v : Life) → untold_of v ≡ all_told → OnlyDoneWaits v
-told_done v e = record { lost = λ _. ap (λ (u : Untold). u.lost) e; connected = λ _. ap (λ (u : Untold). u.connected) e; drained = λ _. ap (λ (u : Untold). u.drained) e }
+told_done : (v : Life) → untold_of v ≡ all_told → v.notices ≡ [] → OnlyDoneWaits v
+told_done v e none = record { lost = λ _. ap (λ (u : Untold). u.lost) e; connected = λ _. ap (λ (u : Untold). u.connected) e; drained = λ _. ap (λ (u : Untold). u.drained) e; notices = ap ends_in none }
 
 -- ---- runs
 
@@ -275,7 +283,7 @@ module _ {t : Types} where
   run_tells_done m k s [] [] s' r w = tt
   run_tells_done m k s (i ∷ is) (x ∷ xs) s' r w =
       let none : untold_of r.0.life ≡ all_told = step_told m k s i x r.0 r.1 in
-      (step_tells m k s i x r.0 r.1 w, subst (λ (u : Untold). EachTells u xs) none (run_tells_done m (k + 1) r.0 is xs s' r.2 (told_done r.0.life none)))
+      (step_tells m k s i x r.0 r.1 w, subst (λ (u : Untold). EachTells u xs) none (run_tells_done m (k + 1) r.0 is xs s' r.2 (told_done r.0.life none (step_notices m k s i x r.0 r.1))))
   run_tells_done m k s [] (x ∷ xs) s' r w = absurd r
   run_tells_done m k s (i ∷ is) [] s' r w = absurd r
 
@@ -283,7 +291,7 @@ module _ {t : Types} where
   pub run_stays_done : (m : Meaning t) (k : ℕ) (s : View t) (is : List Input) (xs : List Step) (s' : View t) → Run m k s is xs s' → OnlyDoneWaits s.life → OnlyDoneWaits s'.life
   unfolding Run
   run_stays_done m k s [] [] s' r w = subst (λ (v : View t). OnlyDoneWaits v.life) (sym r) w
-  run_stays_done m k s (i ∷ is) (x ∷ xs) s' r w = run_stays_done m (k + 1) r.0 is xs s' r.2 (told_done r.0.life (step_told m k s i x r.0 r.1))
+  run_stays_done m k s (i ∷ is) (x ∷ xs) s' r w = run_stays_done m (k + 1) r.0 is xs s' r.2 (told_done r.0.life (step_told m k s i x r.0 r.1) (step_notices m k s i x r.0 r.1))
   run_stays_done m k s [] (x ∷ xs) s' r w = absurd r
   run_stays_done m k s (i ∷ is) [] s' r w = absurd r
 

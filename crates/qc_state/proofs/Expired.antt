@@ -40,16 +40,26 @@ module _ {t : Types} where
   fired_life time r a true = refl
   fired_life time r a false = refl
 
--- what holds of no move, of two moves one after the other, and of each move that a timer makes, where it may be made, holds of a
--- timeout
-module _ {t : Types} (R : At t → At t → Type 0) (here : (a : At t) → R a a) (next : (a b c : At t) → R a b → R b c → R a c)
-    (move : (x : Move t) → IsTimed x → (a : At t) → MayMove x a.state → R a (move_to x a)) where
-  fired_and : (time : ℕ) (r : FiredAfter t.C) (a : At t) (b : Bool) → R a (if b then armed_after time (move_to (Fire r) a) else a)
+-- those beside the firing of the loss timer
+abbrev pub IsExpiry : {t : Types} → Move t → Type 0
+IsExpiry (Fire r) = ⊥
+IsExpiry x = IsTimed x
+
+expiry_timed : {t : Types} (x : Move t) → IsExpiry x → IsTimed x
+expiry_timed (Fire r) h = absurd h
+expiry_timed _ h = h
+
+-- what holds of no move, of two moves one after the other, of the firing of the loss timer with what recovery makes of it, and of each
+-- other move that a timer makes, where it may be made, holds of a timeout
+module _ {t : Types} (m : Meaning t) (R : At t → At t → Type 0) (here : (a : At t) → R a a) (next : (a b c : At t) → R a b → R b c → R a c)
+    (fire : (time : ℕ) (a : At t) → R a (move_to (Fire (fired_by m time a.state)) a))
+    (move : (x : Move t) → IsExpiry x → (a : At t) → MayMove x a.state → R a (move_to x a)) where
+  fired_and : (time : ℕ) (a : At t) (b : Bool) → R a (if b then armed_after time (move_to (Fire (fired_by m time a.state)) a) else a)
   unfolding armed_after armed_with MayMove
-  fired_and time r a true =
-      let b : At t = move_to (Fire r) a in
-      next a b _ (move (Fire r) tt a tt) (move (Arm (loss_time b.state (is_blocked b.state.paths) time)) tt b tt)
-  fired_and time r a false = here a
+  fired_and time a true =
+      let b : At t = move_to (Fire (fired_by m time a.state)) a in
+      next a b _ (fire time a) (move (Arm (loss_time b.state (is_blocked b.state.paths) time)) tt b (record { blocked = is_blocked b.state.paths; time = time; set = refl }))
+  fired_and time a false = here a
 
   given_by : (why : ConnectionError) (a : At t) (b : Bool) → is_none a.state.life.reason ≡ b → R a (if b then move_to (Give why) a else a)
   unfolding MayMove
@@ -94,19 +104,27 @@ module _ {t : Types} (R : At t → At t → Type 0) (here : (a : At t) → R a a
       let b : At t = pacing_expired time a in
       next a b _ (paced_by a (has_come a.state.timers.pacing time)) (released_by b (has_come b.state.timers.max_ack_delay time))
 
-  alive_by : (m : Meaning t) (time : ℕ) (a : At t) (b : Bool) → is_drained a.state.life.state ≡ b → R a (if b then a else ack_expired time (pacing_expired time (close_expired time (idle_expired time (loss_expired m time a)))))
+  alive_by : (time : ℕ) (a : At t) (b : Bool) → is_drained a.state.life.state ≡ b → R a (if b then a else ack_expired time (pacing_expired time (close_expired time (idle_expired time (loss_expired m time a)))))
   unfolding loss_expired idle_expired
-  alive_by m time a true h = here a
-  alive_by m time a false h =
+  alive_by time a true h = here a
+  alive_by time a false h =
       let c : At t = loss_expired m time a in
       let d : At t = close_expired time (idle_expired time c) in
       let r : FiredAfter t.C = fired_by m time a.state in
-      next a c _ (fired_and time r a (has_come a.state.timers.loss_detection time))
+      next a c _ (fired_and time a (has_come a.state.timers.loss_detection time))
       (next c d _ (ended_by time c (has_come c.state.timers.idle time) (fired_life time r a (has_come a.state.timers.loss_detection time) ∙ h)) (late_by time d))
 
-  pub holds_timeout : (m : Meaning t) (time : ℕ) (a : At t) → R a (timeout_after m time a)
+  pub holds_expired : (time : ℕ) (a : At t) → R a (timeout_after m time a)
   unfolding timeout_after
-  holds_timeout m time a = alive_by m time a _ refl
+  holds_expired time a = alive_by time a _ refl
+
+-- and where it holds of each firing, whatever it leaves
+module _ {t : Types} (R : At t → At t → Type 0) (here : (a : At t) → R a a) (next : (a b c : At t) → R a b → R b c → R a c)
+    (move : (x : Move t) → IsTimed x → (a : At t) → MayMove x a.state → R a (move_to x a)) where
+  pub holds_timeout : (m : Meaning t) (time : ℕ) (a : At t) → R a (timeout_after m time a)
+  unfolding MayMove
+  holds_timeout m time a =
+      holds_expired m R here next (λ at_time b. move (Fire (fired_by m at_time b.state)) tt b tt) (λ x e b may. move x (expiry_timed x e) b may) time a
 
 -- behind a timeout none of the other timers is left having come
 module _ {t : Types} where

@@ -6,16 +6,18 @@ use Rattle.qc_base.specs.declared.transport_error.TransportError.{TransportError
 use Rattle.qc_base.specs.declared.side.SpaceId.{SpaceId}
 use Rattle.qc_base.specs.declared.side.SpaceId.TheVariants.{Initial, Handshake, «Data»}
 use Rattle.qc_flight.specs.Packets.{Entry}
-use Rattle.qc_frame.specs.Frame.{AckValue, FrameValue}
+use Rattle.qc_frame.specs.Frame.{AckValue, FrameValue, TypedValue}
 use Rattle.qc_frame.specs.FrameSpelling.{spelling}
 use Rattle.qc_frame.specs.Payload.{Item, items_of}
 use Rattle.qc_frame.specs.declared.frames.FrameOf.TheVariants as frames
 use Rattle.qc_recovery.specs.Steps.{After}
+use Rattle.qc_state.specs.declared.coming.Coming.{Coming}
 use Rattle.qc_state.specs.declared.deeds.Did.{Did}
 use Rattle.qc_state.specs.declared.deeds.Did.TheVariants as did
 use Rattle.qc_state.specs.declared.deeds.Layer.TheVariants as layer
 use Rattle.qc_state.specs.declared.keys.KeyGroup.{KeyGroup}
 use Rattle.qc_state.specs.declared.life.ConnectionError.{ConnectionError}
+use Rattle.qc_state.specs.declared.life.ConnectionError.TheVariants as lost
 use Rattle.qc_state.specs.declared.lower.Lower.{Lower}
 use Rattle.qc_state.specs.declared.numbers.Numbers.{Numbers}
 use Rattle.qc_state.specs.Keys.{keys_dropped}
@@ -24,15 +26,18 @@ use Rattle.qc_state.specs.Lower.{bytes_came, flight_dropped, packets_settled, re
 use Rattle.qc_state.specs.Moves.{Move, Ack, Arm, Come, Confirm, Establish, Forget, Give, Learn, Leave, Owe, Read, Ready, Shut, Tell, Token, Want, Write, MayMove, armed_after, armed_with, deeds_move, keys_move, life_move, lower_move, move_to, numbers_move, setup_move, state_move}
 use Rattle.qc_state.specs.Numbers.{next_number, number_accepted, number_acked}
 use Rattle.qc_state.specs.Numbers as numbers
-use Rattle.qc_state.specs.PieceLaws.{Goes, Last, Outcome, Reading, Refused, applied_in, applied_with, gifts_of, given_in, kind_outcome, outcome_of, pieces_in, read_behind, read_outcome, reading_behind, refused_or, session_gift, unless_refused}
-use Rattle.qc_state.specs.Receiving.{acked_after, answered_and, applied_after, close_and, close_given, closed_in_data, confirmed_after, crypto_and, crypto_stop, crypto_stop_of, end_after, expected_below, expected_space, frame_and, given_and, items_after, kept_and, left_after, payload_after, read_and, rearmed_after, reason_of, settled_after, stop_in, taken_and}
+use Rattle.qc_state.specs.PieceLaws.{Goes, Last, Outcome, Reading, Refused, applied_in, applied_with, close_outcome, gift_of, gifts_of, given_in, kind_outcome, outcome_of, pieces_in, read_behind, read_outcome, reading_behind, refused_or, session_gift, unless_refused}
+use Rattle.qc_state.specs.Receiving.{acked_after, applied_after, close_given, closed_in_data, confirmed_after, crypto_stop, crypto_stop_of, end_after, expected_below, expected_space, items_after, left_after, payload_after, rearmed_after, settled_after, stop_in, Behind, close_after, ended_by, answered_after, bytes_given, kept_after, frame_after, course_with}
+use Rattle.qc_state.specs.Receiving as receiving
 use Rattle.qc_state.specs.Recovering.{settled_by}
-use Rattle.qc_state.specs.Stopping.{given_after, stopped_after}
+use Rattle.qc_state.specs.Stopping.{encoding_error_at, given_after, stopped_after}
 use Rattle.qc_state.specs.Types.{Types, Meaning}
 use Rattle.qc_state.specs.View.{View, At, at}
 use Rattle.qc_state.proofs.Ends.{holds_armed_now, holds_given, holds_stopped}
+use Rattle.qc_state.proofs.OpenPackets.{ended_stays}
 use Rattle.qc_state.proofs.Progresses.{holds_progress}
-use Rattle.qc_state.proofs.ReceivedMoves.{IsEnding, IsProgress}
+use Rattle.qc_state.proofs.PacketMoves.{IsProgress}
+use Rattle.qc_state.proofs.ReceivedMoves.{IsEnding}
 use Rattle.qc_state.proofs.Telling.{told_appends}
 
 -- ---- lists of deeds
@@ -138,19 +143,19 @@ module _ {t : Types} where
   ending_quiet (Give why) e a may = gives_move [] (Give why) a refl refl
   ending_quiet _ e a may = absurd e
 
-  progress_quiet : (m : Meaning t) (time : ℕ) (x : Move t) (a : At t) → IsProgress m time x a.state → MayMove x a.state → Gives [] a (move_to x a)
+  progress_quiet : (m : Meaning t) (time : ℕ) (space : SpaceId) (x : Move t) (a : At t) → IsProgress m time space x a.state → MayMove x a.state → Gives [] a (move_to x a)
   unfolding deeds_move
-  progress_quiet m time (Forget id) a e may = gives_move [] (Forget id) a refl refl
-  progress_quiet m time (Arm at) a e may = gives_move [] (Arm at) a refl refl
-  progress_quiet m time (Write bytes keys session) a e may = gives_move [] (Write bytes keys session) a refl refl
-  progress_quiet m time (Token token) a e may = gives_move [] (Token token) a refl refl
-  progress_quiet m time (Learn parameters) a e may = gives_move [] (Learn parameters) a refl refl
-  progress_quiet m time (Want at count) a e may = gives_move [] (Want at count) a refl refl
-  progress_quiet m time Confirm a e may = gives_move [] Confirm a refl refl
-  progress_quiet m time Establish a e may = gives_move [] Establish a refl refl
-  progress_quiet m time (Shut at close) a e may = gives_move [] (Shut at close) a refl refl
-  progress_quiet m time (Give why) a e may = gives_move [] (Give why) a refl refl
-  progress_quiet m time _ a e may = absurd e
+  progress_quiet m time space (Forget id) a e may = gives_move [] (Forget id) a refl refl
+  progress_quiet m time space (Arm at) a e may = gives_move [] (Arm at) a refl refl
+  progress_quiet m time space (Write bytes keys session) a e may = gives_move [] (Write bytes keys session) a refl refl
+  progress_quiet m time space (Token token) a e may = gives_move [] (Token token) a refl refl
+  progress_quiet m time space (Learn parameters) a e may = gives_move [] (Learn parameters) a refl refl
+  progress_quiet m time space (Want at count) a e may = gives_move [] (Want at count) a refl refl
+  progress_quiet m time space Confirm a e may = gives_move [] Confirm a refl refl
+  progress_quiet m time space Establish a e may = gives_move [] Establish a refl refl
+  progress_quiet m time space (Shut at close) a e may = gives_move [] (Shut at close) a refl refl
+  progress_quiet m time space (Give why) a e may = gives_move [] (Give why) a refl refl
+  progress_quiet m time space _ a e may = absurd e
 
   pub stopped_quiet : (time : ℕ) (error : TransportError) (a : At t) → Gives [] a (stopped_after time error a)
   stopped_quiet time error a = holds_stopped (Gives []) gives_here quiet_next ending_quiet time error a
@@ -175,10 +180,10 @@ module _ {t : Types} where
   in_data_by time why a true = let b : At t = left_after time why a in quiet_next a b _ (left_quiet time why a) (gives_move [] Owe b refl refl)
   in_data_by time why a false = gives_here a
 
-  end_quiet : (m : Meaning t) (time : ℕ) (id : SpaceId) (close : Option ConnectionError) (a : At t) → Gives [] a (end_after m time id close a)
+  end_quiet : (m : Meaning t) (coming : Coming) (id : SpaceId) (close : Option ConnectionError) (a : At t) → Gives [] a (end_after m coming id (receiving.Reads close a))
   unfolding closed_in_data
-  end_quiet m time id None a = holds_progress m time (Gives []) gives_here quiet_next (progress_quiet m time) id a
-  end_quiet m time id (Some why) a = in_data_by time why a (is_open a.state.life.state)
+  end_quiet m coming id None a = holds_progress m coming.time id (Gives []) gives_here quiet_next (progress_quiet m coming.time id) a
+  end_quiet m coming id (Some why) a = in_data_by coming.time why a (is_open a.state.life.state)
 
   -- ---- what decides on the frames of a packet
 
@@ -248,45 +253,44 @@ module _ {t : Types} where
   unfolding crypto_stop expected_space
   crypto_same s id r v offset body h = λ j. crypto_stop_of (h.fixed j).crypto_buffer_size (if is_established (h.life j) then «Data» else expected_below (h.highest j)) (h.stream j) id offset body
 
+module _ {t : Types} (m : Meaning t) (coming : Coming) (s : View t) (id : SpaceId) where
   -- ---- frames
 
-  -- what a CRYPTO frame gives that makes these bytes ready, and the frames behind it
-  abbrev crypto_gifts : Outcome → Meaning t → Assembly → t.S → List ℕ → List FrameValue → List Did
-  crypto_gifts Refused m w session bytes fs = []
-  crypto_gifts Last m w session bytes fs = session_gift bytes ++ []
-  crypto_gifts Goes m w session bytes fs = session_gift bytes ++ gifts_of m (read_behind m w session bytes) fs
+  -- a frame of which this becomes gives these gifts, unless it is refused, and where the packet goes on, this decides on the frames
+  -- behind it
+  abbrev Leaves : (gifts : List Did) → Reading t.S → Outcome → At t → Behind t → Type 0
+  Leaves gifts r Refused a (receiving.Ends b) = Gives [] a b
+  Leaves gifts r Last a (receiving.Ends b) = Gives gifts a b
+  Leaves gifts r Goes a (receiving.Goes b) = Gives gifts a b × Along s id r b.state
+  Leaves gifts r Goes a (receiving.Closes why b) = Gives gifts a b × Along s id r b.state
+  Leaves gifts r _ a _ = ⊥
 
-  crypto_as : (m : Meaning t) (r : Reading t.S) (offset : ℕ) (body : List ℕ) (fs : List FrameValue) (o : Outcome) →
-      let w : Assembly = inserted offset body r.stream in crypto_gifts o m w r.session (ready_bytes w) fs ≡ gifts_of m r (applied_with o (frames.Crypto offset body) fs)
-  crypto_as m r offset body fs Refused = refl
-  crypto_as m r offset body fs Last = refl
-  crypto_as m r offset body fs Goes = refl
+  -- so it does behind what gives nothing
+  leaves_next : (gifts : List Did) (r : Reading t.S) (o : Outcome) (a b : At t) (x : Behind t) → Gives [] a b → Leaves gifts r o b x → Leaves gifts r o a x
+  leaves_next gifts r Refused a b (receiving.Ends c) g h = quiet_next a b c g h
+  leaves_next gifts r Last a b (receiving.Ends c) g h = quiet_gives gifts a b c g h
+  leaves_next gifts r Goes a b (receiving.Goes c) g h = (quiet_gives gifts a b c g h.0, h.1)
+  leaves_next gifts r Goes a b (receiving.Closes why c) g h = (quiet_gives gifts a b c g h.0, h.1)
+  leaves_next gifts r _ a b _ g h = absurd h
 
-module _ {t : Types} (m : Meaning t) (time : ℕ) (s : View t) (id : SpaceId) where
-  -- what is made of the frames behind gives what they give
-  abbrev Others : Reading t.S → List FrameValue → (At t → At t) → Type 0
-  Others r fs others = (b : At t) → Along s id r b.state → Gives (gifts_of m r fs) b (others b)
+  -- an error refuses a frame
+  ended_leaves : (gifts : List Did) (r : Reading t.S) (o : Outcome) (stop : Option TransportError) (does : At t → Behind t) (a : At t) → Leaves gifts r o a (does a) → Leaves gifts r (refused_or stop o) a (ended_by coming.time stop does a)
+  ended_leaves gifts r o (Some error) does a h = stopped_quiet coming.time error a
+  ended_leaves gifts r o None does a h = h
 
-  -- the session answered a read of these bytes
-  answered : (w : Assembly) (session : t.S) (x : ℕ) (bytes : List ℕ) (fs : List FrameValue) (others : At t → At t) (a c : At t) (r : Result Bool TransportError) →
-      let behind : Reading t.S = read_behind m w session (x ∷ bytes) in
-      Gives (did.Gave layer.Session (x ∷ bytes) ∷ []) a c → Along s id behind c.state → Others behind fs others → Gives (crypto_gifts (unless_refused r) m w session (x ∷ bytes) fs) a (answered_and time r others c)
+  -- the session answered a read
+  answered_leaves : (gifts : List Did) (r : Reading t.S) (answer : Result Bool TransportError) (a c : At t) → Gives gifts a c → Along s id r c.state → Leaves gifts r (unless_refused answer) a (answered_after coming answer c)
   unfolding deeds_move
-  answered w session x bytes fs others a c (Err error) gave along h = gives_next (did.Gave layer.Session (x ∷ bytes) ∷ []) [] a c _ gave (stopped_quiet time error c)
-  answered w session x bytes fs others a c (Ok true) gave along h =
-      let behind : Reading t.S = read_behind m w session (x ∷ bytes) in
-      let d : At t = move_to Ready c in
-      gives_next (did.Gave layer.Session (x ∷ bytes) ∷ []) (gifts_of m behind fs) a c _ gave
-      (quiet_gives (gifts_of m behind fs) c d _ (gives_move [] Ready c refl refl) (h d (along_ready s id behind c along)))
-  answered w session x bytes fs others a c (Ok false) gave along h =
-      gives_next (did.Gave layer.Session (x ∷ bytes) ∷ []) (gifts_of m (read_behind m w session (x ∷ bytes)) fs) a c _ gave (h c along)
+  answered_leaves gifts r (Err error) a c gave along = gives_quiet gifts a c _ gave (stopped_quiet coming.time error c)
+  answered_leaves gifts r (Ok true) a c gave along = (gives_quiet gifts a c (move_to Ready c) gave (gives_move [] Ready c refl refl), along_ready s id r c along)
+  answered_leaves gifts r (Ok false) a c gave along = (gave, along)
 
   -- the session is given these bytes, if there are any
-  bytes_give : (w : Assembly) (session : t.S) (bytes : List ℕ) (fs : List FrameValue) (others : At t → At t) (a : At t) → Along s id (record { stream = w; session = session }) a.state →
-      Others (read_behind m w session bytes) fs others → Gives (crypto_gifts (read_outcome m session bytes) m w session bytes fs) a (given_and m time id bytes others a)
+  bytes_leave : (w : Assembly) (session : t.S) (bytes : List ℕ) (a : At t) → Along s id (record { stream = w; session = session }) a.state →
+      Leaves (session_gift bytes) (read_behind m w session bytes) (read_outcome m session bytes) a (bytes_given m coming id bytes a)
   unfolding deeds_move
-  bytes_give w session [] fs others a along h = h a along
-  bytes_give w session (x ∷ bytes) fs others a along h =
+  bytes_leave w session [] a along = (gives_here a, along)
+  bytes_leave w session (x ∷ bytes) a along =
       let r : Reading t.S = record { stream = w; session = session } in
       let gave : Did = did.Gave layer.Session (x ∷ bytes) in
       let b : At t = move_to (Tell gave) a in
@@ -297,129 +301,118 @@ module _ {t : Types} (m : Meaning t) (time : ℕ) (s : View t) (id : SpaceId) wh
       along_read s id r (length (x ∷ bytes)) (m.after_read a.state.lower.session (x ∷ bytes)) b (along_tell s id r gave a along) in
       let behind : Along s id (read_behind m w session (x ∷ bytes)) c.state =
       subst (λ (q : t.S). Along s id (record { stream = advanced (length (x ∷ bytes)) w; session = m.after_read q (x ∷ bytes) }) c.state) along.session there in
-      subst (λ (q : t.S). Gives (crypto_gifts (unless_refused (m.reads q (x ∷ bytes))) m w session (x ∷ bytes) fs) a (answered_and time (m.reads a.state.lower.session (x ∷ bytes)) others c)) along.session
-      (answered w session x bytes fs others a c (m.reads a.state.lower.session (x ∷ bytes)) (gives_quiet (gave ∷ []) a b c told read) behind h)
+      subst (λ (q : t.S). Leaves (gave ∷ []) (read_behind m w session (x ∷ bytes)) (unless_refused (m.reads q (x ∷ bytes))) a (answered_after coming (m.reads a.state.lower.session (x ∷ bytes)) c)) along.session
+      (answered_leaves (gave ∷ []) (read_behind m w session (x ∷ bytes)) (m.reads a.state.lower.session (x ∷ bytes)) a c (gives_quiet (gave ∷ []) a b c told read) behind)
 
-  -- a CRYPTO frame that stops nothing
-  kept_gives : (r : Reading t.S) (offset : ℕ) (body : List ℕ) (fs : List FrameValue) (others : At t → At t) (a : At t) → Along s id r a.state →
-      Others (reading_behind m r (frames.Crypto offset body)) fs others →
-      let w : Assembly = inserted offset body r.stream in Gives (crypto_gifts (read_outcome m r.session (ready_bytes w)) m w r.session (ready_bytes w) fs) a (kept_and m time id offset body others a)
-  unfolding kept_and deeds_move
-  kept_gives r offset body fs others a along h =
+  -- bytes of a CRYPTO frame that stops nothing
+  kept_leaves : (r : Reading t.S) (offset : ℕ) (body : List ℕ) (a : At t) → Along s id r a.state →
       let w : Assembly = inserted offset body r.stream in
+      Leaves (session_gift (ready_bytes w)) (read_behind m w r.session (ready_bytes w)) (read_outcome m r.session (ready_bytes w)) a (kept_after m coming id offset body a)
+  unfolding kept_after deeds_move
+  kept_leaves r offset body a along =
+      let w : Assembly = inserted offset body r.stream in
+      let gifts : List Did = session_gift (ready_bytes w) in
+      let behind : Reading t.S = read_behind m w r.session (ready_bytes w) in
+      let o : Outcome = read_outcome m r.session (ready_bytes w) in
       let b : At t = move_to (Come id offset body) a in
       let there : Along s id (record { stream = w; session = r.session }) b.state = along_come s id r offset body a along in
-      let gifts : List Did = crypto_gifts (read_outcome m r.session (ready_bytes w)) m w r.session (ready_bytes w) fs in
-      quiet_gives gifts a b _ (gives_move [] (Come id offset body) a refl refl)
-      (subst (λ (bytes : List ℕ). Gives gifts b (given_and m time id bytes others b)) (ap ready_bytes (sym there.stream)) (bytes_give w r.session (ready_bytes w) fs others b there h))
-
-  crypto_gives : (r : Reading t.S) (offset : ℕ) (body : List ℕ) (fs : List FrameValue) (others : At t → At t) (a : At t) (stop : Option TransportError) → Along s id r a.state →
-      Others (reading_behind m r (frames.Crypto offset body)) fs others →
-      Gives (gifts_of m r (applied_with (refused_or stop (read_outcome m r.session (ready_bytes (inserted offset body r.stream)))) (frames.Crypto offset body) fs)) a (crypto_and m time id offset body stop others a)
-  crypto_gives r offset body fs others a (Some error) along h = stopped_quiet time error a
-  crypto_gives r offset body fs others a None along h =
-      subst (λ (ds : List Did). Gives ds a (kept_and m time id offset body others a)) (crypto_as m r offset body fs (read_outcome m r.session (ready_bytes (inserted offset body r.stream))))
-      (kept_gives r offset body fs others a along h)
+      leaves_next gifts behind o a b (bytes_given m coming id (ready_bytes (stream_of b.state.lower id)) b) (gives_move [] (Come id offset body) a refl refl)
+      (subst (λ (bytes : List ℕ). Leaves gifts behind o b (bytes_given m coming id bytes b)) (ap ready_bytes (sym there.stream)) (bytes_leave w r.session (ready_bytes w) b there))
 
   -- an acknowledgement
-  rearmed_quiet : (r : Reading t.S) (acked : List Entry) (a : At t) → Along s id r a.state → Gives [] a (rearmed_after time acked a) × Along s id r (rearmed_after time acked a).state
+  rearmed_quiet : (r : Reading t.S) (acked : List Entry) (a : At t) → Along s id r a.state → Gives [] a (rearmed_after coming.time acked a) × Along s id r (rearmed_after coming.time acked a).state
   rearmed_quiet r [] a along = (gives_here a, along)
-  rearmed_quiet r (e ∷ es) a along = (armed_quiet time a, along_arm s id r time a along)
+  rearmed_quiet r (e ∷ es) a along = (armed_quiet coming.time a, along_arm s id r coming.time a along)
 
-  ack_gives : (r : Reading t.S) (ack : AckValue) (fs : List FrameValue) (others : At t → At t) (a : At t) → Along s id r a.state → Others r fs others →
-      Gives (did.Gave layer.Recovery (spelling (frames.Ack ack)) ∷ gifts_of m r fs) a (others (acked_after m time id ack a))
+  ack_leaves : (r : Reading t.S) (ack : AckValue) (a : At t) → Along s id r a.state →
+      Gives (did.Gave layer.Recovery (spelling (frames.Ack ack)) ∷ []) a (acked_after m coming.time id ack a) × Along s id r (acked_after m coming.time id ack a).state
   unfolding acked_after settled_after deeds_move
-  ack_gives r ack fs others a along h =
+  ack_leaves r ack a along =
       let gave : Did = did.Gave layer.Recovery (spelling (frames.Ack ack)) in
-      let after : After t.C = settled_by m time id ack a.state in
+      let after : After t.C = settled_by m coming.time id ack a.state in
       let b : At t = move_to (Tell gave) a in
       let c : At t = move_to (Ack id ack.largest after) b in
-      let d : At t = rearmed_after time after.acked c in
+      let d : At t = rearmed_after coming.time after.acked c in
       let there = rearmed_quiet r after.acked c (along_ack s id r ack.largest after b (along_tell s id r gave a along)) in
-      gives_next (gave ∷ []) (gifts_of m r fs) a b _ (gives_move (gave ∷ []) (Tell gave) a refl refl)
-      (quiet_gives (gifts_of m r fs) b d _ (quiet_next b c d (gives_move [] (Ack id ack.largest after) b refl refl) there.0) (h d there.1))
+      (gives_quiet (gave ∷ []) a b d (gives_move (gave ∷ []) (Tell gave) a refl refl) (quiet_next b c d (gives_move [] (Ack id ack.largest after) b refl refl) there.0), there.1)
 
   -- a HANDSHAKE_DONE
-  done_gives : (r : Reading t.S) (fs : List FrameValue) (others : At t → At t) (a : At t) → Along s id r a.state → Others r fs others →
-      Gives (did.Gave layer.Life (spelling frames.HandshakeDone) ∷ gifts_of m r fs) a (others (confirmed_after time a))
+  done_leaves : (r : Reading t.S) (a : At t) → Along s id r a.state →
+      Gives (did.Gave layer.Life (spelling frames.HandshakeDone) ∷ []) a (confirmed_after coming.time a) × Along s id r (confirmed_after coming.time a).state
   unfolding confirmed_after deeds_move
-  done_gives r fs others a along h =
+  done_leaves r a along =
       let gave : Did = did.Gave layer.Life (spelling frames.HandshakeDone) in
       let b : At t = move_to (Tell gave) a in
       let c : At t = move_to (Forget Handshake) b in
-      let d : At t = armed_after time c in
-      let there : Along s id r d.state = along_arm s id r time c (along_forget s id r Handshake b (along_tell s id r gave a along)) in
-      gives_next (gave ∷ []) (gifts_of m r fs) a b _ (gives_move (gave ∷ []) (Tell gave) a refl refl)
-      (quiet_gives (gifts_of m r fs) b d _ (quiet_next b c d (gives_move [] (Forget Handshake) b refl refl) (armed_quiet time c)) (h d there))
+      let d : At t = armed_after coming.time c in
+      let there : Along s id r d.state = along_arm s id r coming.time c (along_forget s id r Handshake b (along_tell s id r gave a along)) in
+      (gives_quiet (gave ∷ []) a b d (gives_move (gave ∷ []) (Tell gave) a refl refl) (quiet_next b c d (gives_move [] (Forget Handshake) b refl refl) (armed_quiet coming.time c)), there)
 
-  -- a frame that stops nothing by its kind, and is no close
-  taken_gives : (r : Reading t.S) (f : FrameValue) (fs : List FrameValue) (others : At t → At t) (a : At t) → reason_of f ≡ None → Along s id r a.state → Others (reading_behind m r f) fs others →
-      Gives (gifts_of m r (applied_with (kind_outcome m s id r f) f fs)) a (taken_and m time id f others a)
-  unfolding applied_after
-  taken_gives r (frames.Crypto offset body) fs others a none along h =
-      subst (λ (stop : Option TransportError). Gives (gifts_of m r (applied_with (refused_or stop (read_outcome m r.session (ready_bytes (inserted offset body r.stream)))) (frames.Crypto offset body) fs)) a
-      (crypto_and m time id offset body (crypto_stop a.state id offset body) others a)) (crypto_same s id r a.state offset body along)
-      (crypto_gives r offset body fs others a (crypto_stop a.state id offset body) along h)
-  taken_gives r (frames.Ack ack) fs others a none along h = ack_gives r ack fs others a along h
-  taken_gives r frames.HandshakeDone fs others a none along h = done_gives r fs others a along h
-  taken_gives r (frames.ConnectionClose code type reason) fs others a none along h = cc
-  taken_gives r (frames.ApplicationClose code reason) fs others a none along h = cc
-  taken_gives r _ fs others a none along h = h a along
-
-  frame_gives : (r : Reading t.S) (f : FrameValue) (fs : List FrameValue) (others : At t → At t) (a : At t) (stop : Option TransportError) → reason_of f ≡ None → Along s id r a.state → Others (reading_behind m r f) fs others →
-      Gives (gifts_of m r (applied_with (refused_or stop (kind_outcome m s id r f)) f fs)) a (frame_and m time id f stop others a)
-  frame_gives r f fs others a (Some error) none along h = stopped_quiet time error a
-  frame_gives r f fs others a None none along h = taken_gives r f fs others a none along h
-
-module _ {t : Types} (m : Meaning t) (time : ℕ) (s : View t) where
   -- a close
   close_told : (f : FrameValue) (a : At t) → Gives (did.Gave layer.Life (spelling f) ∷ []) a (close_given f a)
   unfolding close_given deeds_move
   close_told f a = gives_move (did.Gave layer.Life (spelling f) ∷ []) (Tell (did.Gave layer.Life (spelling f))) a refl refl
 
-  -- the last one
-  last_gives : (f : FrameValue) (why : ConnectionError) (a : At t) → Gives (did.Gave layer.Life (spelling f) ∷ []) a (left_after time why (close_given f a))
-  last_gives f why a = let b : At t = close_given f a in gives_quiet (did.Gave layer.Life (spelling f) ∷ []) a b _ (close_told f a) (left_quiet time why b)
+  last_close : (f : FrameValue) (why : ConnectionError) (a : At t) → Gives (did.Gave layer.Life (spelling f) ∷ []) a (left_after coming.time why (close_given f a))
+  last_close f why a = let b : At t = close_given f a in gives_quiet (did.Gave layer.Life (spelling f) ∷ []) a b _ (close_told f a) (left_quiet coming.time why b)
 
-  -- one in a 1-RTT packet
-  data_gives : (id : SpaceId) (r : Reading t.S) (f : FrameValue) (fs : List FrameValue) (others : At t → At t) (a : At t) → Along s id r a.state → Others m time s id r fs others →
-      Gives (did.Gave layer.Life (spelling f) ∷ gifts_of m r fs) a (others (close_given f a))
+  close_leaves : (space : SpaceId) (r : Reading t.S) (f : FrameValue) (why : ConnectionError) (a : At t) → Along s id r a.state → Leaves (did.Gave layer.Life (spelling f) ∷ []) r (close_outcome space) a (close_after coming space f why a)
   unfolding close_given
-  data_gives id r f fs others a along h =
-      let gave : Did = did.Gave layer.Life (spelling f) in
-      let b : At t = close_given f a in
-      gives_next (gave ∷ []) (gifts_of m r fs) a b _ (close_told f a) (h b (along_tell s id r gave a along))
+  close_leaves Initial r f why a along = last_close f why a
+  close_leaves Handshake r f why a along = last_close f why a
+  close_leaves Data r f why a along = (close_told f a, along_tell s id r (did.Gave layer.Life (spelling f)) a along)
 
-  closing_gives : (id : SpaceId) (r : Reading t.S) (type : ℕ) (f : FrameValue) (why : ConnectionError) (fs : List FrameValue) (others : Option ConnectionError → At t → At t) (a : At t) →
-      reason_of f ≡ Some why → Along s id r a.state → ((c : Option ConnectionError) → Others m time s id (reading_behind m r f) fs (others c)) →
-      Gives (gifts_of m r (applied_with (outcome_of m s id r (record { ty = type; frame = f })) f fs)) a (close_and time id f why others a)
-  closing_gives Initial r type (frames.ConnectionClose code ty reason) why fs others a is along h = last_gives (frames.ConnectionClose code ty reason) why a
-  closing_gives Handshake r type (frames.ConnectionClose code ty reason) why fs others a is along h = last_gives (frames.ConnectionClose code ty reason) why a
-  closing_gives Data r type (frames.ConnectionClose code ty reason) why fs others a is along h = data_gives «Data» r (frames.ConnectionClose code ty reason) fs (others (Some why)) a along (h (Some why))
-  closing_gives Initial r type (frames.ApplicationClose code reason) why fs others a is along h = last_gives (frames.ApplicationClose code reason) why a
-  closing_gives Handshake r type (frames.ApplicationClose code reason) why fs others a is along h = last_gives (frames.ApplicationClose code reason) why a
-  closing_gives Data r type (frames.ApplicationClose code reason) why fs others a is along h = data_gives «Data» r (frames.ApplicationClose code reason) fs (others (Some why)) a along (h (Some why))
-  closing_gives id r type _ why fs others a is along h = cc
+  -- a frame that its kind doesn't stop
+  kind_leaves : (r : Reading t.S) (f : FrameValue) (a : At t) → Along s id r a.state → Leaves (gift_of r.stream f) (reading_behind m r f) (kind_outcome m s id r f) a (applied_after m coming id f a)
+  unfolding applied_after
+  kind_leaves r (frames.Crypto offset body) a along =
+      let w : Assembly = inserted offset body r.stream in
+      let gifts : List Did = session_gift (ready_bytes w) in
+      let behind : Reading t.S = read_behind m w r.session (ready_bytes w) in
+      let o : Outcome = read_outcome m r.session (ready_bytes w) in
+      subst (λ (stop : Option TransportError). Leaves gifts behind (refused_or stop o) a (ended_by coming.time (crypto_stop a.state id offset body) (kept_after m coming id offset body) a)) (crypto_same s id r a.state offset body along)
+      (ended_leaves gifts behind o (crypto_stop a.state id offset body) (kept_after m coming id offset body) a (kept_leaves r offset body a along))
+  kind_leaves r (frames.Ack ack) a along = ack_leaves r ack a along
+  kind_leaves r frames.HandshakeDone a along = done_leaves r a along
+  kind_leaves r (frames.ConnectionClose code type reason) a along = close_leaves id r (frames.ConnectionClose code type reason) (lost.ConnectionClosed (record { error_code = code; frame_type = type; reason = reason })) a along
+  kind_leaves r (frames.ApplicationClose code reason) a along = close_leaves id r (frames.ApplicationClose code reason) (lost.ApplicationClosed (record { error_code = code; reason = reason })) a along
+  kind_leaves r _ a along = (gives_here a, along)
 
-  -- a frame, and what is behind it
-  read_gives : (id : SpaceId) (r : Reading t.S) (type : ℕ) (f : FrameValue) (why close : Option ConnectionError) (fs : List FrameValue) (others : Option ConnectionError → At t → At t) (a : At t) →
-      reason_of f ≡ why → Along s id r a.state → ((c : Option ConnectionError) → Others m time s id (reading_behind m r f) fs (others c)) →
-      Gives (gifts_of m r (applied_with (outcome_of m s id r (record { ty = type; frame = f })) f fs)) a (read_and m time id (record { ty = type; frame = f }) why close others a)
-  read_gives id r type f (Some why) close fs others a is along h = closing_gives id r type f why fs others a is along h
-  read_gives id r type f None close fs others a is along h =
-      let stop : Option TransportError = stop_in a.state.setup.fixed.side id (next_number a.state.numbers id) a.state.numbers.filter.last type f in
-      subst (λ (o : Option TransportError). Gives (gifts_of m r (applied_with (refused_or o (kind_outcome m s id r f)) f fs)) a (frame_and m time id f stop (others close) a)) (stop_same s id r a.state type f along)
-      (frame_gives m time s id r f fs (others close) a stop is along (h close))
-
-  -- the frames of a packet
-  items_give : (id : SpaceId) (r : Reading t.S) (items : List Item) (close : Option ConnectionError) (a : At t) → Along s id r a.state → Gives (gifts_of m r (applied_in m s id r items)) a (items_after m time id items close a)
-  items_give id r [] close a along = end_quiet m time id close a
-  items_give id r (Err fault ∷ items) close a along = stopped_quiet time _ a
-  items_give id r (Ok read ∷ items) close a along =
+  -- a frame
+  frame_leaves : (r : Reading t.S) (read : TypedValue) (a : At t) → Along s id r a.state → Leaves (gift_of r.stream read.frame) (reading_behind m r read.frame) (outcome_of m s id r read) a (frame_after m coming id read a)
+  frame_leaves r read a along =
+      let gifts : List Did = gift_of r.stream read.frame in
       let behind : Reading t.S = reading_behind m r read.frame in
-      read_gives id r read.ty read.frame (reason_of read.frame) close (applied_in m s id behind items) (items_after m time id items) a refl along (λ c b there. items_give id behind items c b there)
+      let o : Outcome = kind_outcome m s id r read.frame in
+      let stop : Option TransportError = stop_in a.state.setup.fixed.side id (next_number a.state.numbers id) a.state.numbers.filter.last read.ty read.frame in
+      subst (λ (e : Option TransportError). Leaves gifts behind (refused_or e o) a (ended_by coming.time stop (applied_after m coming id read.frame) a)) (stop_same s id r a.state read.ty read.frame along)
+      (ended_leaves gifts behind o stop (applied_after m coming id read.frame) a (kind_leaves r read.frame a along))
 
-  pub payload_gives : (id : SpaceId) (r : Reading t.S) (payload : List ℕ) (a : At t) → Along s id r a.state → Gives (gifts_of m r (applied_in m s id r (items_of payload))) a (payload_after m time id payload a)
+  -- ---- the frames of a packet
+
+  -- a frame ended the packet
+  ended_gives : (gifts : List Did) (items : List Item) (a b : At t) → Gives gifts a b → Gives gifts a (end_after m coming id (items_after m coming id items (receiving.Ended b)))
+  ended_gives gifts items a b h = subst (λ (c : receiving.Course t). Gives gifts a (end_after m coming id c)) (sym (ended_stays m coming id items b)) h
+
+  -- behind what a frame leaves
+  behind_gives : (r : Reading t.S) (f : FrameValue) (fs : List FrameValue) (items : List Item) (close : Option ConnectionError) (o : Outcome) (a : At t) (x : Behind t) → Leaves (gift_of r.stream f) (reading_behind m r f) o a x →
+      ((c : Option ConnectionError) (b : At t) → Along s id (reading_behind m r f) b.state → Gives (gifts_of m (reading_behind m r f) fs) b (end_after m coming id (items_after m coming id items (receiving.Reads c b)))) →
+      Gives (gifts_of m r (applied_with o f fs)) a (end_after m coming id (items_after m coming id items (course_with close x)))
+  behind_gives r f fs items close Refused a (receiving.Ends b) h others = ended_gives [] items a b h
+  behind_gives r f fs items close Last a (receiving.Ends b) h others =
+      ended_gives (gift_of r.stream f ++ []) items a b (subst (λ (ds : List Did). Gives ds a b) (sym (append-nil (gift_of r.stream f))) h)
+  behind_gives r f fs items close Goes a (receiving.Goes b) h others = gives_next (gift_of r.stream f) (gifts_of m (reading_behind m r f) fs) a b _ h.0 (others close b h.1)
+  behind_gives r f fs items close Goes a (receiving.Closes why b) h others = gives_next (gift_of r.stream f) (gifts_of m (reading_behind m r f) fs) a b _ h.0 (others (Some why) b h.1)
+  behind_gives r f fs items close _ a _ h others = absurd h
+
+  items_give : (r : Reading t.S) (items : List Item) (close : Option ConnectionError) (a : At t) → Along s id r a.state → Gives (gifts_of m r (applied_in m s id r items)) a (end_after m coming id (items_after m coming id items (receiving.Reads close a)))
+  items_give r [] close a along = end_quiet m coming id close a
+  items_give r (Err fault ∷ items) close a along = ended_gives [] items a _ (stopped_quiet coming.time (encoding_error_at fault.ty) a)
+  items_give r (Ok read ∷ items) close a along =
+      let behind : Reading t.S = reading_behind m r read.frame in
+      behind_gives r read.frame (applied_in m s id behind items) items close (outcome_of m s id r read) a (frame_after m coming id read a) (frame_leaves r read a along) (λ c b there. items_give behind items c b there)
+
+  pub payload_gives : (r : Reading t.S) (payload : List ℕ) (a : At t) → Along s id r a.state → Gives (gifts_of m r (applied_in m s id r (items_of payload))) a (payload_after m coming id payload a)
   unfolding payload_after items_of
-  payload_gives id r [] a along = stopped_quiet time _ a
-  payload_gives id r (b ∷ bytes) a along = items_give id r (items_of (b ∷ bytes)) None a along
+  payload_gives r [] a along = stopped_quiet coming.time _ a
+  payload_gives r (b ∷ bytes) a along = items_give r (items_of (b ∷ bytes)) None a along

@@ -18,6 +18,7 @@ use Rattle.qc_header.specs.declared.protected.ProtectedHeader.{ProtectedHeader}
 use Rattle.qc_header.specs.declared.protected.ProtectedHeader.TheVariants as protected
 use Rattle.qc_header.specs.Piece.{Piece, space_of}
 use Rattle.qc_header.specs.Pieces.{pieces_and, pieces_of, pieces_within}
+use Rattle.qc_state.specs.declared.coming.Coming.{Coming}
 use Rattle.qc_state.specs.declared.deeds.Did.{Did}
 use Rattle.qc_state.specs.declared.deeds.Did.TheVariants as did
 use Rattle.qc_state.specs.declared.deeds.Verdict.{Verdict}
@@ -32,18 +33,17 @@ use Rattle.qc_state.specs.declared.life.State.{State}
 use Rattle.qc_state.specs.declared.life.State.TheVariants as state
 use Rattle.qc_state.specs.declared.opening.Opening.{Opening}
 use Rattle.qc_state.specs.declared.opening.Opening.TheVariants.{Unreadable, Unopened, Reserved, Opened}
-use Rattle.qc_state.specs.declared.opening.Signs.{Signs}
 use Rattle.qc_state.specs.declared.paths.Paths.{Paths}
 use Rattle.qc_state.specs.declared.timers.Timers.{Timers}
 use Rattle.qc_state.specs.declared.trace.Step.{Step}
 use Rattle.qc_state.specs.declared.transmit.TheConstants.{DATAGRAM_SIZE}
 use Rattle.qc_state.specs.Headline.{deeds_of, is_harmless, is_datagram, OnlyCounts, Harmless}
 use Rattle.qc_state.specs.Keys.{fails_too_often, failure_counted}
-use Rattle.qc_state.specs.Life.{is_handshake, is_over, ready_reported, connected_reported, lost_reported, token_reported, wanted_reported, drained_reported}
+use Rattle.qc_state.specs.Life.{is_handshake, is_over, ready_reported, connected_reported, lost_reported, notices_reported, drained_reported}
 use Rattle.qc_state.specs.Moves.{Move, Accept, Clock, Drain, Enter, Expect, Fail, Hear, Owe, Raise, Tell, deeds_move, keys_move, life_move, lower_move, move_to, numbers_move, paths_move, setup_move, state_move, timers_move, waiting_move, armed_after, armed_with}
 use Rattle.qc_state.specs.Opening.{opening_of}
 use Rattle.qc_state.specs.Paths.{is_blocked, path_received, same_address}
-use Rattle.qc_state.specs.Receiving.{accepted_after, admitted_after, counted_after, cut_of, datagram_after, failed_after, first_after, first_token, fixed_after, has_first_ids, heard_after, is_close_item, is_eliciting_item, is_initial_with, is_readable, lets_in, opened_token, opening_after, piece_after, piece_told, pieces_after, read_for_close, received_after, token_in_first, token_in_items, verdict_after}
+use Rattle.qc_state.specs.Receiving.{accepted_after, admitted_after, counted_after, cut_of, datagram_after, failed_after, first_after, first_token, fixed_after, has_first_ids, heard_after, is_close_item, is_eliciting_item, is_initial_with, is_readable, lets_in, opened_token, opening_after, piece_after, piece_told, pieces_after, read_for_close, received_after, signs_of, token_in_first, token_in_items, verdict_after}
 use Rattle.qc_state.specs.Run.{IsStep, Run, began, called, input_after, reported, step_after}
 use Rattle.qc_state.specs.Setup.{is_first_awaited, token_expected}
 use Rattle.qc_state.specs.Stopping.{key_limit_error, killed_after, stopped_after, violation_at}
@@ -54,7 +54,7 @@ use Rattle.qc_state.specs.View.{View, At}
 use Rattle.qc_state.specs.Recovering.{loss_time}
 use Rattle.qc_state.proofs.Ends.{holds_given, holds_initial, holds_stopped}
 use Rattle.qc_state.proofs.OpenPackets.{holds_fixed, holds_payload}
-use Rattle.qc_state.proofs.ReceivedMoves.{OpenPacket}
+use Rattle.qc_state.proofs.PacketMoves.{OpenPacket}
 use Rattle.qc_state.proofs.Receives.{holds_counted}
 use Rattle.qc_state.proofs.Telling.{told_appends}
 use Rattle.qc_state.specs.Sending.{Choice}
@@ -142,11 +142,11 @@ within_read (suc most) len versions grease (b ∷ bytes) p items e = front_read 
 
 -- what is reported of a life
 abbrev life_reported : Life → Life
-life_reported v = drained_reported (wanted_reported (token_reported (lost_reported (connected_reported (ready_reported v)))))
+life_reported v = drained_reported (notices_reported (lost_reported (connected_reported (ready_reported v))))
 
 -- what was reported isn't reported again
 reported_again : (v : Life) → life_reported (life_reported v) ≡ life_reported v
-unfolding drained_reported wanted_reported token_reported lost_reported connected_reported ready_reported
+unfolding drained_reported notices_reported lost_reported connected_reported ready_reported
 reported_again v = refl
 
 -- a path that isn't blocked isn't blocked either once more bytes came
@@ -157,11 +157,11 @@ freed_by false false c sent less more up is_b is_c f =
     let few : sent < 3 * less = grind (arith, nat_tests) in
     grind (arith, nat_tests)
 
-stays_free : (p q : Paths) → q ≡ record p { received = q.received } → p.received ≤ q.received → is_blocked p ≡ false → is_blocked q ≡ false
+stays_free : (p q : Paths) → q ≡ record p { current = record p.current { received = q.current.received } } → p.current.received ≤ q.current.received → is_blocked p ≡ false → is_blocked q ≡ false
 unfolding is_blocked
 stays_free p q is more free =
-    ap (λ (x : Paths). not x.validated && nat_le (3 * x.received) x.sent) is
-    ∙ freed_by p.validated (nat_le (3 * p.received) p.sent) (nat_le (3 * q.received) p.sent) p.sent p.received q.received more refl refl free
+    ap (λ (x : Paths). not x.current.validated && nat_le (3 * x.current.received) x.current.sent) is
+    ∙ freed_by p.current.validated (nat_le (3 * p.current.received) p.current.sent) (nat_le (3 * q.current.received) p.current.sent) p.current.sent p.current.received q.current.received more refl refl free
 
 module _ {t : Types} where
   -- only counts changed, and nothing was reported
@@ -169,11 +169,11 @@ module _ {t : Types} where
     pub numbers : s'.numbers ≡ s.numbers
     pub keys : s'.keys ≡ record s.keys { failures = s'.keys.failures }
     pub life : s'.life ≡ s.life
-    pub paths : s'.paths ≡ record s.paths { received = s'.paths.received }
-    pub ranged : s.paths.received ≤ 18446744073709551615 → s'.paths.received ≤ 18446744073709551615
-    pub more : s.paths.received ≤ 18446744073709551615 → s.paths.received ≤ s'.paths.received
+    pub paths : s'.paths ≡ record s.paths { current = record s.paths.current { received = s'.paths.current.received } }
+    pub ranged : s.paths.current.received ≤ 18446744073709551615 → s'.paths.current.received ≤ 18446744073709551615
+    pub more : s.paths.current.received ≤ 18446744073709551615 → s.paths.current.received ≤ s'.paths.current.received
     pub timers : s'.timers ≡ record s.timers { greatest = s'.timers.greatest; loss_detection = s'.timers.loss_detection }
-    pub still : s.paths.received ≤ 18446744073709551615 → is_blocked s.paths ≡ false → s'.timers.loss_detection ≡ s.timers.loss_detection
+    pub still : s.paths.current.received ≤ 18446744073709551615 → is_blocked s.paths ≡ false → s'.timers.loss_detection ≡ s.timers.loss_detection
     pub waiting : s'.waiting ≡ s.waiting
     pub setup : s'.setup ≡ s.setup
     pub lower : s'.lower ≡ s.lower
@@ -186,9 +186,9 @@ module _ {t : Types} where
     numbers = h.numbers ∙ g.numbers;
     keys = h.keys ∙ ap (λ (k : KeyGroup t.H t.P). record k { failures = u.keys.failures }) g.keys;
     life = h.life ∙ g.life;
-    paths = h.paths ∙ ap (λ (p : Paths). record p { received = u.paths.received }) g.paths;
+    paths = h.paths ∙ ap (λ (p : Paths). record p { current = record p.current { received = u.paths.current.received } }) g.paths;
     ranged = λ k. h.ranged (g.ranged k);
-    more = λ k. let first : r.paths.received ≤ s.paths.received = g.more k in let second : s.paths.received ≤ u.paths.received = h.more (g.ranged k) in omega (arith, first, second);
+    more = λ k. let first : r.paths.current.received ≤ s.paths.current.received = g.more k in let second : s.paths.current.received ≤ u.paths.current.received = h.more (g.ranged k) in omega (arith, first, second);
     timers = h.timers ∙ ap (λ (x : Timers). record x { greatest = u.timers.greatest; loss_detection = u.timers.loss_detection }) g.timers;
     still = λ k f. h.still (g.ranged k) (stays_free r.paths s.paths g.paths (g.more k) f) ∙ g.still k f;
     waiting = h.waiting ∙ g.waiting;
@@ -209,9 +209,9 @@ module _ {t : Types} where
     numbers = h.numbers ∙ g.numbers;
     keys = h.keys ∙ ap (λ (k : KeyGroup t.H t.P). record k { failures = u.keys.failures }) g.keys;
     life = h.life ∙ g.life;
-    paths = h.paths ∙ ap (λ (p : Paths). record p { received = u.paths.received }) g.paths;
+    paths = h.paths ∙ ap (λ (p : Paths). record p { current = record p.current { received = u.paths.current.received } }) g.paths;
     ranged = λ k. h.ranged (g.ranged k);
-    more = λ k. let first : r.paths.received ≤ s.paths.received = g.more k in let second : s.paths.received ≤ u.paths.received = h.more (g.ranged k) in omega (arith, first, second);
+    more = λ k. let first : r.paths.current.received ≤ s.paths.current.received = g.more k in let second : s.paths.current.received ≤ u.paths.current.received = h.more (g.ranged k) in omega (arith, first, second);
     timers = h.timers ∙ ap (λ (x : Timers). record x { greatest = u.timers.greatest; loss_detection = u.timers.loss_detection }) g.timers;
     still = λ k f. h.still (g.ranged k) (stays_free r.paths s.paths g.paths (g.more k) f) ∙ g.still k f;
     waiting = h.waiting ∙ g.waiting;
@@ -305,11 +305,11 @@ module _ {t : Types} where
   -- ---- a packet that opened
 
   -- a packet is accepted
-  harmed_accepted : (time : ℕ) (id : SpaceId) (number : ℕ) (e : Bool) (signs : Signs) (v : Verdict) (a : At t) → is_opened v ≡ true → Harmed a (accepted_after time id number e signs v a)
+  harmed_accepted : (coming : Coming) (id : SpaceId) (number : ℕ) (e : Bool) (spin : Bool) (v : Verdict) (a : At t) → is_opened v ≡ true → Harmed a (accepted_after coming id number e spin v a)
   unfolding accepted_after deeds_move
-  harmed_accepted time id number e signs v a h =
-      let b : At t = move_to (Accept time id number e signs v) a in
-      harmed_next a b _ (harmed_move (Accept time id number e signs v) a (deed_harms v h)) (holds_initial Grown grown_here grown_next (λ x r c k. grown_move x c) Server (is_blocked b.state.paths) time id b)
+  harmed_accepted coming id number e spin v a h =
+      let b : At t = move_to (Accept coming.time id number e (signs_of coming spin) v) a in
+      harmed_next a b _ (harmed_move (Accept coming.time id number e (signs_of coming spin) v) a (deed_harms v h)) (holds_initial Grown grown_here grown_next (λ x r c k. grown_move x c) Server (is_blocked b.state.paths) coming.time id b)
     where
       deed_harms : (v : Verdict) → is_opened v ≡ true → list_all is_harmless (did.Piece (Some id) (Some number) v ∷ []) ≡ false
       deed_harms verdict.Ignored k = cc
@@ -322,14 +322,14 @@ module _ {t : Types} where
       deed_harms verdict.Admitted k = refl
 
   -- a packet is admitted
-  harmed_admitted : (m : Meaning t) (time : ℕ) (id : SpaceId) (signs : Signs) (source : List ℕ) (number : ℕ) (payload : List ℕ) (a : At t) → Harmed a (admitted_after m time id signs source number payload a)
+  harmed_admitted : (m : Meaning t) (coming : Coming) (id : SpaceId) (spin : Bool) (source : List ℕ) (number : ℕ) (payload : List ℕ) (a : At t) → Harmed a (admitted_after m coming id spin source number payload a)
   unfolding admitted_after
-  harmed_admitted m time id signs source number payload a =
+  harmed_admitted m coming id spin source number payload a =
       let e : Bool = list_any is_eliciting_item (items_of payload) in
-      let b : At t = accepted_after time id number e signs verdict.Admitted a in
+      let b : At t = accepted_after coming id number e spin verdict.Admitted a in
       let c : At t = fixed_after id source b in
-      let o : OpenPacket = record { time = time; space = id; signs = signs; source = source; token = []; number = number; payload = payload } in
-      harmed_next a b _ (harmed_accepted time id number e signs verdict.Admitted a refl)
+      let o : OpenPacket = record { coming = coming; space = id; spin = spin; source = source; token = []; number = number; payload = payload } in
+      harmed_next a b _ (harmed_accepted coming id number e spin verdict.Admitted a refl)
       (grown_next b c _ (holds_fixed m o Grown grown_here grown_next (λ x d r k. grown_move x d) b)
       (holds_payload m o Grown grown_here grown_next (λ x d r k. grown_move x d) c))
 
@@ -344,21 +344,21 @@ module _ {t : Types} where
       let b : At t = move_to (Enter id number verdict.ReadForClose) a in
       harmed_next a b _ (harmed_move (Enter id number verdict.ReadForClose) a refl) (closing_grown b (list_any is_close_item (items_of payload)))
 
-  harmed_verdict : (m : Meaning t) (time : ℕ) (id : SpaceId) (signs : Signs) (source : List ℕ) (number : ℕ) (payload : List ℕ) (v : Verdict) (a : At t) → is_opened v ≡ true → Harmed a (verdict_after m time id signs source number payload v a)
+  harmed_verdict : (m : Meaning t) (coming : Coming) (id : SpaceId) (spin : Bool) (source : List ℕ) (number : ℕ) (payload : List ℕ) (v : Verdict) (a : At t) → is_opened v ≡ true → Harmed a (verdict_after m coming id spin source number payload v a)
   unfolding deeds_move
-  harmed_verdict m time id signs source number payload verdict.Ignored a h = cc
-  harmed_verdict m time id signs source number payload verdict.Failure a h = cc
-  harmed_verdict m time id signs source number payload verdict.BadBits a h = cc
-  harmed_verdict m time id signs source number payload verdict.Seen a h = harmed_move (Tell (did.Piece (Some id) (Some number) verdict.Seen)) a refl
-  harmed_verdict m time id signs source number payload verdict.ReadForClose a h = harmed_closing id number payload a
-  harmed_verdict m time id signs source number payload verdict.NumberOnly a h = harmed_move (Enter id number verdict.NumberOnly) a refl
-  harmed_verdict m time id signs source number payload verdict.AckOnly a h = harmed_accepted time id number false signs verdict.AckOnly a refl
-  harmed_verdict m time id signs source number payload verdict.Admitted a h = harmed_admitted m time id signs source number payload a
+  harmed_verdict m coming id spin source number payload verdict.Ignored a h = cc
+  harmed_verdict m coming id spin source number payload verdict.Failure a h = cc
+  harmed_verdict m coming id spin source number payload verdict.BadBits a h = cc
+  harmed_verdict m coming id spin source number payload verdict.Seen a h = harmed_move (Tell (did.Piece (Some id) (Some number) verdict.Seen)) a refl
+  harmed_verdict m coming id spin source number payload verdict.ReadForClose a h = harmed_closing id number payload a
+  harmed_verdict m coming id spin source number payload verdict.NumberOnly a h = harmed_move (Enter id number verdict.NumberOnly) a refl
+  harmed_verdict m coming id spin source number payload verdict.AckOnly a h = harmed_accepted coming id number false spin verdict.AckOnly a refl
+  harmed_verdict m coming id spin source number payload verdict.Admitted a h = harmed_admitted m coming id spin source number payload a
 
-  harmed_received : (m : Meaning t) (time : ℕ) (id : SpaceId) (signs : Signs) (source token : List ℕ) (number : ℕ) (payload : List ℕ) (a : At t) → Harmed a (received_after m time id signs source token number payload a)
+  harmed_received : (m : Meaning t) (coming : Coming) (id : SpaceId) (spin : Bool) (source token : List ℕ) (number : ℕ) (payload : List ℕ) (a : At t) → Harmed a (received_after m coming id spin source token number payload a)
   unfolding received_after verdict_of
-  harmed_received m time id signs source token number payload a =
-      harmed_verdict m time id signs source number payload (verdict_of a.state id source token number) a (opened_by_row _ _ _ _)
+  harmed_received m coming id spin source token number payload a =
+      harmed_verdict m coming id spin source number payload (verdict_of a.state id source token number) a (opened_by_row _ _ _ _)
 
   -- ---- the packets of a datagram
 
@@ -390,24 +390,24 @@ module _ {t : Types} where
       (tame_next b c _ (tame_move (Tell (did.Piece id None verdict.Failure)) b (same_tell (did.Piece id None verdict.Failure) b.state)) (failed_by (lost.TransportError key_limit_error) c (fails_too_often c.state.keys)))
 
   -- a packet by what came of taking its protection off
-  tame_opening : (m : Meaning t) (time : ℕ) (mark : Option EcnCodepoint) (id : Option SpaceId) (o : Opening) (a : At t) → Tame a (opening_after m time mark id o a)
-  tame_opening m time mark id Unreadable a = tame_move (Tell (did.Piece id None verdict.Ignored)) a (same_tell (did.Piece id None verdict.Ignored) a.state)
-  tame_opening m time mark id Unopened a = tame_failed id a
-  tame_opening m time mark id (Reserved number) a = harmed_tame a _ (harmed_reserved time id number a)
-  tame_opening m time mark (Some id) (Opened source token spin number payload) a = harmed_tame a _ (harmed_received m time id (record { mark = mark; spin = spin }) source token number payload a)
-  tame_opening m time mark None (Opened source token spin number payload) a = tame_move (Tell (did.Piece None None verdict.Ignored)) a (same_tell (did.Piece None None verdict.Ignored) a.state)
+  tame_opening : (m : Meaning t) (coming : Coming) (id : Option SpaceId) (o : Opening) (a : At t) → Tame a (opening_after m coming id o a)
+  tame_opening m coming id Unreadable a = tame_move (Tell (did.Piece id None verdict.Ignored)) a (same_tell (did.Piece id None verdict.Ignored) a.state)
+  tame_opening m coming id Unopened a = tame_failed id a
+  tame_opening m coming id (Reserved number) a = harmed_tame a _ (harmed_reserved coming.time id number a)
+  tame_opening m coming (Some id) (Opened source token spin number payload) a = harmed_tame a _ (harmed_received m coming id spin source token number payload a)
+  tame_opening m coming None (Opened source token spin number payload) a = tame_move (Tell (did.Piece None None verdict.Ignored)) a (same_tell (did.Piece None None verdict.Ignored) a.state)
 
   -- a packet, which is ignored where the connection is over
-  piece_by : (m : Meaning t) (time : ℕ) (mark : Option EcnCodepoint) (p : Piece) (a : At t) (b : Bool) →
-      Tame a (if b then piece_told (space_of p.header) None verdict.Ignored a else opening_after m time mark (space_of p.header) (opening_of m a.state p) a)
-  piece_by m time mark p a true = tame_move (Tell (did.Piece (space_of p.header) None verdict.Ignored)) a (same_tell (did.Piece (space_of p.header) None verdict.Ignored) a.state)
-  piece_by m time mark p a false = tame_opening m time mark (space_of p.header) (opening_of m a.state p) a
+  piece_by : (m : Meaning t) (coming : Coming) (p : Piece) (a : At t) (b : Bool) →
+      Tame a (if b then piece_told (space_of p.header) None verdict.Ignored a else opening_after m coming (space_of p.header) (opening_of m a.state p) a)
+  piece_by m coming p a true = tame_move (Tell (did.Piece (space_of p.header) None verdict.Ignored)) a (same_tell (did.Piece (space_of p.header) None verdict.Ignored) a.state)
+  piece_by m coming p a false = tame_opening m coming (space_of p.header) (opening_of m a.state p) a
 
-  tame_pieces : (m : Meaning t) (time : ℕ) (mark : Option EcnCodepoint) (items : List DatagramItem) (a : At t) → Tame a (pieces_after m time mark items a)
+  tame_pieces : (m : Meaning t) (coming : Coming) (items : List DatagramItem) (a : At t) → Tame a (pieces_after m coming items a)
   unfolding piece_after
-  tame_pieces m time mark [] a = tame_here a
-  tame_pieces m time mark (Err fault ∷ items) a = tame_here a
-  tame_pieces m time mark (Ok p ∷ items) a = tame_next a (piece_after m time mark p a) _ (piece_by m time mark p a (is_over a.state.life.state)) (tame_pieces m time mark items (piece_after m time mark p a))
+  tame_pieces m coming [] a = tame_here a
+  tame_pieces m coming (Err fault ∷ items) a = tame_here a
+  tame_pieces m coming (Ok p ∷ items) a = tame_next a (piece_after m coming p a) _ (piece_by m coming p a (is_over a.state.life.state)) (tame_pieces m coming items (piece_after m coming p a))
 
   -- the loss timer is set anew where no datagram could be begun before
   armed_same : (time : ℕ) (s : View t) (a : At t) (b : Bool) → (b ≡ true → is_blocked s.paths ≡ true) → Same s a.state → Same s (if b then armed_after time a else a).state
@@ -447,27 +447,27 @@ module _ {t : Types} where
       }
 
   -- a datagram that is heard, or dropped
-  heard_by : (m : Meaning t) (time : ℕ) (mark : Option EcnCodepoint) (n : ℕ) (items : List DatagramItem) (a : At t) (b : Bool) → Tame a (if b then counted_after time (is_blocked a.state.paths) n (pieces_after m time mark items a) else a)
-  heard_by m time mark n items a true = tame_counted time n a (pieces_after m time mark items a) (tame_pieces m time mark items a)
-  heard_by m time mark n items a false = tame_here a
+  heard_by : (m : Meaning t) (coming : Coming) (n : ℕ) (items : List DatagramItem) (a : At t) (b : Bool) → Tame a (if b then counted_after coming.time (is_blocked a.state.paths) n (pieces_after m coming items a) else a)
+  heard_by m coming n items a true = tame_counted coming.time n a (pieces_after m coming items a) (tame_pieces m coming items a)
+  heard_by m coming n items a false = tame_here a
 
-  tame_heard : (m : Meaning t) (time : ℕ) (mark : Option EcnCodepoint) (remote : SocketAddr) (bytes : List ℕ) (a : At t) → Tame a (heard_after m time mark remote bytes a)
+  tame_heard : (m : Meaning t) (coming : Coming) (bytes : List ℕ) (a : At t) → Tame a (heard_after m coming bytes a)
   unfolding heard_after
-  tame_heard m time mark remote bytes a = heard_by m time mark (length bytes) (cut_of a.state bytes) a (is_readable a.state bytes && lets_in a.state remote)
+  tame_heard m coming bytes a = heard_by m coming (length bytes) (cut_of a.state bytes) a (is_readable a.state bytes && lets_in a.state coming.remote)
 
   -- ---- a server's first datagram
 
   -- a packet that opened, where its form has a space
-  harmed_opening : (m : Meaning t) (time : ℕ) (mark : Option EcnCodepoint) (id : Option SpaceId) (this : SpaceId) (o : Opening) (token : List ℕ) (a : At t) → id ≡ Some this → opened_token o ≡ Some token → Harmed a (opening_after m time mark id o a)
-  harmed_opening m time mark (Some id) this (Opened source other spin number payload) token a e h = harmed_received m time id (record { mark = mark; spin = spin }) source other number payload a
-  harmed_opening m time mark None this (Opened source other spin number payload) token a e h = cc
-  harmed_opening m time mark id this Unreadable token a e h = cc
-  harmed_opening m time mark id this Unopened token a e h = cc
-  harmed_opening m time mark id this (Reserved number) token a e h = cc
+  harmed_opening : (m : Meaning t) (coming : Coming) (id : Option SpaceId) (this : SpaceId) (o : Opening) (token : List ℕ) (a : At t) → id ≡ Some this → opened_token o ≡ Some token → Harmed a (opening_after m coming id o a)
+  harmed_opening m coming (Some id) this (Opened source other spin number payload) token a e h = harmed_received m coming id spin source other number payload a
+  harmed_opening m coming None this (Opened source other spin number payload) token a e h = cc
+  harmed_opening m coming id this Unreadable token a e h = cc
+  harmed_opening m coming id this Unopened token a e h = cc
+  harmed_opening m coming id this (Reserved number) token a e h = cc
 
-  harmed_piece : (m : Meaning t) (time : ℕ) (mark : Option EcnCodepoint) (p : Piece) (token : List ℕ) (a : At t) → is_over a.state.life.state ≡ false → space_of p.header ≡ Some space.Initial → opened_token (opening_of m a.state p) ≡ Some token → Harmed a (piece_after m time mark p a)
+  harmed_piece : (m : Meaning t) (coming : Coming) (p : Piece) (token : List ℕ) (a : At t) → is_over a.state.life.state ≡ false → space_of p.header ≡ Some space.Initial → opened_token (opening_of m a.state p) ≡ Some token → Harmed a (piece_after m coming p a)
   unfolding piece_after
-  harmed_piece m time mark p token a over is_initial opened = rw over (harmed_opening m time mark (space_of p.header) space.Initial (opening_of m a.state p) token a is_initial opened)
+  harmed_piece m coming p token a over is_initial opened = rw over (harmed_opening m coming (space_of p.header) space.Initial (opening_of m a.state p) token a is_initial opened)
 
   -- that a token is expected leaves what opens
   pub same_opening : (m : Meaning t) (s : View t) (token : List ℕ) (p : Piece) → opening_of m (state_move (Expect token) s) p ≡ opening_of m s p
@@ -485,25 +485,25 @@ module _ {t : Types} where
 
   pub first_space : (s : View t) (p : Piece) → has_first_ids s p.header ≡ true → space_of p.header ≡ Some space.Initial
   unfolding has_first_ids
-  first_space s p h = initial_space s.setup.fixed.first_cid s.paths.remote_cid p.header h
+  first_space s p h = initial_space s.setup.fixed.first_cid s.paths.current.remote_cid p.header h
 
   -- the packets behind the first one add deeds
-  behind_grown : (m : Meaning t) (time : ℕ) (mark : Option EcnCodepoint) (items : List DatagramItem) (a : At t) → Grown a (pieces_after m time mark items a)
-  behind_grown m time mark items a = let h = tame_pieces m time mark items a in record { since = h.since; appended = h.appended }
+  behind_grown : (m : Meaning t) (coming : Coming) (items : List DatagramItem) (a : At t) → Grown a (pieces_after m coming items a)
+  behind_grown m coming items a = let h = tame_pieces m coming items a in record { since = h.since; appended = h.appended }
 
   -- once its token is expected, the first packet of such a datagram counts
-  harmed_first : (m : Meaning t) (time : ℕ) (mark : Option EcnCodepoint) (token : List ℕ) (items : List DatagramItem) (a : At t) → is_handshake a.state.life.state ≡ true → token_in_items m a.state items ≡ Some token →
-      Harmed a (pieces_after m time mark items (move_to (Expect token) a))
+  harmed_first : (m : Meaning t) (coming : Coming) (token : List ℕ) (items : List DatagramItem) (a : At t) → is_handshake a.state.life.state ≡ true → token_in_items m a.state items ≡ Some token →
+      Harmed a (pieces_after m coming items (move_to (Expect token) a))
   unfolding token_in_first move_to state_move life_move
-  harmed_first m time mark token [] a going h = cc
-  harmed_first m time mark token (Err fault ∷ items) a going h = cc
-  harmed_first m time mark token (Ok p ∷ items) a going h =
+  harmed_first m coming token [] a going h = cc
+  harmed_first m coming token (Err fault ∷ items) a going h = cc
+  harmed_first m coming token (Ok p ∷ items) a going h =
       let b : At t = move_to (Expect token) a in
-      let c : At t = piece_after m time mark p b in
+      let c : At t = piece_after m coming p b in
       let ids : has_first_ids a.state p.header ≡ true = first_ids m a.state p token _ h in
       let opened : opened_token (opening_of m b.state p) ≡ Some token = ap opened_token (same_opening m a.state token p) ∙ first_opened m a.state p token _ h in
       next_harmed a b _ (grown_move (Expect token) a)
-      (harmed_next b c _ (harmed_piece m time mark p token b (not_over a.state.life.state going) (first_space a.state p ids) opened) (behind_grown m time mark items c))
+      (harmed_next b c _ (harmed_piece m coming p token b (not_over a.state.life.state going) (first_space a.state p ids) opened) (behind_grown m coming items c))
 
   -- such a datagram begins with a packet, and is let in
   items_read : (m : Meaning t) (s : View t) (bytes token : List ℕ) (items : List DatagramItem) → cut_of s bytes ≡ items → token_in_items m s items ≡ Some token → is_readable s bytes ≡ true
@@ -512,7 +512,7 @@ module _ {t : Types} where
   items_read m s bytes token (Err fault ∷ items) e h = cc
   items_read m s bytes token (Ok p ∷ items) e h = within_read (length bytes) (length s.setup.fixed.local_cid) (s.setup.fixed.version ∷ []) s.setup.fixed.grease_quic_bit bytes p items e
 
-  pub let_in : (s : View t) (remote : SocketAddr) → is_handshake s.life.state ≡ true → same_address s.paths.remote remote ≡ true → lets_in s remote ≡ true
+  pub let_in : (s : View t) (remote : SocketAddr) → is_handshake s.life.state ≡ true → same_address s.paths.current.remote remote ≡ true → lets_in s remote ≡ true
   unfolding lets_in
   let_in s remote going same = let on : is_over s.life.state ≡ false = not_over s.life.state going in rw (on, same) refl
 
@@ -526,49 +526,49 @@ module _ {t : Types} where
   expected_lets s token remote = refl
 
   -- it is heard
-  harmed_heard : (m : Meaning t) (time : ℕ) (mark : Option EcnCodepoint) (remote : SocketAddr) (bytes token : List ℕ) (a : At t) →
-      is_handshake a.state.life.state ≡ true → same_address a.state.paths.remote remote ≡ true → token_in_items m a.state (cut_of a.state bytes) ≡ Some token →
-      Harmed a (heard_after m time mark remote bytes (move_to (Expect token) a))
+  harmed_heard : (m : Meaning t) (coming : Coming) (bytes token : List ℕ) (a : At t) →
+      is_handshake a.state.life.state ≡ true → same_address a.state.paths.current.remote coming.remote ≡ true → token_in_items m a.state (cut_of a.state bytes) ≡ Some token →
+      Harmed a (heard_after m coming bytes (move_to (Expect token) a))
   unfolding heard_after move_to state_move setup_move token_expected
-  harmed_heard m time mark remote bytes token a going same h =
+  harmed_heard m coming bytes token a going same h =
       let b : At t = move_to (Expect token) a in
-      let c : At t = pieces_after m time mark (cut_of a.state bytes) b in
+      let c : At t = pieces_after m coming (cut_of a.state bytes) b in
       let readable : is_readable b.state bytes ≡ true = expected_readable a.state token bytes ∙ items_read m a.state bytes token (cut_of a.state bytes) refl h in
-      let lets : lets_in b.state remote ≡ true = expected_lets a.state token remote ∙ let_in a.state remote going same in
-      rw (both (is_readable b.state bytes) (lets_in b.state remote) readable lets)
-      (harmed_next a c _ (harmed_first m time mark token (cut_of a.state bytes) a going h) (holds_counted Grown grown_here grown_next (λ x r d k. grown_move x d) time (is_blocked b.state.paths) (length bytes) c))
+      let lets : lets_in b.state coming.remote ≡ true = expected_lets a.state token coming.remote ∙ let_in a.state coming.remote going same in
+      rw (both (is_readable b.state bytes) (lets_in b.state coming.remote) readable lets)
+      (harmed_next a c _ (harmed_first m coming token (cut_of a.state bytes) a going h) (holds_counted Grown grown_here grown_next (λ x r d k. grown_move x d) coming.time (is_blocked b.state.paths) (length bytes) c))
 
   -- it isn't harmless
-  harmed_token : (m : Meaning t) (time : ℕ) (mark : Option EcnCodepoint) (remote : SocketAddr) (bytes token : List ℕ) (a : At t) → first_token m a.state remote bytes ≡ Some token →
-      Harmed a (heard_after m time mark remote bytes (move_to (Expect token) a))
+  harmed_token : (m : Meaning t) (coming : Coming) (bytes token : List ℕ) (a : At t) → first_token m a.state coming.remote bytes ≡ Some token →
+      Harmed a (heard_after m coming bytes (move_to (Expect token) a))
   unfolding first_token
-  harmed_token m time mark remote bytes token a h =
-      let holds = tests_hold (is_handshake a.state.life.state) (nat_le DATAGRAM_SIZE (length bytes)) (same_address a.state.paths.remote remote) (token_in_items m a.state (cut_of a.state bytes)) token h in
-      harmed_heard m time mark remote bytes token a holds.0 holds.1 holds.2
+  harmed_token m coming bytes token a h =
+      let holds = tests_hold (is_handshake a.state.life.state) (nat_le DATAGRAM_SIZE (length bytes)) (same_address a.state.paths.current.remote coming.remote) (token_in_items m a.state (cut_of a.state bytes)) token h in
+      harmed_heard m coming bytes token a holds.0 holds.1 holds.2
 
-  tame_first : (m : Meaning t) (time : ℕ) (mark : Option EcnCodepoint) (remote : SocketAddr) (bytes : List ℕ) (token : Option (List ℕ)) (a : At t) → first_token m a.state remote bytes ≡ token →
-      Tame a (first_after m time mark remote bytes token a)
-  tame_first m time mark remote bytes None a h = tame_here a
-  tame_first m time mark remote bytes (Some token) a h = harmed_tame a _ (harmed_token m time mark remote bytes token a h)
+  tame_first : (m : Meaning t) (coming : Coming) (bytes : List ℕ) (token : Option (List ℕ)) (a : At t) → first_token m a.state coming.remote bytes ≡ token →
+      Tame a (first_after m coming bytes token a)
+  tame_first m coming bytes None a h = tame_here a
+  tame_first m coming bytes (Some token) a h = harmed_tame a _ (harmed_token m coming bytes token a h)
 
   -- ---- datagrams, steps and runs
 
-  datagram_by : (m : Meaning t) (time : ℕ) (mark : Option EcnCodepoint) (remote : SocketAddr) (bytes : List ℕ) (a : At t) (b : Bool) →
-      Tame a (if b then first_after m time mark remote bytes (first_token m a.state remote bytes) a else heard_after m time mark remote bytes a)
-  datagram_by m time mark remote bytes a true = tame_first m time mark remote bytes (first_token m a.state remote bytes) a refl
-  datagram_by m time mark remote bytes a false = tame_heard m time mark remote bytes a
+  datagram_by : (m : Meaning t) (coming : Coming) (bytes : List ℕ) (a : At t) (b : Bool) →
+      Tame a (if b then first_after m coming bytes (first_token m a.state coming.remote bytes) a else heard_after m coming bytes a)
+  datagram_by m coming bytes a true = tame_first m coming bytes (first_token m a.state coming.remote bytes) a refl
+  datagram_by m coming bytes a false = tame_heard m coming bytes a
 
-  pub tame_datagram : (m : Meaning t) (time : ℕ) (mark : Option EcnCodepoint) (remote : SocketAddr) (bytes : List ℕ) (a : At t) → Tame a (datagram_after m time mark remote bytes a)
+  pub tame_datagram : (m : Meaning t) (coming : Coming) (bytes : List ℕ) (a : At t) → Tame a (datagram_after m coming bytes a)
   unfolding datagram_after
-  tame_datagram m time mark remote bytes a = datagram_by m time mark remote bytes a (is_first_awaited a.state.setup)
+  tame_datagram m coming bytes a = datagram_by m coming bytes a (is_first_awaited a.state.setup)
 
   -- a call, before anything is reported
   same_called : (m : Meaning t) (i : Input) (s : View t) (choice : Choice) (ds : List Did) → is_datagram i ≡ true → ds ≡ (called m s i choice).did → list_all is_harmless ds ≡ true → Same s (called m s i choice).state
   unfolding called began input_after
   same_called m (input.Datagram time remote ecn bytes) s choice ds is_one is_did h =
       let a : At t = began s time in
-      let b : At t = datagram_after m time ecn remote bytes a in
-      let tame = tame_datagram m time ecn remote bytes a in
+      let b : At t = datagram_after m (record { time = time; remote = remote; mark = ecn }) bytes a in
+      let tame = tame_datagram m (record { time = time; remote = remote; mark = ecn }) bytes a in
       same_next s a.state b.state (same_clock time s) (tame.same (subst (λ (es : List Did). list_all is_harmless es ≡ true) (is_did ∙ tame.appended) h))
   same_called m (input.Timeout time) s choice ds is_one is_did h = cc
   same_called m (input.Transmit time max) s choice ds is_one is_did h = cc
@@ -585,9 +585,9 @@ module _ {t : Types} where
         numbers = h.numbers ∙ same.numbers;
         keys = h.keys ∙ same.keys ∙ ap (λ (y : KeyGroup t.H t.P). record s.keys { failures = y.failures }) (sym h.keys);
         life = ap life_reported h.life ∙ reported_again b.state.life ∙ ap life_reported same.life;
-        paths = h.paths ∙ same.paths ∙ ap (λ (y : Paths). record s.paths { received = y.received }) (sym h.paths);
-        ranged = λ r. subst (λ (p : Paths). p.received ≤ 18446744073709551615) (sym h.paths) (same.ranged r);
-        more = λ r. subst (λ (p : Paths). s.paths.received ≤ p.received) (sym h.paths) (same.more r);
+        paths = h.paths ∙ same.paths ∙ ap (λ (y : Paths). record s.paths { current = record s.paths.current { received = y.current.received } }) (sym h.paths);
+        ranged = λ r. subst (λ (p : Paths). p.current.received ≤ 18446744073709551615) (sym h.paths) (same.ranged r);
+        more = λ r. subst (λ (p : Paths). s.paths.current.received ≤ p.current.received) (sym h.paths) (same.more r);
         timers = h.timers ∙ same.timers ∙ ap (λ (y : Timers). record s.timers { greatest = y.greatest; loss_detection = y.loss_detection }) (sym h.timers);
         still = λ r free. ap (λ (y : Timers). y.loss_detection) h.timers ∙ same.still r free;
         waiting = h.waiting ∙ same.waiting;

@@ -140,9 +140,9 @@ module _ {t : Types} where
       next a b (move_to seal b) (move_keeps (Take id fs) a tt) (move_keeps seal b may.fresh)
 
   -- a transmit
-  transmit_keeps : (time : ℕ) (choice : Choice) (a : At t) → MayTransmit time a.state choice → Keeps a (transmit_after time choice a)
-  transmit_keeps time choice a may =
-      holds_transmit Keeps here next (λ x r d k. move_keeps x d (sending_spare x d.state r)) (λ at_time id fs d k. packet_keeps at_time id fs d k) time choice a may
+  transmit_keeps : (m : Meaning t) (time : ℕ) (choice : Choice) (a : At t) → MayTransmit m time choice a → Keeps a (transmit_after m time choice a)
+  transmit_keeps m time choice a may =
+      holds_transmit Keeps here next (λ x r d k. move_keeps x d (sending_spare x d.state r)) (λ at_time id fs d k. packet_keeps at_time id fs d k) m time choice a may
 
   -- the application closes, or has closed before
   closed_by : (time : ℕ) (close : Close) (a : At t) (b : Bool) → Keeps a (if b then move_to (Shut time close) a else a)
@@ -150,11 +150,11 @@ module _ {t : Types} where
   closed_by time close a false = here a
 
   -- each input
-  input_keeps : (m : Meaning t) (i : Input) (choice : Choice) (a : At t) → IsAllowed i choice a.state → Keeps a (input_after m i choice a)
+  input_keeps : (m : Meaning t) (i : Input) (choice : Choice) (a : At t) → IsAllowed m i choice a → Keeps a (input_after m i choice a)
   unfolding IsAllowed input_after close_after
-  input_keeps m (input.Datagram time remote ecn bytes) choice a may = holds_datagram Keeps here next (λ x r d k. move_keeps x d (received_spare x d.state r)) m time ecn remote bytes a
+  input_keeps m (input.Datagram time remote ecn bytes) choice a may = holds_datagram Keeps here next (λ x r d k. move_keeps x d (received_spare x d.state r)) m (record { time = time; remote = remote; mark = ecn }) bytes a
   input_keeps m (input.Timeout time) choice a may = holds_timeout Keeps here next (λ x r d k. move_keeps x d (timed_spare x d.state r)) m time a
-  input_keeps m (input.Transmit time max) choice a may = transmit_keeps time choice a may
+  input_keeps m (input.Transmit time max) choice a may = transmit_keeps m time choice a may
   input_keeps m (input.Close time code reason) choice a may = closed_by time _ a (is_open a.state.life.state)
   input_keeps m (input.Ping time) choice a may = move_keeps (Ask a.state.keys.highest) a tt
 

@@ -6,6 +6,7 @@ pub mod AckLemmas
 pub mod AcksAccepted
 pub mod AcksBefore
 mod AcksKnown
+pub mod Batches
 pub mod Begun
 pub mod Clocks
 pub mod DatagramLaws
@@ -13,6 +14,7 @@ pub mod EventsTold
 pub mod Expansions
 pub mod Ends
 pub mod Expired
+pub mod FirstTaken
 mod Gifts
 pub mod HarmlessBytes
 pub mod Inputs
@@ -21,20 +23,28 @@ pub mod KeysHold
 pub mod MarksKept
 pub mod MarksTold
 pub mod OnlyOnce
+mod OwnInputs
 pub mod PathsHold
 pub mod PieceLaws
 pub mod Receives
-pub mod Seals
 pub mod Steps
 pub mod OpenPackets
+pub mod PacketMoves
+pub mod Probed
 mod Progresses
 pub mod ReceivedMoves
 mod Telling
 pub mod Told
 mod ToldReceiving
-pub mod WaitingLemmas
 pub mod Skipping
-pub mod Taking
+pub mod Taken
 pub mod Transmitted
 pub mod Ready
 pub mod WholeDatagrams
+pub mod EndsHold
+mod KnownMoves
+pub mod Recovers
+pub mod InitialLeft
+mod CryptoBuffers
+pub mod CryptoKept
+mod CryptoPlaces

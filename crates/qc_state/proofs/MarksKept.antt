@@ -1,15 +1,12 @@
 -- The counts of marks of a space: what leaves them, and the ACKs that are made of them.
-use Rattle.std.proofs.Common.{◌≡◌, ℕ, zero, suc, ◌+◌, List, [], ◌∷◌, ◌++◌, length, replicate, refl, sym, ◌∙◌, subst, Bool, true, false, Option, Some, None, if◌then◌else◌}
-use Rattle.std.specs.Prelude.{◌-◌, ◌==◌}
+use Rattle.std.proofs.Common.{◌≡◌, ℕ, zero, suc, ◌+◌, List, [], ◌∷◌, ◌++◌, replicate, refl, ap, sym, ◌∙◌, subst, Bool, true, false, Option, Some, None, if◌then◌else◌}
 use Rattle.qc_base.specs.declared.side.SpaceId.{SpaceId}
 use Rattle.qc_base.specs.declared.side.SpaceId.TheVariants.{Initial, Handshake, «Data»}
 use Rattle.qc_frame.specs.Frame.{FrameValue}
 use Rattle.qc_frame.specs.declared.frames.EcnCounts.{EcnCounts}
 use Rattle.qc_frame.specs.declared.frames.FrameOf.TheVariants as frames
 use Rattle.qc_flight.specs.Packets.{Entry}
-use Rattle.qc_flight.specs.declared.sent.SentPacket.{SentPacket}
-use Rattle.qc_send_stream.specs.Buffer.{range_sealed}
-use Rattle.qc_state.specs.Acks.{AckPart, ack_sent, told_counts}
+use Rattle.qc_state.specs.Acks.{AckPart, told_counts}
 use Rattle.qc_state.specs.declared.life.Close.{Close}
 use Rattle.qc_state.specs.declared.life.Close.TheVariants.{Connection, Application}
 use Rattle.qc_state.specs.declared.waiting.SpaceWaiting.{SpaceWaiting}
@@ -19,7 +16,10 @@ use Rattle.qc_state.specs.Sending.{Carries, Closes, application_close, close_fra
 use Rattle.qc_state.specs.Spaces.{space_of}
 use Rattle.qc_state.specs.Types.{Types}
 use Rattle.qc_state.specs.View.{View}
-use Rattle.qc_state.specs.Waiting.{without, Waits, WaitAll, without_all, again, all_again, lost_in, confirmed, all_confirmed, acked_in, packet_again, probe_sent, begun_in, wants_sending}
+use Rattle.qc_state.specs.Waiting.{without, without_all, again, all_again, lost_in, confirmed, all_confirmed, acked_in}
+use Rattle.qc_state.specs.Allowed.{Waits, WaitAll}
+use Rattle.qc_state.specs.Moves.{Take, state_move}
+use Rattle.qc_state.proofs.Probed.{taken_space}
 
 -- ---- what leaves the counts
 
@@ -28,7 +28,7 @@ again_keeps w frames.HandshakeDone = refl
 again_keeps w (frames.Crypto offset body) = refl
 again_keeps w _ = refl
 
-all_again_keeps : (w : SpaceWaiting) (fs : List FrameValue) → (all_again w fs).marks ≡ w.marks
+pub all_again_keeps : (w : SpaceWaiting) (fs : List FrameValue) → (all_again w fs).marks ≡ w.marks
 all_again_keeps w [] = refl
 all_again_keeps w (f ∷ fs) = all_again_keeps (again w f) fs ∙ again_keeps w f
 
@@ -49,30 +49,6 @@ all_confirmed_keeps w (f ∷ fs) = all_confirmed_keeps (confirmed w f) fs ∙ co
 pub acked_keeps : (w : SpaceWaiting) (es : List Entry) → (acked_in w es).marks ≡ w.marks
 acked_keeps w [] = refl
 acked_keeps w (e ∷ es) = acked_keeps (all_confirmed w e.1.frames) es ∙ all_confirmed_keeps w e.1.frames
-
-pinged_keeps : (w : SpaceWaiting) (b : Bool) → (if b then w else record w { ping = true }).marks ≡ w.marks
-pinged_keeps w true = refl
-pinged_keeps w false = refl
-
-oldest_keeps : (w : SpaceWaiting) (oldest : Option SentPacket) (b : Bool) → (if b then w else packet_again w oldest).marks ≡ w.marks
-oldest_keeps w oldest true = refl
-oldest_keeps w None false = refl
-oldest_keeps w (Some packet) false = all_again_keeps w packet.frames
-
-probed_keeps : (w : SpaceWaiting) (oldest : Option SentPacket) → (probe_sent w oldest).marks ≡ w.marks
-unfolding probe_sent
-probed_keeps w oldest =
-    let v : SpaceWaiting = if wants_sending w then w else packet_again w oldest in
-    pinged_keeps v (wants_sending v) ∙ oldest_keeps w oldest (wants_sending w)
-
-begun_by : (w : SpaceWaiting) (oldest : Option SentPacket) (b : Bool) → (if b then w else probe_sent (record w { probes = w.probes - 1 }) oldest).marks ≡ w.marks
-begun_by w oldest true = refl
-begun_by w oldest false = probed_keeps (record w { probes = w.probes - 1 }) oldest
-
--- a datagram that is begun
-pub begun_keeps : (w : SpaceWaiting) (oldest : Option SentPacket) → (begun_in w oldest).marks ≡ w.marks
-unfolding begun_in
-begun_keeps w oldest = begun_by w oldest (w.probes == 0)
 
 without_keeps : (w : SpaceWaiting) (f : FrameValue) → (without w f).marks ≡ w.marks
 unfolding without
@@ -119,20 +95,26 @@ part_tells time w room acks true (AckPart.one ack says fits is) = subst (AcksTel
 part_tells time w room acks true (AckPart.left_out ack says long is) = subst (AcksTell (told_counts w.marks)) (sym is) tt
 part_tells time w room acks false (AckPart.none is) = subst (AcksTell (told_counts w.marks)) (sym is) tt
 
--- so do the frames that wait
-wait_tells : (time : ℕ) (bundled : Option ℕ) (w : SpaceWaiting) (fs : List FrameValue) → WaitAll time bundled w fs → AcksTell (told_counts w.marks) fs
-unfolding WaitAll Waits without
-wait_tells time bundled w [] h = tt
-wait_tells time bundled w (frames.HandshakeDone ∷ fs) h = wait_tells time bundled (record w { done = false }) fs h.1
-wait_tells time bundled w (frames.Ping ∷ fs) h = wait_tells time bundled (record w { ping = false }) fs h.1
-wait_tells time bundled w (frames.Ack ack ∷ fs) h = (h.0.1.ecn, wait_tells time bundled (record w { acks = ack_sent w.acks }) fs h.1)
-wait_tells time bundled w (frames.Crypto offset body ∷ fs) h = wait_tells time bundled (record w { crypto = range_sealed offset (offset + length body) w.crypto }) fs h.1
-wait_tells time bundled w (_ ∷ fs) h = absurd h.0
-
 module _ {t : Types} where
+  -- a frame that waits in a space tells its counts
+  first_tells : (time : ℕ) (s : View t) (id : SpaceId) (f : FrameValue) (fs : List FrameValue) → Waits time s id f → AcksTell (told_counts (space_of s.waiting.spaces id).marks) fs →
+      AcksTell (told_counts (space_of s.waiting.spaces id).marks) (f ∷ fs)
+  unfolding Waits
+  first_tells time s id (frames.Ack ack) fs wait behind = (wait.1.ecn, behind)
+  first_tells time s id _ fs wait behind = behind
+
+  -- so do the frames that wait
+  wait_tells : (time : ℕ) (s : View t) (id : SpaceId) (fs : List FrameValue) → WaitAll time s id fs → AcksTell (told_counts (space_of s.waiting.spaces id).marks) fs
+  unfolding WaitAll
+  wait_tells time s id [] h = tt
+  wait_tells time s id (f ∷ fs) h =
+      let v : View t = state_move (Take id (f ∷ [])) s in
+      let same : (space_of v.waiting.spaces id).marks ≡ (space_of s.waiting.spaces id).marks = ap (λ (w : SpaceWaiting). w.marks) (taken_space id f s) ∙ without_keeps (space_of s.waiting.spaces id) f in
+      first_tells time s id f fs h.0 (subst (λ (counts : Option EcnCounts). AcksTell (told_counts counts) fs) same (wait_tells time v id fs h.1))
+
   -- an ACK and a close behind it tell the counts of their space
-  closes_tell : (time : ℕ) (s : View t) (id : SpaceId) (gs : List FrameValue) → Closes time s id gs → AcksTell (told_counts (space_of s.waiting.spaces id).marks) gs
-  closes_tell time s id gs (Closes.closing acks part kept fits is) =
+  closes_tell : (time : ℕ) (s : View t) (id : SpaceId) (room : ℕ) (gs : List FrameValue) → Closes time s id room gs → AcksTell (told_counts (space_of s.waiting.spaces id).marks) gs
+  closes_tell time s id room gs (Closes.closing acks part kept fits is) =
       let w : SpaceWaiting = space_of s.waiting.spaces id in
       let counts : Option EcnCounts = told_counts w.marks in
       subst (AcksTell counts) (sym is) (tell_append counts acks (closing_frame id kept s.life ∷ []) (part_tells time w _ acks _ part) (close_tells counts (is_closed s.life.state) id kept s.life.close))
@@ -143,7 +125,7 @@ module _ {t : Types} where
   padded_tells counts s id fs gs is told = subst (AcksTell counts) (sym is) (tell_append counts gs (replicate (padding_of s id gs) frames.Padding) told (padding_tells counts (padding_of s id gs)))
 
   -- what a packet carries tells the counts of its space
-  pub carries_tells : (time : ℕ) (s : View t) (id : SpaceId) (fs : List FrameValue) → Carries time s id fs → AcksTell (told_counts (space_of s.waiting.spaces id).marks) fs
-  carries_tells time s id fs (Carries.a_close owed gs closes is) = padded_tells (told_counts (space_of s.waiting.spaces id).marks) s id fs gs is (closes_tell time s id gs closes)
-  carries_tells time s id fs (Carries.what_waits free gs wait some is) =
-      padded_tells (told_counts (space_of s.waiting.spaces id).marks) s id fs gs is (wait_tells time s.waiting.bundled (space_of s.waiting.spaces id) gs wait)
+  pub carries_tells : (closing : Bool) (time : ℕ) (s : View t) (id : SpaceId) (room : ℕ) (fs : List FrameValue) → Carries closing time s id room fs → AcksTell (told_counts (space_of s.waiting.spaces id).marks) fs
+  carries_tells closing time s id room fs (Carries.a_close owed gs closes is) = padded_tells (told_counts (space_of s.waiting.spaces id).marks) s id fs gs is (closes_tell time s id room gs closes)
+  carries_tells closing time s id room fs (Carries.what_waits free gs wait some is) =
+      padded_tells (told_counts (space_of s.waiting.spaces id).marks) s id fs gs is (wait_tells time s id gs wait)

@@ -1,6 +1,6 @@
 -- The counts that a run tells in its ACKs are those of the packets that were accepted with each mark.
 use Rattle.std.proofs.Common.{◌≡◌, ℕ, ◌+◌, ◌-◌, ◌^◌, List, [], ◌∷◌, ◌++◌, length, take, refl, ap, sym, ◌∙◌, subst, Bool, true, false, Option, Some, None, if◌then◌else◌, append_assoc, append-nil, arith}
-use Rattle.std.specs.Prelude.{is_none, min}
+use Rattle.std.specs.Prelude.{min}
 use Rattle.std.specs.List.{list_any}
 use Rattle.std.specs.declared.net.SocketAddr.{SocketAddr}
 use Rattle.qc_base.specs.declared.ecn.EcnCodepoint.{EcnCodepoint}
@@ -10,11 +10,11 @@ use Rattle.qc_base.specs.declared.side.SpaceId.TheVariants.{Initial, Handshake, 
 use Rattle.qc_frame.specs.Frame.{FrameValue}
 use Rattle.qc_frame.specs.declared.frames.EcnCounts.{EcnCounts}
 use Rattle.qc_flight.specs.Packets.{Entry}
-use Rattle.qc_flight.specs.declared.sent.SentPacket.{SentPacket}
 use Rattle.qc_path.specs.Arrived.{Window}
 use Rattle.qc_path.specs.declared.pending_acks.Arrival.{Arrival}
 use Rattle.qc_recovery.specs.declared.calls.Fired.{Fired}
 use Rattle.qc_recovery.specs.declared.calls.Fired.TheVariants as fired
+use Rattle.qc_state.specs.declared.coming.Coming.{Coming}
 use Rattle.qc_state.specs.declared.deeds.Did.{Did}
 use Rattle.qc_state.specs.declared.deeds.Did.TheVariants as did
 use Rattle.qc_state.specs.declared.deeds.Verdict.{Verdict}
@@ -27,21 +27,24 @@ use Rattle.qc_state.specs.declared.trace.Step.{Step}
 use Rattle.qc_state.specs.declared.waiting.SpaceWaiting.{SpaceWaiting}
 use Rattle.qc_state.specs.declared.waiting.Waiting.{Waiting}
 use Rattle.qc_state.specs.Acks.{is_ack, told_counts}
-use Rattle.qc_state.specs.Life.{is_open}
+use Rattle.qc_state.specs.Life.{is_open, is_over}
 use Rattle.qc_state.specs.MarkLaws.{AcksTell, DeedsTell, EachTold, SealsTold, StepsTell, Tally, carried_mark, nothing_tallied, tally_accepted, tally_behind, tally_judged, tally_of, tally_since, tally_told}
-use Rattle.qc_state.specs.Moves.{Move, ClosesOnly, Clock, Ask, Take, Seal, Forget, Enter, Expect, Fail, Accept, Fix, Hear, Ack, Fire, Arm, Pace, Release, Begin, Skip, Come, Read, Write, Ready, Token, Learn, Want, Confirm, Establish, Tell, Drain, Leave, Owe, Shut, Raise, Give, Say, ReportReady, ReportConnected, ReportLost, ReportToken, ReportWanted, ReportDrained, accepts, enters, state_move, move_to, deeds_move, waiting_move, numbers_move, life_move, MayMove, IsTold, told}
+use Rattle.qc_state.specs.Moves.{Move, Clock, Ask, Take, Seal, Forget, Enter, Expect, Fail, Accept, Fix, Hear, Ack, Fire, Arm, Pace, Release, Begin, Skip, Come, Read, Write, Ready, Token, Learn, Want, Confirm, Establish, Tell, Drain, Leave, Owe, Shut, Raise, Give, Say, Finish, ReportReady, ReportConnected, ReportLost, ReportNotice, ReportNotices, ReportDrained, accepts, enters, state_move, move_to, deeds_move, waiting_move, numbers_move, keys_move, life_move, MayMove, IsTold, told}
 use Rattle.qc_state.specs.Numbers.{next_number}
+use Rattle.qc_state.specs.Offers.{packet_begun}
+use Rattle.qc_state.proofs.Probed.{begun_holds}
 use Rattle.qc_state.specs.Receiving.{datagram_after}
 use Rattle.qc_state.specs.Run.{time_of, began, close_after, input_after, called, reported, step_after, IsAllowed, IsStep, Run, Ran}
 use Rattle.qc_state.specs.Sending.{Choice, MayTransmit, packet_size, transmit_after}
 use Rattle.qc_state.specs.Spaces.{space_of, with_space, is_space}
 use Rattle.qc_state.specs.Types.{Types, Meaning}
 use Rattle.qc_state.specs.View.{View, At}
-use Rattle.qc_state.specs.Waiting.{done_asked, ping_asked, waiting_without, close_begun, counts_begun, mark_counted, packet_told, untold, packets_lost, lost_in, packets_acked, acked_in, fired_in, probes_added, begun_in, datagram_begun, came_in, packet_came, crypto_written, nothing_left, space_left, released, ack_released, bundle_next}
+use Rattle.qc_state.specs.Waiting.{done_asked, ping_asked, waiting_without, close_begun, counts_begun, mark_counted, packet_told, untold, packets_lost, lost_in, packets_acked, acked_in, fired_in, probes_added, probe_spent, frames_again, all_again, came_in, packet_came, crypto_written, nothing_left, space_left, released, ack_released, bundle_next}
 use Rattle.qc_state.proofs.Expired.{IsTimed, holds_timeout}
-use Rattle.qc_state.proofs.MarksKept.{acked_keeps, begun_keeps, carries_tells, lost_keeps, without_all_keeps}
+use Rattle.qc_state.proofs.MarksKept.{acked_keeps, all_again_keeps, carries_tells, lost_keeps, without_all_keeps}
 use Rattle.qc_state.proofs.OpenPackets.{holds_packet, packet_received}
-use Rattle.qc_state.proofs.ReceivedMoves.{IsInPacket, IsOutside, OpenPacket}
+use Rattle.qc_state.proofs.PacketMoves.{IsInPacket, OpenPacket}
+use Rattle.qc_state.proofs.ReceivedMoves.{IsOutside}
 use Rattle.qc_state.proofs.Receives.{datagram_holds}
 use Rattle.qc_state.proofs.Telling.{open_rank}
 use Rattle.qc_state.proofs.Transmitted.{IsSealable, IsSending, holds_transmit}
@@ -126,10 +129,12 @@ fired_marks id v (fired.Lost space es) = lost_marks id space v es
 fired_marks id v (fired.Probe space count) = same_marks id space v _ refl
 fired_marks id v fired.Nothing = refl
 
--- a datagram was begun
-datagram_marks : (id space : SpaceId) (v : Waiting) (oldest : Option SentPacket) → MarksOf id (datagram_begun v space oldest) ≡ MarksOf id v
-unfolding datagram_begun
-datagram_marks id space v oldest = same_marks id space v (begun_in (space_of v.spaces space) oldest) (begun_keeps (space_of v.spaces space) oldest)
+-- a packet was begun
+packet_marks : {t : Types} (id space : SpaceId) (opens : Bool) (s : View t) → MarksOf id (packet_begun space opens s).waiting ≡ MarksOf id s.waiting
+unfolding probe_spent frames_again ping_asked
+packet_marks id space opens s =
+    begun_holds (λ w. MarksOf id w ≡ MarksOf id s.waiting) (λ w x h. same_marks id x w (record (space_of w.spaces x) { probes = (space_of w.spaces x).probes - 1 }) refl ∙ h)
+    (λ w x fs h. same_marks id x w (all_again (space_of w.spaces x) fs) (all_again_keeps (space_of w.spaces x) fs) ∙ h) (λ w x h. same_marks id x w (record (space_of w.spaces x) { ping = true }) refl ∙ h) space opens s refl
 
 -- the frames of a packet were taken
 taken_marks : (id space : SpaceId) (v : Waiting) (fs : List FrameValue) → MarksOf id (waiting_without v space fs) ≡ MarksOf id v
@@ -314,7 +319,7 @@ module _ {t : Types} where
   counted_move id mark (Arm at) a h k = silent_counted id mark (Arm at) a refl refl
   counted_move id mark Pace a h k = silent_counted id mark Pace a refl refl
   counted_move id mark Release a h k = silent_counted id mark Release a refl (released_marks id a.state.waiting)
-  counted_move id mark (Begin space) a h k = silent_counted id mark (Begin space) a refl (datagram_marks id space a.state.waiting _)
+  counted_move id mark (Begin space opens) a h k = silent_counted id mark (Begin space opens) a refl (packet_marks id space opens a.state)
   counted_move id mark Skip a h k = silent_counted id mark Skip a refl refl
   counted_move id mark (Come space offset bytes) a h k = silent_counted id mark (Come space offset bytes) a refl refl
   counted_move id mark (Read space count session) a h k = silent_counted id mark (Read space count session) a refl refl
@@ -332,40 +337,41 @@ module _ {t : Types} where
   counted_move id mark (Shut time close) a h k = plain_counted id mark (Shut time close) _ a refl (λ y. tt) (λ y. refl) (begun_marks id a.state.waiting a.state.waiting.close_owed)
   counted_move id mark (Raise to) a h k = plain_counted id mark (Raise to) _ a refl (λ y. tt) (λ y. refl) refl
   counted_move id mark (Give why) a h k = plain_counted id mark (Give why) _ a refl (λ y. tt) (λ y. refl) refl
+  counted_move id mark (Finish bytes) a h k = silent_counted id mark (Finish bytes) a refl refl
   counted_move id mark (Say q) a h k = plain_counted id mark (Say q) _ a refl (λ y. tt) (λ y. refl) refl
   counted_move id mark ReportReady a h k = silent_counted id mark ReportReady a refl refl
   counted_move id mark ReportConnected a h k = silent_counted id mark ReportConnected a refl refl
   counted_move id mark ReportLost a h k = silent_counted id mark ReportLost a refl refl
-  counted_move id mark ReportToken a h k = silent_counted id mark ReportToken a refl refl
-  counted_move id mark ReportWanted a h k = silent_counted id mark ReportWanted a refl refl
+  counted_move id mark ReportNotice a h k = silent_counted id mark ReportNotice a refl refl
+  counted_move id mark ReportNotices a h k = silent_counted id mark ReportNotices a refl refl
   counted_move id mark ReportDrained a h k = silent_counted id mark ReportDrained a refl refl
 
   -- ---- inputs
 
   -- what a packet that opened does seals nothing, and it is accepted with the mark of its datagram
-  opened_telling : (m : Meaning t) (o : OpenPacket) (mark : Option EcnCodepoint) (x : Move t) (s : View t) → o.signs.mark ≡ mark → IsInPacket m o x s → IsTelling mark x s
+  opened_telling : (m : Meaning t) (o : OpenPacket) (mark : Option EcnCodepoint) (x : Move t) (s : View t) → o.coming.mark ≡ mark → IsInPacket m o x s → IsTelling mark x s
   opened_telling m o mark (Seal time id n size fs) s came h = absurd h
   opened_telling m o mark (Accept time id n e g v) s came h = (h.2, ap (λ (signs : Signs). signs.mark) h.1 ∙ came)
   opened_telling m o mark (Enter id n v) s came h = h.0
   opened_telling m o mark _ s came h = tt
 
   -- over such a packet
-  counted_opened : (id : SpaceId) (m : Meaning t) (mark : Option EcnCodepoint) (o : OpenPacket) (a : At t) → o.signs.mark ≡ mark → Counted id mark a (packet_received m o a)
-  counted_opened id m mark o a came =
-      holds_packet m o (Counted id mark) (counted_here id mark) (counted_next id mark) (λ x b h may. counted_move id mark x b may (opened_telling m o mark x b.state came h)) a
+  counted_opened : (id : SpaceId) (m : Meaning t) (mark : Option EcnCodepoint) (o : OpenPacket) (a : At t) → o.coming.mark ≡ mark → is_over a.state.life.state ≡ false → Counted id mark a (packet_received m o a)
+  counted_opened id m mark o a came lively =
+      holds_packet m o (Counted id mark) (counted_here id mark) (counted_next id mark) (λ x b h may. counted_move id mark x b may (opened_telling m o mark x b.state came h)) a lively
 
   -- all else that receiving does seals and accepts nothing
-  outside_telling : (mark : Option EcnCodepoint) (x : Move t) (s : View t) → IsOutside x → IsTelling mark x s
-  outside_telling mark (Seal time id n size fs) s h = absurd h
-  outside_telling mark (Accept time id n e g v) s h = absurd h
-  outside_telling mark (Enter id n v) s h = absurd h
-  outside_telling mark _ s h = tt
+  outside_telling : (mark : Option EcnCodepoint) (time : ℕ) (x : Move t) (s : View t) → IsOutside time x s → IsTelling mark x s
+  outside_telling mark at_time (Seal time id n size fs) s h = absurd h
+  outside_telling mark at_time (Accept time id n e g v) s h = absurd h
+  outside_telling mark at_time (Enter id n v) s h = absurd h
+  outside_telling mark at_time _ s h = tt
 
   -- a datagram
-  counted_datagram : (id : SpaceId) (m : Meaning t) (time : ℕ) (mark : Option EcnCodepoint) (remote : SocketAddr) (bytes : List ℕ) (a : At t) → Counted id mark a (datagram_after m time mark remote bytes a)
-  counted_datagram id m time mark remote bytes a =
-      datagram_holds m (λ its p. its ≡ mark) (Counted id mark) (counted_here id mark) (counted_next id mark) (λ x h b may. counted_move id mark x b may (outside_telling mark x b.state h))
-      (λ its p comes o b opened. counted_opened id m mark o b (ap (λ (signs : Signs). signs.mark) opened.shown ∙ comes)) time mark remote bytes a (λ p among. refl)
+  counted_datagram : (id : SpaceId) (m : Meaning t) (coming : Coming) (bytes : List ℕ) (a : At t) → Counted id coming.mark a (datagram_after m coming bytes a)
+  counted_datagram id m coming bytes a =
+      datagram_holds m coming (λ p. Unit {0}) (Counted id coming.mark) (counted_here id coming.mark) (counted_next id coming.mark) (λ x b h may. counted_move id coming.mark x b may (outside_telling coming.mark coming.time x b.state h))
+      (λ p comes o b opened. counted_opened id m coming.mark o b (ap (λ (c : Coming). c.mark) opened.came) opened.lively) bytes a (λ p among. tt)
 
   -- what a transmit does beside sealing accepts nothing
   sending_telling : (x : Move t) (s : View t) → IsSending x → IsTelling None x s
@@ -377,19 +383,19 @@ module _ {t : Types} where
   -- a packet is taken and sealed
   counted_sealed : (id : SpaceId) (time : ℕ) (space : SpaceId) (fs : List FrameValue) (a : At t) → IsSealable time a.state space fs →
       Counted id None a (move_to (Seal time space (next_number a.state.numbers space) (packet_size a.state space fs) fs) (move_to (Take space fs) a))
-  unfolding MayMove move_to state_move numbers_move life_move waiting_move
+  unfolding MayMove move_to state_move numbers_move keys_move life_move waiting_move
   counted_sealed id time space fs a may =
       let b : At t = move_to (Take space fs) a in
       let said : AcksTell (told_counts (MarksOf space (waiting_without a.state.waiting space fs))) fs =
-      subst (λ (x : Option EcnCounts). AcksTell (told_counts x) fs) (sym (taken_marks space space a.state.waiting fs)) (carries_tells time a.state space fs may.carries) in
+      subst (λ (x : Option EcnCounts). AcksTell (told_counts x) fs) (sym (taken_marks space space a.state.waiting fs)) (carries_tells may.closing time a.state space may.room fs may.carries) in
       counted_next id None a b _ (counted_move id None (Take space fs) a tt tt)
-      (counted_move id None (Seal time space (next_number a.state.numbers space) (packet_size a.state space fs) fs) b (refl, may.closes) said)
+      (counted_move id None (Seal time space (next_number a.state.numbers space) (packet_size a.state space fs) fs) b (refl, may.closes, may.alive, may.keyed) said)
 
   -- a transmit
-  counted_transmit : (id : SpaceId) (time : ℕ) (choice : Choice) (a : At t) → MayTransmit time a.state choice → Counted id None a (transmit_after time choice a)
-  counted_transmit id time choice a may =
+  counted_transmit : (id : SpaceId) (m : Meaning t) (time : ℕ) (choice : Choice) (a : At t) → MayTransmit m time choice a → Counted id None a (transmit_after m time choice a)
+  counted_transmit id m time choice a may =
       holds_transmit (Counted id None) (counted_here id None) (counted_next id None) (λ x sends b h. counted_move id None x b h (sending_telling x b.state sends))
-      (λ at_time space fs b h. counted_sealed id at_time space fs b h) time choice a may
+      (λ at_time space fs b h. counted_sealed id at_time space fs b h) m time choice a may
 
   -- the application closes, or has closed before
   closed_by : (id : SpaceId) (time : ℕ) (close : Close) (a : At t) (b : Bool) → is_open a.state.life.state ≡ b → Counted id None a (if b then move_to (Shut time close) a else a)
@@ -408,12 +414,12 @@ module _ {t : Types} where
   timed_telling _ s r = absurd r
 
   -- each input
-  counted_input : (id : SpaceId) (m : Meaning t) (i : Input) (choice : Choice) (a : At t) → IsAllowed i choice a.state → Counted id (carried_mark i) a (input_after m i choice a)
+  counted_input : (id : SpaceId) (m : Meaning t) (i : Input) (choice : Choice) (a : At t) → IsAllowed m i choice a → Counted id (carried_mark i) a (input_after m i choice a)
   unfolding IsAllowed input_after close_after MayMove
-  counted_input id m (input.Datagram time remote ecn bytes) choice a h = counted_datagram id m time ecn remote bytes a
+  counted_input id m (input.Datagram time remote ecn bytes) choice a h = counted_datagram id m (record { time = time; remote = remote; mark = ecn }) bytes a
   counted_input id m (input.Timeout time) choice a h =
       holds_timeout (Counted id None) (counted_here id None) (counted_next id None) (λ x timed b may. counted_move id None x b may (timed_telling x b.state timed)) m time a
-  counted_input id m (input.Transmit time max) choice a h = counted_transmit id time choice a h
+  counted_input id m (input.Transmit time max) choice a h = counted_transmit id m time choice a h
   counted_input id m (input.Close time code reason) choice a h = closed_by id time _ a _ refl
   counted_input id m (input.Ping time) choice a h = counted_move id None (Ask a.state.keys.highest) a tt tt
 

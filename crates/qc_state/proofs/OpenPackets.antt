@@ -1,46 +1,59 @@
 -- What holds of each move that a packet which opened makes, holds of the packet. Each move is said to be one of this packet, so
 -- that a law can learn which payload a frame that is given belongs to.
 use Rattle.std.proofs.Common.{◌≡◌, ℕ, ◌<◌, inl, inr, List, [], ◌∷◌, length, refl, ap, sym, subst, Bool, true, false, Option, Some, None, if◌then◌else◌, arith}
-use Rattle.std.specs.Prelude.{not, Result, Ok, Err}
+use Rattle.std.specs.Prelude.{not, is_none, Result, Ok, Err, IfSome}
 use Rattle.std.specs.List.{list_any}
 use Rattle.qc_base.specs.declared.transport_error.TransportError.{TransportError}
-use Rattle.qc_base.specs.declared.side.Side.TheVariants.{Server}
+use Rattle.qc_base.specs.declared.side.Side.{Side}
+use Rattle.qc_base.specs.declared.side.Side.TheVariants.{Client, Server}
 use Rattle.qc_base.specs.declared.side.SpaceId.{SpaceId}
 use Rattle.qc_base.specs.declared.side.SpaceId.TheVariants.{Initial, Handshake, «Data»}
 use Rattle.qc_flight.specs.Packets.{Entry}
 use Rattle.qc_frame.specs.Frame.{AckValue, FrameValue, TypedValue}
 use Rattle.qc_frame.specs.FrameSpelling.{spelling}
 use Rattle.qc_frame.specs.Payload.{Item, items_of}
+use Rattle.qc_frame.specs.declared.fault.InvalidFrame.{InvalidFrame}
 use Rattle.qc_frame.specs.declared.frames.FrameOf.TheVariants as frames
+use Rattle.qc_state.specs.declared.coming.Coming.{Coming}
 use Rattle.qc_state.specs.declared.deeds.Did.{Did}
 use Rattle.qc_state.specs.declared.deeds.Did.TheVariants as did
 use Rattle.qc_state.specs.declared.deeds.Layer.TheVariants as layer
 use Rattle.qc_state.specs.declared.deeds.Verdict.{Verdict}
 use Rattle.qc_state.specs.declared.deeds.Verdict.TheVariants as verdict
 use Rattle.qc_state.specs.declared.life.ConnectionError.{ConnectionError}
+use Rattle.qc_state.specs.declared.life.ConnectionError.TheVariants as lost
 use Rattle.qc_state.specs.declared.life.State.{State}
 use Rattle.qc_state.specs.declared.life.State.TheVariants as state
-use Rattle.qc_state.specs.Life.{rank_of, is_open, is_closed}
-use Rattle.qc_state.specs.Lower.{ready_bytes, stream_of}
-use Rattle.qc_state.specs.Moves.{Move, Forget, Enter, Accept, Fix, Ack, Come, Read, Ready, Tell, Drain, Leave, Owe, move_to, state_move, numbers_move, keys_move, life_move, paths_move, timers_move, waiting_move, setup_move, lower_move, MayMove, accepts, enters, armed_after}
-use Rattle.qc_state.specs.Numbers.{is_new_in}
+use Rattle.qc_state.specs.declared.life.Life.{Life}
+use Rattle.qc_state.specs.Life.{rank_of, is_open, is_closed, is_over, life_drained, reason_given}
+use Rattle.qc_state.specs.Lower.{ready_bytes, session_read, stream_of}
+use Rattle.qc_state.specs.Moves.{Move, Arm, Forget, Enter, Accept, Fix, Give, Ack, Come, Read, Ready, Shut, Tell, Drain, Leave, Owe, move_to, state_move, numbers_move, keys_move, life_move, paths_move, timers_move, waiting_move, setup_move, lower_move, MayMove, accepts, enters, armed_after, armed_with}
+use Rattle.qc_state.specs.Numbers.{is_new_in, next_number}
 use Rattle.qc_state.specs.Progress.{progress_after}
-use Rattle.qc_state.specs.Receiving.{reason_of, is_close_item, is_eliciting_item, left_after, rearmed_after, settled_after, acked_after, confirmed_after, applied_after, close_given, closed_in_data, close_and, end_after, crypto_stop, answered_and, given_and, kept_and, crypto_and, taken_and, frame_and, read_and, items_after, payload_after, fixes_peer, fixed_after, read_for_close, admitted_after, verdict_after, received_after, accepted_after}
+use Rattle.qc_state.specs.Receiving.{reason_of, signs_of, stop_in, is_close_item, is_eliciting_item, left_after, rearmed_after, settled_after, acked_after, confirmed_after, applied_after, close_given, closed_in_data, end_after, crypto_stop, items_after, payload_after, fixes_peer, fixed_after, read_for_close, admitted_after, verdict_after, received_after, accepted_after, Behind, Goes, Closes, Ends, Course, Reads, Ended, close_after, ended_by, answered_after, bytes_given, kept_after, frame_after, course_with}
 use Rattle.qc_state.specs.Paths.{is_blocked}
-use Rattle.qc_state.specs.Recovering.{settled_by}
-use Rattle.qc_state.specs.Stopping.{given_after, stopped_after}
+use Rattle.qc_state.specs.Recovering.{loss_time, settled_by}
+use Rattle.qc_state.specs.Sending.{drops_initial, initial_left}
+use Rattle.qc_state.specs.Stopping.{encoding_error_at, given_after, stopped_after}
 use Rattle.qc_state.specs.Types.{Types, Meaning}
 use Rattle.qc_state.specs.Verdicts.{first_row, verdict_of}
 use Rattle.qc_state.specs.View.{View, At}
-use Rattle.qc_state.proofs.Ends.{holds_armed_now, holds_given, holds_initial, holds_stopped}
+use Rattle.qc_state.proofs.Ends.{given_by, stopped_by}
 use Rattle.qc_state.proofs.Progresses.{holds_progress}
-use Rattle.qc_state.proofs.ReceivedMoves.{IsAmong, IsFrameOf, IsGivenTo, IsInPacket, OpenPacket, ending_in_packet, progress_in_packet}
+use Rattle.qc_state.proofs.PacketMoves.{Bytes, Empty, EndsWith, Fault, IsAmong, IsFrameOf, IsGivenTo, IsInPacket, IsReasonOf, IsTypedOf, Kind, OpenPacket, Refusal, Stops, progress_in_packet}
+use Rattle.qc_state.proofs.ReceivedMoves.{close_for}
 
 -- ---- what a verdict on a packet that opened says of the view
 
 new_by : (new closed early other : Bool) (v : Verdict) → first_row ((not new, verdict.Seen) ∷ (closed, verdict.ReadForClose) ∷ (early, verdict.NumberOnly) ∷ (other, verdict.AckOnly) ∷ []) verdict.Admitted ≡ v → enters v ≡ true → new ≡ true
 new_by true closed early other v e h = refl
 new_by false closed early other v e h = cc
+
+-- a packet is accepted only where this end hasn't closed
+open_by_row : (new closed early other : Bool) (v : Verdict) → first_row ((not new, verdict.Seen) ∷ (closed, verdict.ReadForClose) ∷ (early, verdict.NumberOnly) ∷ (other, verdict.AckOnly) ∷ []) verdict.Admitted ≡ v → accepts v ≡ true → closed ≡ false
+open_by_row true true early other v e h = cc
+open_by_row true false early other v e h = refl
+open_by_row false closed early other v e h = cc
 
 closed_by_row : (new closed early other : Bool) → first_row ((not new, verdict.Seen) ∷ (closed, verdict.ReadForClose) ∷ (early, verdict.NumberOnly) ∷ (other, verdict.AckOnly) ∷ []) verdict.Admitted ≡ verdict.ReadForClose → closed ≡ true
 closed_by_row true true early other e = refl
@@ -49,12 +62,21 @@ closed_by_row true false false true e = cc
 closed_by_row true false false false e = cc
 closed_by_row false closed early other e = cc
 
-closed_rank : (s : State) → is_closed s ≡ true → rank_of s < 3
-closed_rank state.Handshake h = cc
-closed_rank state.Established h = cc
-closed_rank state.Closed h = omega arith
-closed_rank state.Draining h = cc
-closed_rank state.Drained h = cc
+-- where this end has closed, it isn't open
+shut_by : (s : State) → is_closed s ≡ true → is_open s ≡ false
+shut_by state.Handshake h = cc
+shut_by state.Established h = cc
+shut_by state.Closed h = refl
+shut_by state.Draining h = cc
+shut_by state.Drained h = cc
+
+-- a life that hasn't closed and isn't over is open
+still_open : (s : State) → is_over s ≡ false → is_closed s ≡ false → is_open s ≡ true
+still_open state.Handshake h c = refl
+still_open state.Established h c = refl
+still_open state.Closed h c = cc
+still_open state.Draining h c = cc
+still_open state.Drained h c = cc
 
 open_low : (s : State) → is_open s ≡ true → rank_of s < 3
 open_low state.Handshake h = omega arith
@@ -69,71 +91,116 @@ closes_life (frames.ConnectionClose code type reason) why h = tt
 closes_life (frames.ApplicationClose code reason) why h = tt
 closes_life _ why h = cc
 
+-- a HANDSHAKE_DONE that stops nothing came in a 1-RTT packet to a client
+done_goes : (side : Side) (id : SpaceId) (next : ℕ) (skipped : Option ℕ) (type : ℕ) → stop_in side id next skipped type frames.HandshakeDone ≡ None → (side ≡ Client) × (id ≡ «Data»)
+done_goes side Initial next skipped type h = cc
+done_goes side Handshake next skipped type h = cc
+done_goes Client Data next skipped type h = (refl, refl)
+done_goes Server Data next skipped type h = cc
+
+-- the frames and the last bytes of some items are those of others
+record Within (items others : List Item) : Type 0 where
+  reads : (read : TypedValue) → IsAmong read items → IsAmong read others
+  fault : (fault : InvalidFrame) → EndsWith fault items → EndsWith fault others
+
 module _ {t : Types} where
+  -- behind a frame that ended the packet none does anything
+  pub ended_stays : (m : Meaning t) (coming : Coming) (id : SpaceId) (items : List Item) (a : At t) → items_after m coming id items (Ended a) ≡ Ended a
+  ended_stays m coming id [] a = refl
+  ended_stays m coming id (Ok read ∷ items) a = ended_stays m coming id items a
+  ended_stays m coming id (Err fault ∷ items) a = ended_stays m coming id items a
+
   -- what is told leaves what an ACK settles
   told_settled : (m : Meaning t) (time : ℕ) (space : SpaceId) (ack : AckValue) (d : Did) (s : View t) → settled_by m time space ack s ≡ settled_by m time space ack (state_move (Tell d) s)
   unfolding state_move numbers_move keys_move life_move paths_move timers_move waiting_move setup_move lower_move
   told_settled m time space ack d s = refl
 
+  -- where the peer closed, the connection isn't open any more
+  left_shut_by : (time : ℕ) (why : ConnectionError) (a : At t) (b c : Bool) → is_open a.state.life.state ≡ b → b ≡ true →
+      let d : At t = move_to (Leave time) a in is_open (if b then (if c then move_to (Give why) d else d) else a).state.life.state ≡ false
+  unfolding move_to state_move life_move life_drained reason_given
+  left_shut_by time why a true true is h = given_shut (is_none a.state.life.reason)
+    where
+      given_shut : (b : Bool) → let v : Life = record a.state.life { state = state.Draining } in is_open (if b then record v { reason = Some why; lost = Some why } else v).state ≡ false
+      given_shut true = refl
+      given_shut false = refl
+  left_shut_by time why a true false is h = refl
+  left_shut_by time why a false c is h = cc
+
+  left_shut : (time : ℕ) (why : ConnectionError) (a : At t) → is_open a.state.life.state ≡ true → is_open (left_after time why a).state.life.state ≡ false
+  unfolding left_after given_after
+  left_shut time why a h = left_shut_by time why a (is_open a.state.life.state) (is_none (move_to (Leave time) a).state.life.reason) refl h
+
   -- what a packet does that opened
   abbrev pub packet_received : Meaning t → OpenPacket → At t → At t
-  packet_received m o a = received_after m o.time o.space o.signs o.source o.token o.number o.payload a
+  packet_received m o a = received_after m o.coming o.space o.spin o.source o.token o.number o.payload a
 
 -- what holds of no move, of two moves one after the other, and of each move that the packet makes, where it may be made, holds of
 -- the packet
 module _ {t : Types} (m : Meaning t) (o : OpenPacket) (R : At t → At t → Type 0) (here : (a : At t) → R a a) (next : (a b c : At t) → R a b → R b c → R a c)
     (move : (x : Move t) (a : At t) → IsInPacket m o x a.state → MayMove x a.state → R a (move_to x a)) where
-  stopped : (error : TransportError) (a : At t) → R a (stopped_after o.time error a)
-  stopped error a = holds_stopped R here next (λ x e b may. move x b (ending_in_packet m o x b.state e) may) o.time error a
+  -- a frame of this type stops nothing by its kind
+  abbrev GoesOn : View t → (type : ℕ) → FrameValue → Type 0
+  GoesOn s type f = stop_in s.setup.fixed.side o.space (next_number s.numbers o.space) s.numbers.filter.last type f ≡ None
 
-  given : (why : ConnectionError) (a : At t) → R a (given_after why a)
-  given why a = holds_given R here next (λ x e b may. move x b (ending_in_packet m o x b.state e) may) why a
+  -- the last close so far is one of this packet
+  abbrev IsCloseSoFar : Option ConnectionError → Type 0
+  IsCloseSoFar close = IfSome close (λ why. IsReasonOf o why)
 
-  armed : (a : At t) → R a (armed_after o.time a)
-  armed a = holds_armed_now R here next (λ x e b may. move x b (ending_in_packet m o x b.state e) may) o.time a
+  -- this end closes for an error, which the packet gives
+  stopped : (error : TransportError) (a : At t) → Stops m o a.state error → R a (stopped_after o.coming.time error a)
+  unfolding MayMove move_to
+  stopped error a stops =
+      let b : At t = move_to (Shut o.coming.time (close_for error)) a in
+      stopped_by R here next o.coming.time error a (λ low. move (Shut o.coming.time (close_for error)) a (record { same = refl; error = error; closes = refl; cause = stops }) low)
+      (λ none. move (Give (lost.TransportError error)) b (inr (record { error = error; reason = refl; before = a.state; closed = refl; cause = stops })) none)
+
+  -- the reason that a close of the peer's gives is given
+  given : (why : ConnectionError) (a : At t) → IsReasonOf o why → R a (given_after why a)
+  unfolding MayMove
+  given why a reason = given_by R here next why a (λ none. move (Give why) a (inl reason) none)
+
+  -- the loss timer is set anew
+  armed : (a : At t) → R a (armed_after o.coming.time a)
+  unfolding armed_after armed_with MayMove
+  armed a = move (Arm (loss_time a.state (is_blocked a.state.paths) o.coming.time)) a refl (record { blocked = is_blocked a.state.paths; time = o.coming.time; set = refl })
 
   -- ---- closes, and acknowledgements
 
-  left_by : (why : ConnectionError) (a : At t) (b : Bool) → is_open a.state.life.state ≡ b → R a (if b then given_after why (move_to (Leave o.time) a) else a)
+  left_by : (why : ConnectionError) (a : At t) (b : Bool) → is_open a.state.life.state ≡ b → IsReasonOf o why → R a (if b then given_after why (move_to (Leave o.coming.time) a) else a)
   unfolding MayMove
-  left_by why a true h = next a (move_to (Leave o.time) a) _ (move (Leave o.time) a refl (open_low a.state.life.state h)) (given why (move_to (Leave o.time) a))
-  left_by why a false h = here a
+  left_by why a true h reason = next a (move_to (Leave o.coming.time) a) _ (move (Leave o.coming.time) a (refl, (why, reason)) (open_low a.state.life.state h)) (given why (move_to (Leave o.coming.time) a) reason)
+  left_by why a false h reason = here a
 
   -- the peer closed: the connection drains, if it was open
-  holds_left : (why : ConnectionError) (a : At t) → R a (left_after o.time why a)
+  holds_left : (why : ConnectionError) (a : At t) → IsReasonOf o why → R a (left_after o.coming.time why a)
   unfolding left_after
-  holds_left why a = left_by why a _ refl
+  holds_left why a reason = left_by why a _ refl reason
 
   -- the server has confirmed the handshake
-  holds_confirmed : (a : At t) → IsFrameOf o frames.HandshakeDone → R a (confirmed_after o.time a)
-  unfolding confirmed_after MayMove
-  holds_confirmed a h =
+  holds_confirmed : (a : At t) → IsFrameOf o frames.HandshakeDone → a.state.setup.fixed.side ≡ Client → o.space ≡ «Data» → R a (confirmed_after o.coming.time a)
+  unfolding confirmed_after MayMove move_to state_move setup_move
+  holds_confirmed a h side space =
       let b : At t = move_to (Tell (did.Gave layer.Life (spelling frames.HandshakeDone))) a in
       let c : At t = move_to (Forget Handshake) b in
       next a b _ (move (Tell (did.Gave layer.Life (spelling frames.HandshakeDone))) a (frames.HandshakeDone, h, tt, refl) tt)
-      (next b c _ (move (Forget Handshake) b tt tt) (armed c))
+      (next b c _ (move (Forget Handshake) b (inl (side, space, h)) tt) (armed c))
 
   -- the loss timer is set anew where packets were newly acknowledged
-  holds_rearmed : (acked : List Entry) (a : At t) → R a (rearmed_after o.time acked a)
+  holds_rearmed : (acked : List Entry) (a : At t) → R a (rearmed_after o.coming.time acked a)
   holds_rearmed [] a = here a
   holds_rearmed (e ∷ es) a = armed a
 
-  holds_acked : (ack : AckValue) (a : At t) → IsFrameOf o (frames.Ack ack) → R a (acked_after m o.time o.space ack a)
+  holds_acked : (ack : AckValue) (a : At t) → IsFrameOf o (frames.Ack ack) → R a (acked_after m o.coming.time o.space ack a)
   unfolding acked_after settled_after MayMove move_to
   holds_acked ack a h =
       let d : Did = did.Gave layer.Recovery (spelling (frames.Ack ack)) in
-      let after = settled_by m o.time o.space ack a.state in
+      let after = settled_by m o.coming.time o.space ack a.state in
       let b : At t = move_to (Tell d) a in
       let c : At t = move_to (Ack o.space ack.largest after) b in
       next a b _ (move (Tell d) a (frames.Ack ack, h, tt, refl) tt)
-      (next b c _ (move (Ack o.space ack.largest after) b (record { ack = ack; among = h; space = refl; greatest = refl; settled = told_settled m o.time o.space ack d a.state }) tt)
+      (next b c _ (move (Ack o.space ack.largest after) b (record { ack = ack; among = h; space = refl; greatest = refl; settled = told_settled m o.coming.time o.space ack d a.state }) tt)
       (holds_rearmed after.acked c))
-
-  holds_applied : (f : FrameValue) (a : At t) → IsFrameOf o f → R a (applied_after m o.time o.space f a)
-  unfolding applied_after
-  holds_applied (frames.Ack ack) a h = holds_acked ack a h
-  holds_applied frames.HandshakeDone a h = holds_confirmed a h
-  holds_applied _ a h = here a
 
   -- a close of the peer's is given to the life
   holds_given_close : (f : FrameValue) (a : At t) → IsFrameOf o f → IsGivenTo layer.Life f → R a (close_given f a)
@@ -141,95 +208,128 @@ module _ {t : Types} (m : Meaning t) (o : OpenPacket) (R : At t → At t → Typ
   holds_given_close f a h to = move (Tell (did.Gave layer.Life (spelling f))) a (f, h, to, refl) tt
 
   -- the last close of a 1-RTT packet counts, where the connection was open
-  data_by : (why : ConnectionError) (a : At t) (b : Bool) → R a (if b then move_to Owe (left_after o.time why a) else a)
+  data_by : (why : ConnectionError) (a : At t) (b : Bool) → is_open a.state.life.state ≡ b → IsReasonOf o why → R a (if b then move_to Owe (left_after o.coming.time why a) else a)
   unfolding MayMove
-  data_by why a true = next a (left_after o.time why a) _ (holds_left why a) (move Owe (left_after o.time why a) tt tt)
-  data_by why a false = here a
+  data_by why a true is reason = next a (left_after o.coming.time why a) _ (holds_left why a reason) (move Owe (left_after o.coming.time why a) tt (left_shut o.coming.time why a is))
+  data_by why a false is reason = here a
 
   -- it counts, or not
-  holds_in_data : (why : ConnectionError) (a : At t) → R a (closed_in_data o.time why a)
+  holds_in_data : (why : ConnectionError) (a : At t) → IsReasonOf o why → R a (closed_in_data o.coming.time why a)
   unfolding closed_in_data
-  holds_in_data why a = data_by why a (is_open a.state.life.state)
+  holds_in_data why a reason = data_by why a (is_open a.state.life.state) refl reason
 
-  -- a close, and in a 1-RTT packet the frames behind it
-  holds_close : (space : SpaceId) (f : FrameValue) (why : ConnectionError) (others : Option ConnectionError → At t → At t) (a : At t) → IsFrameOf o f → IsGivenTo layer.Life f
-      → ((c : Option ConnectionError) (b : At t) → R b (others c b)) → R a (close_and o.time space f why others a)
-  holds_close Initial f why others a among to h = next a (close_given f a) _ (holds_given_close f a among to) (holds_left why (close_given f a))
-  holds_close Handshake f why others a among to h = next a (close_given f a) _ (holds_given_close f a among to) (holds_left why (close_given f a))
-  holds_close Data f why others a among to h = next a (close_given f a) _ (holds_given_close f a among to) (h (Some why) (close_given f a))
+  -- ---- what a frame leaves
+
+  -- it holds of what a frame leaves, and a close is one of this packet
+  abbrev Leaves : At t → Behind t → Type 0
+  Leaves a (Goes b) = R a b
+  Leaves a (Closes why b) = R a b × IsReasonOf o why
+  Leaves a (Ends b) = R a b
+
+  -- so it does where it holds of what comes before
+  leaves_next : (a b : At t) → R a b → (x : Behind t) → Leaves b x → Leaves a x
+  leaves_next a b h (Goes c) k = next a b c h k
+  leaves_next a b h (Closes why c) k = (next a b c h k.0, k.1)
+  leaves_next a b h (Ends c) k = next a b c h k
+
+  -- a close
+  holds_close : (space : SpaceId) (f : FrameValue) (why : ConnectionError) (a : At t) → IsFrameOf o f → reason_of f ≡ Some why → Leaves a (close_after o.coming space f why a)
+  holds_close Initial f why a among is = next a (close_given f a) _ (holds_given_close f a among (closes_life f why is)) (holds_left why (close_given f a) (f, among, is))
+  holds_close Handshake f why a among is = next a (close_given f a) _ (holds_given_close f a among (closes_life f why is)) (holds_left why (close_given f a) (f, among, is))
+  holds_close Data f why a among is = (holds_given_close f a among (closes_life f why is), (f, among, is))
 
   -- the handshake goes on behind the frames
-  progress : (a : At t) → R a (progress_after m o.time o.space a)
-  progress a = holds_progress m o.time R here next (λ x b h may. move x b (progress_in_packet m o x b.state h) may) o.space a
+  progress : (a : At t) → R a (progress_after m o.coming.time o.space a)
+  progress a = holds_progress m o.coming.time o.space R here next (λ x b h may. move x b (progress_in_packet m o x b.state h) may) a
 
   -- ---- the frames
 
-  -- the session answered a read
-  holds_answered : (r : Result Bool TransportError) (others : At t → At t) (a : At t) → ((b : At t) → R b (others b)) → R a (answered_and o.time r others a)
+  -- an error ends the packet
+  holds_ended : (stop : Option TransportError) (does : At t → Behind t) (a : At t) → ((error : TransportError) → stop ≡ Some error → Stops m o a.state error) → (stop ≡ None → Leaves a (does a))
+      → Leaves a (ended_by o.coming.time stop does a)
+  holds_ended (Some error) does a stops goes = stopped error a (stops error refl)
+  holds_ended None does a stops goes = goes refl
+
+  -- the session answered a read of these bytes
+  holds_answered : (bytes : List ℕ) (session : t.S) (r : Result Bool TransportError) (a : At t) → m.reads session bytes ≡ r → a.state.lower.session ≡ m.after_read session bytes → Leaves a (answered_after o.coming r a)
   unfolding MayMove
-  holds_answered (Err error) others a h = stopped error a
-  holds_answered (Ok true) others a h = next a (move_to Ready a) _ (move Ready a tt tt) (h (move_to Ready a))
-  holds_answered (Ok false) others a h = h a
+  holds_answered bytes session (Err error) a refused behind = stopped error a (Refusal bytes session refused behind)
+  holds_answered bytes session (Ok true) a refused behind = move Ready a tt tt
+  holds_answered bytes session (Ok false) a refused behind = here a
 
   -- the session is given the bytes that can be read in order
-  holds_bytes : (bytes : List ℕ) (others : At t → At t) (a : At t) → bytes ≡ ready_bytes (stream_of a.state.lower o.space) → ((b : At t) → R b (others b)) → R a (given_and m o.time o.space bytes others a)
-  unfolding MayMove move_to state_move lower_move
-  holds_bytes [] others a ready h = h a
-  holds_bytes (x ∷ bytes) others a ready h =
+  holds_bytes : (bytes : List ℕ) (a : At t) → bytes ≡ ready_bytes (stream_of a.state.lower o.space) → Leaves a (bytes_given m o.coming o.space bytes a)
+  unfolding MayMove move_to state_move lower_move session_read
+  holds_bytes [] a ready = here a
+  holds_bytes (x ∷ bytes) a ready =
       let read : Move t = Read o.space (length (x ∷ bytes)) (m.after_read a.state.lower.session (x ∷ bytes)) in
       let b : At t = move_to (Tell (did.Gave layer.Session (x ∷ bytes))) a in
       let c : At t = move_to read b in
-      next a b _ (move (Tell (did.Gave layer.Session (x ∷ bytes))) a ready tt)
-      (next b c _ (move read b (record { space = refl; counted = ap (λ (l : List ℕ). length l) ready; behind = ap (λ (l : List ℕ). m.after_read a.state.lower.session l) ready }) tt)
-      (holds_answered (m.reads a.state.lower.session (x ∷ bytes)) others c h))
+      let given : R a c =
+      next a b c (move (Tell (did.Gave layer.Session (x ∷ bytes))) a ready tt)
+      (move read b (record { space = refl; counted = ap (λ (l : List ℕ). length l) ready; behind = ap (λ (l : List ℕ). m.after_read a.state.lower.session l) ready }) tt) in
+      leaves_next a c given (answered_after o.coming (m.reads a.state.lower.session (x ∷ bytes)) c) (holds_answered (x ∷ bytes) a.state.lower.session (m.reads a.state.lower.session (x ∷ bytes)) c refl refl)
 
   -- bytes of a CRYPTO stream came
-  holds_kept : (offset : ℕ) (body : List ℕ) (others : At t → At t) (a : At t) → IsFrameOf o (frames.Crypto offset body) → ((b : At t) → R b (others b)) → R a (kept_and m o.time o.space offset body others a)
-  unfolding kept_and MayMove
-  holds_kept offset body others a among h =
+  holds_kept : (offset : ℕ) (body : List ℕ) (a : At t) → IsFrameOf o (frames.Crypto offset body) → Leaves a (kept_after m o.coming o.space offset body a)
+  unfolding kept_after MayMove
+  holds_kept offset body a among =
       let b : At t = move_to (Come o.space offset body) a in
-      next a b _ (move (Come o.space offset body) a (refl, among) tt) (holds_bytes (ready_bytes (stream_of b.state.lower o.space)) others b refl h)
+      leaves_next a b (move (Come o.space offset body) a (refl, among) tt) (bytes_given m o.coming o.space (ready_bytes (stream_of b.state.lower o.space)) b) (holds_bytes (ready_bytes (stream_of b.state.lower o.space)) b refl)
 
-  -- a CRYPTO frame, which may stop its packet
-  holds_crypto : (offset : ℕ) (body : List ℕ) (stop : Option TransportError) (others : At t → At t) (a : At t) → IsFrameOf o (frames.Crypto offset body) → ((b : At t) → R b (others b)) → R a (crypto_and m o.time o.space offset body stop others a)
-  holds_crypto offset body (Some error) others a among h = stopped error a
-  holds_crypto offset body None others a among h = holds_kept offset body others a among h
+  -- a frame that its kind doesn't stop
+  holds_applied : (f : FrameValue) (a : At t) → (among : IsFrameOf o f) → GoesOn a.state among.0 f → Leaves a (applied_after m o.coming o.space f a)
+  unfolding applied_after
+  holds_applied (frames.Ack ack) a h goes = holds_acked ack a h
+  holds_applied (frames.Crypto offset body) a h goes = holds_ended (crypto_stop a.state o.space offset body) (kept_after m o.coming o.space offset body) a (λ error stops. Bytes offset body h stops) (λ none. holds_kept offset body a h)
+  holds_applied frames.HandshakeDone a h goes =
+      let done = done_goes a.state.setup.fixed.side o.space (next_number a.state.numbers o.space) a.state.numbers.filter.last h.0 goes in
+      holds_confirmed a h done.0 done.1
+  holds_applied (frames.ConnectionClose code type reason) a h goes = holds_close o.space (frames.ConnectionClose code type reason) (lost.ConnectionClosed (record { error_code = code; frame_type = type; reason = reason })) a h refl
+  holds_applied (frames.ApplicationClose code reason) a h goes = holds_close o.space (frames.ApplicationClose code reason) (lost.ApplicationClosed (record { error_code = code; reason = reason })) a h refl
+  holds_applied _ a h goes = here a
 
-  -- a frame that stops nothing by its kind
-  holds_taken : (f : FrameValue) (others : At t → At t) (a : At t) → IsFrameOf o f → ((b : At t) → R b (others b)) → R a (taken_and m o.time o.space f others a)
-  holds_taken (frames.Crypto offset body) others a among h = holds_crypto offset body (crypto_stop a.state o.space offset body) others a among h
-  holds_taken f others a among h = next a (applied_after m o.time o.space f a) _ (holds_applied f a among) (h (applied_after m o.time o.space f a))
+  -- a frame
+  holds_frame : (read : TypedValue) (a : At t) → IsTypedOf o read → Leaves a (frame_after m o.coming o.space read a)
+  holds_frame read a among =
+      holds_ended (stop_in a.state.setup.fixed.side o.space (next_number a.state.numbers o.space) a.state.numbers.filter.last read.ty read.frame) (applied_after m o.coming o.space read.frame) a
+      (λ error stops. Kind read among stops) (λ none. holds_applied read.frame a (read.ty, among) none)
 
-  -- a frame that isn't a close
-  holds_frame : (f : FrameValue) (stop : Option TransportError) (others : At t → At t) (a : At t) → IsFrameOf o f → ((b : At t) → R b (others b)) → R a (frame_and m o.time o.space f stop others a)
-  holds_frame f (Some error) others a among h = stopped error a
-  holds_frame f None others a among h = holds_taken f others a among h
-
-  -- a close or another frame
-  holds_read : (read : TypedValue) (why close : Option ConnectionError) (others : Option ConnectionError → At t → At t) (a : At t) → IsFrameOf o read.frame → reason_of read.frame ≡ why
-      → ((c : Option ConnectionError) (b : At t) → R b (others c b)) → R a (read_and m o.time o.space read why close others a)
-  holds_read read (Some why) close others a among closes h = holds_close o.space read.frame why others a among (closes_life read.frame why closes) h
-  holds_read read None close others a among closes h = holds_frame read.frame _ (others close) a among (h close)
+  -- ---- the frames
 
   -- behind the last frame
-  holds_end : (close : Option ConnectionError) (a : At t) → R a (end_after m o.time o.space close a)
-  holds_end None a = progress a
-  holds_end (Some why) a = holds_in_data why a
+  holds_end : (close : Option ConnectionError) (a : At t) → IsCloseSoFar close → R a (end_after m o.coming o.space (Reads close a))
+  holds_end None a closed = progress a
+  holds_end (Some why) a closed = holds_in_data why a closed
+
+  -- where a frame ended the packet
+  holds_ended_course : (items : List Item) (a b : At t) → R a b → R a (end_after m o.coming o.space (items_after m o.coming o.space items (Ended b)))
+  holds_ended_course items a b h = subst (λ (c : Course t). R a (end_after m o.coming o.space c)) (sym (ended_stays m o.coming o.space items b)) h
+
+  -- behind what a frame leaves
+  holds_behind : (items : List Item) (close : Option ConnectionError) (a : At t) (x : Behind t) → Leaves a x → IsCloseSoFar close
+      → ((c : Option ConnectionError) → IsCloseSoFar c → (b : At t) → R b (end_after m o.coming o.space (items_after m o.coming o.space items (Reads c b))))
+      → R a (end_after m o.coming o.space (items_after m o.coming o.space items (course_with close x)))
+  holds_behind items close a (Goes b) h closed others = next a b _ h (others close closed b)
+  holds_behind items close a (Closes why b) h closed others = next a b _ h.0 (others (Some why) h.1 b)
+  holds_behind items close a (Ends b) h closed others = holds_ended_course items a b h
 
   -- the frames of the packet, from one of them on
-  holds_items : (items : List Item) (close : Option ConnectionError) (a : At t) → ((f : FrameValue) → IsAmong f items → IsFrameOf o f) → R a (items_after m o.time o.space items close a)
-  holds_items [] close a within = holds_end close a
-  holds_items (Err fault ∷ items) close a within = stopped _ a
-  holds_items (Ok read ∷ items) close a within =
-      holds_read read (reason_of read.frame) close (items_after m o.time o.space items) a (within read.frame (inl refl)) refl (λ c b. holds_items items c b (λ f among. within f (inr among)))
+  holds_items : (items : List Item) (close : Option ConnectionError) (a : At t) → Within items (items_of o.payload) → IsCloseSoFar close → R a (end_after m o.coming o.space (items_after m o.coming o.space items (Reads close a)))
+  holds_items [] close a within closed = holds_end close a closed
+  holds_items (Err fault ∷ items) close a within closed = holds_ended_course items a _ (stopped (encoding_error_at fault.ty) a (Fault fault (within.fault fault refl) refl))
+  holds_items (Ok read ∷ items) close a within closed =
+      let behind : Within items (items_of o.payload) = record { reads = λ r among. within.reads r (inr among); fault = λ r ends. within.fault r ends } in
+      holds_behind items close a (frame_after m o.coming o.space read a) (holds_frame read a (within.reads read (inl refl))) closed (λ c reason b. holds_items items c b behind reason)
 
-  payload_by : (payload : List ℕ) (a : At t) → o.payload ≡ payload → R a (payload_after m o.time o.space payload a)
+  payload_by : (payload : List ℕ) (a : At t) → o.payload ≡ payload → R a (payload_after m o.coming o.space payload a)
   unfolding payload_after
-  payload_by [] a same = stopped _ a
-  payload_by (b ∷ bytes) a same = holds_items (items_of (b ∷ bytes)) None a (λ f among. subst (λ (p : List ℕ). IsAmong f (items_of p)) (sym same) among)
+  payload_by [] a same = stopped _ a (Empty same refl)
+  payload_by (b ∷ bytes) a same = holds_items (items_of (b ∷ bytes)) None a
+      (record { reads = λ r among. subst (λ (p : List ℕ). IsAmong r (items_of p)) (sym same) among; fault = λ r ends. subst (λ (p : List ℕ). EndsWith r (items_of p)) (sym same) ends }) tt
 
   -- its payload
-  pub holds_payload : (a : At t) → R a (payload_after m o.time o.space o.payload a)
+  pub holds_payload : (a : At t) → R a (payload_after m o.coming o.space o.payload a)
   holds_payload a = payload_by o.payload a refl
 
   -- ---- the packet, by its verdict
@@ -243,50 +343,62 @@ module _ {t : Types} (m : Meaning t) (o : OpenPacket) (R : At t → At t → Typ
   unfolding fixed_after
   holds_fixed a = fixed_by a (fixes_peer o.space a.state)
 
-  closing_by : (b : At t) (close : Bool) → rank_of b.state.life.state < 3 → R b (if close then move_to Drain b else move_to Owe b)
+  closing_by : (b : At t) (close : Bool) → list_any is_close_item (items_of o.payload) ≡ close → is_closed b.state.life.state ≡ true → R b (if close then move_to Drain b else move_to Owe b)
   unfolding MayMove
-  closing_by b true h = move Drain b tt h
-  closing_by b false h = move Owe b tt tt
+  closing_by b true is h = move Drain b is h
+  closing_by b false is h = move Owe b tt (shut_by b.state.life.state h)
 
   holds_closing : (a : At t) → verdict.ReadForClose ≡ verdict_of a.state o.space o.source o.token o.number → is_new_in a.state.numbers o.space o.number ≡ true → is_closed a.state.life.state ≡ true → R a (read_for_close o.space o.number o.payload a)
   unfolding read_for_close MayMove move_to state_move life_move
   holds_closing a judged new closed =
       let b : At t = move_to (Enter o.space o.number verdict.ReadForClose) a in
       next a b _ (move (Enter o.space o.number verdict.ReadForClose) a (refl, record { space = refl; same = refl; judged = judged }) (new, refl))
-      (closing_by b (list_any is_close_item (items_of o.payload)) (closed_rank a.state.life.state closed))
+      (closing_by b _ refl closed)
+
+  -- a server leaves the Initial space with a Handshake packet, or not
+  initial_by : (a : At t) (b : Bool) → drops_initial Server a.state o.space ≡ b → R a (if b then armed_with (is_blocked a.state.paths) o.coming.time (move_to (Forget Initial) a) else a)
+  unfolding armed_with MayMove move_to state_move paths_move
+  initial_by a true drops =
+      let b : At t = move_to (Forget Initial) a in
+      next a b _ (move (Forget Initial) a drops tt) (move (Arm (loss_time b.state (is_blocked a.state.paths) o.coming.time)) b refl (record { blocked = is_blocked a.state.paths; time = o.coming.time; set = refl }))
+  initial_by a false drops = here a
+
+  holds_initial : (a : At t) → R a (initial_left Server (is_blocked a.state.paths) o.coming.time o.space a)
+  unfolding initial_left
+  holds_initial a = initial_by a _ refl
 
   -- it is accepted
-  holds_accepted : (e : Bool) (v : Verdict) (a : At t) → v ≡ verdict_of a.state o.space o.source o.token o.number → is_new_in a.state.numbers o.space o.number ≡ true → enters v ≡ true → accepts v ≡ true → R a (accepted_after o.time o.space o.number e o.signs v a)
+  holds_accepted : (e : Bool) (v : Verdict) (a : At t) → v ≡ verdict_of a.state o.space o.source o.token o.number → is_new_in a.state.numbers o.space o.number ≡ true → enters v ≡ true → accepts v ≡ true → is_open a.state.life.state ≡ true → R a (accepted_after o.coming o.space o.number e o.spin v a)
   unfolding accepted_after MayMove
-  holds_accepted e v a judged new enters_v accepts_v =
-      let b : At t = move_to (Accept o.time o.space o.number e o.signs v) a in
-      next a b _ (move (Accept o.time o.space o.number e o.signs v) a (refl, refl, accepts_v, record { space = refl; same = refl; judged = judged }) (new, enters_v))
-      (holds_initial R here next (λ x ending c may. move x c (ending_in_packet m o x c.state ending) may) Server (is_blocked b.state.paths) o.time o.space b)
+  holds_accepted e v a judged new enters_v accepts_v opened =
+      let b : At t = move_to (Accept o.coming.time o.space o.number e (signs_of o.coming o.spin) v) a in
+      next a b _ (move (Accept o.coming.time o.space o.number e (signs_of o.coming o.spin) v) a (refl, refl, accepts_v, record { space = refl; same = refl; judged = judged }) (new, enters_v, opened)) (holds_initial b)
 
-  holds_admitted : (a : At t) → verdict.Admitted ≡ verdict_of a.state o.space o.source o.token o.number → is_new_in a.state.numbers o.space o.number ≡ true → R a (admitted_after m o.time o.space o.signs o.source o.number o.payload a)
+  holds_admitted : (a : At t) → verdict.Admitted ≡ verdict_of a.state o.space o.source o.token o.number → is_new_in a.state.numbers o.space o.number ≡ true → is_open a.state.life.state ≡ true → R a (admitted_after m o.coming o.space o.spin o.source o.number o.payload a)
   unfolding admitted_after
-  holds_admitted a judged new =
+  holds_admitted a judged new opened =
       let e : Bool = list_any is_eliciting_item (items_of o.payload) in
-      let b : At t = accepted_after o.time o.space o.number e o.signs verdict.Admitted a in
+      let b : At t = accepted_after o.coming o.space o.number e o.spin verdict.Admitted a in
       let c : At t = fixed_after o.space o.source b in
-      next a b _ (holds_accepted e verdict.Admitted a judged new refl refl) (next b c _ (holds_fixed b) (holds_payload c))
+      next a b _ (holds_accepted e verdict.Admitted a judged new refl refl opened) (next b c _ (holds_fixed b) (holds_payload c))
 
   verdict_by : (v : Verdict) (a : At t) → v ≡ verdict_of a.state o.space o.source o.token o.number →
-      (enters v ≡ true → is_new_in a.state.numbers o.space o.number ≡ true) → (v ≡ verdict.ReadForClose → is_closed a.state.life.state ≡ true) →
-      R a (verdict_after m o.time o.space o.signs o.source o.number o.payload v a)
+      (enters v ≡ true → is_new_in a.state.numbers o.space o.number ≡ true) → (v ≡ verdict.ReadForClose → is_closed a.state.life.state ≡ true) → (accepts v ≡ true → is_open a.state.life.state ≡ true) →
+      R a (verdict_after m o.coming o.space o.spin o.source o.number o.payload v a)
   unfolding MayMove
-  verdict_by verdict.Ignored a judged new closed = here a
-  verdict_by verdict.Failure a judged new closed = here a
-  verdict_by verdict.BadBits a judged new closed = here a
-  verdict_by verdict.Seen a judged new closed = move (Tell (did.Piece (Some o.space) (Some o.number) verdict.Seen)) a (refl, refl, refl, sym judged) refl
-  verdict_by verdict.ReadForClose a judged new closed = holds_closing a judged (new refl) (closed refl)
-  verdict_by verdict.NumberOnly a judged new closed = move (Enter o.space o.number verdict.NumberOnly) a (refl, record { space = refl; same = refl; judged = judged }) (new refl, refl)
-  verdict_by verdict.AckOnly a judged new closed = holds_accepted false verdict.AckOnly a judged (new refl) refl refl
-  verdict_by verdict.Admitted a judged new closed = holds_admitted a judged (new refl)
+  verdict_by verdict.Ignored a judged new closed opened = here a
+  verdict_by verdict.Failure a judged new closed opened = here a
+  verdict_by verdict.BadBits a judged new closed opened = here a
+  verdict_by verdict.Seen a judged new closed opened = move (Tell (did.Piece (Some o.space) (Some o.number) verdict.Seen)) a (refl, refl, refl, sym judged) refl
+  verdict_by verdict.ReadForClose a judged new closed opened = holds_closing a judged (new refl) (closed refl)
+  verdict_by verdict.NumberOnly a judged new closed opened = move (Enter o.space o.number verdict.NumberOnly) a (refl, record { space = refl; same = refl; judged = judged }) (new refl, refl)
+  verdict_by verdict.AckOnly a judged new closed opened = holds_accepted false verdict.AckOnly a judged (new refl) refl refl (opened refl)
+  verdict_by verdict.Admitted a judged new closed opened = holds_admitted a judged (new refl) (opened refl)
 
-  pub holds_packet : (a : At t) → R a (packet_received m o a)
+  pub holds_packet : (a : At t) → is_over a.state.life.state ≡ false → R a (packet_received m o a)
   unfolding received_after verdict_of
-  holds_packet a =
+  holds_packet a lively =
       verdict_by (verdict_of a.state o.space o.source o.token o.number) a refl
       (λ h. new_by (is_new_in a.state.numbers o.space o.number) (is_closed a.state.life.state) _ _ (verdict_of a.state o.space o.source o.token o.number) refl h)
       (λ e. closed_by_row (is_new_in a.state.numbers o.space o.number) (is_closed a.state.life.state) _ _ e)
+      (λ h. still_open a.state.life.state lively (open_by_row (is_new_in a.state.numbers o.space o.number) (is_closed a.state.life.state) _ _ (verdict_of a.state o.space o.source o.token o.number) refl h))

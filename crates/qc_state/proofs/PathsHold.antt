@@ -13,11 +13,12 @@ use Rattle.qc_base.specs.declared.side.SpaceId.{SpaceId}
 use Rattle.qc_base.specs.declared.side.SpaceId.TheVariants.{Initial, Handshake}
 use Rattle.qc_frame.specs.Frame.{FrameValue}
 use Rattle.qc_header.specs.HeaderGrammar.{DatagramItem}
+use Rattle.qc_state.specs.declared.coming.Coming.{Coming}
 use Rattle.qc_state.specs.declared.deeds.Did.{Did}
 use Rattle.qc_state.specs.declared.deeds.Did.TheVariants as did
 use Rattle.qc_state.specs.declared.deeds.Verdict.{Verdict}
 use Rattle.qc_state.specs.declared.deeds.Verdict.TheVariants as verdict
-use Rattle.qc_state.specs.declared.deeds.Quiet.TheVariants.{NothingOwed, Silent, Amplification, Killed}
+use Rattle.qc_state.specs.declared.deeds.Quiet.TheVariants.{Killed}
 use Rattle.qc_state.specs.declared.input.Input.{Input}
 use Rattle.qc_state.specs.declared.input.Input.TheVariants as input
 use Rattle.qc_state.specs.declared.life.Close.{Close}
@@ -29,30 +30,37 @@ use Rattle.qc_state.specs.declared.paths.Paths.{Paths}
 use Rattle.qc_state.specs.declared.trace.Step.{Step}
 use Rattle.qc_state.specs.declared.transmit.TheConstants.{DATAGRAM_SIZE}
 use Rattle.qc_state.specs.Life.{is_open}
-use Rattle.qc_state.specs.Moves.{Accept, Ack, Arm, Come, Confirm, Drain, Enter, Establish, Expect, Fail, Fire, Fix, Forget, Give, Hear, Learn, Leave, MayMove, Move, Owe, Pace, Raise, Read, Ready, Release, Say, Seal, Shut, Take, Tell, Token, Want, Write, armed_after, armed_with, deeds_move, move_to, paths_move, state_move, told}
+use Rattle.qc_state.specs.Moves.{Accept, Ack, Arm, Come, Confirm, Drain, Enter, Establish, Expect, Fail, Fire, Fix, Forget, Give, Hear, Learn, Leave, MayMove, Move, Owe, Pace, Raise, Read, Ready, Release, Say, Seal, Shut, Take, Tell, Token, Want, Write, armed_after, armed_with, deeds_move, move_to, paths_move, state_move, told, Begin, Skip}
 use Rattle.qc_state.specs.Numbers.{next_number, received_number}
 use Rattle.qc_state.specs.Headline.{deeds_of}
 use Rattle.qc_state.specs.PathLaws.{PathHolds, all_from, bytes_from, is_handshake_admitted}
 use Rattle.qc_state.specs.Paths.{is_blocked, path_accepted, path_idle, path_received, path_sent, path_spun, peer_fixed, same_address, spun_by}
 use Rattle.qc_state.specs.Receiving.{counted_after, cut_of, datagram_after, first_after, first_token, heard_after, is_readable, lets_in, pieces_after}
 use Rattle.qc_state.specs.Run.{IsAllowed, IsStep, Run, began, called, close_after, input_after, reported, step_after, time_of}
-use Rattle.qc_state.specs.Sending.{MaySeal, MayTransmit, begun_after, drops_initial, flown_after, initial_left, is_flown, is_key_nearly_used_up, is_silent, limit_met, owed_quiet_after, owes, packet_after, packet_size, quiet_after, sealed_in, sending_space, spared_after, transmit_after, Choice}
+use Rattle.qc_state.specs.Sending.{MayTransmit, drops_initial, initial_left, packet_size, spared_after, transmit_after, Choice, Sent, Ending, Went, Hushed, Died, ending_after, packets_after, Going, going_from, MayAll, MayEnd, handshake_left, finished_after, gone_after}
 use Rattle.qc_state.specs.Stopping.{given_after, key_limit_error, killed_after, stopped_after}
 use Rattle.qc_state.specs.Setup.{is_first_awaited}
 use Rattle.qc_state.specs.Timeouts.{timeout_after}
 use Rattle.qc_state.specs.Types.{Types, Meaning}
 use Rattle.qc_state.specs.View.{View, At, at}
-use Rattle.qc_state.proofs.Begun.{begun_paths, begun_same}
 use Rattle.qc_state.proofs.Expired.{IsTimed, holds_timeout}
 use Rattle.qc_state.proofs.ReceivedMoves.{IsOfPiece}
 use Rattle.qc_state.proofs.Receives.{holds_pieces}
+use Rattle.qc_state.specs.declared.deeds.Quiet.{Quiet}
+use Rattle.qc_state.specs.declared.transmit.Batch.{Batch}
+use Rattle.qc_state.proofs.Transmitted.{IsPacketMove, IsSealable, holds_packets}
+use Rattle.qc_state.proofs.Batches.{packet_made, packet_total}
+
+-- the path in use holds, from some paths to others
+abbrev KeepsPath : (came : ℕ) → List Did → Paths → Paths → Type 0
+KeepsPath came ds p p' = PathHolds came ds p.current p'.current
 
 -- nothing changes of the counts of a path, nor of its address, and an address that is validated stays so
 record Still (p p' : Paths) : Type 0 where
-  pub same : p'.remote ≡ p.remote
-  pub received : p'.received ≡ p.received
-  pub sent : p'.sent ≡ p.sent
-  pub kept : p.validated ≡ true → p'.validated ≡ true
+  pub same : p'.current.remote ≡ p.current.remote
+  pub received : p'.current.received ≡ p.current.received
+  pub sent : p'.current.sent ≡ p.current.sent
+  pub kept : p.current.validated ≡ true → p'.current.validated ≡ true
 
 still_here : (p : Paths) → Still p p
 still_here p = record { same = refl; received = refl; sent = refl; kept = λ h. h }
@@ -62,7 +70,7 @@ still_next p q r g h = record { same = h.same ∙ g.same; received = h.received 
 
 -- by these deeds an address is validated only where it was before, or a Handshake packet was admitted
 abbrev Shown : List Did → Paths → Paths → Type 0
-Shown ds p p' = p'.validated ≡ true → (p.validated ≡ true) ⊎ (list_any is_handshake_admitted ds ≡ true)
+Shown ds p p' = p'.current.validated ≡ true → (p.current.validated ≡ true) ⊎ (list_any is_handshake_admitted ds ≡ true)
 
 -- of two tests one holds
 any_left : (a b : Bool) → a ≡ true → (a || b) ≡ true
@@ -88,20 +96,20 @@ was_not true b h e = cc (h refl, e)
 was_not false b h e = refl
 
 -- such a path holds, whatever came
-still_holds : (came : ℕ) (ds : List Did) (p p' : Paths) → Still p p' → Shown ds p p' → PathHolds came ds p p'
+still_holds : (came : ℕ) (ds : List Did) (p p' : Paths) → Still p p' → Shown ds p p' → KeepsPath came ds p p'
 still_holds came ds p p' h shown = record {
   same = h.same;
   validated = shown;
   received = omega (arith, h.received);
   ranged = λ r. omega (arith, h.received);
-  limited = λ r l not_yet. let few : p.sent < 3 * p.received + DATAGRAM_SIZE = l (was_not p.validated p'.validated h.kept not_yet) in omega (arith, few, h.received, h.sent);
+  limited = λ r l not_yet. let few : p.current.sent < 3 * p.current.received + DATAGRAM_SIZE = l (was_not p.current.validated p'.current.validated h.kept not_yet) in omega (arith, few, h.received, h.sent);
 }
 
 -- a path that didn't change
-unchanged : (came : ℕ) (ds : List Did) (p : Paths) → PathHolds came ds p p
+unchanged : (came : ℕ) (ds : List Did) (p : Paths) → KeepsPath came ds p p
 unchanged came ds p = still_holds came ds p p (still_here p) (λ v. inl v)
 
-holds_next : (m n : ℕ) (ds es : List Did) (p q r : Paths) → PathHolds m ds p q → PathHolds n es q r → PathHolds (m + n) (ds ++ es) p r
+holds_next : (m n : ℕ) (ds es : List Did) (p q r : Paths) → KeepsPath m ds p q → KeepsPath n es q r → KeepsPath (m + n) (ds ++ es) p r
 holds_next m n ds es p q r g h = record {
   same = h.same ∙ g.same;
   validated = shown_next ds es p q r g.validated h.validated;
@@ -130,7 +138,7 @@ spun_still : (p : Paths) (side : Side) (greatest bit : Bool) → Still p (path_s
 unfolding path_spun
 spun_still p side greatest bit = spun_by_greatest p side bit greatest
 
-spun_same_by : (p : Paths) (side : Side) (bit b : Bool) → (if b then record p { spin = spun_by side bit } else p).validated ≡ p.validated
+spun_same_by : (p : Paths) (side : Side) (bit b : Bool) → (if b then record p { spin = spun_by side bit } else p).current.validated ≡ p.current.validated
 spun_same_by p side bit true = refl
 spun_same_by p side bit false = refl
 
@@ -150,18 +158,18 @@ spun_after p id n v side greatest bit =
     shown_next (did.Piece (Some id) (Some n) v ∷ []) [] p q (path_spun q side greatest bit) (accepted_shown p id n v) (spun_shown q side greatest bit)
 
 -- so many bytes were heard from the path's address
-heard_path : (came : ℕ) (ds : List Did) (p q : Paths) → Still p q → Shown ds p q → PathHolds came ds p (path_received q came)
+heard_path : (came : ℕ) (ds : List Did) (p q : Paths) → Still p q → Shown ds p q → KeepsPath came ds p (path_received q came)
 unfolding path_received
 heard_path came ds p q h shown = record {
   same = h.same;
   validated = shown;
   received = omega (arith, h.received);
   ranged = λ r. omega arith;
-  limited = λ r l not_yet. let few : p.sent < 3 * p.received + DATAGRAM_SIZE = l (was_not p.validated q.validated h.kept not_yet) in omega (arith, few, h.received, h.sent, r);
+  limited = λ r l not_yet. let few : p.current.sent < 3 * p.current.received + DATAGRAM_SIZE = l (was_not p.current.validated q.current.validated h.kept not_yet) in omega (arith, few, h.received, h.sent, r);
 }
 
 -- what there is to send holds sending back
-idle_path : (came : ℕ) (ds : List Did) (p : Paths) → PathHolds came ds p (path_idle p)
+idle_path : (came : ℕ) (ds : List Did) (p : Paths) → KeepsPath came ds p (path_idle p)
 unfolding path_idle
 idle_path came ds p = still_holds came ds p (path_idle p) (record { same = refl; received = refl; sent = refl; kept = λ v. v }) (λ v. inl v)
 
@@ -175,20 +183,25 @@ came_length : (remote from : SocketAddr) (bytes : List ℕ) → same_address rem
 came_length remote from bytes h = ap (λ (b : Bool). if b then length bytes else 0) h
 
 -- a datagram is sent on a path that isn't blocked
-sent_path : (came : ℕ) (ds : List Did) (p : Paths) (size : ℕ) → size ≤ DATAGRAM_SIZE → is_blocked p ≡ false → PathHolds came ds p (path_sent p size)
+sent_path : (came : ℕ) (ds : List Did) (p : Paths) (size : ℕ) → size ≤ DATAGRAM_SIZE → is_blocked p ≡ false → KeepsPath came ds p (path_sent p size)
 unfolding is_blocked path_sent
 sent_path came ds p size small free = record {
   same = refl;
   validated = λ v. inl v;
   received = omega arith;
   ranged = λ r. r;
-  limited = λ r l not_yet. let few : p.sent < 3 * p.received = unblocked p.validated (nat_le (3 * p.received) p.sent) not_yet free refl in omega (arith, few);
+  limited = λ r l not_yet. let few : p.current.sent < 3 * p.current.received = unblocked p.current.validated (nat_le (3 * p.current.received) p.current.sent) not_yet free refl in omega (arith, few);
 }
   where
-    unblocked : (v b : Bool) → v ≡ false → (not v && b) ≡ false → nat_le (3 * p.received) p.sent ≡ b → p.sent < 3 * p.received
+    unblocked : (v b : Bool) → v ≡ false → (not v && b) ≡ false → nat_le (3 * p.current.received) p.current.sent ≡ b → p.current.sent < 3 * p.current.received
     unblocked true b e f g = cc e
     unblocked false true e f g = cc f
     unblocked false false e f g = grind (arith, nat_tests)
+
+-- what is known of the datagrams of a transmit: they are one at most, which was begun on a path that wasn't blocked
+record IsWithin (p : Paths) (b : Batch) : Type 0 where
+  pub few : b.total ≤ DATAGRAM_SIZE
+  pub free : 0 < b.made → is_blocked p ≡ false
 
 module _ {t : Types} where
   -- from one moment to another, where the path stays as it was: the deeds between, by which it may have been validated
@@ -250,8 +263,8 @@ module _ {t : Types} where
   still_move _ r a h = absurd r
 
   -- the packets of a datagram
-  still_pieces : (m : Meaning t) (time : ℕ) (mark : Option EcnCodepoint) (items : List DatagramItem) (a : At t) → StillAt a (pieces_after m time mark items a)
-  still_pieces m time mark items a = holds_pieces StillAt at_here at_next still_move m time mark items a
+  still_pieces : (m : Meaning t) (coming : Coming) (items : List DatagramItem) (a : At t) → StillAt a (pieces_after m coming items a)
+  still_pieces m coming items a = holds_pieces StillAt at_here at_next still_move m coming items a
 
   -- setting the loss timer leaves the path, and tells nothing
   freed_paths : (time : ℕ) (a : At t) (b : Bool) → (if b then armed_after time a else a).state.paths ≡ a.state.paths
@@ -274,64 +287,64 @@ module _ {t : Types} where
   counted_did time blocked n a = let b : At t = move_to (Hear n) a in freed_did time b (blocked && not (is_blocked b.state.paths))
 
   -- a datagram, where its bytes are those that count, or none
-  heard_by : (m : Meaning t) (time : ℕ) (mark : Option EcnCodepoint) (blocked : Bool) (came : ℕ) (bytes : List ℕ) (items : List DatagramItem) (s : View t) (b : Bool) → (b ≡ true → came ≡ length bytes) →
-      let r : At t = if b then counted_after time blocked (length bytes) (pieces_after m time mark items (at s [])) else at s [] in PathHolds came r.did s.paths r.state.paths
-  heard_by m time mark blocked came bytes items s true h =
-      let q : At t = pieces_after m time mark items (at s []) in
-      let r : At t = counted_after time blocked (length bytes) q in
-      let pieces = still_pieces m time mark items (at s []) in
-      subst (λ (n : ℕ). PathHolds n r.did s.paths r.state.paths) (sym (h refl))
-      (subst (λ (ds : List Did). PathHolds (length bytes) ds s.paths r.state.paths) (sym (counted_did time blocked (length bytes) q ∙ pieces.appended))
-      (subst (λ (p : Paths). PathHolds (length bytes) pieces.since s.paths p) (sym (counted_paths time blocked (length bytes) q)) (heard_path (length bytes) pieces.since s.paths q.state.paths pieces.still pieces.shown)))
-  heard_by m time mark blocked came bytes items s false h = unchanged came [] s.paths
+  heard_by : (m : Meaning t) (coming : Coming) (blocked : Bool) (came : ℕ) (bytes : List ℕ) (items : List DatagramItem) (s : View t) (b : Bool) → (b ≡ true → came ≡ length bytes) →
+      let r : At t = if b then counted_after coming.time blocked (length bytes) (pieces_after m coming items (at s [])) else at s [] in KeepsPath came r.did s.paths r.state.paths
+  heard_by m coming blocked came bytes items s true h =
+      let q : At t = pieces_after m coming items (at s []) in
+      let r : At t = counted_after coming.time blocked (length bytes) q in
+      let pieces = still_pieces m coming items (at s []) in
+      subst (λ (n : ℕ). KeepsPath n r.did s.paths r.state.paths) (sym (h refl))
+      (subst (λ (ds : List Did). KeepsPath (length bytes) ds s.paths r.state.paths) (sym (counted_did coming.time blocked (length bytes) q ∙ pieces.appended))
+      (subst (λ (p : Paths). KeepsPath (length bytes) pieces.since s.paths p) (sym (counted_paths coming.time blocked (length bytes) q)) (heard_path (length bytes) pieces.since s.paths q.state.paths pieces.still pieces.shown)))
+  heard_by m coming blocked came bytes items s false h = unchanged came [] s.paths
 
-  lets_same : (s : View t) (from : SocketAddr) → lets_in s from ≡ true → same_address s.paths.remote from ≡ true
+  lets_same : (s : View t) (from : SocketAddr) → lets_in s from ≡ true → same_address s.paths.current.remote from ≡ true
   unfolding lets_in
   lets_same s from h = second_holds _ _ h
 
-  holds_heard : (m : Meaning t) (time : ℕ) (mark : Option EcnCodepoint) (from : SocketAddr) (bytes : List ℕ) (s : View t) →
-      let r : At t = heard_after m time mark from bytes (at s []) in PathHolds (if same_address s.paths.remote from then length bytes else 0) r.did s.paths r.state.paths
+  holds_heard : (m : Meaning t) (coming : Coming) (bytes : List ℕ) (s : View t) →
+      let r : At t = heard_after m coming bytes (at s []) in KeepsPath (if same_address s.paths.current.remote coming.remote then length bytes else 0) r.did s.paths r.state.paths
   unfolding heard_after
-  holds_heard m time mark from bytes s =
-      heard_by m time mark (is_blocked s.paths) _ bytes (cut_of s bytes) s (is_readable s bytes && lets_in s from)
-      (λ h. came_length s.paths.remote from bytes (lets_same s from (second_holds (is_readable s bytes) (lets_in s from) h)))
+  holds_heard m coming bytes s =
+      heard_by m coming (is_blocked s.paths) _ bytes (cut_of s bytes) s (is_readable s bytes && lets_in s coming.remote)
+      (λ h. came_length s.paths.current.remote coming.remote bytes (lets_same s coming.remote (second_holds (is_readable s bytes) (lets_in s coming.remote) h)))
 
   -- that a token is expected changes nothing of the path
-  expected_first : (m : Meaning t) (time : ℕ) (mark : Option EcnCodepoint) (from : SocketAddr) (bytes token : List ℕ) (s : View t) →
-      let r : At t = heard_after m time mark from bytes (move_to (Expect token) (at s [])) in PathHolds (if same_address s.paths.remote from then length bytes else 0) r.did s.paths r.state.paths
+  expected_first : (m : Meaning t) (coming : Coming) (bytes token : List ℕ) (s : View t) →
+      let r : At t = heard_after m coming bytes (move_to (Expect token) (at s [])) in KeepsPath (if same_address s.paths.current.remote coming.remote then length bytes else 0) r.did s.paths r.state.paths
   unfolding move_to state_move paths_move deeds_move
-  expected_first m time mark from bytes token s = holds_heard m time mark from bytes (state_move (Expect token) s)
+  expected_first m coming bytes token s = holds_heard m coming bytes (state_move (Expect token) s)
 
-  holds_first : (m : Meaning t) (time : ℕ) (mark : Option EcnCodepoint) (from : SocketAddr) (bytes : List ℕ) (token : Option (List ℕ)) (s : View t) →
-      let r : At t = first_after m time mark from bytes token (at s []) in PathHolds (if same_address s.paths.remote from then length bytes else 0) r.did s.paths r.state.paths
-  holds_first m time mark from bytes None s = unchanged _ [] s.paths
-  holds_first m time mark from bytes (Some token) s = expected_first m time mark from bytes token s
+  holds_first : (m : Meaning t) (coming : Coming) (bytes : List ℕ) (token : Option (List ℕ)) (s : View t) →
+      let r : At t = first_after m coming bytes token (at s []) in KeepsPath (if same_address s.paths.current.remote coming.remote then length bytes else 0) r.did s.paths r.state.paths
+  holds_first m coming bytes None s = unchanged _ [] s.paths
+  holds_first m coming bytes (Some token) s = expected_first m coming bytes token s
 
-  datagram_by : (m : Meaning t) (time : ℕ) (mark : Option EcnCodepoint) (from : SocketAddr) (bytes : List ℕ) (token : Option (List ℕ)) (s : View t) (b : Bool) →
-      let r : At t = if b then first_after m time mark from bytes token (at s []) else heard_after m time mark from bytes (at s []) in
-      PathHolds (if same_address s.paths.remote from then length bytes else 0) r.did s.paths r.state.paths
-  datagram_by m time mark from bytes token s true = holds_first m time mark from bytes token s
-  datagram_by m time mark from bytes token s false = holds_heard m time mark from bytes s
+  datagram_by : (m : Meaning t) (coming : Coming) (bytes : List ℕ) (token : Option (List ℕ)) (s : View t) (b : Bool) →
+      let r : At t = if b then first_after m coming bytes token (at s []) else heard_after m coming bytes (at s []) in
+      KeepsPath (if same_address s.paths.current.remote coming.remote then length bytes else 0) r.did s.paths r.state.paths
+  datagram_by m coming bytes token s true = holds_first m coming bytes token s
+  datagram_by m coming bytes token s false = holds_heard m coming bytes s
 
-  pub path_datagram : (m : Meaning t) (time : ℕ) (mark : Option EcnCodepoint) (from : SocketAddr) (bytes : List ℕ) (s : View t) →
-      let r : At t = datagram_after m time mark from bytes (at s []) in PathHolds (if same_address s.paths.remote from then length bytes else 0) r.did s.paths r.state.paths
+  pub path_datagram : (m : Meaning t) (coming : Coming) (bytes : List ℕ) (s : View t) →
+      let r : At t = datagram_after m coming bytes (at s []) in PathHolds (if same_address s.paths.current.remote coming.remote then length bytes else 0) r.did s.paths.current r.state.paths.current
   unfolding datagram_after
-  path_datagram m time mark from bytes s = datagram_by m time mark from bytes (first_token m s from bytes) s (is_first_awaited s.setup)
+  path_datagram m coming bytes s = datagram_by m coming bytes (first_token m s coming.remote bytes) s (is_first_awaited s.setup)
 
-  -- a transmit that sends nothing
-  quiet_paths : (why : ConnectionError) (a : At t) (x y u z : Bool) →
-      let b : At t = move_to (Raise Drained) a in
-      (if x then move_to (Say Silent) a else if y then (if u then move_to (Say Amplification) a else move_to (Say Killed) (if z then move_to (Give why) b else b)) else move_to (Say NothingOwed) a).state.paths ≡ path_idle a.state.paths
+  -- the connection ends
+  killed_paths : (why : ConnectionError) (a : At t) (z : Bool) → let b : At t = move_to (Raise Drained) a in (if z then move_to (Give why) b else b).state.paths ≡ a.state.paths
   unfolding move_to state_move paths_move
-  quiet_paths why a true y u z = refl
-  quiet_paths why a false true true z = refl
-  quiet_paths why a false true false true = refl
-  quiet_paths why a false true false false = refl
-  quiet_paths why a false false u z = refl
+  killed_paths why a true = refl
+  killed_paths why a false = refl
 
-  path_quiet : (a : At t) → (quiet_after a).state.paths ≡ path_idle a.state.paths
-  unfolding quiet_after owed_quiet_after killed_after given_after
-  path_quiet a = quiet_paths (limit_met a.state) a (is_silent a.state) (owes a.state) (is_blocked a.state.paths) (is_none (move_to (Raise Drained) a).state.life.reason)
+  path_killed : (why : ConnectionError) (a : At t) → (move_to (Say Killed) (killed_after why a)).state.paths ≡ path_idle a.state.paths
+  unfolding killed_after given_after move_to state_move paths_move
+  path_killed why a = ap path_idle (killed_paths why a (is_none (move_to (Raise Drained) a).state.life.reason))
+
+  -- nothing is sealed
+  path_quiet : (quiet : Quiet) (ds : List Did) (a : At t) → KeepsPath 0 ds a.state.paths (move_to (Say quiet) a).state.paths
+  unfolding move_to state_move paths_move
+  path_quiet quiet ds a = idle_path 0 ds a.state.paths
 
   -- leaving the Initial space
   left_paths : (time : ℕ) (a : At t) (x : Bool) → (if x then armed_with false time (move_to (Forget Initial) a) else a).state.paths ≡ a.state.paths
@@ -339,15 +352,10 @@ module _ {t : Types} where
   left_paths time a true = refl
   left_paths time a false = refl
 
-  path_left : (time : ℕ) (id : SpaceId) (a : At t) → (initial_left Client false time id a).state.paths ≡ a.state.paths
+  path_left : (time : ℕ) (shook : Bool) (a : At t) → (handshake_left time shook a).state.paths ≡ a.state.paths
   unfolding initial_left
-  path_left time id a = left_paths time a (drops_initial Client a.state id)
-
-  -- setting the loss timer behind a packet in flight
-  path_flown : (time : ℕ) (counts : Bool) (a : At t) → (flown_after time counts a).state.paths ≡ a.state.paths
-  unfolding armed_with move_to state_move paths_move
-  path_flown time true a = refl
-  path_flown time false a = refl
+  path_left time true a = left_paths time a (drops_initial Client a.state Handshake)
+  path_left time false a = refl
 
   -- this end closes behind a packet, or not
   stopped_paths : (time : ℕ) (as_told : Close) (why : ConnectionError) (a : At t) (x y : Bool) → let b : At t = move_to (Shut time as_told) a in
@@ -364,33 +372,51 @@ module _ {t : Types} where
       stopped_paths time why (lost.TransportError key_limit_error) a (is_open a.state.life.state) (is_none (move_to (Shut time why) a).state.life.reason)
   path_spared time false a = refl
 
-  -- a packet is sealed, once its datagram was begun
-  path_sealed : (time : ℕ) (id : SpaceId) (fs : List FrameValue) (a : At t) → (sealed_in time id fs a).state.paths ≡ path_sent a.state.paths (packet_size a.state id fs)
-  unfolding sealed_in move_to state_move paths_move
-  path_sealed time id fs a =
-      let b : At t = move_to (Seal time id (next_number a.state.numbers id) (packet_size a.state id fs) fs) (move_to (Take id fs) a) in
-      let c : At t = flown_after time (is_flown a.state fs) b in
-      path_left time id c ∙ path_flown time (is_flown a.state fs) b
+  -- packets leave the path: their bytes count as the transmit ends
+  packet_move : (x : Move t) → IsPacketMove x → (a : At t) → MayMove x a.state → (move_to x a).state.paths ≡ a.state.paths
+  unfolding move_to state_move paths_move
+  packet_move (Begin id opens) r a h = refl
+  packet_move Skip r a h = refl
+  packet_move (Arm at) r a h = refl
+  packet_move _ r a h = absurd r
 
-  path_packet : (time : ℕ) (fs : List FrameValue) (ds : List Did) (a : At t) → MaySeal time a.state fs → PathHolds 0 ds a.state.paths (packet_after time fs a).state.paths
-  unfolding packet_after
-  path_packet time fs ds a may =
-      let id : SpaceId = sending_space a.state in
-      let b : At t = begun_after id a in
-      let c : At t = sealed_in time id fs b in
-      let small : packet_size b.state id fs ≤ DATAGRAM_SIZE = subst (λ (s : View t). packet_size s id fs ≤ DATAGRAM_SIZE) (sym (begun_same a)) may.fits in
-      subst (λ (p : Paths). PathHolds 0 ds a.state.paths p)
-      (sym (path_spared time (is_key_nearly_used_up a.state) c ∙ path_sealed time id fs b ∙ ap (λ (p : Paths). path_sent p (packet_size b.state id fs)) (begun_paths id a)))
-      (sent_path 0 ds a.state.paths (packet_size b.state id fs) small may.free)
+  packet_sealed : (time : ℕ) (id : SpaceId) (fs : List FrameValue) (a : At t) → IsSealable time a.state id fs →
+      (move_to (Seal time id (next_number a.state.numbers id) (packet_size a.state id fs) fs) (move_to (Take id fs) a)).state.paths ≡ a.state.paths
+  unfolding move_to state_move paths_move
+  packet_sealed time id fs a may = refl
 
-  path_transmit : (time : ℕ) (choice : Choice) (ds : List Did) (a : At t) → MayTransmit time a.state choice → PathHolds 0 ds a.state.paths (transmit_after time choice a).state.paths
-  unfolding MayTransmit transmit_after
-  path_transmit time [] ds a may = subst (λ (p : Paths). PathHolds 0 ds a.state.paths p) (sym (path_quiet a)) (idle_path 0 ds a.state.paths)
-  path_transmit time (fs ∷ []) ds a may = path_packet time fs ds a may
-  path_transmit time (fs ∷ gs ∷ rest) ds a may = absurd may
+  path_packets : (m : Meaning t) (time : ℕ) (ps : List Sent) (g : Going t) → MayAll m time g ps → (packets_after m time ps g).now.state.paths ≡ g.now.state.paths
+  path_packets m time ps g may = holds_packets (λ (a b : At t). b.state.paths ≡ a.state.paths) (λ a. refl) (λ a b c p q. q ∙ p) packet_move packet_sealed m time ps g may
+
+  -- so it is behind its packets
+  within : (m : Meaning t) (time : ℕ) (ps : List Sent) (g : Going t) → g.batch.made ≡ 0 → g.batch.total ≡ 0 → g.batch.segment ≡ DATAGRAM_SIZE → MayAll m time g ps → IsWithin g.now.state.paths (packets_after m time ps g).batch
+  within m time [] g made total whole may = record { few = omega (arith, total); free = λ some. absurd (omega (arith, made, some)) }
+  within m time (p ∷ []) g made total whole may = record { few = packet_total m time p g may.0 total whole; free = λ some. may.0.begins.free }
+  within m time (p ∷ q ∷ ps) g made total whole may = absurd (omega (arith, packet_made m time p g may.0, may.1.0.alone))
+
+  -- what a transmit does once
+  path_finished : (time : ℕ) (b : Batch) (a : At t) → (finished_after time b a).state.paths ≡ path_sent a.state.paths b.total
+  unfolding finished_after move_to state_move paths_move
+  path_finished time b a =
+      let c : At t = handshake_left time b.shook a in
+      ap (λ (p : Paths). path_sent p b.total) (path_spared time b.worn c ∙ path_left time b.shook a)
+
+  path_ending : (time : ℕ) (e : Ending) (b : Batch) (ds : List Did) (a : At t) → IsWithin a.state.paths b → MayEnd e a.state b → KeepsPath 0 ds a.state.paths (ending_after time e b a).state.paths
+  unfolding ending_after
+  path_ending time Went b ds a h may = subst (λ (p : Paths). KeepsPath 0 ds a.state.paths p) (sym (path_finished time b a)) (sent_path 0 ds a.state.paths b.total h.few (h.free may))
+  path_ending time (Hushed quiet) b ds a h may = path_quiet quiet ds a
+  path_ending time (Died why) b ds a h may = subst (λ (p : Paths). KeepsPath 0 ds a.state.paths p) (sym (path_killed why a)) (idle_path 0 ds a.state.paths)
+
+  path_transmit : (m : Meaning t) (time : ℕ) (choice : Choice) (ds : List Did) (a : At t) → MayTransmit m time choice a → KeepsPath 0 ds a.state.paths (transmit_after m time choice a).state.paths
+  unfolding MayTransmit transmit_after gone_after
+  path_transmit m time choice ds a may =
+      let g : Going t = packets_after m time choice.packets (going_from a) in
+      let same : g.now.state.paths ≡ a.state.paths = path_packets m time choice.packets (going_from a) may.0 in
+      let known : IsWithin g.now.state.paths g.batch = subst (λ (p : Paths). IsWithin p g.batch) (sym same) (within m time choice.packets (going_from a) refl refl refl may.0) in
+      subst (λ (p : Paths). KeepsPath 0 ds p (transmit_after m time choice a).state.paths) same (path_ending time choice.ending g.batch ds g.now known may.1)
 
   -- the application closes, or has closed before
-  path_close : (time : ℕ) (close : Close) (ds : List Did) (a : At t) (b : Bool) → PathHolds 0 ds a.state.paths (if b then move_to (Shut time close) a else a).state.paths
+  path_close : (time : ℕ) (close : Close) (ds : List Did) (a : At t) (b : Bool) → KeepsPath 0 ds a.state.paths (if b then move_to (Shut time close) a else a).state.paths
   unfolding move_to state_move paths_move
   path_close time close ds a true = unchanged 0 ds a.state.paths
   path_close time close ds a false = unchanged 0 ds a.state.paths
@@ -407,34 +433,34 @@ module _ {t : Types} where
   timed_paths _ r a h = absurd r
 
   -- and so does a timeout
-  path_timeout : (m : Meaning t) (time : ℕ) (ds : List Did) (a : At t) → PathHolds 0 ds a.state.paths (timeout_after m time a).state.paths
+  path_timeout : (m : Meaning t) (time : ℕ) (ds : List Did) (a : At t) → KeepsPath 0 ds a.state.paths (timeout_after m time a).state.paths
   path_timeout m time ds a =
-      subst (λ (p : Paths). PathHolds 0 ds a.state.paths p) (sym (holds_timeout (λ (b c : At t). c.state.paths ≡ b.state.paths) (λ b. refl) (λ b c d g h. h ∙ g) timed_paths m time a)) (unchanged 0 ds a.state.paths)
+      subst (λ (p : Paths). KeepsPath 0 ds a.state.paths p) (sym (holds_timeout (λ (b c : At t). c.state.paths ≡ b.state.paths) (λ b. refl) (λ b c d g h. h ∙ g) timed_paths m time a)) (unchanged 0 ds a.state.paths)
 
   -- each input
-  path_input : (m : Meaning t) (i : Input) (choice : Choice) (s : View t) → IsAllowed i choice s → let r : At t = input_after m i choice (at s []) in PathHolds (bytes_from s.paths.remote i) r.did s.paths r.state.paths
+  path_input : (m : Meaning t) (i : Input) (choice : Choice) (s : View t) → IsAllowed m i choice (at s []) → let r : At t = input_after m i choice (at s []) in KeepsPath (bytes_from s.paths.current.remote i) r.did s.paths r.state.paths
   unfolding IsAllowed input_after close_after move_to state_move paths_move
-  path_input m (input.Datagram time from ecn bytes) choice s may = path_datagram m time ecn from bytes s
+  path_input m (input.Datagram time from ecn bytes) choice s may = path_datagram m (record { time = time; remote = from; mark = ecn }) bytes s
   path_input m (input.Timeout time) choice s may = path_timeout m time _ (at s [])
-  path_input m (input.Transmit time max) choice s may = path_transmit time choice _ (at s []) may
+  path_input m (input.Transmit time max) choice s may = path_transmit m time choice _ (at s []) may
   path_input m (input.Close time code reason) choice s may = path_close time _ _ (at s []) (is_open s.life.state)
   path_input m (input.Ping time) choice s may = unchanged 0 _ s.paths
 
   -- a step
-  path_step : (m : Meaning t) (k : ℕ) (s : View t) (i : Input) (x : Step) (s' : View t) → IsStep m k s i x s' → PathHolds (bytes_from s.paths.remote i) x.did s.paths s'.paths
+  path_step : (m : Meaning t) (k : ℕ) (s : View t) (i : Input) (x : Step) (s' : View t) → IsStep m k s i x s' → KeepsPath (bytes_from s.paths.current.remote i) x.did s.paths s'.paths
   unfolding called began step_after reported state_move paths_move
   path_step m k s i x s' h =
       let r : At t = input_after m i h.choice (began s (time_of i)) in
-      subst (λ (ds : List Did). PathHolds (bytes_from s.paths.remote i) ds s.paths s'.paths) (sym h.deeds)
-      (subst (λ (p : Paths). PathHolds (bytes_from s.paths.remote i) r.did s.paths p) (sym h.paths) (path_input m i h.choice (began s (time_of i)).state h.allowed))
+      subst (λ (ds : List Did). KeepsPath (bytes_from s.paths.current.remote i) ds s.paths s'.paths) (sym h.deeds)
+      (subst (λ (p : Paths). KeepsPath (bytes_from s.paths.current.remote i) r.did s.paths p) (sym h.paths) (path_input m i h.choice (began s (time_of i)).state h.allowed))
 
   -- a run
-  pub path_run : (m : Meaning t) (k : ℕ) (s : View t) (is : List Input) (xs : List Step) (s' : View t) → Run m k s is xs s' → PathHolds (all_from s.paths.remote is) (deeds_of xs) s.paths s'.paths
+  pub path_run : (m : Meaning t) (k : ℕ) (s : View t) (is : List Input) (xs : List Step) (s' : View t) → Run m k s is xs s' → PathHolds (all_from s.paths.current.remote is) (deeds_of xs) s.paths.current s'.paths.current
   unfolding Run
-  path_run m k s [] [] s' r = subst (λ (v : View t). PathHolds 0 [] s.paths v.paths) (sym r) (unchanged 0 [] s.paths)
+  path_run m k s [] [] s' r = subst (λ (v : View t). KeepsPath 0 [] s.paths v.paths) (sym r) (unchanged 0 [] s.paths)
   path_run m k s (i ∷ is) (x ∷ xs) s' r =
       let first = path_step m k s i x r.0 r.1 in
-      holds_next (bytes_from s.paths.remote i) (all_from s.paths.remote is) x.did (deeds_of xs) s.paths r.0.paths s'.paths first
-      (subst (λ (remote : SocketAddr). PathHolds (all_from remote is) (deeds_of xs) r.0.paths s'.paths) first.same (path_run m (k + 1) r.0 is xs s' r.2))
+      holds_next (bytes_from s.paths.current.remote i) (all_from s.paths.current.remote is) x.did (deeds_of xs) s.paths r.0.paths s'.paths first
+      (subst (λ (remote : SocketAddr). KeepsPath (all_from remote is) (deeds_of xs) r.0.paths s'.paths) first.same (path_run m (k + 1) r.0 is xs s' r.2))
   path_run m k s [] (x ∷ xs) s' r = absurd r
   path_run m k s (i ∷ is) [] s' r = absurd r

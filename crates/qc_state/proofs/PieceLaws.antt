@@ -2,14 +2,13 @@
 use Rattle.std.proofs.Common.{◌≡◌, ◌⊎◌, inl, inr, ℕ, List, [], ◌∷◌, ◌++◌, length, refl, ap, ◌∙◌, Bool, true, false, Option, Some, None, if◌then◌else◌, append_assoc, append-nil}
 use Rattle.std.specs.Prelude.{not, Ok, Err}
 use Rattle.std.specs.List.{list_any}
-use Rattle.std.specs.declared.net.SocketAddr.{SocketAddr}
-use Rattle.qc_base.specs.declared.ecn.EcnCodepoint.{EcnCodepoint}
 use Rattle.qc_base.specs.declared.side.Side.TheVariants.{Server}
 use Rattle.qc_base.specs.declared.side.SpaceId.{SpaceId}
 use Rattle.qc_base.specs.declared.side.SpaceId.TheVariants.{Initial}
 use Rattle.qc_frame.specs.Payload.{items_of}
 use Rattle.qc_header.specs.HeaderGrammar.{DatagramItem}
 use Rattle.qc_header.specs.Piece.{Piece, space_of}
+use Rattle.qc_state.specs.declared.coming.Coming.{Coming}
 use Rattle.qc_state.specs.declared.deeds.Did.{Did}
 use Rattle.qc_state.specs.declared.deeds.Did.TheVariants as did
 use Rattle.qc_state.specs.declared.deeds.Verdict.{Verdict}
@@ -30,7 +29,7 @@ use Rattle.qc_state.specs.Numbers.{number_accepted}
 use Rattle.qc_state.specs.Opening.{opening_of}
 use Rattle.qc_state.specs.Paths.{is_blocked}
 use Rattle.qc_state.specs.PieceLaws.{Reading, TellsDatagram, TellsPiece, TellsPieces, gifts_by, opening_deed, opening_gifts, piece_deed, piece_gifts, reading_of}
-use Rattle.qc_state.specs.Receiving.{accepted_after, admitted_after, counted_after, cut_of, datagram_after, failed_after, first_after, first_token, fixed_after, fixes_peer, heard_after, is_close_item, is_eliciting_item, opening_after, payload_after, piece_after, pieces_after, piece_told, read_for_close, received_after, verdict_after}
+use Rattle.qc_state.specs.Receiving.{accepted_after, admitted_after, counted_after, cut_of, datagram_after, failed_after, first_after, first_token, fixed_after, fixes_peer, heard_after, is_close_item, is_eliciting_item, opening_after, payload_after, piece_after, pieces_after, piece_told, read_for_close, received_after, signs_of, verdict_after}
 use Rattle.qc_state.specs.Run.{IsStep, began, called, input_after}
 use Rattle.qc_state.specs.Sending.{drops_initial, initial_left}
 use Rattle.qc_state.specs.Stopping.{key_limit_error, killed_after, stopped_after, violation_at}
@@ -92,24 +91,24 @@ module _ {t : Types} where
   accepted_along time id number e signs v a = record { fixed = refl; highest = refl; life = refl; next = accepted_next id a.state.numbers number; skipped = refl; stream = refl; session = refl }
 
   -- a packet that is admitted
-  admitted_tells : (m : Meaning t) (time : ℕ) (id : SpaceId) (signs : Signs) (source : List ℕ) (number : ℕ) (payload : List ℕ) (a : At t) →
-      TellsPiece (did.Piece (Some id) (Some number) verdict.Admitted) (gifts_by m a.state id payload verdict.Admitted) a (admitted_after m time id signs source number payload a)
+  admitted_tells : (m : Meaning t) (coming : Coming) (id : SpaceId) (spin : Bool) (source : List ℕ) (number : ℕ) (payload : List ℕ) (a : At t) →
+      TellsPiece (did.Piece (Some id) (Some number) verdict.Admitted) (gifts_by m a.state id payload verdict.Admitted) a (admitted_after m coming id spin source number payload a)
   unfolding admitted_after accepted_after initial_left fixed_after deeds_move
-  admitted_tells m time id signs source number payload a =
+  admitted_tells m coming id spin source number payload a =
       let r : Reading t.S = reading_of a.state id in
-      let accept : Move t = Accept time id number (list_any is_eliciting_item (items_of payload)) signs verdict.Admitted in
+      let accept : Move t = Accept coming.time id number (list_any is_eliciting_item (items_of payload)) (signs_of coming spin) verdict.Admitted in
       let b : At t = move_to accept a in
       let blocked : Bool = is_blocked b.state.paths in
-      let c : At t = initial_left Server blocked time id b in
+      let c : At t = initial_left Server blocked coming.time id b in
       let d : At t = fixed_after id source c in
-      let at_b : Along a.state id r b.state = accepted_along time id number (list_any is_eliciting_item (items_of payload)) signs verdict.Admitted a in
-      let at_c : Along a.state id r c.state = left_along a.state id r blocked time b (drops_initial Server b.state id) at_b in
+      let at_b : Along a.state id r b.state = accepted_along coming.time id number (list_any is_eliciting_item (items_of payload)) (signs_of coming spin) verdict.Admitted a in
+      let at_c : Along a.state id r c.state = left_along a.state id r blocked coming.time b (drops_initial Server b.state id) at_b in
       let at_d : Along a.state id r d.state = fixed_along a.state id r source c (fixes_peer id c.state) at_c in
       let gifts : List Did = gifts_by m a.state id payload verdict.Admitted in
-      let e : At t = payload_after m time id payload d in
+      let e : At t = payload_after m coming id payload d in
       tells_then (did.Piece (Some id) (Some number) verdict.Admitted) gifts accept a e refl
-      (quiet_gives gifts b c e (holds_initial (Gives []) gives_here quiet_next ending_quiet Server blocked time id b)
-      (quiet_gives gifts c d e (fixed_quiet source c (fixes_peer id c.state)) (payload_gives m time a.state id r payload d at_d)))
+      (quiet_gives gifts b c e (holds_initial (Gives []) gives_here quiet_next ending_quiet Server blocked coming.time id b)
+      (quiet_gives gifts c d e (fixed_quiet source c (fixes_peer id c.state)) (payload_gives m coming a.state id r payload d at_d)))
 
   closing_quiet : (a : At t) (b : Bool) → Gives [] a (if b then move_to Drain a else move_to Owe a)
   unfolding deeds_move
@@ -122,39 +121,39 @@ module _ {t : Types} where
       let enter : Move t = Enter id number verdict.ReadForClose in
       tells_then (did.Piece (Some id) (Some number) verdict.ReadForClose) [] enter a _ refl (closing_quiet (move_to enter a) (list_any is_close_item (items_of payload)))
 
-  ack_only_tells : (time : ℕ) (id : SpaceId) (number : ℕ) (signs : Signs) (a : At t) → TellsPiece (did.Piece (Some id) (Some number) verdict.AckOnly) [] a (accepted_after time id number false signs verdict.AckOnly a)
+  ack_only_tells : (coming : Coming) (id : SpaceId) (number : ℕ) (spin : Bool) (a : At t) → TellsPiece (did.Piece (Some id) (Some number) verdict.AckOnly) [] a (accepted_after coming id number false spin verdict.AckOnly a)
   unfolding accepted_after deeds_move
-  ack_only_tells time id number signs a =
-      let accept : Move t = Accept time id number false signs verdict.AckOnly in
+  ack_only_tells coming id number spin a =
+      let accept : Move t = Accept coming.time id number false (signs_of coming spin) verdict.AckOnly in
       let b : At t = move_to accept a in
-      tells_then (did.Piece (Some id) (Some number) verdict.AckOnly) [] accept a _ refl (holds_initial (Gives []) gives_here quiet_next ending_quiet Server (is_blocked b.state.paths) time id b)
+      tells_then (did.Piece (Some id) (Some number) verdict.AckOnly) [] accept a _ refl (holds_initial (Gives []) gives_here quiet_next ending_quiet Server (is_blocked b.state.paths) coming.time id b)
 
-  verdict_tells : (m : Meaning t) (time : ℕ) (id : SpaceId) (signs : Signs) (source : List ℕ) (number : ℕ) (payload : List ℕ) (v : Verdict) (a : At t) → is_read v ≡ true →
-      TellsPiece (did.Piece (Some id) (Some number) v) (gifts_by m a.state id payload v) a (verdict_after m time id signs source number payload v a)
+  verdict_tells : (m : Meaning t) (coming : Coming) (id : SpaceId) (spin : Bool) (source : List ℕ) (number : ℕ) (payload : List ℕ) (v : Verdict) (a : At t) → is_read v ≡ true →
+      TellsPiece (did.Piece (Some id) (Some number) v) (gifts_by m a.state id payload v) a (verdict_after m coming id spin source number payload v a)
   unfolding deeds_move
-  verdict_tells m time id signs source number payload verdict.Ignored a h = cc
-  verdict_tells m time id signs source number payload verdict.Failure a h = cc
-  verdict_tells m time id signs source number payload verdict.BadBits a h = cc
-  verdict_tells m time id signs source number payload verdict.Seen a h =
+  verdict_tells m coming id spin source number payload verdict.Ignored a h = cc
+  verdict_tells m coming id spin source number payload verdict.Failure a h = cc
+  verdict_tells m coming id spin source number payload verdict.BadBits a h = cc
+  verdict_tells m coming id spin source number payload verdict.Seen a h =
       let tell : Move t = Tell (did.Piece (Some id) (Some number) verdict.Seen) in
       tells_then (did.Piece (Some id) (Some number) verdict.Seen) [] tell a _ refl (gives_here (move_to tell a))
-  verdict_tells m time id signs source number payload verdict.ReadForClose a h = closing_tells id number payload a
-  verdict_tells m time id signs source number payload verdict.NumberOnly a h =
+  verdict_tells m coming id spin source number payload verdict.ReadForClose a h = closing_tells id number payload a
+  verdict_tells m coming id spin source number payload verdict.NumberOnly a h =
       let enter : Move t = Enter id number verdict.NumberOnly in
       tells_then (did.Piece (Some id) (Some number) verdict.NumberOnly) [] enter a _ refl (gives_here (move_to enter a))
-  verdict_tells m time id signs source number payload verdict.AckOnly a h = ack_only_tells time id number signs a
-  verdict_tells m time id signs source number payload verdict.Admitted a h = admitted_tells m time id signs source number payload a
+  verdict_tells m coming id spin source number payload verdict.AckOnly a h = ack_only_tells coming id number spin a
+  verdict_tells m coming id spin source number payload verdict.Admitted a h = admitted_tells m coming id spin source number payload a
 
   read_row : (s : View t) (id : SpaceId) (source token : List ℕ) (number : ℕ) → is_read (verdict_of s id source token number) ≡ true
   unfolding verdict_of
   read_row s id source token number = read_by_row _ _ _ _
 
-  received_tells : (m : Meaning t) (time : ℕ) (id : SpaceId) (signs : Signs) (source token : List ℕ) (number : ℕ) (payload : List ℕ) (a : At t) →
+  received_tells : (m : Meaning t) (coming : Coming) (id : SpaceId) (spin : Bool) (source token : List ℕ) (number : ℕ) (payload : List ℕ) (a : At t) →
       let v : Verdict = verdict_of a.state id source token number in
-      TellsPiece (did.Piece (Some id) (Some number) v) (gifts_by m a.state id payload v) a (received_after m time id signs source token number payload a)
+      TellsPiece (did.Piece (Some id) (Some number) v) (gifts_by m a.state id payload v) a (received_after m coming id spin source token number payload a)
   unfolding received_after
-  received_tells m time id signs source token number payload a =
-      verdict_tells m time id signs source number payload (verdict_of a.state id source token number) a (read_row a.state id source token number)
+  received_tells m coming id spin source token number payload a =
+      verdict_tells m coming id spin source number payload (verdict_of a.state id source token number) a (read_row a.state id source token number)
 
   -- ---- a packet that came
 
@@ -191,68 +190,68 @@ module _ {t : Types} where
       let d : Did = did.Piece space (Some number) verdict.BadBits in
       tells_then d [] (Tell d) a _ refl (stopped_quiet time (violation_at None) (move_to (Tell d) a))
 
-  opening_tells : (m : Meaning t) (time : ℕ) (mark : Option EcnCodepoint) (space : Option SpaceId) (o : Opening) (a : At t) →
-      TellsPiece (opening_deed a.state space o) (opening_gifts m a.state space o) a (opening_after m time mark space o a)
-  opening_tells m time mark space Unreadable a = told_as (did.Piece space None verdict.Ignored) a
-  opening_tells m time mark space Unopened a = failed_tells space a
-  opening_tells m time mark space (Reserved number) a = reserved_tells time space number a
-  opening_tells m time mark (Some id) (Opened source token spin number payload) a = received_tells m time id (record { mark = mark; spin = spin }) source token number payload a
-  opening_tells m time mark None (Opened source token spin number payload) a = told_as (did.Piece None None verdict.Ignored) a
+  opening_tells : (m : Meaning t) (coming : Coming) (space : Option SpaceId) (o : Opening) (a : At t) →
+      TellsPiece (opening_deed a.state space o) (opening_gifts m a.state space o) a (opening_after m coming space o a)
+  opening_tells m coming space Unreadable a = told_as (did.Piece space None verdict.Ignored) a
+  opening_tells m coming space Unopened a = failed_tells space a
+  opening_tells m coming space (Reserved number) a = reserved_tells coming.time space number a
+  opening_tells m coming (Some id) (Opened source token spin number payload) a = received_tells m coming id spin source token number payload a
+  opening_tells m coming None (Opened source token spin number payload) a = told_as (did.Piece None None verdict.Ignored) a
 
-  piece_by : (m : Meaning t) (time : ℕ) (mark : Option EcnCodepoint) (space : Option SpaceId) (o : Opening) (a : At t) (b : Bool) →
+  piece_by : (m : Meaning t) (coming : Coming) (space : Option SpaceId) (o : Opening) (a : At t) (b : Bool) →
       TellsPiece (if b then did.Piece space None verdict.Ignored else opening_deed a.state space o) (if b then [] else opening_gifts m a.state space o) a
-      (if b then piece_told space None verdict.Ignored a else opening_after m time mark space o a)
-  piece_by m time mark space o a true = told_as (did.Piece space None verdict.Ignored) a
-  piece_by m time mark space o a false = opening_tells m time mark space o a
+      (if b then piece_told space None verdict.Ignored a else opening_after m coming space o a)
+  piece_by m coming space o a true = told_as (did.Piece space None verdict.Ignored) a
+  piece_by m coming space o a false = opening_tells m coming space o a
 
-  pub piece_tells : (m : Meaning t) (time : ℕ) (mark : Option EcnCodepoint) (p : Piece) (a : At t) → TellsPiece (piece_deed m a.state p) (piece_gifts m a.state p) a (piece_after m time mark p a)
+  pub piece_tells : (m : Meaning t) (coming : Coming) (p : Piece) (a : At t) → TellsPiece (piece_deed m a.state p) (piece_gifts m a.state p) a (piece_after m coming p a)
   unfolding piece_after
-  piece_tells m time mark p a = piece_by m time mark (space_of p.header) (opening_of m a.state p) a (is_over a.state.life.state)
+  piece_tells m coming p a = piece_by m coming (space_of p.header) (opening_of m a.state p) a (is_over a.state.life.state)
 
   -- the packets of a datagram
-  pub pieces_tell : (m : Meaning t) (time : ℕ) (mark : Option EcnCodepoint) (items : List DatagramItem) (a : At t) → TellsPieces m time mark items a
+  pub pieces_tell : (m : Meaning t) (coming : Coming) (items : List DatagramItem) (a : At t) → TellsPieces m coming items a
   unfolding TellsPieces
-  pieces_tell m time mark [] a = tt
-  pieces_tell m time mark (Err fault ∷ items) a = tt
-  pieces_tell m time mark (Ok p ∷ items) a = (piece_tells m time mark p a, pieces_tell m time mark items (piece_after m time mark p a))
+  pieces_tell m coming [] a = tt
+  pieces_tell m coming (Err fault ∷ items) a = tt
+  pieces_tell m coming (Ok p ∷ items) a = (piece_tells m coming p a, pieces_tell m coming items (piece_after m coming p a))
 
   -- a datagram that is heard, or dropped, where a token may be expected before
-  heard_by : (m : Meaning t) (time : ℕ) (mark : Option EcnCodepoint) (blocked : Bool) (n : ℕ) (bytes : List ℕ) (a c : At t) (b : Bool) → (c ≡ a) ⊎ ((token : List ℕ) × (c ≡ move_to (Expect token) a)) →
-      cut_of c.state bytes ≡ cut_of a.state bytes → TellsDatagram m time mark bytes a (if b then counted_after time blocked n (pieces_after m time mark (cut_of c.state bytes) c) else c)
+  heard_by : (m : Meaning t) (coming : Coming) (blocked : Bool) (n : ℕ) (bytes : List ℕ) (a c : At t) (b : Bool) → (c ≡ a) ⊎ ((token : List ℕ) × (c ≡ move_to (Expect token) a)) →
+      cut_of c.state bytes ≡ cut_of a.state bytes → TellsDatagram m coming bytes a (if b then counted_after coming.time blocked n (pieces_after m coming (cut_of c.state bytes) c) else c)
   unfolding TellsPieces
-  heard_by m time mark blocked n bytes a c true begins same = record {
+  heard_by m coming blocked n bytes a c true begins same = record {
     items = cut_of c.state bytes;
     cut = inr same;
     start = c;
     begins = begins;
-    told = pieces_tell m time mark (cut_of c.state bytes) c;
-    ends = counted_did time blocked n (pieces_after m time mark (cut_of c.state bytes) c);
+    told = pieces_tell m coming (cut_of c.state bytes) c;
+    ends = counted_did coming.time blocked n (pieces_after m coming (cut_of c.state bytes) c);
   }
-  heard_by m time mark blocked n bytes a c false begins same = record { items = []; cut = inl refl; start = c; begins = begins; told = tt; ends = refl }
+  heard_by m coming blocked n bytes a c false begins same = record { items = []; cut = inl refl; start = c; begins = begins; told = tt; ends = refl }
 
-  heard_tells : (m : Meaning t) (time : ℕ) (mark : Option EcnCodepoint) (remote : SocketAddr) (bytes : List ℕ) (a c : At t) → (c ≡ a) ⊎ ((token : List ℕ) × (c ≡ move_to (Expect token) a)) →
-      cut_of c.state bytes ≡ cut_of a.state bytes → TellsDatagram m time mark bytes a (heard_after m time mark remote bytes c)
+  heard_tells : (m : Meaning t) (coming : Coming) (bytes : List ℕ) (a c : At t) → (c ≡ a) ⊎ ((token : List ℕ) × (c ≡ move_to (Expect token) a)) →
+      cut_of c.state bytes ≡ cut_of a.state bytes → TellsDatagram m coming bytes a (heard_after m coming bytes c)
   unfolding heard_after
-  heard_tells m time mark remote bytes a c begins same = heard_by m time mark (is_blocked c.state.paths) (length bytes) bytes a c _ begins same
+  heard_tells m coming bytes a c begins same = heard_by m coming (is_blocked c.state.paths) (length bytes) bytes a c _ begins same
 
-  first_tells : (m : Meaning t) (time : ℕ) (mark : Option EcnCodepoint) (remote : SocketAddr) (bytes : List ℕ) (token : Option (List ℕ)) (a : At t) → TellsDatagram m time mark bytes a (first_after m time mark remote bytes token a)
+  first_tells : (m : Meaning t) (coming : Coming) (bytes : List ℕ) (token : Option (List ℕ)) (a : At t) → TellsDatagram m coming bytes a (first_after m coming bytes token a)
   unfolding TellsPieces
-  first_tells m time mark remote bytes None a = record { items = []; cut = inl refl; start = a; begins = inl refl; told = tt; ends = refl }
-  first_tells m time mark remote bytes (Some token) a = heard_tells m time mark remote bytes a (move_to (Expect token) a) (inr (token, refl)) (same_cut token bytes a)
+  first_tells m coming bytes None a = record { items = []; cut = inl refl; start = a; begins = inl refl; told = tt; ends = refl }
+  first_tells m coming bytes (Some token) a = heard_tells m coming bytes a (move_to (Expect token) a) (inr (token, refl)) (same_cut token bytes a)
 
-  datagram_by : (m : Meaning t) (time : ℕ) (mark : Option EcnCodepoint) (remote : SocketAddr) (bytes : List ℕ) (token : Option (List ℕ)) (a : At t) (b : Bool) →
-      TellsDatagram m time mark bytes a (if b then first_after m time mark remote bytes token a else heard_after m time mark remote bytes a)
-  datagram_by m time mark remote bytes token a true = first_tells m time mark remote bytes token a
-  datagram_by m time mark remote bytes token a false = heard_tells m time mark remote bytes a a (inl refl) refl
+  datagram_by : (m : Meaning t) (coming : Coming) (bytes : List ℕ) (token : Option (List ℕ)) (a : At t) (b : Bool) →
+      TellsDatagram m coming bytes a (if b then first_after m coming bytes token a else heard_after m coming bytes a)
+  datagram_by m coming bytes token a true = first_tells m coming bytes token a
+  datagram_by m coming bytes token a false = heard_tells m coming bytes a a (inl refl) refl
 
-  pub datagram_tells : (m : Meaning t) (time : ℕ) (mark : Option EcnCodepoint) (remote : SocketAddr) (bytes : List ℕ) (a : At t) → TellsDatagram m time mark bytes a (datagram_after m time mark remote bytes a)
+  pub datagram_tells : (m : Meaning t) (coming : Coming) (bytes : List ℕ) (a : At t) → TellsDatagram m coming bytes a (datagram_after m coming bytes a)
   unfolding datagram_after
-  datagram_tells m time mark remote bytes a = datagram_by m time mark remote bytes (first_token m a.state remote bytes) a _
+  datagram_tells m coming bytes a = datagram_by m coming bytes (first_token m a.state coming.remote bytes) a _
 
   -- a step over a datagram tells that
-  pub step_tells : (m : Meaning t) (k : ℕ) (s : View t) (time : ℕ) (remote : SocketAddr) (mark : Option EcnCodepoint) (bytes : List ℕ) (x : Step) (s' : View t) →
-      IsStep m k s (input.Datagram time remote mark bytes) x s' → TellsDatagram m time mark bytes (began s time) (at s' x.did)
+  pub step_tells : (m : Meaning t) (k : ℕ) (s : View t) (coming : Coming) (bytes : List ℕ) (x : Step) (s' : View t) →
+      IsStep m k s (input.Datagram coming.time coming.remote coming.mark bytes) x s' → TellsDatagram m coming bytes (began s coming.time) (at s' x.did)
   unfolding called input_after
-  step_tells m k s time remote mark bytes x s' h =
-      let told = datagram_tells m time mark remote bytes (began s time) in
+  step_tells m k s coming bytes x s' h =
+      let told = datagram_tells m coming bytes (began s coming.time) in
       record { items = told.items; cut = told.cut; start = told.start; begins = told.begins; told = told.told; ends = h.deeds ∙ told.ends }

@@ -2,27 +2,30 @@
 use Rattle.std.proofs.Common.{◌≡◌, ℕ, ◌+◌, ◌≤◌, List, [], ◌∷◌, ◌++◌, length, take, get_or, ◌<◌, refl, ap, sym, ◌∙◌, subst, Bool, Option, if◌then◌else◌, arith, length-append}
 use Rattle.std.proofs.lemmas.List.{take_more}
 use Rattle.std.specs.Prelude.{option_to_list}
-use Rattle.std.specs.declared.net.SocketAddr.{SocketAddr}
-use Rattle.qc_base.specs.declared.ecn.EcnCodepoint.{EcnCodepoint}
+use Rattle.qc_state.specs.declared.coming.Coming.{Coming}
 use Rattle.qc_state.specs.declared.deeds.Did.{Did}
 use Rattle.qc_state.specs.declared.events.EndpointEvent.{EndpointEvent}
 use Rattle.qc_state.specs.declared.events.Event.{Event}
 use Rattle.qc_state.specs.declared.input.Input.{Input}
 use Rattle.qc_state.specs.declared.input.Input.TheVariants as input
-use Rattle.qc_state.specs.declared.life.Close.{Close}
 use Rattle.qc_state.specs.declared.trace.Answer.{Answer}
 use Rattle.qc_state.specs.declared.trace.Answer.TheVariants.{Done, Dropped}
 use Rattle.qc_state.specs.declared.trace.Step.{Step}
 use Rattle.qc_state.specs.declared.transmit.Transmit.{Transmit}
-use Rattle.qc_state.specs.Life.{ready_event, connected_event, lost_event, waiting_events, ready_reported, connected_reported, lost_reported, token_event, wanted_event, drained_event, token_reported, wanted_reported, endpoint_events}
-use Rattle.qc_state.specs.Moves.{Ask, Clock, ReportReady, ReportConnected, ReportLost, ReportToken, ReportWanted, ReportDrained, state_move, move_to, deeds_move, life_move}
+use Rattle.qc_state.specs.Life.{ready_event, connected_event, lost_event, ready_reported, connected_reported, lost_reported, drained_event, notices_reported}
+use Rattle.qc_state.specs.Moves.{Ask, Clock, ReportReady, ReportConnected, ReportLost, ReportNotices, ReportDrained, state_move, move_to, deeds_move, life_move}
+use Rattle.qc_state.specs.Polls.{waiting_events, endpoint_events}
 use Rattle.qc_state.specs.Run.{time_of, word_of, began, close_after, input_after, called, reported, step_after, IsAllowed, out_of, answer_of, IsStep, Run, Calls, Ran, Adds}
 use Rattle.qc_state.specs.Receiving.{is_taken, datagram_after}
-use Rattle.qc_state.specs.Sending.{transmit_of, Transmits}
+use Rattle.qc_state.specs.Sending.{transmit_of, Transmits, Choice, Went}
 use Rattle.qc_state.specs.Timeouts.{timeout_after}
 use Rattle.qc_state.specs.Timers.{next_timeout}
 use Rattle.qc_state.specs.Types.{Types, Meaning}
 use Rattle.qc_state.specs.View.{View, At, at}
+
+-- the choice of an input that reads none
+abbrev unread : Choice
+unread = record { packets = []; ending = Went }
 
 module _ {t : Types} where
   pub calls_transmit : (m : Meaning t) (s : View t) (time max : ℕ) (b : At t) (sent : Option Transmit) (buffer : List ℕ) (answer : Answer) →
@@ -32,14 +35,14 @@ module _ {t : Types} where
     choice = h.choice;
     leads = h.leads;
     allowed = h.may;
-    answers = e ∙ ap (λ (x : Option Transmit). out_of x buffer) h.answer ∙ ap (λ (x : List ℕ). out_of (transmit_of h.choice (began s time).state) x) h.bytes;
+    answers = e ∙ ap (λ (x : Option Transmit). out_of x buffer) h.answer ∙ ap (λ (x : List ℕ). out_of (transmit_of m time h.choice (began s time)) x) h.bytes;
   }
 
   pub calls_timeout : (m : Meaning t) (s mid : View t) (time : ℕ) (ds : List Did) (b : At t) (answer : Answer) →
       mid ≡ state_move (Clock time) s → ds ≡ [] → b ≡ timeout_after m time (at mid ds) → answer ≡ Done → Calls m s (input.Timeout time) b answer
   unfolding began input_after called IsAllowed answer_of
   calls_timeout m s mid time ds b answer is_mid is_ds is_b e = record {
-    choice = [];
+    choice = unread;
     leads = is_b ∙ ap (λ (x : List Did). timeout_after m time (at mid x)) is_ds ∙ ap (λ (x : View t). timeout_after m time (at x [])) is_mid;
     allowed = tt;
     answers = e;
@@ -49,7 +52,7 @@ module _ {t : Types} where
       mid ≡ state_move (Clock time) s → b ≡ state_move (Ask mid.keys.highest) mid → ds ≡ [] → answer ≡ Done → Calls m s (input.Ping time) (at b ds) answer
   unfolding began input_after called IsAllowed answer_of move_to deeds_move
   calls_ping m s mid time b ds answer is_mid is_b is_ds e = record {
-    choice = [];
+    choice = unread;
     leads = ap (λ (x : List Did). at b x) is_ds ∙ ap (λ (x : View t). at x []) (is_b ∙ ap (λ (x : View t). state_move (Ask x.keys.highest) x) is_mid);
     allowed = tt;
     answers = e;
@@ -59,20 +62,21 @@ module _ {t : Types} where
       mid ≡ state_move (Clock time) s → ds ≡ [] → copy ≡ reason → b ≡ close_after time code copy (at mid ds) → answer ≡ Done → Calls m s (input.Close time code reason) b answer
   unfolding began input_after called IsAllowed answer_of
   calls_close m s mid time code reason copy ds b answer is_mid is_ds is_copy is_b e = record {
-    choice = [];
+    choice = unread;
     leads = is_b ∙ ap (λ (x : List ℕ). close_after time code x (at mid ds)) is_copy ∙ ap (λ (x : List Did). close_after time code reason (at mid x)) is_ds ∙ ap (λ (x : View t). close_after time code reason (at x [])) is_mid;
     allowed = tt;
     answers = e;
   }
 
-  pub calls_datagram : (m : Meaning t) (s mid : View t) (time : ℕ) (remote : SocketAddr) (ecn : Option EcnCodepoint) (bytes copy : List ℕ) (ds : List Did) (b : At t) (begins : Bool) (answer : Answer) →
-      mid ≡ state_move (Clock time) s → ds ≡ [] → copy ≡ bytes → b ≡ datagram_after m time ecn remote copy (at mid ds) → begins ≡ is_taken m mid remote copy → answer ≡ (if begins then Done else Dropped) → Calls m s (input.Datagram time remote ecn bytes) b answer
+  pub calls_datagram : (m : Meaning t) (s mid : View t) (coming : Coming) (bytes copy : List ℕ) (ds : List Did) (b : At t) (begins : Bool) (answer : Answer) →
+      mid ≡ state_move (Clock coming.time) s → ds ≡ [] → copy ≡ bytes → b ≡ datagram_after m coming copy (at mid ds) → begins ≡ is_taken m mid coming.remote copy → answer ≡ (if begins then Done else Dropped) →
+      Calls m s (input.Datagram coming.time coming.remote coming.mark bytes) b answer
   unfolding began input_after called IsAllowed answer_of
-  calls_datagram m s mid time remote ecn bytes copy ds b begins answer is_mid is_ds is_copy is_b is_begins e = record {
-    choice = [];
-    leads = is_b ∙ ap (λ (x : List ℕ). datagram_after m time ecn remote x (at mid ds)) is_copy ∙ ap (λ (x : List Did). datagram_after m time ecn remote bytes (at mid x)) is_ds ∙ ap (λ (x : View t). datagram_after m time ecn remote bytes (at x [])) is_mid;
+  calls_datagram m s mid coming bytes copy ds b begins answer is_mid is_ds is_copy is_b is_begins e = record {
+    choice = unread;
+    leads = is_b ∙ ap (λ (x : List ℕ). datagram_after m coming x (at mid ds)) is_copy ∙ ap (λ (x : List Did). datagram_after m coming bytes (at mid x)) is_ds ∙ ap (λ (x : View t). datagram_after m coming bytes (at x [])) is_mid;
     allowed = tt;
-    answers = e ∙ ap (λ (x : Bool). if x then Done else Dropped) (is_begins ∙ ap (is_taken m mid remote) is_copy ∙ ap (λ (x : View t). is_taken m x remote bytes) is_mid);
+    answers = e ∙ ap (λ (x : Bool). if x then Done else Dropped) (is_begins ∙ ap (is_taken m mid coming.remote) is_copy ∙ ap (λ (x : View t). is_taken m x coming.remote bytes) is_mid);
   }
 
   -- reporting one thing leaves the reports of the others as they were
@@ -86,25 +90,20 @@ module _ {t : Types} where
   same_lost s = refl
 
   -- and with all that waits for the endpoint
-  same_end : (s : View t) → endpoint_events (state_move ReportLost (state_move ReportConnected (state_move ReportReady s))).life ≡ endpoint_events s.life
-  unfolding endpoint_events token_event wanted_event drained_event state_move life_move ready_reported connected_reported lost_reported
+  same_end : (s : View t) → endpoint_events (state_move ReportLost (state_move ReportConnected (state_move ReportReady s))) ≡ endpoint_events s
+  unfolding endpoint_events drained_event state_move life_move ready_reported connected_reported lost_reported
   same_end s = refl
 
-  -- reporting the peer's token leaves how many identifiers are wanted
-  same_wanted : (s : View t) → wanted_event (state_move ReportToken s).life ≡ wanted_event s.life
-  unfolding wanted_event state_move life_move token_reported
-  same_wanted s = refl
-
-  -- and reporting both leaves the end
-  same_drained : (s : View t) → drained_event (state_move ReportWanted (state_move ReportToken s)).life ≡ drained_event s.life
-  unfolding drained_event state_move life_move token_reported wanted_reported
+  -- reporting what waits before the end leaves the end
+  same_drained : (s : View t) → drained_event (state_move ReportNotices s).life ≡ drained_event s.life
+  unfolding drained_event state_move life_move notices_reported
   same_drained s = refl
 
   -- a step of a call, whose answer and reports stand in it
   pub is_step : (m : Meaning t) (k : ℕ) (s : View t) (i : Input) (x : Step) (b : At t) (s' : View t) →
       s.timers.greatest ≤ time_of i → Calls m s i b x.answer → x.did ≡ b.did →
       s' ≡ reported b.state →
-      x.events ≡ waiting_events b.state.life → x.endpoint ≡ endpoint_events b.state.life →
+      x.events ≡ waiting_events b.state → x.endpoint ≡ endpoint_events b.state →
       x.timeout ≡ next_timeout s'.timers → x.at ≡ k → x.word ≡ word_of i → x.now ≡ time_of i → IsStep m k s i x s'
   unfolding step_after
   is_step m k s i x b s' forward h is_did is_s' is_events is_endpoint is_timeout is_at is_word is_now =
@@ -124,8 +123,8 @@ module _ {t : Types} where
         deeds = is_did ∙ ap (λ (y : At t). y.did) same;
         allowed = h.allowed;
         answer = h.answers;
-        events = is_events ∙ ap (λ (y : At t). waiting_events y.state.life) same;
-        endpoint = is_endpoint ∙ ap (λ (y : At t). endpoint_events y.state.life) same;
+        events = is_events ∙ ap (λ (y : At t). waiting_events y.state) same;
+        endpoint = is_endpoint ∙ ap (λ (y : At t). endpoint_events y.state) same;
         timeout = is_timeout;
         place = is_at;
         word = is_word;
@@ -160,7 +159,7 @@ module _ {t : Types} where
 
   -- what is reported, one after the other, is all that waited
   pub events_wait : (s2 s3 s4 : View t) → s3 ≡ state_move ReportReady s2 → s4 ≡ state_move ReportConnected s3 →
-      option_to_list (ready_event s2.life) ++ (option_to_list (connected_event s3.life) ++ option_to_list (lost_event s4.life)) ≡ waiting_events s2.life
+      option_to_list (ready_event s2.life) ++ (option_to_list (connected_event s3.life) ++ option_to_list (lost_event s4.life)) ≡ waiting_events s2
   unfolding waiting_events
   events_wait s2 s3 s4 is_s3 is_s4 =
       let e4 : s4 ≡ state_move ReportConnected (state_move ReportReady s2) = is_s4 ∙ ap (λ (v : View t). state_move ReportConnected v) is_s3 in
@@ -170,33 +169,27 @@ module _ {t : Types} where
       ∙ ap (λ (o : Option Event). option_to_list (ready_event s2.life) ++ (option_to_list (connected_event s2.life) ++ option_to_list o)) lost
 
   -- so it is with what is reported to the endpoint
-  pub endpoint_wait : (s5 s6 s7 : View t) → s6 ≡ state_move ReportToken s5 → s7 ≡ state_move ReportWanted s6 →
-      option_to_list (token_event s5.life) ++ (option_to_list (wanted_event s6.life) ++ option_to_list (drained_event s7.life)) ≡ endpoint_events s5.life
+  pub endpoint_wait : (s5 s6 : View t) → s6 ≡ state_move ReportNotices s5 → s5.life.notices ++ option_to_list (drained_event s6.life) ≡ endpoint_events s5
   unfolding endpoint_events
-  endpoint_wait s5 s6 s7 is_s6 is_s7 =
-      let e7 : s7 ≡ state_move ReportWanted (state_move ReportToken s5) = is_s7 ∙ ap (λ (v : View t). state_move ReportWanted v) is_s6 in
-      let wanted : wanted_event s6.life ≡ wanted_event s5.life = ap (λ (v : View t). wanted_event v.life) is_s6 ∙ same_wanted s5 in
-      let drained : drained_event s7.life ≡ drained_event s5.life = ap (λ (v : View t). drained_event v.life) e7 ∙ same_drained s5 in
-      ap (λ (o : Option EndpointEvent). option_to_list (token_event s5.life) ++ (option_to_list o ++ option_to_list (drained_event s7.life))) wanted
-      ∙ ap (λ (o : Option EndpointEvent). option_to_list (token_event s5.life) ++ (option_to_list (wanted_event s5.life) ++ option_to_list o)) drained
+  endpoint_wait s5 s6 is_s6 = ap (λ (o : Option EndpointEvent). s5.life.notices ++ option_to_list o) (ap (λ (v : View t). drained_event v.life) is_s6 ∙ same_drained s5)
 
   -- a step of a call, of all reports to the application, and of those to the endpoint
   pub is_step_reported : (m : Meaning t) (k : ℕ) (s : View t) (i : Input) (x : Step) (ds : List Did) (s2 s5 s6 : View t) →
       s.timers.greatest ≤ time_of i → Calls m s i (at s2 ds) x.answer → x.did ≡ ds →
-      s5 ≡ state_move ReportLost (state_move ReportConnected (state_move ReportReady s2)) → s6 ≡ state_move ReportDrained (state_move ReportWanted (state_move ReportToken s5)) →
-      x.events ≡ waiting_events s2.life → x.endpoint ≡ endpoint_events s5.life →
+      s5 ≡ state_move ReportLost (state_move ReportConnected (state_move ReportReady s2)) → s6 ≡ state_move ReportDrained (state_move ReportNotices s5) →
+      x.events ≡ waiting_events s2 → x.endpoint ≡ endpoint_events s5 →
       x.timeout ≡ next_timeout s6.timers → x.at ≡ k → x.word ≡ word_of i → x.now ≡ time_of i → IsStep m k s i x s6
   unfolding reported
   is_step_reported m k s i x ds s2 s5 s6 forward h is_did is_s5 is_s6 is_events is_endpoint is_timeout is_at is_word is_now =
-      is_step m k s i x (at s2 ds) s6 forward h is_did (is_s6 ∙ ap (λ (v : View t). state_move ReportDrained (state_move ReportWanted (state_move ReportToken v))) is_s5) is_events
-      (is_endpoint ∙ ap (λ (v : View t). endpoint_events v.life) is_s5 ∙ same_end s2) is_timeout is_at is_word is_now
+      is_step m k s i x (at s2 ds) s6 forward h is_did (is_s6 ∙ ap (λ (v : View t). state_move ReportDrained (state_move ReportNotices v)) is_s5) is_events
+      (is_endpoint ∙ ap (λ (v : View t). endpoint_events v) is_s5 ∙ same_end s2) is_timeout is_at is_word is_now
 
   -- a step of a call and of the reports behind it: that the handshake's data is ready, that the handshake is over, the reason of
   -- the end, and what waits for the endpoint
   pub is_step_by : (m : Meaning t) (k : ℕ) (s : View t) (i : Input) (x : Step) (ds : List Did) (s2 s3 s4 s5 s6 : View t) →
       s.timers.greatest ≤ time_of i → Calls m s i (at s2 ds) x.answer → x.did ≡ ds →
-      s3 ≡ state_move ReportReady s2 → s4 ≡ state_move ReportConnected s3 → s5 ≡ state_move ReportLost s4 → s6 ≡ state_move ReportDrained (state_move ReportWanted (state_move ReportToken s5)) →
-      x.events ≡ waiting_events s2.life → x.endpoint ≡ endpoint_events s5.life →
+      s3 ≡ state_move ReportReady s2 → s4 ≡ state_move ReportConnected s3 → s5 ≡ state_move ReportLost s4 → s6 ≡ state_move ReportDrained (state_move ReportNotices s5) →
+      x.events ≡ waiting_events s2 → x.endpoint ≡ endpoint_events s5 →
       x.timeout ≡ next_timeout s6.timers → x.at ≡ k → x.word ≡ word_of i → x.now ≡ time_of i → IsStep m k s i x s6
   is_step_by m k s i x ds s2 s3 s4 s5 s6 forward h is_did is_s3 is_s4 is_s5 is_s6 is_events is_endpoint is_timeout is_at is_word is_now =
       let e4 : s4 ≡ state_move ReportConnected (state_move ReportReady s2) = is_s4 ∙ ap (λ (v : View t). state_move ReportConnected v) is_s3 in

@@ -13,8 +13,8 @@ use Rattle.qc_state.specs.declared.life.State.TheVariants as state
 use Rattle.qc_path.specs.Arrived.{Window, is_new, arrived}
 use Rattle.qc_state.specs.declared.deeds.Verdict.{Verdict}
 use Rattle.qc_state.specs.Headline.{sealed_in, reasons_in, lives_in, entered_number, entered_in, EachNew, came_with, CloseFrom, RisesFrom, Kernel, kernel_of, kernel_after, IsBehind, IsRight, Tells}
-use Rattle.qc_state.specs.Life.{rank_of, is_open, is_drained, reason_given, life_raised, life_closed, life_drained, life_established, data_ready, token_learned, identifiers_wanted, ready_reported, connected_reported, lost_reported, token_reported, wanted_reported, drained_reported}
-use Rattle.qc_state.specs.Moves.{Move, ClosesOnly, Clock, Ask, Take, Seal, Forget, Enter, Expect, Fail, Accept, Fix, Hear, Ack, Fire, Arm, Pace, Release, Begin, Skip, Come, Read, Write, Ready, Token, Learn, Want, Confirm, Establish, Tell, Drain, Leave, Owe, IsTold, enters, Shut, Raise, Give, Say, ReportReady, ReportConnected, ReportLost, ReportToken, ReportWanted, ReportDrained, state_move, move_to, deeds_move, MayMove, told, arrival_of, numbers_move, life_move, timers_move}
+use Rattle.qc_state.specs.Life.{rank_of, is_open, is_closed, is_drained, reason_given, life_raised, life_closed, life_drained, life_established, data_ready, token_learned, identifiers_wanted, ready_reported, connected_reported, lost_reported, notice_reported, notices_reported, drained_reported}
+use Rattle.qc_state.specs.Moves.{Move, ClosesOnly, Clock, Ask, Take, Seal, Forget, Enter, Expect, Fail, Accept, Fix, Hear, Ack, Fire, Arm, Pace, Release, Begin, Skip, Come, Read, Write, Ready, Token, Learn, Want, Confirm, Establish, Tell, Drain, Leave, Owe, IsTold, enters, Shut, Raise, Give, Say, ReportReady, ReportConnected, ReportLost, ReportNotice, ReportNotices, ReportDrained, state_move, move_to, deeds_move, MayMove, told, arrival_of, numbers_move, life_move, timers_move, Finish}
 use Rattle.qc_state.specs.Numbers.{next_number, came_in, is_new_in, number_used, number_skipped, used_in, number_entered, number_accepted, number_acked}
 use Rattle.qc_state.specs.Numbers as numbers
 use Rattle.qc_state.specs.Recovering.{probe_timeout_now}
@@ -169,6 +169,13 @@ low_rank state.Closed h = omega arith
 low_rank state.Draining h = omega arith
 low_rank state.Drained h = cc
 
+pub closed_rank : (s : State) → is_closed s ≡ true → rank_of s < 3
+closed_rank state.Handshake h = cc
+closed_rank state.Established h = cc
+closed_rank state.Closed h = omega arith
+closed_rank state.Draining h = cc
+closed_rank state.Drained h = cc
+
 pub open_rank : (s : State) → is_open s ≡ true → rank_of s < 2
 open_rank state.Handshake h = omega arith
 open_rank state.Established h = omega arith
@@ -272,7 +279,7 @@ module _ {t : Types} where
   give_tells id s why h = (h, rw h (behind_here _))
 
   pub move_tells : (id : SpaceId) (x : Move t) (s : View t) → MayMove x s → Tells id (kernel id s) (deeds_move x s) (kernel id (state_move x s))
-  unfolding Tells MayMove deeds_move state_move numbers_move life_move life_raised life_closed life_drained lost_reported token_reported wanted_reported drained_reported life_established data_ready token_learned identifiers_wanted ready_reported connected_reported number_entered number_accepted number_acked numbers.entered_in numbers.accepted_in numbers.acked_in
+  unfolding Tells MayMove deeds_move state_move numbers_move life_move life_raised life_closed life_drained lost_reported notice_reported notices_reported drained_reported life_established data_ready token_learned identifiers_wanted ready_reported connected_reported number_entered number_accepted number_acked numbers.entered_in numbers.accepted_in numbers.acked_in
   move_tells id (Clock time) s h = absurd h
   move_tells id (Ask space) s h = behind_here _
   move_tells id (Take space fs) s h = behind_here _
@@ -288,7 +295,7 @@ module _ {t : Types} where
   move_tells id (Arm at) s h = behind_here _
   move_tells id Pace s h = behind_here _
   move_tells id Release s h = behind_here _
-  move_tells id (Begin space) s h = behind_here _
+  move_tells id (Begin space opens) s h = behind_here _
   move_tells id Skip s h = skip_tells id s (word s.setup.random)
   move_tells id (Come space offset bytes) s h = behind_here _
   move_tells id (Read space count session) s h = behind_here _
@@ -300,19 +307,20 @@ module _ {t : Types} where
   move_tells id Confirm s h = behind_here _
   move_tells id Establish s h = (h, behind_here _)
   move_tells id (Tell d) s h = told_tells id d s h
-  move_tells id Drain s h = (h, behind_here _)
+  move_tells id Drain s h = (closed_rank s.life.state h, behind_here _)
   move_tells id (Leave time) s h = (h, behind_here _)
   move_tells id Owe s h = behind_here _
   move_tells id (Seal time space n size fs) s h = seal_tells id space s n 0 false fs h.0 h.1
   move_tells id (Shut time close) s h = (h, behind_here _)
   move_tells id (Raise to) s h = (h, behind_here _)
   move_tells id (Give why) s h = give_tells id s why h
+  move_tells id (Finish bytes) s h = behind_here _
   move_tells id (Say q) s h = (tt, behind_here _)
   move_tells id ReportReady s h = behind_here _
   move_tells id ReportConnected s h = behind_here _
   move_tells id ReportLost s h = behind_here _
-  move_tells id ReportToken s h = behind_here _
-  move_tells id ReportWanted s h = behind_here _
+  move_tells id ReportNotice s h = behind_here _
+  move_tells id ReportNotices s h = behind_here _
   move_tells id ReportDrained s h = behind_here _
 
   -- no move but the first of a call sets the clock
@@ -334,7 +342,7 @@ module _ {t : Types} where
   clock_kept (Arm at) s h = refl
   clock_kept Pace s h = refl
   clock_kept Release s h = refl
-  clock_kept (Begin space) s h = refl
+  clock_kept (Begin space opens) s h = refl
   clock_kept Skip s h = refl
   clock_kept (Come space offset bytes) s h = refl
   clock_kept (Read space count session) s h = refl
@@ -356,12 +364,13 @@ module _ {t : Types} where
   clock_kept (Shut time close) s h = refl
   clock_kept (Raise to) s h = refl
   clock_kept (Give why) s h = refl
+  clock_kept (Finish bytes) s h = refl
   clock_kept (Say q) s h = refl
   clock_kept ReportReady s h = refl
   clock_kept ReportConnected s h = refl
   clock_kept ReportLost s h = refl
-  clock_kept ReportToken s h = refl
-  clock_kept ReportWanted s h = refl
+  clock_kept ReportNotice s h = refl
+  clock_kept ReportNotices s h = refl
   clock_kept ReportDrained s h = refl
 
   -- from one moment to another, the deeds between come where they may
@@ -386,8 +395,3 @@ module _ {t : Types} where
   pub told_move : (id : SpaceId) (x : Move t) (a : At t) → MayMove x a.state → Told id a (move_to x a)
   unfolding move_to
   told_move id x a h = record { since = deeds_move x a.state; appended = told_appends a.did (deeds_move x a.state); clock = clock_kept x a.state h; tells = move_tells id x a.state h }
-
-  pub given_by : (id : SpaceId) (why : ConnectionError) (a : At t) (b : Bool) → is_none a.state.life.reason ≡ b → Told id a (if b then move_to (Give why) a else a)
-  unfolding MayMove
-  given_by id why a true h = told_move id (Give why) a (is_none_none a.state.life.reason h)
-  given_by id why a false h = told_here id a

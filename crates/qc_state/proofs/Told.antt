@@ -1,6 +1,6 @@
 -- The deeds of a run come where they may, and what follows from that.
-use Rattle.std.proofs.Common.{◌≡◌, ℕ, ◌+◌, ◌≤◌, List, [], ◌∷◌, ◌++◌, length, take, refl, ap, sym, ◌∙◌, subst, Bool, true, false, if◌then◌else◌, arith}
-use Rattle.std.specs.Prelude.{option_to_list, ◌||◌, ◌&&◌, max}
+use Rattle.std.proofs.Common.{◌≡◌, ℕ, ◌+◌, ◌≤◌, List, [], ◌∷◌, length, take, refl, ap, sym, ◌∙◌, subst, Bool, true, false, if◌then◌else◌, arith}
+use Rattle.std.specs.Prelude.{option_to_list, max}
 use Rattle.qc_base.specs.declared.side.SpaceId.{SpaceId}
 use Rattle.qc_base.specs.declared.side.SpaceId.TheVariants.{Initial}
 use Rattle.qc_frame.specs.Frame.{FrameValue}
@@ -8,18 +8,17 @@ use Rattle.qc_state.specs.declared.deeds.Did.{Did}
 use Rattle.qc_state.specs.declared.input.Input.{Input}
 use Rattle.qc_state.specs.declared.input.Input.TheVariants as input
 use Rattle.qc_state.specs.declared.life.Close.{Close}
-use Rattle.qc_state.specs.declared.life.State.TheVariants as state
 use Rattle.qc_state.specs.declared.trace.Step.{Step}
 use Rattle.qc_state.specs.Headline as headline
 use Rattle.qc_state.specs.Headline.{deeds_of, reasons_in, lives_in, entered_in, EachNew, CloseFrom, RisesFrom, Kernel, IsBehind, Tells, EachRises, EachAdmitted, LifeRises, OnlyCloses, LosesOnce}
-use Rattle.qc_state.specs.Life.{rank_of, is_open, ready_reported, connected_reported, lost_reported, token_reported, wanted_reported, drained_reported}
-use Rattle.qc_state.specs.Moves.{Ask, Take, Seal, Shut, state_move, move_to, MayMove, numbers_move, life_move, timers_move}
+use Rattle.qc_state.specs.Life.{rank_of, is_open, ready_reported, connected_reported, lost_reported, notice_reported, notices_reported, drained_reported}
+use Rattle.qc_state.specs.Moves.{Ask, Take, Seal, Shut, state_move, move_to, MayMove, numbers_move, keys_move, life_move, timers_move}
 use Rattle.qc_state.specs.Numbers.{next_number, came_in}
 use Rattle.qc_state.specs.Run.{time_of, began, close_after, input_after, called, reported, step_after, IsAllowed, IsStep, Run, Ran}
-use Rattle.qc_state.specs.Sending.{sealed_in, transmit_after, MayTransmit, packet_size, Choice}
+use Rattle.qc_state.specs.Sending.{transmit_after, MayTransmit, packet_size, Choice}
 use Rattle.qc_state.specs.Timers.{clock_set}
 use Rattle.qc_state.specs.Types.{Types, Meaning}
-use Rattle.qc_state.specs.View.{View, At, at}
+use Rattle.qc_state.specs.View.{View, At}
 use Rattle.qc_state.proofs.Telling.{behind_here, tells_append, rises, reasons, lives, closes, admits, one_at_most, open_rank, kernel, Told, told_here, told_next, told_move}
 use Rattle.qc_state.proofs.Expired.{holds_timeout}
 use Rattle.qc_state.proofs.ToldReceiving.{told_datagram}
@@ -33,32 +32,32 @@ module _ {t : Types} where
   -- a packet is taken and sealed
   told_packet : (id : SpaceId) (time : ℕ) (space : SpaceId) (fs : List FrameValue) (a : At t) → IsSealable time a.state space fs →
       Told id a (move_to (Seal time space (next_number a.state.numbers space) (packet_size a.state space fs) fs) (move_to (Take space fs) a))
-  unfolding MayMove move_to state_move numbers_move life_move
+  unfolding MayMove move_to state_move numbers_move keys_move life_move
   told_packet id time space fs a may =
       let b : At t = move_to (Take space fs) a in
-      told_next id a b _ (told_move id (Take space fs) a tt) (told_move id (Seal time space (next_number a.state.numbers space) (packet_size a.state space fs) fs) b (refl, may.closes))
+      told_next id a b _ (told_move id (Take space fs) a tt) (told_move id (Seal time space (next_number a.state.numbers space) (packet_size a.state space fs) fs) b (refl, may.closes, may.alive, may.keyed))
 
   -- a transmit
-  pub told_transmit : (id : SpaceId) (time : ℕ) (choice : Choice) (a : At t) → MayTransmit time a.state choice → Told id a (transmit_after time choice a)
-  told_transmit id time choice a may =
+  pub told_transmit : (id : SpaceId) (m : Meaning t) (time : ℕ) (choice : Choice) (a : At t) → MayTransmit m time choice a → Told id a (transmit_after m time choice a)
+  told_transmit id m time choice a may =
       holds_transmit (Told id) (told_here id) (told_next id) (λ x sends b h. told_move id x b h)
-      (λ at_time space fs b h. told_packet id at_time space fs b h) time choice a may
+      (λ at_time space fs b h. told_packet id at_time space fs b h) m time choice a may
 
   closed_by : (id : SpaceId) (time : ℕ) (close : Close) (a : At t) (b : Bool) → is_open a.state.life.state ≡ b → Told id a (if b then move_to (Shut time close) a else a)
   unfolding MayMove
   closed_by id time close a true h = told_move id (Shut time close) a (open_rank a.state.life.state h)
   closed_by id time close a false h = told_here id a
 
-  told_input : (id : SpaceId) (m : Meaning t) (i : Input) (choice : Choice) (a : At t) → IsAllowed i choice a.state → Told id a (input_after m i choice a)
+  told_input : (id : SpaceId) (m : Meaning t) (i : Input) (choice : Choice) (a : At t) → IsAllowed m i choice a → Told id a (input_after m i choice a)
   unfolding IsAllowed input_after close_after MayMove
-  told_input id m (input.Datagram time remote ecn bytes) choice a h = told_datagram id m time ecn remote bytes a
+  told_input id m (input.Datagram time remote ecn bytes) choice a h = told_datagram id m (record { time = time; remote = remote; mark = ecn }) bytes a
   told_input id m (input.Timeout time) choice a h = holds_timeout (Told id) (told_here id) (told_next id) (λ x timed b may. told_move id x b may) m time a
-  told_input id m (input.Transmit time max) choice a h = told_transmit id time choice a h
+  told_input id m (input.Transmit time max) choice a h = told_transmit id m time choice a h
   told_input id m (input.Close time code reason) choice a h = closed_by id time _ a _ refl
   told_input id m (input.Ping time) choice a h = told_move id (Ask a.state.keys.highest) a tt
 
   step_tells : (id : SpaceId) (m : Meaning t) (k : ℕ) (s : View t) (i : Input) (x : Step) (s' : View t) → IsStep m k s i x s' → Tells id (kernel id s) x.did (kernel id s')
-  unfolding called began step_after reported state_move numbers_move life_move ready_reported connected_reported lost_reported token_reported wanted_reported drained_reported
+  unfolding called began step_after reported state_move numbers_move life_move ready_reported connected_reported lost_reported notice_reported notices_reported drained_reported
   step_tells id m k s i x s' h =
       let a : At t = began s (time_of i) in
       let b : At t = input_after m i h.choice a in

@@ -3,11 +3,12 @@ use Rattle.std.proofs.Common.{ℕ, List, Option}
 use Rattle.std.specs.declared.net.SocketAddr.{SocketAddr}
 use Rattle.qc_base.specs.declared.ecn.EcnCodepoint.{EcnCodepoint}
 use Rattle.qc_base.specs.declared.side.SpaceId.{SpaceId}
+use Rattle.qc_state.specs.declared.coming.Coming.{Coming}
 use Rattle.qc_state.specs.Receiving.{datagram_after}
 use Rattle.qc_state.specs.Types.{Types, Meaning}
 use Rattle.qc_state.specs.View.{At}
 use Rattle.qc_state.proofs.Receives.{holds_datagram}
 use Rattle.qc_state.proofs.Telling.{Told, told_here, told_next, told_move}
 
-pub told_datagram : {t : Types} (id : SpaceId) (m : Meaning t) (time : ℕ) (mark : Option EcnCodepoint) (remote : SocketAddr) (bytes : List ℕ) (a : At t) → Told id a (datagram_after m time mark remote bytes a)
-told_datagram id m time mark remote bytes a = holds_datagram (Told id) (told_here id) (told_next id) (λ x received b may. told_move id x b may) m time mark remote bytes a
+pub told_datagram : {t : Types} (id : SpaceId) (m : Meaning t) (coming : Coming) (bytes : List ℕ) (a : At t) → Told id a (datagram_after m coming bytes a)
+told_datagram id m coming bytes a = holds_datagram (Told id) (told_here id) (told_next id) (λ x received b may. told_move id x b may) m coming bytes a

@@ -1,53 +1,34 @@
 -- What holds of each move of a transmit holds of the transmit; and each packet that it seals holds a close, once the connection has
 -- closed.
 use Rattle.std.proofs.Common.{◌≡◌, ℕ, ◌≤◌, List, [], ◌∷◌, ◌++◌, replicate, refl, ap, sym, ◌∙◌, subst, Bool, true, false, Option, Some, None, if◌then◌else◌, arith}
-use Rattle.std.specs.Prelude.{◌||◌, ◌&&◌, not, is_none}
+use Rattle.std.specs.Prelude.{◌||◌, ◌&&◌, is_none}
 use Rattle.std.specs.List.{list_any}
 use Rattle.std.proofs.lemmas.List.Folds.{list_any-append}
 use Rattle.qc_base.specs.declared.side.Side.TheVariants.{Client}
 use Rattle.qc_base.specs.declared.side.SpaceId.{SpaceId}
 use Rattle.qc_base.specs.declared.side.SpaceId.TheVariants.{Initial, Handshake, «Data»}
-use Rattle.qc_base.specs.declared.transport_error.TransportError.{TransportError}
 use Rattle.qc_frame.specs.Frame.{FrameValue}
 use Rattle.qc_frame.specs.declared.frames.FrameOf.TheVariants.{Padding}
-use Rattle.qc_state.specs.declared.deeds.Quiet.TheVariants.{NothingOwed, Silent, Killed, Amplification}
+use Rattle.qc_state.specs.declared.deeds.Quiet.TheVariants.{Killed}
 use Rattle.qc_state.specs.declared.life.Close.{Close}
 use Rattle.qc_state.specs.declared.life.Close.TheVariants.{Connection, Application}
 use Rattle.qc_state.specs.declared.life.ConnectionError.{ConnectionError}
 use Rattle.qc_state.specs.declared.life.ConnectionError.TheVariants as lost
 use Rattle.qc_state.specs.declared.life.Life.{Life}
-use Rattle.qc_state.specs.declared.life.State.{State}
 use Rattle.qc_state.specs.declared.life.State.TheVariants as state
 use Rattle.qc_state.specs.declared.keys.KeyGroup.{KeyGroup}
-use Rattle.qc_state.specs.Keys.{reaches_limit, usage_of}
+use Rattle.qc_state.specs.Keys.{has_keys, reaches_limit, usage_of}
 use Rattle.qc_state.specs.Life.{rank_of, is_open, is_closed, is_drained}
-use Rattle.qc_state.specs.Moves.{Move, ClosesOnly, is_close, Arm, Begin, Forget, Give, Raise, Say, Seal, Shut, Skip, Take, MayMove, move_to, armed_with}
+use Rattle.qc_state.specs.Moves.{Move, ClosesOnly, is_close, Arm, Begin, Forget, Give, Raise, Say, Seal, Shut, Skip, Take, MayMove, move_to, armed_with, Finish}
 use Rattle.qc_state.specs.Numbers.{next_number}
-use Rattle.qc_state.specs.Paths.{is_blocked}
 use Rattle.qc_state.specs.Recovering.{loss_time}
-use Rattle.qc_state.specs.Sending.{Carries, Choice, Closes, MaySeal, MayTransmit, application_close, begun_after, begun_view, close_frame, closing_frame, drops_initial, flown_after, initial_left, is_flown, is_key_nearly_used_up, is_key_used_up, is_silent, limit_met, owed_quiet_after, owes, packet_after, packet_size, padded, padding_of, quiet_after, sealed_in, sending_space, spared_after, told_close, transmit_after}
+use Rattle.qc_state.specs.Sending.{Carries, Choice, Closes, MayTransmit, application_close, begun_after, begun_view, close_frame, closing_frame, drops_initial, flown_after, initial_left, is_flown, is_key_used_up, is_used_up, is_token_too_long, kill_in, owes_in, packet_after, packet_size, padded, padding_of, sealed_in, spared_after, told_close, transmit_after, Sent, Ending, Went, Hushed, Died, ending_after, packets_after, Going, going_from, MayFollow, MayAll, MayEnd, handshake_left, finished_after, gone_after, begun_batch, room_in, room_of}
 use Rattle.qc_state.specs.Stopping.{given_after, key_limit_error, killed_after, stopped_after}
-use Rattle.qc_state.specs.Types.{Types}
+use Rattle.qc_state.specs.Types.{Types, Meaning}
 use Rattle.qc_state.specs.View.{View, At, at}
-use Rattle.qc_state.proofs.Begun.{begun_keys, begun_life, begun_owed, begun_same, holds_begun}
+use Rattle.qc_state.proofs.Begun.{begun_keys, begun_life, begun_same, holds_begun}
 use Rattle.qc_state.proofs.Telling.{is_none_none, low_rank, open_rank}
-
--- a connection that isn't silent has not ended, and it owes a close once it has closed
-loud_alive : (s : State) (o : Bool) → (is_drained s || (not (is_open s) && not o)) ≡ false → is_drained s ≡ false
-loud_alive state.Handshake o h = refl
-loud_alive state.Established o h = refl
-loud_alive state.Closed o h = refl
-loud_alive state.Draining o h = refl
-loud_alive state.Drained o h = cc
-
-loud_owes : (s : State) (o : Bool) → (is_drained s || (not (is_open s) && not o)) ≡ false → 2 ≤ rank_of s → o ≡ true
-loud_owes state.Handshake o h r = absurd (omega arith)
-loud_owes state.Established o h r = absurd (omega arith)
-loud_owes state.Closed true h r = refl
-loud_owes state.Closed false h r = cc
-loud_owes state.Draining true h r = refl
-loud_owes state.Draining false h r = cc
-loud_owes state.Drained o h r = cc
+use Rattle.qc_state.specs.declared.transmit.Batch.{Batch}
 
 -- what this end sends as its close is a close
 application_closes : (id : SpaceId) (code : ℕ) (kept : List ℕ) → is_close (application_close id code kept) ≡ true
@@ -64,6 +45,11 @@ closing_closes id kept false c = refl
 any_first : (f : FrameValue) (fs : List FrameValue) → is_close f ≡ true → list_any is_close (f ∷ fs) ≡ true
 any_first f fs e = rw e refl
 
+-- of two tests that hold the first holds
+first_of_both : (a b : Bool) → (a && b) ≡ true → a ≡ true
+first_of_both true b h = refl
+first_of_both false b h = cc
+
 -- one test more changes nothing of one that holds
 any_more : (a b : Bool) → b ≡ true → (a || b) ≡ true
 any_more true b h = refl
@@ -74,28 +60,60 @@ any_behind : (fs gs : List FrameValue) → list_any is_close gs ≡ true → lis
 any_behind [] gs h = h
 any_behind (f ∷ fs) gs h = any_more (is_close f) _ (any_behind fs gs h)
 
+-- the moves with which a packet is begun, and counted in flight: those beside taking and sealing it
+abbrev pub IsPacketMove : {t : Types} → Move t → Type 0
+IsPacketMove (Begin id opens) = Unit {0}
+IsPacketMove Skip = Unit {0}
+IsPacketMove (Arm at) = Unit {0}
+IsPacketMove _ = ⊥
+
 -- the moves that a transmit makes, beside those that take and seal
 abbrev pub IsSending : {t : Types} → Move t → Type 0
-IsSending (Begin id) = Unit {0}
-IsSending Skip = Unit {0}
-IsSending (Arm at) = Unit {0}
 IsSending (Forget id) = Unit {0}
 IsSending (Shut time close) = Unit {0}
 IsSending (Raise to) = to ≡ state.Drained
 IsSending (Give why) = Unit {0}
+IsSending (Finish bytes) = Unit {0}
 IsSending (Say q) = Unit {0}
-IsSending _ = ⊥
+IsSending x = IsPacketMove x
+
+-- those of a packet among them
+of_packet : {t : Types} (x : Move t) → IsPacketMove x → IsSending x
+of_packet (Forget id) h = absurd h
+of_packet (Shut time close) h = absurd h
+of_packet (Raise to) h = absurd h
+of_packet (Give why) h = absurd h
+of_packet (Finish bytes) h = absurd h
+of_packet (Say q) h = absurd h
+of_packet _ h = h
+
+-- where no limit stands, none of the three does
+none_stands : (key number room : Bool) (x y z : ConnectionError) → (if key then Some x else (if number then Some y else (if room then Some z else None))) ≡ None → (key ≡ false) × (number ≡ false) × (room ≡ false)
+none_stands true number room x y z h = cc
+none_stands false true room x y z h = cc
+none_stands false false true x y z h = cc
+none_stands false false false x y z h = (refl, refl, refl)
 
 module _ {t : Types} where
+  -- where a packet may begin, its key may seal one more, its number can be spelled, and its token isn't too long
+  pub unlimited : (s : View t) (id : SpaceId) → kill_in s id ≡ None → (is_key_used_up s id ≡ false) × (is_used_up s id ≡ false) × (is_token_too_long s id ≡ false)
+  unfolding kill_in
+  unlimited s id h = none_stands _ _ _ _ _ _ h
+
   -- what is known of a packet with these frames as it is sealed, once it was begun
   pub record IsSealable (time : ℕ) (s : View t) (id : SpaceId) (fs : List FrameValue) : Type 0 where
-    pub carries : Carries time s id fs
+    pub closing : Bool
+    pub room : ℕ
+    pub small : room ≤ 65527
+    pub carries : Carries closing time s id room fs
     pub closes : ClosesOnly (rank_of s.life.state) fs
     pub fresh : reaches_limit 0 (usage_of s.keys id) ≡ false
+    pub alive : is_drained s.life.state ≡ false
+    pub keyed : has_keys s.keys id ≡ true
 
   -- an ACK and a close hold a close
-  closes_close : (time : ℕ) (s : View t) (id : SpaceId) (gs : List FrameValue) → Closes time s id gs → list_any is_close gs ≡ true
-  closes_close time s id gs (Closes.closing acks part kept reason is) =
+  closes_close : (time : ℕ) (s : View t) (id : SpaceId) (room : ℕ) (gs : List FrameValue) → Closes time s id room gs → list_any is_close gs ≡ true
+  closes_close time s id room gs (Closes.closing acks part kept reason is) =
       ap (list_any is_close) is ∙ any_behind acks (closing_frame id kept s.life ∷ []) (any_first (closing_frame id kept s.life) [] (closing_closes id kept (is_closed s.life.state) s.life.close))
 
   -- PADDING behind a close leaves it there
@@ -104,55 +122,88 @@ module _ {t : Types} where
   padded_closes s id fs gs is holds =
       ap (list_any is_close) is ∙ list_any-append is_close gs (replicate (padding_of s id gs) Padding) ∙ ap (λ (b : Bool). b || list_any is_close (replicate (padding_of s id gs) Padding)) holds
 
-  -- a packet that may be sealed holds a close, once the connection has closed
-  closes_only : (time : ℕ) (s : View t) (fs : List FrameValue) → MaySeal time s fs → ClosesOnly (rank_of s.life.state) fs
-  unfolding is_silent begun_view
-  closes_only time s fs may = carried_closes may.carries
+  -- a packet that may follow holds a close, once the connection has closed
+  closes_only : (time : ℕ) (s : View t) (b : Batch) (p : Sent) → MayFollow time s b p → ClosesOnly (rank_of s.life.state) p.frames
+  closes_only time s b p may = carried_closes may.carries
     where
-      carried_closes : Carries time (begun_view s) (sending_space s) fs → ClosesOnly (rank_of s.life.state) fs
-      carried_closes (Carries.a_close owed gs holds is) = λ r. padded_closes (begun_view s) (sending_space s) fs gs is (closes_close time (begun_view s) (sending_space s) gs holds)
-      carried_closes (Carries.what_waits free gs wait some is) = λ r. let owes_none : s.waiting.close_owed ≡ false = sym (begun_owed (sending_space s) (at s [])) ∙ free in cc (loud_owes s.life.state s.waiting.close_owed may.alive r, owes_none)
+      carried_closes : Carries b.closing time (begun_view s p.space p.opens) p.space (room_in (begun_batch s p.space p.opens b) (begun_view s p.space p.opens) p.space) p.frames → ClosesOnly (rank_of s.life.state) p.frames
+      carried_closes (Carries.a_close owed gs holds is) = λ r. padded_closes (begun_view s p.space p.opens) p.space p.frames gs is (closes_close time (begun_view s p.space p.opens) p.space _ gs holds)
+      carried_closes (Carries.what_waits free gs wait some is) = λ r. absurd (omega (arith, r, open_rank s.life.state (may.begins.turn.unclosed free)))
 
-  -- what is known of a packet that may be sealed, once it was begun
-  sealable : (time : ℕ) (fs : List FrameValue) (a : At t) → MaySeal time a.state fs → IsSealable time (begun_after (sending_space a.state) a).state (sending_space a.state) fs
+  -- a packet has no more room than its datagram has bytes
+  room_small : (b : Batch) (s : View t) (id : SpaceId) → b.capacity ≤ 65527 → room_in b s id ≤ 65527
+  unfolding room_in room_of
+  room_small b s id h = omega (arith, h)
+
+  -- a space that owes something has keys
+  pub owing_keyed : (closing : Bool) (s : View t) (id : SpaceId) → owes_in closing s id ≡ true → has_keys s.keys id ≡ true
+  unfolding owes_in
+  owing_keyed closing s id h = first_of_both (has_keys s.keys id) _ h
+
+  -- what is known of a packet that may follow, once it was begun
+  sealable : (time : ℕ) (p : Sent) (a : At t) (b : Batch) → MayFollow time a.state b p → IsSealable time (begun_after p.space p.opens a).state p.space p.frames
   unfolding is_key_used_up
-  sealable time fs a may =
-      let id : SpaceId = sending_space a.state in
+  sealable time p a b may =
       record {
-        carries = subst (λ (s : View t). Carries time s id fs) (sym (begun_same a)) may.carries;
-        closes = subst (λ (l : Life). ClosesOnly (rank_of l.state) fs) (sym (begun_life id a)) (closes_only time a.state fs may);
-        fresh = subst (λ (k : KeyGroup t.H t.P). reaches_limit 0 (usage_of k id) ≡ false) (sym (begun_keys id a)) may.fresh;
+        closing = b.closing;
+        room = room_in (begun_batch a.state p.space p.opens b) (begun_view a.state p.space p.opens) p.space;
+        small = room_small (begun_batch a.state p.space p.opens b) (begun_view a.state p.space p.opens) p.space may.sized;
+        carries = subst (λ (s : View t). Carries b.closing time s p.space (room_in (begun_batch a.state p.space p.opens b) (begun_view a.state p.space p.opens) p.space) p.frames) (sym (begun_same p.space p.opens a)) may.carries;
+        closes = subst (λ (l : Life). ClosesOnly (rank_of l.state) p.frames) (sym (begun_life p.space p.opens a)) (closes_only time a.state b p may);
+        fresh = subst (λ (k : KeyGroup t.H t.P). reaches_limit 0 (usage_of k p.space) ≡ false) (sym (begun_keys p.space p.opens a)) (unlimited a.state p.space may.begins.fresh).0;
+        alive = subst (λ (l : Life). is_drained l.state ≡ false) (sym (begun_life p.space p.opens a)) may.begins.turn.alive;
+        keyed = subst (λ (k : KeyGroup t.H t.P). has_keys k p.space ≡ true) (sym (begun_keys p.space p.opens a)) (owing_keyed b.closing a.state p.space may.begins.turn.owed);
       }
 
--- what holds of no move, of two moves one after the other, of each move that a transmit makes, where it may be made, and of the two
--- with which a packet is taken and sealed, holds of a transmit
+-- what holds of no move, of two moves one after the other, of each move with which a packet is begun, where it may be made, and of the
+-- two with which it is taken and sealed, holds of the packets of a transmit
 module _ {t : Types} (R : At t → At t → Type 0) (here : (a : At t) → R a a) (next : (a b c : At t) → R a b → R b c → R a c)
-    (move : (x : Move t) → IsSending x → (a : At t) → MayMove x a.state → R a (move_to x a))
+    (move : (x : Move t) → IsPacketMove x → (a : At t) → MayMove x a.state → R a (move_to x a))
     (seal : (time : ℕ) (id : SpaceId) (fs : List FrameValue) (a : At t) → IsSealable time a.state id fs → R a (move_to (Seal time id (next_number a.state.numbers id) (packet_size a.state id fs) fs) (move_to (Take id fs) a))) where
+  -- the loss timer is set anew behind a packet in flight
+  flown : (time : ℕ) (counts : Bool) (a : At t) → R a (flown_after time counts a)
+  unfolding armed_with MayMove
+  flown time true a = move (Arm (loss_time a.state false time)) tt a (record { blocked = false; time = time; set = refl })
+  flown time false a = here a
+
+  -- a packet is taken and sealed
+  sealed : (time : ℕ) (id : SpaceId) (fs : List FrameValue) (a : At t) → IsSealable time a.state id fs → R a (sealed_in time id fs a)
+  unfolding sealed_in
+  sealed time id fs a may =
+      let b : At t = move_to (Seal time id (next_number a.state.numbers id) (packet_size a.state id fs) fs) (move_to (Take id fs) a) in
+      next a b _ (seal time id fs a may) (flown time (is_flown a.state fs) b)
+
+  pub holds_packet : (m : Meaning t) (time : ℕ) (p : Sent) (g : Going t) → MayFollow time g.now.state g.batch p → R g.now (packet_after m time p g).now
+  unfolding packet_after MayMove
+  holds_packet m time p g may =
+      let b : At t = begun_after p.space p.opens g.now in
+      next g.now b _ (holds_begun R here next p.space p.opens g.now (λ x. move (Begin p.space p.opens) tt x tt) (λ x skips. move Skip tt x skips))
+      (sealed time p.space p.frames b (sealable time p g.now g.batch may))
+
+  pub holds_packets : (m : Meaning t) (time : ℕ) (ps : List Sent) (g : Going t) → MayAll m time g ps → R g.now (packets_after m time ps g).now
+  holds_packets m time [] g may = here g.now
+  holds_packets m time (p ∷ ps) g may =
+      let h : Going t = packet_after m time p g in
+      next g.now h.now _ (holds_packet m time p g may.0) (holds_packets m time ps h may.1)
+
+-- and where it holds of each other move that a transmit makes too, it holds of how a transmit ends
+module _ {t : Types} (R : At t → At t → Type 0) (here : (a : At t) → R a a) (next : (a b c : At t) → R a b → R b c → R a c)
+    (move : (x : Move t) → IsSending x → (a : At t) → MayMove x a.state → R a (move_to x a)) where
   given_by : (why : ConnectionError) (a : At t) (b : Bool) → is_none a.state.life.reason ≡ b → R a (if b then move_to (Give why) a else a)
   unfolding MayMove
   given_by why a true h = move (Give why) tt a (is_none_none a.state.life.reason h)
   given_by why a false h = here a
 
-  -- the loss timer is set anew
-  armed : (blocked : Bool) (time : ℕ) (a : At t) → R a (armed_with blocked time a)
-  unfolding armed_with MayMove
-  armed blocked time a = move (Arm (loss_time a.state blocked time)) tt a tt
-
-  -- so it is behind a packet in flight
-  flown : (time : ℕ) (counts : Bool) (a : At t) → R a (flown_after time counts a)
-  flown time true a = armed false time a
-  flown time false a = here a
-
   -- the Initial space is left, or not
   left_by : (time : ℕ) (a : At t) (b : Bool) → R a (if b then armed_with false time (move_to (Forget Initial) a) else a)
-  unfolding MayMove
-  left_by time a true = let b : At t = move_to (Forget Initial) a in next a b _ (move (Forget Initial) tt a tt) (armed false time b)
+  unfolding armed_with MayMove
+  left_by time a true = let b : At t = move_to (Forget Initial) a in next a b _ (move (Forget Initial) tt a tt) (move (Arm (loss_time b.state false time)) tt b (record { blocked = false; time = time; set = refl }))
   left_by time a false = here a
 
-  left : (time : ℕ) (id : SpaceId) (a : At t) → R a (initial_left Client false time id a)
+  left : (time : ℕ) (shook : Bool) (a : At t) → R a (handshake_left time shook a)
   unfolding initial_left
-  left time id a = left_by time a (drops_initial Client a.state id)
+  left time true a = left_by time a (drops_initial Client a.state Handshake)
+  left time false a = here a
 
   -- this end closes behind a packet, or not
   stopped_by : (time : ℕ) (close : Close) (why : ConnectionError) (a : At t) (b : Bool) → is_open a.state.life.state ≡ b → R a (if b then given_after why (move_to (Shut time close) a) else a)
@@ -162,42 +213,32 @@ module _ {t : Types} (R : At t → At t → Type 0) (here : (a : At t) → R a a
       next a b _ (move (Shut time close) tt a (open_rank a.state.life.state h)) (given_by why b _ refl)
   stopped_by time close why a false h = here a
 
-  spared : (time : ℕ) (nearly : Bool) (a : At t) → R a (spared_after time nearly a)
+  pub holds_spared : (time : ℕ) (nearly : Bool) (a : At t) → R a (spared_after time nearly a)
   unfolding spared_after stopped_after
-  spared time true a = stopped_by time _ (lost.TransportError key_limit_error) a _ refl
-  spared time false a = here a
+  holds_spared time true a = stopped_by time _ (lost.TransportError key_limit_error) a _ refl
+  holds_spared time false a = here a
 
-  -- a packet is taken and sealed
-  sealed : (time : ℕ) (id : SpaceId) (fs : List FrameValue) (a : At t) → IsSealable time a.state id fs → R a (sealed_in time id fs a)
-  unfolding sealed_in
-  sealed time id fs a may =
-      let b : At t = move_to (Seal time id (next_number a.state.numbers id) (packet_size a.state id fs) fs) (move_to (Take id fs) a) in
-      let c : At t = flown_after time (is_flown a.state fs) b in
-      next a b _ (seal time id fs a may) (next b c _ (flown time (is_flown a.state fs) b) (left time id c))
-
-  packet : (time : ℕ) (fs : List FrameValue) (a : At t) → MaySeal time a.state fs → R a (packet_after time fs a)
-  unfolding packet_after MayMove
-  packet time fs a may =
-      let id : SpaceId = sending_space a.state in
-      let b : At t = begun_after id a in
-      let c : At t = sealed_in time id fs b in
-      next a b _ (holds_begun R here next id a (λ x. move (Begin id) tt x tt) (λ x skips. move Skip tt x skips))
-      (next b c _ (sealed time id fs b (sealable time fs a may)) (spared time (is_key_nearly_used_up a.state) c))
-
-  -- nothing is sealed
+  -- the connection ends
   killed : (why : ConnectionError) (a : At t) → is_drained a.state.life.state ≡ false → R a (killed_after why a)
   unfolding killed_after given_after MayMove
   killed why a h = next a (move_to (Raise state.Drained) a) _ (move (Raise state.Drained) refl a (low_rank a.state.life.state h)) (given_by why (move_to (Raise state.Drained) a) _ refl)
 
-  quiet_by : (why : ConnectionError) (a : At t) (x y z : Bool) → is_silent a.state ≡ x → R a (if x then move_to (Say Silent) a else if y then (if z then move_to (Say Amplification) a else move_to (Say Killed) (killed_after why a)) else move_to (Say NothingOwed) a)
-  unfolding MayMove is_silent
-  quiet_by why a true y z h = move (Say Silent) tt a tt
-  quiet_by why a false true true h = move (Say Amplification) tt a tt
-  quiet_by why a false true false h = next a (killed_after why a) _ (killed why a (loud_alive a.state.life.state a.state.waiting.close_owed h)) (move (Say Killed) tt (killed_after why a) tt)
-  quiet_by why a false false z h = move (Say NothingOwed) tt a tt
+  -- how a transmit ends
+  pub holds_ending : (time : ℕ) (e : Ending) (b : Batch) (a : At t) → MayEnd e a.state b → R a (ending_after time e b a)
+  unfolding ending_after finished_after MayMove
+  holds_ending time Went b a may =
+      let c : At t = handshake_left time b.shook a in
+      let d : At t = spared_after time b.worn c in
+      next a c _ (left time b.shook a) (next c d _ (holds_spared time b.worn c) (move (Finish b.total) tt d tt))
+  holds_ending time (Hushed quiet) b a may = move (Say quiet) tt a tt
+  holds_ending time (Died why) b a may = let c : At t = killed_after why a in next a c _ (killed why a may.1.turn.alive) (move (Say Killed) tt c tt)
 
-  pub holds_transmit : (time : ℕ) (choice : Choice) (a : At t) → MayTransmit time a.state choice → R a (transmit_after time choice a)
-  unfolding MayTransmit transmit_after quiet_after owed_quiet_after
-  holds_transmit time [] a may = quiet_by (limit_met a.state) a (is_silent a.state) (owes a.state) (is_blocked a.state.paths) refl
-  holds_transmit time (fs ∷ []) a may = packet time fs a may
-  holds_transmit time (fs ∷ gs ∷ rest) a may = absurd may
+-- and of a transmit
+module _ {t : Types} (R : At t → At t → Type 0) (here : (a : At t) → R a a) (next : (a b c : At t) → R a b → R b c → R a c)
+    (move : (x : Move t) → IsSending x → (a : At t) → MayMove x a.state → R a (move_to x a))
+    (seal : (time : ℕ) (id : SpaceId) (fs : List FrameValue) (a : At t) → IsSealable time a.state id fs → R a (move_to (Seal time id (next_number a.state.numbers id) (packet_size a.state id fs) fs) (move_to (Take id fs) a))) where
+  pub holds_transmit : (m : Meaning t) (time : ℕ) (choice : Choice) (a : At t) → MayTransmit m time choice a → R a (transmit_after m time choice a)
+  unfolding MayTransmit transmit_after gone_after
+  holds_transmit m time choice a may =
+      let g : Going t = packets_after m time choice.packets (going_from a) in
+      next a g.now _ (holds_packets R here next (λ x p b h. move x (of_packet x p) b h) seal m time choice.packets (going_from a) may.0) (holds_ending R here next move time choice.ending g.batch g.now may.1)

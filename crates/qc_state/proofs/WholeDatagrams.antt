@@ -23,6 +23,7 @@ use Rattle.qc_header.specs.declared.protected.ProtectedHeader.{ProtectedHeader}
 use Rattle.qc_header.specs.declared.protected.ProtectedHeader.TheVariants as protected
 use Rattle.qc_packet.specs.OpenedPacket.{reserved_bits}
 use Rattle.qc_rings.specs.Keyed.{Keyed}
+use Rattle.qc_state.specs.declared.coming.Coming.{Coming}
 use Rattle.qc_state.specs.declared.deeds.Verdict.TheVariants as verdict
 use Rattle.qc_state.specs.declared.opening.Opening.{Opening}
 use Rattle.qc_state.specs.declared.opening.Opening.TheVariants.{Unreadable, Reserved, Opened}
@@ -120,76 +121,76 @@ module _ {t : Types} (m : Meaning t) where
       let ends = piece_ends (length s.setup.fixed.local_cid) (s.setup.fixed.version ∷ []) s.setup.fixed.grease_quic_bit bytes p behind e in
       pieces_first (length s.setup.fixed.local_cid) (s.setup.fixed.version ∷ []) s.setup.fixed.grease_quic_bit bytes p behind (omega (arith, ends.1)) e
 
-  event_heard : (time : ℕ) (mark : Option EcnCodepoint) (remote : SocketAddr) (p : Piece) (behind bytes : List ℕ) (a : At t) →
+  event_heard : (coming : Coming) (p : Piece) (behind bytes : List ℕ) (a : At t) →
       piece_at (length a.state.setup.fixed.local_cid) (a.state.setup.fixed.version ∷ []) a.state.setup.fixed.grease_quic_bit bytes ≡ Ok (p, behind) →
-      event_after m time mark remote p behind a ≡ heard_after m time mark remote bytes a
+      event_after m coming p behind a ≡ heard_after m coming bytes a
   unfolding event_after heard_after is_readable
-  event_heard time mark remote p behind bytes a e =
+  event_heard coming p behind bytes a e =
       let size : length p.bytes + length behind ≡ length bytes = cut_whole (length a.state.setup.fixed.local_cid) (a.state.setup.fixed.version ∷ []) a.state.setup.fixed.grease_quic_bit bytes p behind e in
-      ap (λ (n : ℕ). if lets_in a.state remote then counted_after time (is_blocked a.state.paths) n (pieces_after m time mark (cut_of a.state behind) (piece_after m time mark p a)) else a) size
-      ∙ ap (λ (items : List DatagramItem). if lets_in a.state remote then counted_after time (is_blocked a.state.paths) (length bytes) (pieces_after m time mark items a) else a) (sym (cut_first a.state bytes p behind e))
-      ∙ ap (λ (x : Bool). if x && lets_in a.state remote then counted_after time (is_blocked a.state.paths) (length bytes) (pieces_after m time mark (cut_of a.state bytes) a) else a) (sym (ap is_ok e))
+      ap (λ (n : ℕ). if lets_in a.state coming.remote then counted_after coming.time (is_blocked a.state.paths) n (pieces_after m coming (cut_of a.state behind) (piece_after m coming p a)) else a) size
+      ∙ ap (λ (items : List DatagramItem). if lets_in a.state coming.remote then counted_after coming.time (is_blocked a.state.paths) (length bytes) (pieces_after m coming items a) else a) (sym (cut_first a.state bytes p behind e))
+      ∙ ap (λ (x : Bool). if x && lets_in a.state coming.remote then counted_after coming.time (is_blocked a.state.paths) (length bytes) (pieces_after m coming (cut_of a.state bytes) a) else a) (sym (ap is_ok e))
 
-  pub event_whole : (time : ℕ) (mark : Option EcnCodepoint) (remote : SocketAddr) (p : Piece) (behind bytes : List ℕ) (a : At t) →
+  pub event_whole : (coming : Coming) (p : Piece) (behind bytes : List ℕ) (a : At t) →
       piece_at (length a.state.setup.fixed.local_cid) (a.state.setup.fixed.version ∷ []) a.state.setup.fixed.grease_quic_bit bytes ≡ Ok (p, behind) → is_first_awaited a.state.setup ≡ false →
-      event_after m time mark remote p behind a ≡ datagram_after m time mark remote bytes a
+      event_after m coming p behind a ≡ datagram_after m coming bytes a
   unfolding datagram_after
-  event_whole time mark remote p behind bytes a e awaits =
-      event_heard time mark remote p behind bytes a e
-      ∙ ap (λ (x : Bool). if x then first_after m time mark remote bytes (first_token m a.state remote bytes) a else heard_after m time mark remote bytes a) (sym awaits)
+  event_whole coming p behind bytes a e awaits =
+      event_heard coming p behind bytes a e
+      ∙ ap (λ (x : Bool). if x then first_after m coming bytes (first_token m a.state coming.remote bytes) a else heard_after m coming bytes a) (sym awaits)
 
   -- ---- a server's first datagram, which was cut
 
   -- what the token says: the handshake goes on, the address is the path's, and the packet has the ids of a first one
   token_says : (remote : SocketAddr) (p : Piece) (behind bytes token : List ℕ) (s : View t) →
       piece_at (length s.setup.fixed.local_cid) (s.setup.fixed.version ∷ []) s.setup.fixed.grease_quic_bit bytes ≡ Ok (p, behind) → first_token m s remote bytes ≡ Some token →
-      (is_handshake s.life.state ≡ true) × (same_address s.paths.remote remote ≡ true) × (has_first_ids s p.header ≡ true)
+      (is_handshake s.life.state ≡ true) × (same_address s.paths.current.remote remote ≡ true) × (has_first_ids s p.header ≡ true)
   unfolding first_token token_in_first
   token_says remote p behind bytes token s e h =
-      let holds = tests_hold (is_handshake s.life.state) (nat_le DATAGRAM_SIZE (length bytes)) (same_address s.paths.remote remote) (token_in_items m s (cut_of s bytes)) token h in
+      let holds = tests_hold (is_handshake s.life.state) (nat_le DATAGRAM_SIZE (length bytes)) (same_address s.paths.current.remote remote) (token_in_items m s (cut_of s bytes)) token h in
       (holds.0, holds.1, first_ids m s p token (has_first_ids s p.header) (sym (ap (token_in_items m s) (cut_first s bytes p behind e)) ∙ holds.2))
 
   -- its first packet does what a packet does that opened in the Initial space
-  first_piece : (time : ℕ) (mark : Option EcnCodepoint) (p : Piece) (source token : List ℕ) (spin : Bool) (number : ℕ) (payload : List ℕ) (a : At t) →
+  first_piece : (coming : Coming) (p : Piece) (source token : List ℕ) (spin : Bool) (number : ℕ) (payload : List ℕ) (a : At t) →
       is_over a.state.life.state ≡ false → space_of p.header ≡ Some space.Initial → opening_of m a.state p ≡ Opened source token spin number payload →
-      piece_after m time mark p a ≡ received_after m time space.Initial (record { mark = mark; spin = false }) source token number payload a
+      piece_after m coming p a ≡ received_after m coming space.Initial false source token number payload a
   unfolding piece_after
-  first_piece time mark p source token spin number payload a over is_initial opens =
-      ap (λ (x : Bool). if x then piece_told (space_of p.header) None verdict.Ignored a else opening_after m time mark (space_of p.header) (opening_of m a.state p) a) over
-      ∙ ap (λ (x : Option SpaceId). opening_after m time mark x (opening_of m a.state p) a) is_initial
-      ∙ ap (λ (o : Opening). opening_after m time mark (Some space.Initial) o a) opens
-      ∙ ap (λ (b : Bool). received_after m time space.Initial (record { mark = mark; spin = b }) source token number payload a) (no_spin a.state p source token spin number payload is_initial opens)
+  first_piece coming p source token spin number payload a over is_initial opens =
+      ap (λ (x : Bool). if x then piece_told (space_of p.header) None verdict.Ignored a else opening_after m coming (space_of p.header) (opening_of m a.state p) a) over
+      ∙ ap (λ (x : Option SpaceId). opening_after m coming x (opening_of m a.state p) a) is_initial
+      ∙ ap (λ (o : Opening). opening_after m coming (Some space.Initial) o a) opens
+      ∙ ap (λ (b : Bool). received_after m coming space.Initial b source token number payload a) (no_spin a.state p source token spin number payload is_initial opens)
 
-  first_event : (time : ℕ) (mark : Option EcnCodepoint) (remote : SocketAddr) (p : Piece) (source token : List ℕ) (spin : Bool) (number : ℕ) (payload behind : List ℕ) (a : At t) →
-      lets_in a.state remote ≡ true → is_over a.state.life.state ≡ false → space_of p.header ≡ Some space.Initial → opening_of m a.state p ≡ Opened source token spin number payload →
-      event_after m time mark remote p behind a
-      ≡ counted_after time (is_blocked a.state.paths) (length p.bytes + length behind) (pieces_after m time mark (cut_of a.state behind) (received_after m time space.Initial (record { mark = mark; spin = false }) source token number payload a))
+  first_event : (coming : Coming) (p : Piece) (source token : List ℕ) (spin : Bool) (number : ℕ) (payload behind : List ℕ) (a : At t) →
+      lets_in a.state coming.remote ≡ true → is_over a.state.life.state ≡ false → space_of p.header ≡ Some space.Initial → opening_of m a.state p ≡ Opened source token spin number payload →
+      event_after m coming p behind a
+      ≡ counted_after coming.time (is_blocked a.state.paths) (length p.bytes + length behind) (pieces_after m coming (cut_of a.state behind) (received_after m coming space.Initial false source token number payload a))
   unfolding event_after
-  first_event time mark remote p source token spin number payload behind a lets over is_initial opens =
-      ap (λ (x : Bool). if x then counted_after time (is_blocked a.state.paths) (length p.bytes + length behind) (pieces_after m time mark (cut_of a.state behind) (piece_after m time mark p a)) else a) lets
-      ∙ ap (λ (x : At t). counted_after time (is_blocked a.state.paths) (length p.bytes + length behind) (pieces_after m time mark (cut_of a.state behind) x)) (first_piece time mark p source token spin number payload a over is_initial opens)
+  first_event coming p source token spin number payload behind a lets over is_initial opens =
+      ap (λ (x : Bool). if x then counted_after coming.time (is_blocked a.state.paths) (length p.bytes + length behind) (pieces_after m coming (cut_of a.state behind) (piece_after m coming p a)) else a) lets
+      ∙ ap (λ (x : At t). counted_after coming.time (is_blocked a.state.paths) (length p.bytes + length behind) (pieces_after m coming (cut_of a.state behind) x)) (first_piece coming p source token spin number payload a over is_initial opens)
 
   -- that its token is expected changes nothing of how its datagram is cut, nor of whether it is let in
-  expected_heard : (time : ℕ) (mark : Option EcnCodepoint) (remote : SocketAddr) (p : Piece) (source token : List ℕ) (spin : Bool) (number : ℕ) (payload behind bytes : List ℕ) (a : At t) →
+  expected_heard : (coming : Coming) (p : Piece) (source token : List ℕ) (spin : Bool) (number : ℕ) (payload behind bytes : List ℕ) (a : At t) →
       piece_at (length a.state.setup.fixed.local_cid) (a.state.setup.fixed.version ∷ []) a.state.setup.fixed.grease_quic_bit bytes ≡ Ok (p, behind) →
-      first_token m a.state remote bytes ≡ Some token → opening_of m a.state p ≡ Opened source token spin number payload →
-      first_packet_after m time mark source token number payload behind (length p.bytes + length behind) a ≡ heard_after m time mark remote bytes (move_to (Expect token) a)
+      first_token m a.state coming.remote bytes ≡ Some token → opening_of m a.state p ≡ Opened source token spin number payload →
+      first_packet_after m coming source token number payload behind (length p.bytes + length behind) a ≡ heard_after m coming bytes (move_to (Expect token) a)
   unfolding first_packet_after opened_first move_to state_move life_move paths_move setup_move token_expected
-  expected_heard time mark remote p source token spin number payload behind bytes a e is_token opens =
-      let says = token_says remote p behind bytes token a.state e is_token in
+  expected_heard coming p source token spin number payload behind bytes a e is_token opens =
+      let says = token_says coming.remote p behind bytes token a.state e is_token in
       let b : At t = move_to (Expect token) a in
-      let lets : lets_in b.state remote ≡ true = expected_lets a.state token remote ∙ let_in a.state remote says.0 says.1 in
-      sym (first_event time mark remote p source token spin number payload behind b lets (not_over a.state.life.state says.0) (first_space a.state p says.2) (same_opening m a.state token p ∙ opens))
-      ∙ event_heard time mark remote p behind bytes b e
+      let lets : lets_in b.state coming.remote ≡ true = expected_lets a.state token coming.remote ∙ let_in a.state coming.remote says.0 says.1 in
+      sym (first_event coming p source token spin number payload behind b lets (not_over a.state.life.state says.0) (first_space a.state p says.2) (same_opening m a.state token p ∙ opens))
+      ∙ event_heard coming p behind bytes b e
 
-  pub first_whole : (time : ℕ) (mark : Option EcnCodepoint) (remote : SocketAddr) (p : Piece) (source token : List ℕ) (spin : Bool) (number : ℕ) (payload behind bytes : List ℕ) (a : At t) →
+  pub first_whole : (coming : Coming) (p : Piece) (source token : List ℕ) (spin : Bool) (number : ℕ) (payload behind bytes : List ℕ) (a : At t) →
       piece_at (length a.state.setup.fixed.local_cid) (a.state.setup.fixed.version ∷ []) a.state.setup.fixed.grease_quic_bit bytes ≡ Ok (p, behind) → is_first_awaited a.state.setup ≡ true →
-      first_token m a.state remote bytes ≡ Some token → opening_of m a.state p ≡ Opened source token spin number payload →
-      first_packet_after m time mark source token number payload behind (length bytes) a ≡ datagram_after m time mark remote bytes a
+      first_token m a.state coming.remote bytes ≡ Some token → opening_of m a.state p ≡ Opened source token spin number payload →
+      first_packet_after m coming source token number payload behind (length bytes) a ≡ datagram_after m coming bytes a
   unfolding datagram_after
-  first_whole time mark remote p source token spin number payload behind bytes a e awaits is_token opens =
+  first_whole coming p source token spin number payload behind bytes a e awaits is_token opens =
       let size : length p.bytes + length behind ≡ length bytes = cut_whole (length a.state.setup.fixed.local_cid) (a.state.setup.fixed.version ∷ []) a.state.setup.fixed.grease_quic_bit bytes p behind e in
-      ap (λ (n : ℕ). first_packet_after m time mark source token number payload behind n a) (sym size)
-      ∙ expected_heard time mark remote p source token spin number payload behind bytes a e is_token opens
-      ∙ ap (λ (x : Option (List ℕ)). first_after m time mark remote bytes x a) (sym is_token)
-      ∙ ap (λ (x : Bool). if x then first_after m time mark remote bytes (first_token m a.state remote bytes) a else heard_after m time mark remote bytes a) (sym awaits)
+      ap (λ (n : ℕ). first_packet_after m coming source token number payload behind n a) (sym size)
+      ∙ expected_heard coming p source token spin number payload behind bytes a e is_token opens
+      ∙ ap (λ (x : Option (List ℕ)). first_after m coming bytes x a) (sym is_token)
+      ∙ ap (λ (x : Bool). if x then first_after m coming bytes (first_token m a.state coming.remote bytes) a else heard_after m coming bytes a) (sym awaits)

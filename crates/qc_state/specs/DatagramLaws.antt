@@ -18,5 +18,5 @@ module _ {t : Types} where
     pub admitted : (id : SpaceId) → EachNew (came_in s.numbers id) (entered_in id ds)
     pub life : RisesFrom (rank_of s.life.state + 1) (lives_in ds)
     pub reason : length (option_to_list s.life.reason) + length (reasons_in ds) ≤ 1
-    pub paths : PathHolds came ds s.paths s'.paths
+    pub paths : PathHolds came ds s.paths.current s'.paths.current
     pub harmless : All (λ d. is_harmless d ≡ true) ds → OnlyCounts s s'

@@ -72,11 +72,12 @@ abbrev pub all_told : Untold
 all_told = record { lost = None; connected = false; drained = false }
 
 -- only what came to pass waits to be told: a loss only where a reason was given, that the handshake is over only behind the rise to
--- Established, and the end only in Drained
+-- Established, and the end only in Drained, and not among what is told before it
 pub record OnlyDoneWaits (v : Life) : Type 0 where
   pub lost : is_none v.reason ≡ true → v.lost ≡ None
   pub connected : rank_of v.state < 1 → v.connected ≡ false
   pub drained : rank_of v.state < 4 → v.drained ≡ false
+  pub notices : ends_in v.notices ≡ 0
 
 -- a step tells what waited before it, and just what its deeds did: a loss for the reason that they gave; that the handshake is over
 -- where the life rose to Established; and the end where it rose to Drained

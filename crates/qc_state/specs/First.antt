@@ -1,5 +1,5 @@
 -- The first view of a connection: of a client, and of a server.
-use Rattle.std.specs.Prelude.{ℕ, Bool, true, false, List, [], Option, None}
+use Rattle.std.specs.Prelude.{ℕ, Bool, true, false, List, [], Option, Some, None}
 use Rattle.rand_core.specs.Stream.{Stream}
 use Rattle.std.specs.declared.net.IpAddr.{IpAddr}
 use Rattle.qc_assembler.specs.Assembly.{nothing}
@@ -11,11 +11,13 @@ use Rattle.qc_path.specs.Acks.{no_marks}
 use Rattle.qc_path.specs.Filter.{first_skips}
 use Rattle.qc_state.specs.declared.life.State.TheVariants.{Handshake}
 use Rattle.qc_state.specs.declared.paths.Paths.{Paths}
+use Rattle.qc_state.specs.Paths.{new_path, only_path}
 use Rattle.qc_state.specs.declared.setup.Fixed.{Fixed}
 use Rattle.qc_state.specs.declared.waiting.SpaceWaiting.{SpaceWaiting}
 use Rattle.qc_state.specs.Draws.{word, key_phase_of, spins_of, filter_words, words_left}
 use Rattle.qc_state.specs.Numbers.{no_numbers}
 use Rattle.qc_state.specs.Setup.{idle_limit_of}
+use Rattle.qc_state.specs.Timers.{no_timers}
 use Rattle.qc_state.specs.Types.{Types, Meaning}
 use Rattle.qc_path.specs.declared.controller.Controller.{Ghosts as Control}
 use Rattle.qc_recovery.specs.Calls.{begun_recovery}
@@ -59,9 +61,9 @@ module _ {t : Types} where
       filter = first_skips (word (filter_words transport.allow_spin words));
     };
     keys = first_keys keys;
-    life = record { state = Handshake; reason = None; ready = false; connected = false; lost = None; reset_token = None; wanted = None; drained = false; close = None };
+    life = record { state = Handshake; reason = None; ready = false; connected = false; lost = None; notices = []; drained = false; close = None };
     paths = paths;
-    timers = record { loss_detection = None; idle = None; close = None; pacing = None; max_ack_delay = None; sets_idle = true; greatest = time };
+    timers = no_timers time;
     waiting = record {
       spaces = record {
         initial = nothing_waits hello;
@@ -80,11 +82,11 @@ module _ {t : Types} where
   unfoldable pub first_view : Meaning t → t.S → (words : Stream) → Fixed → SocketAddr → (first_cid token : List ℕ) → TransportValues → t.C → ℕ → View t
   first_view m session words fixed remote first_cid token transport congestion time =
       just_made (new_keys m.seal_limit m.failure_limit (m.initial session first_cid Client)) (m.after_write session) (m.writes session) token words fixed
-      (record { remote = remote; remote_cid = first_cid; peer_fixed = false; validated = true; spin = false; sent = 0; received = 0; app_limited = false }) transport (first_path m.control transport congestion time) time
+      (only_path (new_path remote first_cid true) None) transport (first_path m.control transport congestion time) time
 
   -- a server that was just made: its keys are those of the destination id of the client's first packets, it knows the client's
   -- id, and it waits for the first packet
   unfoldable pub server_view : Meaning t → t.S → (words : Stream) → Fixed → SocketAddr → (remote_cid : List ℕ) → (validated : Bool) → TransportValues → t.C → ℕ → View t
   server_view m session words fixed remote remote_cid validated transport congestion time =
       just_made (new_keys m.seal_limit m.failure_limit (m.initial session fixed.first_cid Server)) session [] [] words fixed
-      (record { remote = remote; remote_cid = remote_cid; peer_fixed = true; validated = validated; spin = false; sent = 0; received = 0; app_limited = false }) transport (first_path m.control transport congestion time) time
+      (only_path (new_path remote remote_cid validated) (Some remote_cid)) transport (first_path m.control transport congestion time) time

@@ -234,11 +234,11 @@ module _ {t : Types} where
     pub numbers : s'.numbers ≡ s.numbers
     pub keys : s'.keys ≡ record s.keys { failures = s'.keys.failures }
     pub life : (reported s').life ≡ (reported s).life
-    pub paths : s'.paths ≡ record s.paths { received = s'.paths.received }
-    pub ranged : s.paths.received ≤ 18446744073709551615 → s'.paths.received ≤ 18446744073709551615
-    pub more : s.paths.received ≤ 18446744073709551615 → s.paths.received ≤ s'.paths.received
+    pub paths : s'.paths ≡ record s.paths { current = record s.paths.current { received = s'.paths.current.received } }
+    pub ranged : s.paths.current.received ≤ 18446744073709551615 → s'.paths.current.received ≤ 18446744073709551615
+    pub more : s.paths.current.received ≤ 18446744073709551615 → s.paths.current.received ≤ s'.paths.current.received
     pub timers : s'.timers ≡ record s.timers { greatest = s'.timers.greatest; loss_detection = s'.timers.loss_detection }
-    pub still : s.paths.received ≤ 18446744073709551615 → is_blocked s.paths ≡ false → s'.timers.loss_detection ≡ s.timers.loss_detection
+    pub still : s.paths.current.received ≤ 18446744073709551615 → is_blocked s.paths ≡ false → s'.timers.loss_detection ≡ s.timers.loss_detection
     pub waiting : s'.waiting ≡ s.waiting
     pub setup : s'.setup ≡ s.setup
     pub lower : s'.lower ≡ s.lower

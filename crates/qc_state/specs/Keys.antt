@@ -107,7 +107,12 @@ module _ {H P : Type 0} where
 
   -- 1-RTT keys of the first epoch with those of the next, under which nothing was sealed yet, with the limits of the sealing key
   abbrev pub new_ring : (seals failures : P → ℕ) → Keys H P → (next : KeyPair P) → OneRttKeys H P
-  new_ring seals failures keys next = record { header = keys.header; ring = first_keyed keys.packet next; confidentiality_limit = seals keys.packet.local; integrity_limit = failures keys.packet.local }
+  new_ring seals failures keys next = record {
+    header = keys.header;
+    ring = first_keyed keys.packet next;
+    confidentiality_limit = seals keys.packet.local;
+    integrity_limit = failures keys.packet.local;
+  }
 
   -- how many packets a sealing key has sealed, and how many it may (RFC 9001, section 6.6)
   abbrev pub plain_usage : SpaceKeys H P → KeyUse

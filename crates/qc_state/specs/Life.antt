@@ -1,6 +1,6 @@
 -- The life of a connection, the reason of its end, and what waits to be reported (RFC 9000, section 10).
 use Rattle.std.specs.declared.net.SocketAddr.{SocketAddr}
-use Rattle.std.specs.Prelude.{ℕ, Bool, true, false, ◌||◌, ◌==◌, if◌then◌else◌, List, ◌++◌, Option, Some, None, is_none, option_map, option_to_list}
+use Rattle.std.specs.Prelude.{ℕ, Bool, true, false, ◌||◌, ◌==◌, if◌then◌else◌, List, [], ◌∷◌, ◌++◌, drop, slice_get, Option, Some, None, is_none, option_map}
 use Rattle.qc_state.specs.declared.life.State.{State}
 use Rattle.qc_state.specs.declared.life.State.TheVariants.{Handshake, Established, Closed, Draining, Drained}
 use Rattle.qc_state.specs.declared.life.ConnectionError.{ConnectionError}
@@ -103,29 +103,25 @@ lost_event v = option_map ConnectionLost v.lost
 unfoldable pub lost_reported : Life → Life
 lost_reported v = record v { lost = None }
 
--- the peer's token for a stateless reset, which comes from this address, waits to be reported
+-- the peer's token for a stateless reset, which comes from this address, waits to be reported behind what waits
 unfoldable pub token_learned : Life → SocketAddr → List ℕ → Life
-token_learned v remote token = record v { reset_token = Some (record { remote = remote; token = token }) }
+token_learned v remote token = record v { notices = v.notices ++ endpoint.ResetToken remote token ∷ [] }
 
--- the token, while its report waits
-unfoldable pub token_event : Life → Option EndpointEvent
-token_event v = option_map (λ k. endpoint.ResetToken k.remote k.token) v.reset_token
-
--- the token was reported
-unfoldable pub token_reported : Life → Life
-token_reported v = record v { reset_token = None }
-
--- so many identifiers are wanted at this time, which waits to be reported
+-- so many identifiers are wanted at this time, which waits to be reported behind what waits
 unfoldable pub identifiers_wanted : Life → (time count : ℕ) → Life
-identifiers_wanted v time count = record v { wanted = Some (record { now = time; count = count }) }
+identifiers_wanted v time count = record v { notices = v.notices ++ endpoint.NeedIdentifiers time count ∷ [] }
 
--- how many are wanted, while its report waits
-unfoldable pub wanted_event : Life → Option EndpointEvent
-wanted_event v = option_map (λ k. endpoint.NeedIdentifiers k.now k.count) v.wanted
+-- the first that waits for the endpoint before the end
+abbrev pub first_notice : Life → Option EndpointEvent
+first_notice v = slice_get v.notices 0
 
 -- it was reported
-unfoldable pub wanted_reported : Life → Life
-wanted_reported v = record v { wanted = None }
+unfoldable pub notice_reported : Life → Life
+notice_reported v = record v { notices = drop 1 v.notices }
+
+-- all that waited before the end was reported
+unfoldable pub notices_reported : Life → Life
+notices_reported v = record v { notices = [] }
 
 -- the end, while its report waits
 unfoldable pub drained_event : Life → Option EndpointEvent
@@ -134,11 +130,3 @@ drained_event v = if v.drained then Some endpoint.Drained else None
 -- the end was reported
 unfoldable pub drained_reported : Life → Life
 drained_reported v = record v { drained = false }
-
--- the events that wait to be reported, in their order
-unfoldable pub waiting_events : Life → List Event
-waiting_events v = option_to_list (ready_event v) ++ (option_to_list (connected_event v) ++ option_to_list (lost_event v))
-
--- the events for the endpoint that wait to be reported, in their order
-unfoldable pub endpoint_events : Life → List EndpointEvent
-endpoint_events v = option_to_list (token_event v) ++ (option_to_list (wanted_event v) ++ option_to_list (drained_event v))

@@ -6,7 +6,7 @@ use Rattle.rand_core.specs.Stream.{Stream}
 use Rattle.qc_base.specs.declared.ecn.EcnCodepoint.{EcnCodepoint}
 use Rattle.qc_base.specs.declared.ecn.EcnCodepoint.TheVariants.{Ce}
 use Rattle.qc_base.specs.declared.side.SpaceId.{SpaceId}
-use Rattle.qc_base.specs.declared.side.SpaceId.TheVariants.{«Data»}
+use Rattle.qc_base.specs.declared.side.SpaceId.TheVariants.{Initial, Handshake, «Data»}
 use Rattle.qc_frame.specs.Frame.{FrameValue}
 use Rattle.qc_frame.specs.FrameSpelling.{elicits}
 use Rattle.qc_frame.specs.declared.frames.FrameOf.TheVariants as frames
@@ -32,16 +32,15 @@ use Rattle.qc_state.specs.declared.deeds.Did.TheVariants as did
 use Rattle.qc_state.specs.declared.deeds.Quiet.{Quiet}
 use Rattle.qc_state.specs.declared.deeds.Verdict.{Verdict}
 use Rattle.qc_state.specs.declared.deeds.Verdict.TheVariants as verdict
-use Rattle.qc_flight.specs.Packets.{first_of}
 use Rattle.qc_recovery.specs.Steps.{After, FiredAfter}
-use Rattle.qc_recovery.specs.Steps as recovery
 use Rattle.qc_state.specs.Acks.{is_ack}
 use Rattle.qc_state.specs.Draws.{word}
-use Rattle.qc_state.specs.Life.{rank_of, reason_given, life_raised, life_closed, life_drained, life_established, data_ready, token_learned, identifiers_wanted, ready_reported, connected_reported, lost_reported, token_reported, wanted_reported, drained_reported}
+use Rattle.qc_state.specs.Life.{rank_of, is_open, is_closed, is_drained, reason_given, life_raised, life_closed, life_drained, life_established, data_ready, token_learned, identifiers_wanted, ready_reported, connected_reported, lost_reported, notice_reported, notices_reported, drained_reported}
 use Rattle.qc_state.specs.Numbers.{next_number, received_number, number_used, number_skipped, is_skipped, is_new_in, came_in, number_entered, number_accepted, number_acked}
-use Rattle.qc_state.specs.Keys.{NewKeys, key_used, failure_counted, keys_given, keys_dropped}
+use Rattle.qc_state.specs.Keys.{NewKeys, NoKeys, HandshakeKeys, DataKeys, has_keys, key_used, failure_counted, keys_given, keys_dropped}
 use Rattle.qc_state.specs.Flight.{flown_packet}
 use Rattle.qc_state.specs.Lower.{bytes_came, session_read, session_wrote, flight_dropped, packet_flown, packets_settled, timer_fired}
+use Rattle.qc_state.specs.Offers.{packet_begun}
 use Rattle.qc_state.specs.Paths.{is_blocked, path_idle, path_sent, path_received, path_accepted, path_spun, peer_fixed}
 use Rattle.qc_state.specs.Recovering.{loss_time, probe_timeout_now}
 use Rattle.qc_state.specs.Setup.{idle_limit_now, packet_drawn, parameters_known, peer_delay, token_expected, word_drawn}
@@ -49,7 +48,7 @@ use Rattle.qc_state.specs.Spaces.{is_space}
 use Rattle.qc_state.specs.Timers.{timers_sealed, timers_acking, timers_stopped, timers_closing, timers_accepted, timers_holding, timers_paced, timers_released, timers_armed, clock_set}
 use Rattle.qc_state.specs.Types.{Types}
 use Rattle.qc_state.specs.View.{View, At, at}
-use Rattle.qc_state.specs.Waiting.{ping_asked, done_asked, waiting_without, close_begun, packet_told, packet_came, packets_acked, packets_lost, fired_in, datagram_begun, crypto_written, space_left, holds_back, ack_released, bundle_next}
+use Rattle.qc_state.specs.Waiting.{ping_asked, done_asked, waiting_without, close_begun, packet_told, packet_came, packets_acked, packets_lost, fired_in, crypto_written, space_left, holds_back, ack_released, bundle_next}
 
 -- whether a frame closes the connection (RFC 9000, section 19.19)
 abbrev pub is_close : FrameValue → Bool
@@ -98,6 +97,12 @@ abbrev pub told : List Did → List Did → List Did
 told ds [] = ds
 told ds (e ∷ es) = told (ds ++ e ∷ []) es
 
+-- keys that are given are those of the space behind the highest one
+abbrev pub AreNext : {H P : Type 0} → NewKeys H P → (highest : SpaceId) → Type 0
+AreNext NoKeys highest = Unit {0}
+AreNext (HandshakeKeys keys) highest = highest ≡ Initial
+AreNext (DataKeys keys) highest = highest ≡ Handshake
+
 -- the moves
 pub data Move (t : Types) : Type 0 where
   Clock : (time : ℕ) → Move t  -- the connection is told a time
@@ -116,7 +121,7 @@ pub data Move (t : Types) : Type 0 where
   Arm : (at : Option ℕ) → Move t  -- the loss timer is set, or stopped
   Pace : Move t  -- a datagram that the pacer held back may go
   Release : Move t  -- an ACK that was held back is owed
-  Begin : (id : SpaceId) → Move t  -- a datagram is begun for a space, which spends a probe that is due there
+  Begin : (id : SpaceId) → (opens : Bool) → Move t  -- a packet is begun; where it opens a datagram, this spends a probe that is due in its space
   Skip : Move t  -- the next number of 1-RTT packets is skipped
   Come : (id : SpaceId) → (offset : ℕ) → (bytes : List ℕ) → Move t  -- bytes of a CRYPTO stream came
   Read : (id : SpaceId) → (count : ℕ) → (session : t.S) → Move t  -- the session was given so many of them
@@ -134,12 +139,13 @@ pub data Move (t : Types) : Type 0 where
   Shut : (time : ℕ) → (close : Close) → Move t  -- this end closes
   Raise : (to : State) → Move t  -- the life rises
   Give : (why : ConnectionError) → Move t  -- a reason for the end is given
+  Finish : (bytes : ℕ) → Move t  -- a transmit ends that sealed packets: so many bytes go to the path's address
   Say : (quiet : Quiet) → Move t  -- a transmit sends nothing, for this cause
   ReportReady : Move t  -- that the handshake's data is ready is reported
   ReportConnected : Move t  -- that the handshake is over is reported
   ReportLost : Move t  -- the reason of the end is reported
-  ReportToken : Move t  -- the peer's token is reported
-  ReportWanted : Move t  -- how many identifiers are wanted is reported
+  ReportNotice : Move t  -- the first that waits for the endpoint before the end is reported
+  ReportNotices : Move t  -- all that waits for the endpoint before the end is reported
   ReportDrained : Move t  -- the end is reported
 
 module _ {t : Types} where
@@ -164,20 +170,20 @@ module _ {t : Types} where
   life_move Drain s = life_drained s.life
   life_move Ready s = data_ready s.life
   life_move Establish s = life_established s.life
-  life_move (Token token) s = token_learned s.life s.paths.remote token
+  life_move (Token token) s = token_learned s.life s.paths.current.remote token
   life_move (Want time count) s = identifiers_wanted s.life time count
   life_move (Raise to) s = life_raised s.life to
   life_move (Give why) s = reason_given s.life why
   life_move ReportReady s = ready_reported s.life
   life_move ReportConnected s = connected_reported s.life
   life_move ReportLost s = lost_reported s.life
-  life_move ReportToken s = token_reported s.life
-  life_move ReportWanted s = wanted_reported s.life
+  life_move ReportNotice s = notice_reported s.life
+  life_move ReportNotices s = notices_reported s.life
   life_move ReportDrained s = drained_reported s.life
   life_move _ s = s.life
 
   unfoldable pub paths_move : Move t → View t → Paths
-  paths_move (Seal time id n size fs) s = path_sent s.paths size
+  paths_move (Finish bytes) s = path_sent s.paths bytes
   paths_move (Fix cid) s = peer_fixed s.paths cid
   paths_move (Accept time id n e g v) s = path_spun (path_accepted s.paths id v) s.setup.fixed.side (nat_le (received_number s.numbers id) n) g.spin
   paths_move (Hear bytes) s = path_received s.paths bytes
@@ -202,7 +208,7 @@ module _ {t : Types} where
   unfoldable pub waiting_move : Move t → View t → Waiting
   waiting_move (Ask id) s = ping_asked s.waiting id
   waiting_move (Take id fs) s = waiting_without s.waiting id fs
-  waiting_move (Begin id) s = datagram_begun s.waiting id (first_of (recovery.space_of id s.lower.recovery).flight)
+  waiting_move (Begin id opens) s = (packet_begun id opens s).waiting
   waiting_move (Seal time id n size fs) s =
       bundle_next (packet_told s.waiting id (is_space id s.keys.highest)) fs (next_bundle time (estimate s.lower.path.rtt) (peer_delay s.setup.peer))
   waiting_move (Forget id) s = space_left s.waiting id
@@ -259,18 +265,27 @@ module _ {t : Types} where
     lower = lower_move x s;
   }
 
+  -- the loss timer is set to the time that recovery gives with the view, at a time and with word on whether datagrams may be begun
+  pub record IsArmed (due : Option ℕ) (s : View t) : Type 0 where
+    pub blocked : Bool
+    pub time : ℕ
+    pub set : due ≡ loss_time s blocked time
+
   -- where a move may be made once a call has begun, for which the time was told
   unfoldable pub MayMove : Move t → View t → Type 0
   MayMove (Clock time) s = ⊥
-  MayMove (Seal time id n size fs) s = (n ≡ next_number s.numbers id) × ClosesOnly (rank_of s.life.state) fs
+  MayMove (Seal time id n size fs) s = (n ≡ next_number s.numbers id) × ClosesOnly (rank_of s.life.state) fs × (is_drained s.life.state ≡ false) × (has_keys s.keys id ≡ true)
   MayMove Skip s = is_skipped s.numbers «Data» ≡ true
-  MayMove (Accept time id n e g v) s = (is_new_in s.numbers id n ≡ true) × (enters v ≡ true)
+  MayMove (Accept time id n e g v) s = (is_new_in s.numbers id n ≡ true) × (enters v ≡ true) × (is_open s.life.state ≡ true)
   MayMove (Enter id n v) s = (is_new_in s.numbers id n ≡ true) × (enters v ≡ true)
+  MayMove (Arm due) s = IsArmed due s
+  MayMove (Write bytes keys session) s = AreNext keys s.keys.highest
   MayMove Establish s = rank_of s.life.state < 1
   MayMove (Tell d) s = IsTold d
   MayMove (Shut time close) s = rank_of s.life.state < 2
   MayMove (Leave time) s = rank_of s.life.state < 3
-  MayMove Drain s = rank_of s.life.state < 3
+  MayMove Drain s = is_closed s.life.state ≡ true
+  MayMove Owe s = is_open s.life.state ≡ false
   MayMove (Raise to) s = rank_of s.life.state < rank_of to
   MayMove (Give why) s = s.life.reason ≡ None
   MayMove _ s = Unit {0}

@@ -1,5 +1,5 @@
--- The path to the peer (RFC 9000, section 9).
-use Rattle.std.specs.Prelude.{ℕ, ◌*◌, List, Bool, true, false, ◌&&◌, ◌==◌, not, nat_eq, nat_le, if◌then◌else◌}
+-- The paths to the peer (RFC 9000, section 9).
+use Rattle.std.specs.Prelude.{ℕ, ◌*◌, List, Bool, true, false, ◌&&◌, ◌==◌, not, nat_eq, nat_le, if◌then◌else◌, Option, Some, None}
 use Rattle.std.specs.Cmp.Lexicographic.{pointwise}
 use Rattle.std.specs.Net.Addr.{ipv4_octets, ipv6_segments}
 use Rattle.std.specs.Net.Socket.{v4_ip, v4_port, v6_ip, v6_port, v6_flowinfo, v6_scope_id}
@@ -12,11 +12,20 @@ use Rattle.qc_base.specs.declared.side.SpaceId.{SpaceId}
 use Rattle.qc_base.specs.declared.side.SpaceId.TheVariants.{Handshake}
 use Rattle.qc_state.specs.declared.deeds.Verdict.{Verdict}
 use Rattle.qc_state.specs.declared.deeds.Verdict.TheVariants.{Admitted}
+use Rattle.qc_state.specs.declared.paths.Path.{Path}
 use Rattle.qc_state.specs.declared.paths.Paths.{Paths}
+
+-- a path on which nothing was sent or received so far, whose packets carry this id
+unfoldable pub new_path : (remote : SocketAddr) → (remote_cid : List ℕ) → (validated : Bool) → Path
+new_path remote remote_cid validated = record { remote = remote; remote_cid = remote_cid; validated = validated; sent = 0; received = 0 }
+
+-- a connection's first path, with the id that the peer chose, where it did
+unfoldable pub only_path : Path → (peer_cid : Option (List ℕ)) → Paths
+only_path path peer_cid = record { current = path; previous = None; peer_cid = peer_cid; spin = false; app_limited = false }
 
 -- so many bytes were sent to the path's address
 unfoldable pub path_sent : Paths → ℕ → Paths
-path_sent v bytes = record v { sent = plus v.sent bytes; app_limited = false }
+path_sent v bytes = record v { current = record v.current { sent = plus v.current.sent bytes }; app_limited = false }
 
 -- a transmit sent nothing: what there is to send holds sending back, not the window of the congestion controller
 unfoldable pub path_idle : Paths → Paths
@@ -24,15 +33,29 @@ path_idle v = record v { app_limited = true }
 
 -- so many bytes came from the path's address
 unfoldable pub path_received : Paths → ℕ → Paths
-path_received v bytes = record v { received = plus v.received bytes }
+path_received v bytes = record v { current = record v.current { received = plus v.current.received bytes } }
 
--- the peer has chosen the id that packets to it carry (RFC 9000, section 7.2)
+-- the peer has chosen its id, which packets to it carry from then on (RFC 9000, section 7.2)
 unfoldable pub peer_fixed : Paths → List ℕ → Paths
-peer_fixed v cid = record v { remote_cid = cid; peer_fixed = true }
+peer_fixed v cid = record v { current = record v.current { remote_cid = cid }; peer_cid = Some cid }
+
+-- the id that the peer chose, and until then the one that packets to it carry
+abbrev pub chosen_or : (used : List ℕ) → (chosen : Option (List ℕ)) → List ℕ
+chosen_or used None = used
+chosen_or used (Some cid) = cid
+
+-- the id by which the peer is known
+abbrev pub peer_id : Paths → List ℕ
+peer_id v = chosen_or v.current.remote_cid v.peer_cid
+
+-- a packet's source id is another one than the peer chose, where it did
+abbrev pub is_other_source : (chosen : Option (List ℕ)) → (source : List ℕ) → Bool
+is_other_source None source = false
+is_other_source (Some cid) source = not (pointwise nat_eq source cid)
 
 -- a packet of this space was accepted: a Handshake packet that was admitted shows that the peer gets what is sent to its address
 unfoldable pub path_accepted : Paths → SpaceId → Verdict → Paths
-path_accepted v Handshake Admitted = record v { validated = true }
+path_accepted v Handshake Admitted = record v { current = record v.current { validated = true } }
 path_accepted v _ _ = v
 
 -- the spin bit of this end by that of a packet: a server repeats it, and a client turns it round (RFC 9000, section 17.4)
@@ -47,7 +70,7 @@ path_spun v side greatest bit = if greatest then record v { spin = spun_by side 
 -- no datagram may be begun: the peer's address isn't validated, and three times the bytes that came from it were sent (RFC
 -- 9000, section 8.1); the last datagram may go past that
 unfoldable pub is_blocked : Paths → Bool
-is_blocked v = not v.validated && nat_le (3 * v.received) v.sent
+is_blocked v = not v.current.validated && nat_le (3 * v.current.received) v.current.sent
 
 -- whether two addresses are one, flow label and scope included
 unfoldable pub same_address : SocketAddr → SocketAddr → Bool

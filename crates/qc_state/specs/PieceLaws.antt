@@ -1,7 +1,6 @@
 -- What is told of a packet that came, and what its frames give to the layers (RFC 9000, sections 12.3, 12.4, 13.1 and 19.6).
 use Rattle.std.specs.Prelude.{◌≡◌, ◌⊎◌, ℕ, Bool, if◌then◌else◌, List, [], ◌∷◌, ◌++◌, length, Option, Some, None, Result, Ok, Err}
 use Rattle.qc_assembler.specs.Assembly.{Assembly, advanced, inserted}
-use Rattle.qc_base.specs.declared.ecn.EcnCodepoint.{EcnCodepoint}
 use Rattle.qc_base.specs.declared.side.SpaceId.{SpaceId}
 use Rattle.qc_base.specs.declared.side.SpaceId.TheVariants.{Initial, Handshake, «Data»}
 use Rattle.qc_base.specs.declared.transport_error.TransportError.{TransportError}
@@ -11,6 +10,7 @@ use Rattle.qc_frame.specs.Payload.{Item, items_of}
 use Rattle.qc_frame.specs.declared.frames.FrameOf.TheVariants as frames
 use Rattle.qc_header.specs.HeaderGrammar.{DatagramItem}
 use Rattle.qc_header.specs.Piece.{Piece, space_of}
+use Rattle.qc_state.specs.declared.coming.Coming.{Coming}
 use Rattle.qc_state.specs.declared.deeds.Did.{Did}
 use Rattle.qc_state.specs.declared.deeds.Did.TheVariants as did
 use Rattle.qc_state.specs.declared.deeds.Layer.TheVariants as layer
@@ -178,19 +178,19 @@ module _ {t : Types} where
     pub given : given_in others ≡ gifts
 
   -- so it is with each packet of a datagram, each from where the one before it ended, up to the first bytes that begin with none
-  unfoldable pub TellsPieces : Meaning t → (time : ℕ) → (mark : Option EcnCodepoint) → List DatagramItem → At t → Type 0
-  TellsPieces m time mark [] a = Unit {0}
-  TellsPieces m time mark (Err fault ∷ items) a = Unit {0}
-  TellsPieces m time mark (Ok p ∷ items) a =
-      let b : At t = piece_after m time mark p a in
-      TellsPiece (piece_deed m a.state p) (piece_gifts m a.state p) a b × TellsPieces m time mark items b
+  unfoldable pub TellsPieces : Meaning t → Coming → List DatagramItem → At t → Type 0
+  TellsPieces m coming [] a = Unit {0}
+  TellsPieces m coming (Err fault ∷ items) a = Unit {0}
+  TellsPieces m coming (Ok p ∷ items) a =
+      let b : At t = piece_after m coming p a in
+      TellsPiece (piece_deed m a.state p) (piece_gifts m a.state p) a b × TellsPieces m coming items b
 
   -- From one moment to another a datagram came: its packets, cut as the connection cuts them, or none where it is dropped, are told of
   -- one after the other, once the token of a server's first one is expected, if it is that; and nothing else is told.
-  pub record TellsDatagram (m : Meaning t) (time : ℕ) (mark : Option EcnCodepoint) (bytes : List ℕ) (a b : At t) : Type 0 where
+  pub record TellsDatagram (m : Meaning t) (coming : Coming) (bytes : List ℕ) (a b : At t) : Type 0 where
     pub items : List DatagramItem
     pub cut : (items ≡ []) ⊎ (items ≡ cut_of a.state bytes)
     pub start : At t
     pub begins : (start ≡ a) ⊎ ((token : List ℕ) × (start ≡ move_to (Expect token) a))
-    pub told : TellsPieces m time mark items start
-    pub ends : b.did ≡ (pieces_after m time mark items start).did
+    pub told : TellsPieces m coming items start
+    pub ends : b.did ≡ (pieces_after m coming items start).did

@@ -1,26 +1,37 @@
--- Events that are asked for one by one.
-use Rattle.std.specs.Prelude.{if◌then◌else◌, Option, is_some}
+-- The events that wait, and those that are asked for one by one.
+use Rattle.std.specs.Prelude.{if◌then◌else◌, List, [], ◌∷◌, ◌++◌, slice_get, Option, option_to_list}
 use Rattle.qc_state.specs.declared.events.Event.{Event}
-use Rattle.qc_state.specs.declared.life.Life.{Life}
 use Rattle.qc_state.specs.declared.events.EndpointEvent.{EndpointEvent}
-use Rattle.qc_state.specs.Life.{connected_event, drained_event, lost_event, ready_event, token_event, wanted_event}
-use Rattle.qc_state.specs.Moves.{ReportReady, ReportConnected, ReportLost, ReportToken, ReportWanted, ReportDrained, state_move}
+use Rattle.qc_state.specs.Life.{connected_event, drained_event, lost_event, ready_event}
+use Rattle.qc_state.specs.Moves.{ReportReady, ReportConnected, ReportLost, ReportNotice, ReportDrained, state_move}
 use Rattle.qc_state.specs.Types.{Types}
 use Rattle.qc_state.specs.View.{View}
 
--- the first event that waits, if one does
-unfoldable pub first_event : Life → Option Event
-first_event v = if v.ready then ready_event v else if v.connected then connected_event v else lost_event v
-
--- the first event for the endpoint that waits, if one does
-unfoldable pub first_endpoint_event : Life → Option EndpointEvent
-first_endpoint_event v = if is_some v.reset_token then token_event v else if is_some v.wanted then wanted_event v else drained_event v
-
 module _ {t : Types} where
-  -- it was reported
-  unfoldable pub polled_endpoint : View t → View t
-  polled_endpoint s = if is_some s.life.reset_token then state_move ReportToken s else if is_some s.life.wanted then state_move ReportWanted s else state_move ReportDrained s
+  -- the events that wait for the application, in their order, the reason of the end last
+  unfoldable pub waiting_events : View t → List Event
+  waiting_events s = option_to_list (ready_event s.life) ++ (option_to_list (connected_event s.life) ++ option_to_list (lost_event s.life))
+
+  -- the events that wait for the endpoint, in the order of their causes, the end last
+  unfoldable pub endpoint_events : View t → List EndpointEvent
+  endpoint_events s = s.life.notices ++ option_to_list (drained_event s.life)
+
+  -- the first event that waits for the application, if one does
+  unfoldable pub first_event : View t → Option Event
+  first_event s = if s.life.ready then ready_event s.life else if s.life.connected then connected_event s.life else lost_event s.life
 
   -- it was reported
   unfoldable pub polled : View t → View t
   polled s = if s.life.ready then state_move ReportReady s else if s.life.connected then state_move ReportConnected s else state_move ReportLost s
+
+  -- the first event that waits for the endpoint, if one does
+  unfoldable pub first_endpoint_event : View t → Option EndpointEvent
+  first_endpoint_event s = slice_get (endpoint_events s) 0
+
+  -- it was reported: one of those before the end, where one waits, and else the end
+  abbrev pub reported_of : List EndpointEvent → View t → View t
+  reported_of [] s = state_move ReportDrained s
+  reported_of (e ∷ es) s = state_move ReportNotice s
+
+  unfoldable pub polled_endpoint : View t → View t
+  polled_endpoint s = reported_of s.life.notices s

@@ -14,6 +14,7 @@ use Rattle.qc_state.specs.Life.{is_handshake}
 use Rattle.qc_state.specs.Moves.{Write, Token, Learn, Want, Confirm, Forget, Establish, armed_after, move_to}
 use Rattle.qc_state.specs.Stopping.{missing_parameters, parameter_error, stopped_after}
 use Rattle.qc_state.specs.Types.{Types, Meaning}
+use Rattle.qc_state.specs.Paths.{peer_id}
 use Rattle.qc_state.specs.View.{View, At}
 
 -- an id that is named is this one
@@ -61,7 +62,8 @@ module _ {t : Types} where
   unfoldable pub write_after : Meaning t → At t → At t
   write_after m a =
       let session : t.S = a.state.lower.session in
-      move_to (Write (m.writes session) (keys_behind m a.state.keys.highest (m.write_keys session) (m.after_write session)) (session_behind m a.state.keys.highest (m.write_keys session) (m.after_write session))) a
+      let keys : NewKeys t.H t.P = keys_behind m a.state.keys.highest (m.write_keys session) (m.after_write session) in
+      move_to (Write (m.writes session) keys (session_behind m a.state.keys.highest (m.write_keys session) (m.after_write session))) a
 
   -- the session writes until it writes nothing, at most so many times
   abbrev pub writes_after : ℕ → Meaning t → At t → At t
@@ -75,8 +77,8 @@ module _ {t : Types} where
   -- the ids that the peer's parameters name are those of this connection: the source id of its first packet; and those of a
   -- server name the destination id of this end's first packet, and none of a Retry (RFC 9000, section 7.3)
   abbrev pub ids_fit_for : Side → View t → TransportParameters → Bool
-  ids_fit_for Client s p = names_id p.initial_src_cid s.paths.remote_cid && (names_id p.original_dst_cid s.setup.fixed.first_cid && is_none p.retry_src_cid)
-  ids_fit_for Server s p = names_id p.initial_src_cid s.paths.remote_cid
+  ids_fit_for Client s p = names_id p.initial_src_cid (peer_id s.paths) && (names_id p.original_dst_cid s.setup.fixed.first_cid && is_none p.retry_src_cid)
+  ids_fit_for Server s p = names_id p.initial_src_cid (peer_id s.paths)
 
   -- so for this end
   unfoldable pub ids_fit : View t → TransportParameters → Bool

@@ -1,11 +1,10 @@
 -- What a datagram does: its packets one after the other, each by its verdict (RFC 9000, sections 5.2, 7.2, 10.2, 12.2 to
 -- 12.4 and 13.1).
-use Rattle.std.specs.Prelude.{ℕ, ◌+◌, ◌-◌, ◌^◌, Bool, true, false, ◌&&◌, ◌||◌, not, nat_eq, nat_lt, nat_le, is_ok, is_some, if◌then◌else◌, List, [], ◌∷◌, length, Option, Some, None, Result, Ok, Err}
+use Rattle.std.specs.Prelude.{ℕ, ◌+◌, ◌-◌, ◌^◌, Bool, true, false, ◌&&◌, ◌||◌, not, nat_eq, nat_lt, nat_le, is_ok, is_none, is_some, if◌then◌else◌, List, [], ◌∷◌, length, Option, Some, None, Result, Ok, Err}
 use Rattle.std.specs.List.{list_any}
 use Rattle.std.specs.Cmp.Lexicographic.{pointwise}
 use Rattle.std.specs.declared.net.SocketAddr.{SocketAddr}
 use Rattle.qc_assembler.specs.Assembly.{Assembly, inserted, part_count}
-use Rattle.qc_base.specs.declared.ecn.EcnCodepoint.{EcnCodepoint}
 use Rattle.qc_base.specs.declared.transport_error.TransportError.{TransportError}
 use Rattle.qc_base.specs.declared.side.Side.{Side}
 use Rattle.qc_base.specs.declared.side.Side.TheVariants.{Client, Server}
@@ -22,6 +21,7 @@ use Rattle.qc_header.specs.declared.protected.ProtectedHeader.{ProtectedHeader}
 use Rattle.qc_header.specs.declared.protected.ProtectedHeader.TheVariants as protected
 use Rattle.qc_header.specs.Piece.{Piece, space_of}
 use Rattle.qc_header.specs.Pieces.{pieces_of}
+use Rattle.qc_state.specs.declared.coming.Coming.{Coming}
 use Rattle.qc_state.specs.declared.deeds.Did.TheVariants as did
 use Rattle.qc_state.specs.declared.deeds.Layer.TheVariants as layer
 use Rattle.qc_state.specs.declared.deeds.Verdict.{Verdict}
@@ -133,6 +133,10 @@ crypto_stop_of most expected stream id offset body =
     ∷ (nat_lt 1024 (part_count (inserted offset body stream).came), internal_error_at None)
     ∷ [])
 
+-- what a packet with this spin bit shows, whose datagram came so
+abbrev pub signs_of : Coming → (spin : Bool) → Signs
+signs_of coming spin = record { mark = coming.mark; spin = spin }
+
 -- an Initial packet with these ids
 abbrev pub is_initial_with : (dst_cid src_cid : List ℕ) → ProtectedHeader → Bool
 is_initial_with dst_cid src_cid (protected.Initial dst src token_start token_len version) = pointwise nat_eq dst dst_cid && pointwise nat_eq src src_cid
@@ -144,6 +148,17 @@ opened_token Unreadable = None
 opened_token Unopened = None
 opened_token (Reserved number) = None
 opened_token (Opened source token spin number payload) = Some token
+
+-- what a frame leaves of its packet, and of the connection
+pub data Behind (t : Types) : Type 0 where
+  Goes : (now : At t) → Behind t  -- the frames behind it are next
+  Closes : (why : ConnectionError) → (now : At t) → Behind t  -- so they are, and it is a close with this reason
+  Ends : (now : At t) → Behind t  -- it ends its packet
+
+-- what the frames of a packet have made so far
+pub data Course (t : Types) : Type 0 where
+  Reads : (close : Option ConnectionError) → (now : At t) → Course t  -- the next frame is read; this was the last close, if there was one
+  Ended : (now : At t) → Course t  -- one of them ended the packet
 
 module _ {t : Types} where
   -- the peer closed, for this reason: the connection drains, if it was open
@@ -168,12 +183,6 @@ module _ {t : Types} where
   unfoldable pub confirmed_after : (time : ℕ) → At t → At t
   confirmed_after time a = armed_after time (move_to (Forget Handshake) (move_to (Tell (did.Gave layer.Life (spelling frames.HandshakeDone))) a))
 
-  -- a frame that stops nothing is applied
-  unfoldable pub applied_after : Meaning t → (time : ℕ) → SpaceId → FrameValue → At t → At t
-  applied_after m time id (frames.Ack ack) a = acked_after m time id ack a
-  applied_after m time id frames.HandshakeDone a = confirmed_after time a
-  applied_after m time id _ a = a
-
   -- a close of the peer's is given to the life
   unfoldable pub close_given : FrameValue → At t → At t
   close_given frame a = move_to (Tell (did.Gave layer.Life (spelling frame))) a
@@ -183,17 +192,12 @@ module _ {t : Types} where
   unfoldable pub closed_in_data : (time : ℕ) → ConnectionError → At t → At t
   closed_in_data time why a = if is_open a.state.life.state then move_to Owe (left_after time why a) else a
 
-  -- a close: in an Initial or Handshake packet the first one ends the packet, and the connection drains; in a 1-RTT packet what
-  -- `others` makes of the frames that are left comes behind, and the last close counts
-  abbrev pub close_and : (time : ℕ) → SpaceId → FrameValue → ConnectionError → (Option ConnectionError → At t → At t) → At t → At t
-  close_and time Initial frame why others a = left_after time why (close_given frame a)
-  close_and time Handshake frame why others a = left_after time why (close_given frame a)
-  close_and time Data frame why others a = others (Some why) (close_given frame a)
-
-  -- behind the last frame, where none stopped: the handshake goes on, or the last close of a 1-RTT packet counts
-  abbrev pub end_after : Meaning t → (time : ℕ) → SpaceId → Option ConnectionError → At t → At t
-  end_after m time id None a = progress_after m time id a
-  end_after m time id (Some why) a = closed_in_data time why a
+  -- a close: in an Initial or Handshake packet the first one ends the packet, and the connection drains; in a 1-RTT packet the frames
+  -- behind it are next, and the last close counts
+  abbrev pub close_after : Coming → SpaceId → FrameValue → ConnectionError → At t → Behind t
+  close_after coming Initial frame why a = Ends (left_after coming.time why (close_given frame a))
+  close_after coming Handshake frame why a = Ends (left_after coming.time why (close_given frame a))
+  close_after coming Data frame why a = Closes why (close_given frame a)
 
   -- the space whose CRYPTO bytes are expected: Data once the handshake is over
   unfoldable pub expected_space : View t → SpaceId
@@ -203,60 +207,79 @@ module _ {t : Types} where
   unfoldable pub crypto_stop : View t → SpaceId → (offset : ℕ) → (body : List ℕ) → Option TransportError
   crypto_stop s id offset body = crypto_stop_of s.setup.fixed.crypto_buffer_size (expected_space s) (stream_of s.lower id) id offset body
 
-  -- the session answered a read: where it refused the bytes, this end closes for its error; else `others` comes behind, once
-  -- it is noted whether the handshake's data is ready
-  abbrev pub answered_and : (time : ℕ) → Result Bool TransportError → (At t → At t) → At t → At t
-  answered_and time (Err error) others a = stopped_after time error a
-  answered_and time (Ok true) others a = others (move_to Ready a)
-  answered_and time (Ok false) others a = others a
+  -- a frame that gives this error ends its packet, and this end closes for it; one that gives none does what it does else
+  abbrev pub ended_by : (time : ℕ) → Option TransportError → (At t → Behind t) → At t → Behind t
+  ended_by time (Some error) does a = Ends (stopped_after time error a)
+  ended_by time None does a = does a
+
+  -- the session answered a read: where it refused the bytes, this end closes for its error; else it is noted whether the handshake's
+  -- data is ready
+  abbrev pub answered_after : Coming → Result Bool TransportError → At t → Behind t
+  answered_after coming (Err error) a = Ends (stopped_after coming.time error a)
+  answered_after coming (Ok true) a = Goes (move_to Ready a)
+  answered_after coming (Ok false) a = Goes a
 
   -- the session is given bytes of the space's CRYPTO stream that can be read in order, if there are any
-  abbrev pub given_and : Meaning t → (time : ℕ) → SpaceId → List ℕ → (At t → At t) → At t → At t
-  given_and m time id [] others a = others a
-  given_and m time id (b ∷ bytes) others a =
-      answered_and time (m.reads a.state.lower.session (b ∷ bytes)) others
+  abbrev pub bytes_given : Meaning t → Coming → SpaceId → List ℕ → At t → Behind t
+  bytes_given m coming id [] a = Goes a
+  bytes_given m coming id (b ∷ bytes) a =
+      answered_after coming (m.reads a.state.lower.session (b ∷ bytes))
       (move_to (Read id (length (b ∷ bytes)) (m.after_read a.state.lower.session (b ∷ bytes))) (move_to (Tell (did.Gave layer.Session (b ∷ bytes))) a))
 
   -- bytes of the space's CRYPTO stream came: the session is given all that can be read in order from then on
-  unfoldable pub kept_and : Meaning t → (time : ℕ) → SpaceId → (offset : ℕ) → (body : List ℕ) → (At t → At t) → At t → At t
-  kept_and m time id offset body others a =
+  unfoldable pub kept_after : Meaning t → Coming → SpaceId → (offset : ℕ) → (body : List ℕ) → At t → Behind t
+  kept_after m coming id offset body a =
       let b : At t = move_to (Come id offset body) a in
-      given_and m time id (ready_bytes (stream_of b.state.lower id)) others b
+      bytes_given m coming id (ready_bytes (stream_of b.state.lower id)) b
 
-  -- a CRYPTO frame, by the error with which it stops, if it does
-  abbrev pub crypto_and : Meaning t → (time : ℕ) → SpaceId → (offset : ℕ) → (body : List ℕ) → Option TransportError → (At t → At t) → At t → At t
-  crypto_and m time id offset body (Some error) others a = stopped_after time error a
-  crypto_and m time id offset body None others a = kept_and m time id offset body others a
+  -- What a frame does that its kind doesn't stop: a row for each kind that does something. The frames of kinds that do nothing have
+  -- the last row: PADDING and PING, and in this place those that stop every packet so far.
+  unfoldable pub applied_after : Meaning t → Coming → SpaceId → FrameValue → At t → Behind t
+  applied_after m coming id (frames.Ack ack) a = Goes (acked_after m coming.time id ack a)
+  applied_after m coming id (frames.Crypto offset body) a = ended_by coming.time (crypto_stop a.state id offset body) (kept_after m coming id offset body) a
+  applied_after m coming id frames.HandshakeDone a = Goes (confirmed_after coming.time a)
+  applied_after m coming id (frames.ConnectionClose code type reason) a =
+      close_after coming id (frames.ConnectionClose code type reason) (lost.ConnectionClosed (record { error_code = code; frame_type = type; reason = reason })) a
+  applied_after m coming id (frames.ApplicationClose code reason) a =
+      close_after coming id (frames.ApplicationClose code reason) (lost.ApplicationClosed (record { error_code = code; reason = reason })) a
+  applied_after m coming id _ a = Goes a
 
-  -- a frame that stops nothing by its kind, and behind it what `others` makes of the frames that are left
-  abbrev pub taken_and : Meaning t → (time : ℕ) → SpaceId → FrameValue → (At t → At t) → At t → At t
-  taken_and m time id (frames.Crypto offset body) others a = crypto_and m time id offset body (crypto_stop a.state id offset body) others a
-  taken_and m time id frame others a = others (applied_after m time id frame a)
+  -- a frame, which stops its packet by its kind, or does what its kind does
+  abbrev pub frame_after : Meaning t → Coming → SpaceId → TypedValue → At t → Behind t
+  frame_after m coming id read a =
+      ended_by coming.time (stop_in a.state.setup.fixed.side id (next_number a.state.numbers id) a.state.numbers.filter.last read.ty read.frame) (applied_after m coming id read.frame) a
 
-  -- a frame that isn't a close stops its packet by its kind, or is taken
-  abbrev pub frame_and : Meaning t → (time : ℕ) → SpaceId → FrameValue → Option TransportError → (At t → At t) → At t → At t
-  frame_and m time id frame (Some error) others a = stopped_after time error a
-  frame_and m time id frame None others a = taken_and m time id frame others a
+  -- the frames so far, with one more, where this was the last close before it
+  abbrev pub course_with : (close : Option ConnectionError) → Behind t → Course t
+  course_with close (Goes a) = Reads close a
+  course_with close (Closes why a) = Reads (Some why) a
+  course_with close (Ends a) = Ended a
 
-  -- a close, or another frame, which stops its packet or is taken; `close` is the last close so far
-  abbrev pub read_and : Meaning t → (time : ℕ) → SpaceId → TypedValue → Option ConnectionError → (close : Option ConnectionError) → (Option ConnectionError → At t → At t) → At t → At t
-  read_and m time id read (Some why) close others a = close_and time id read.frame why others a
-  read_and m time id read None close others a = frame_and m time id read.frame (stop_in a.state.setup.fixed.side id (next_number a.state.numbers id) a.state.numbers.filter.last read.ty read.frame) (others close) a
+  -- one frame more, or bytes that are none, which stop the packet; nothing behind a frame that ended it
+  abbrev pub item_after : Meaning t → Coming → SpaceId → Item → Course t → Course t
+  item_after m coming id (Ok read) (Reads close a) = course_with close (frame_after m coming id read a)
+  item_after m coming id (Err fault) (Reads close a) = Ended (stopped_after coming.time (encoding_error_at fault.ty) a)
+  item_after m coming id item (Ended a) = Ended a
 
   -- the frames of a packet, in order, up to the first stop, or the first close of an Initial or Handshake packet
-  abbrev pub items_after : Meaning t → (time : ℕ) → SpaceId → List Item → (close : Option ConnectionError) → At t → At t
-  items_after m time id [] close a = end_after m time id close a
-  items_after m time id (Err fault ∷ items) close a = stopped_after time (encoding_error_at fault.ty) a
-  items_after m time id (Ok read ∷ items) close a = read_and m time id read (reason_of read.frame) close (items_after m time id items) a
+  abbrev pub items_after : Meaning t → Coming → SpaceId → List Item → Course t → Course t
+  items_after m coming id [] course = course
+  items_after m coming id (item ∷ items) course = items_after m coming id items (item_after m coming id item course)
+
+  -- behind the last frame, where none ended the packet: the handshake goes on, or the last close of a 1-RTT packet counts
+  abbrev pub end_after : Meaning t → Coming → SpaceId → Course t → At t
+  end_after m coming id (Reads None a) = progress_after m coming.time id a
+  end_after m coming id (Reads (Some why) a) = closed_in_data coming.time why a
+  end_after m coming id (Ended a) = a
 
   -- a payload: an empty one breaks a rule (RFC 9000, section 12.4)
-  unfoldable pub payload_after : Meaning t → (time : ℕ) → SpaceId → List ℕ → At t → At t
-  payload_after m time id [] a = stopped_after time (violation_at None) a
-  payload_after m time id (b ∷ bytes) a = items_after m time id (items_of (b ∷ bytes)) None a
+  unfoldable pub payload_after : Meaning t → Coming → SpaceId → List ℕ → At t → At t
+  payload_after m coming id [] a = stopped_after coming.time (violation_at None) a
+  payload_after m coming id (b ∷ bytes) a = end_after m coming id (items_after m coming id (items_of (b ∷ bytes)) (Reads None a))
 
   -- the first Initial packet that a client admits fixes the id that the peer chose (RFC 9000, section 7.2)
   abbrev pub fixes_peer : SpaceId → View t → Bool
-  fixes_peer Initial s = not s.paths.peer_fixed
+  fixes_peer Initial s = is_none s.paths.peer_cid
   fixes_peer Handshake s = false
   fixes_peer Data s = false
 
@@ -276,29 +299,29 @@ module _ {t : Types} where
 
   -- a packet is accepted: its number counts, it is to be acknowledged, a Handshake packet that is admitted validates the path (RFC
   -- 9000, section 8.1), and with a Handshake packet a server leaves the Initial space
-  unfoldable pub accepted_after : (time : ℕ) → SpaceId → (number : ℕ) → (eliciting : Bool) → Signs → Verdict → At t → At t
-  accepted_after time id number eliciting signs v a =
-      let b : At t = move_to (Accept time id number eliciting signs v) a in
-      initial_left Server (is_blocked b.state.paths) time id b
+  unfoldable pub accepted_after : Coming → SpaceId → (number : ℕ) → (eliciting : Bool) → (spin : Bool) → Verdict → At t → At t
+  accepted_after coming id number eliciting spin v a =
+      let b : At t = move_to (Accept coming.time id number eliciting (signs_of coming spin) v) a in
+      initial_left Server (is_blocked b.state.paths) coming.time id b
 
   -- a packet that is admitted
-  unfoldable pub admitted_after : Meaning t → (time : ℕ) → SpaceId → Signs → (source : List ℕ) → (number : ℕ) → (payload : List ℕ) → At t → At t
-  admitted_after m time id signs source number payload a =
-      payload_after m time id payload
-      (fixed_after id source (accepted_after time id number (list_any is_eliciting_item (items_of payload)) signs verdict.Admitted a))
+  unfoldable pub admitted_after : Meaning t → Coming → SpaceId → (spin : Bool) → (source : List ℕ) → (number : ℕ) → (payload : List ℕ) → At t → At t
+  admitted_after m coming id spin source number payload a =
+      payload_after m coming id payload
+      (fixed_after id source (accepted_after coming id number (list_any is_eliciting_item (items_of payload)) spin verdict.Admitted a))
 
   -- what a packet does that opened, by its verdict; it has no other one
-  abbrev pub verdict_after : Meaning t → (time : ℕ) → SpaceId → Signs → (source : List ℕ) → (number : ℕ) → (payload : List ℕ) → Verdict → At t → At t
-  verdict_after m time id signs source number payload verdict.Seen a = piece_told (Some id) (Some number) verdict.Seen a
-  verdict_after m time id signs source number payload verdict.ReadForClose a = read_for_close id number payload a
-  verdict_after m time id signs source number payload verdict.NumberOnly a = move_to (Enter id number verdict.NumberOnly) a
-  verdict_after m time id signs source number payload verdict.AckOnly a = accepted_after time id number false signs verdict.AckOnly a
-  verdict_after m time id signs source number payload verdict.Admitted a = admitted_after m time id signs source number payload a
-  verdict_after m time id signs source number payload _ a = a
+  abbrev pub verdict_after : Meaning t → Coming → SpaceId → (spin : Bool) → (source : List ℕ) → (number : ℕ) → (payload : List ℕ) → Verdict → At t → At t
+  verdict_after m coming id spin source number payload verdict.Seen a = piece_told (Some id) (Some number) verdict.Seen a
+  verdict_after m coming id spin source number payload verdict.ReadForClose a = read_for_close id number payload a
+  verdict_after m coming id spin source number payload verdict.NumberOnly a = move_to (Enter id number verdict.NumberOnly) a
+  verdict_after m coming id spin source number payload verdict.AckOnly a = accepted_after coming id number false spin verdict.AckOnly a
+  verdict_after m coming id spin source number payload verdict.Admitted a = admitted_after m coming id spin source number payload a
+  verdict_after m coming id spin source number payload _ a = a
 
-  -- a packet that opened in this space
-  unfoldable pub received_after : Meaning t → (time : ℕ) → SpaceId → Signs → (source token : List ℕ) → (number : ℕ) → (payload : List ℕ) → At t → At t
-  received_after m time id signs source token number payload a = verdict_after m time id signs source number payload (verdict_of a.state id source token number) a
+  -- a packet with this spin bit that opened in this space
+  unfoldable pub received_after : Meaning t → Coming → SpaceId → (spin : Bool) → (source token : List ℕ) → (number : ℕ) → (payload : List ℕ) → At t → At t
+  received_after m coming id spin source token number payload a = verdict_after m coming id spin source number payload (verdict_of a.state id source token number) a
 
   -- a packet didn't open, which is counted; once more did than the key of the highest space lets pass, the connection ends (RFC
   -- 9001, section 6.6)
@@ -308,28 +331,28 @@ module _ {t : Types} where
       if fails_too_often b.state.keys then killed_after (lost.TransportError key_limit_error) b else b
 
   -- a packet of a form with this space, by what came of taking its protection off
-  abbrev pub opening_after : Meaning t → (time : ℕ) → (mark : Option EcnCodepoint) → Option SpaceId → Opening → At t → At t
-  opening_after m time mark space Unreadable a = piece_told space None verdict.Ignored a
-  opening_after m time mark space Unopened a = failed_after space a
-  opening_after m time mark space (Reserved number) a = stopped_after time (violation_at None) (piece_told space (Some number) verdict.BadBits a)
-  opening_after m time mark (Some id) (Opened source token spin number payload) a = received_after m time id (record { mark = mark; spin = spin }) source token number payload a
-  opening_after m time mark None (Opened source token spin number payload) a = piece_told None None verdict.Ignored a
+  abbrev pub opening_after : Meaning t → Coming → Option SpaceId → Opening → At t → At t
+  opening_after m coming space Unreadable a = piece_told space None verdict.Ignored a
+  opening_after m coming space Unopened a = failed_after space a
+  opening_after m coming space (Reserved number) a = stopped_after coming.time (violation_at None) (piece_told space (Some number) verdict.BadBits a)
+  opening_after m coming (Some id) (Opened source token spin number payload) a = received_after m coming id spin source token number payload a
+  opening_after m coming None (Opened source token spin number payload) a = piece_told None None verdict.Ignored a
 
   -- one packet; behind one that ended the connection, or made it drain, it is ignored
-  unfoldable pub piece_after : Meaning t → (time : ℕ) → (mark : Option EcnCodepoint) → Piece → At t → At t
-  piece_after m time mark p a =
+  unfoldable pub piece_after : Meaning t → Coming → Piece → At t → At t
+  piece_after m coming p a =
       if is_over a.state.life.state then piece_told (space_of p.header) None verdict.Ignored a
-      else opening_after m time mark (space_of p.header) (opening_of m a.state p) a
+      else opening_after m coming (space_of p.header) (opening_of m a.state p) a
 
   -- the packets of a datagram, up to the first bytes that begin with none
-  abbrev pub pieces_after : Meaning t → (time : ℕ) → (mark : Option EcnCodepoint) → List DatagramItem → At t → At t
-  pieces_after m time mark [] a = a
-  pieces_after m time mark (Err fault ∷ items) a = a
-  pieces_after m time mark (Ok p ∷ items) a = pieces_after m time mark items (piece_after m time mark p a)
+  abbrev pub pieces_after : Meaning t → Coming → List DatagramItem → At t → At t
+  pieces_after m coming [] a = a
+  pieces_after m coming (Err fault ∷ items) a = a
+  pieces_after m coming (Ok p ∷ items) a = pieces_after m coming items (piece_after m coming p a)
 
   -- a datagram counts that comes from the path's address, until the connection drains
   unfoldable pub lets_in : View t → SocketAddr → Bool
-  lets_in s remote = not (is_over s.life.state) && same_address s.paths.remote remote
+  lets_in s remote = not (is_over s.life.state) && same_address s.paths.current.remote remote
 
   -- the packets of a datagram, cut with this end's version, the length of its ids, and its word on the fixed bit
   abbrev pub cut_of : View t → List ℕ → List DatagramItem
@@ -346,18 +369,18 @@ module _ {t : Types} where
       let b : At t = move_to (Hear size) a in
       if blocked && not (is_blocked b.state.paths) then armed_after time b else b
 
-  -- a datagram comes from this address: its packets count, and so do its bytes; one that begins with no packet is dropped, and
+  -- a datagram comes: its packets count, and so do its bytes, where it comes from the path's address; one that begins with no packet is dropped, and
   -- changes nothing
-  unfoldable pub heard_after : Meaning t → (time : ℕ) → (mark : Option EcnCodepoint) → SocketAddr → List ℕ → At t → At t
-  heard_after m time mark remote bytes a =
-      if is_readable a.state bytes && lets_in a.state remote
-      then counted_after time (is_blocked a.state.paths) (length bytes) (pieces_after m time mark (cut_of a.state bytes) a)
+  unfoldable pub heard_after : Meaning t → Coming → List ℕ → At t → At t
+  heard_after m coming bytes a =
+      if is_readable a.state bytes && lets_in a.state coming.remote
+      then counted_after coming.time (is_blocked a.state.paths) (length bytes) (pieces_after m coming (cut_of a.state bytes) a)
       else a
 
   -- a packet has the form and the ids of a server's first one: an Initial packet with the destination id that the server was made
   -- with, and the client's source id
   unfoldable pub has_first_ids : View t → ProtectedHeader → Bool
-  has_first_ids s header = is_initial_with s.setup.fixed.first_cid s.paths.remote_cid header
+  has_first_ids s header = is_initial_with s.setup.fixed.first_cid s.paths.current.remote_cid header
 
   -- the token of a packet that may be a server's first one: it has the form and the ids of one, it opened, and its reserved bits
   -- are 0
@@ -374,39 +397,39 @@ module _ {t : Types} where
   -- bytes (RFC 9000, section 14.1), and comes from the path's address
   unfoldable pub first_token : Meaning t → View t → SocketAddr → List ℕ → Option (List ℕ)
   first_token m s remote bytes =
-      if is_handshake s.life.state && (nat_le DATAGRAM_SIZE (length bytes) && same_address s.paths.remote remote)
+      if is_handshake s.life.state && (nat_le DATAGRAM_SIZE (length bytes) && same_address s.paths.current.remote remote)
       then token_in_items m s (cut_of s bytes)
       else None
 
   -- a datagram that may be a server's first one is heard as any other from then on; all others are dropped
-  abbrev pub first_after : Meaning t → (time : ℕ) → (mark : Option EcnCodepoint) → SocketAddr → List ℕ → Option (List ℕ) → At t → At t
-  first_after m time mark remote bytes None a = a
-  first_after m time mark remote bytes (Some token) a = heard_after m time mark remote bytes (move_to (Expect token) a)
+  abbrev pub first_after : Meaning t → Coming → List ℕ → Option (List ℕ) → At t → At t
+  first_after m coming bytes None a = a
+  first_after m coming bytes (Some token) a = heard_after m coming bytes (move_to (Expect token) a)
 
-  -- a datagram comes from this address, with this mark of ECN
-  unfoldable pub datagram_after : Meaning t → (time : ℕ) → (mark : Option EcnCodepoint) → SocketAddr → List ℕ → At t → At t
-  datagram_after m time mark remote bytes a =
-      if is_first_awaited a.state.setup then first_after m time mark remote bytes (first_token m a.state remote bytes) a else heard_after m time mark remote bytes a
+  -- a datagram comes
+  unfoldable pub datagram_after : Meaning t → Coming → List ℕ → At t → At t
+  datagram_after m coming bytes a =
+      if is_first_awaited a.state.setup then first_after m coming bytes (first_token m a.state coming.remote bytes) a else heard_after m coming bytes a
 
   -- a datagram is taken: it begins with a packet, and where a server waits for its first one, it may be that
   unfoldable pub is_taken : Meaning t → View t → SocketAddr → List ℕ → Bool
   is_taken m s remote bytes = if is_first_awaited s.setup then is_some (first_token m s remote bytes) else is_readable s bytes
 
-  -- A datagram that was cut already comes from this address, with this mark of ECN: its first packet, and the bytes behind it. Its
+  -- A datagram that was cut already comes: its first packet, and the bytes behind it. Its
   -- packets count, and all of its bytes count as received on the path.
-  unfoldable pub event_after : Meaning t → (time : ℕ) → (mark : Option EcnCodepoint) → SocketAddr → Piece → (behind : List ℕ) → At t → At t
-  event_after m time mark remote p behind a =
-      if lets_in a.state remote
-      then counted_after time (is_blocked a.state.paths) (length p.bytes + length behind) (pieces_after m time mark (cut_of a.state behind) (piece_after m time mark p a))
+  unfoldable pub event_after : Meaning t → Coming → Piece → (behind : List ℕ) → At t → At t
+  event_after m coming p behind a =
+      if lets_in a.state coming.remote
+      then counted_after coming.time (is_blocked a.state.paths) (length p.bytes + length behind) (pieces_after m coming (cut_of a.state behind) (piece_after m coming p a))
       else a
 
   -- a server's first packet, which opened with this number and payload: its token is expected from now on, and it does what a
   -- packet does that opened in the Initial space
-  unfoldable pub opened_first : Meaning t → (time : ℕ) → (mark : Option EcnCodepoint) → (source token : List ℕ) → (number : ℕ) → (payload : List ℕ) → At t → At t
-  opened_first m time mark source token number payload a =
-      received_after m time Initial (record { mark = mark; spin = false }) source token number payload (move_to (Expect token) a)
+  unfoldable pub opened_first : Meaning t → Coming → (source token : List ℕ) → (number : ℕ) → (payload : List ℕ) → At t → At t
+  opened_first m coming source token number payload a =
+      received_after m coming Initial false source token number payload (move_to (Expect token) a)
 
   -- a server's first packet, with the bytes behind it, of a datagram that has so many bytes
-  unfoldable pub first_packet_after : Meaning t → (time : ℕ) → (mark : Option EcnCodepoint) → (source token : List ℕ) → (number : ℕ) → (payload behind : List ℕ) → (size : ℕ) → At t → At t
-  first_packet_after m time mark source token number payload behind size a =
-      counted_after time (is_blocked a.state.paths) size (pieces_after m time mark (cut_of a.state behind) (opened_first m time mark source token number payload a))
+  unfoldable pub first_packet_after : Meaning t → Coming → (source token : List ℕ) → (number : ℕ) → (payload behind : List ℕ) → (size : ℕ) → At t → At t
+  first_packet_after m coming source token number payload behind size a =
+      counted_after coming.time (is_blocked a.state.paths) size (pieces_after m coming (cut_of a.state behind) (opened_first m coming source token number payload a))

@@ -9,8 +9,9 @@ use Rattle.qc_state.specs.declared.trace.Answer.{Answer}
 use Rattle.qc_state.specs.declared.trace.Answer.TheVariants.{Done, Dropped, Nothing, Out}
 use Rattle.qc_state.specs.declared.trace.Step.{Step}
 use Rattle.qc_state.specs.declared.transmit.Transmit as transmit
-use Rattle.qc_state.specs.Life.{is_open, waiting_events, endpoint_events}
-use Rattle.qc_state.specs.Moves.{Clock, Ask, Shut, ReportReady, ReportConnected, ReportLost, ReportToken, ReportWanted, ReportDrained, move_to, state_move}
+use Rattle.qc_state.specs.Life.{is_open}
+use Rattle.qc_state.specs.Moves.{Clock, Ask, Shut, ReportReady, ReportConnected, ReportLost, ReportNotices, ReportDrained, move_to, state_move}
+use Rattle.qc_state.specs.Polls.{waiting_events, endpoint_events}
 use Rattle.qc_state.specs.Receiving.{is_taken, datagram_after}
 use Rattle.qc_state.specs.Sending.{Choice, MayTransmit, transmit_after, transmit_bytes, transmit_of}
 use Rattle.qc_state.specs.Timeouts.{timeout_after}
@@ -51,9 +52,9 @@ module _ {t : Types} where
   -- what an input leaves before anything is reported: a function of the view and, for a transmit, of its choice, whose packets
   -- the deeds name
   unfoldable pub input_after : Meaning t → Input → Choice → At t → At t
-  input_after m (Datagram time remote ecn bytes) choice a = datagram_after m time ecn remote bytes a
+  input_after m (Datagram time remote ecn bytes) choice a = datagram_after m (record { time = time; remote = remote; mark = ecn }) bytes a
   input_after m (Timeout time) choice a = timeout_after m time a
-  input_after m (Transmit time max) choice a = transmit_after time choice a
+  input_after m (Transmit time max) choice a = transmit_after m time choice a
   input_after m (Close time code reason) choice a = close_after time code reason a
   input_after m (Ping time) choice a = move_to (Ask a.state.keys.highest) a
 
@@ -62,27 +63,27 @@ module _ {t : Types} where
 
   -- whatever waited to be reported was reported
   unfoldable pub reported : View t → View t
-  reported s = state_move ReportDrained (state_move ReportWanted (state_move ReportToken (state_move ReportLost (state_move ReportConnected (state_move ReportReady s)))))
+  reported s = state_move ReportDrained (state_move ReportNotices (state_move ReportLost (state_move ReportConnected (state_move ReportReady s))))
 
   -- the view after a step
   unfoldable pub step_after : Meaning t → View t → Input → Choice → View t
   step_after m s i choice = reported (called m s i choice).state
 
-  -- what an input may do
-  unfoldable pub IsAllowed : Input → Choice → View t → Type 0
-  IsAllowed (Datagram time remote ecn bytes) choice s = Unit {0}
-  IsAllowed (Timeout time) choice s = Unit {0}
-  IsAllowed (Transmit time max) choice s = MayTransmit time s choice
-  IsAllowed (Close time code reason) choice s = Unit {0}
-  IsAllowed (Ping time) choice s = Unit {0}
+  -- what an input may do, once its call has begun
+  unfoldable pub IsAllowed : Meaning t → Input → Choice → At t → Type 0
+  IsAllowed m (Datagram time remote ecn bytes) choice a = Unit {0}
+  IsAllowed m (Timeout time) choice a = Unit {0}
+  IsAllowed m (Transmit time max) choice a = MayTransmit m time choice a
+  IsAllowed m (Close time code reason) choice a = Unit {0}
+  IsAllowed m (Ping time) choice a = Unit {0}
 
   -- what an input answers
-  unfoldable pub answer_of : Meaning t → Input → Choice → View t → Answer
-  answer_of m (Datagram time remote ecn bytes) choice s = if is_taken m s remote bytes then Done else Dropped
-  answer_of m (Timeout time) choice s = Done
-  answer_of m (Transmit time max) choice s = out_of (transmit_of choice s) (transmit_bytes m choice s)
-  answer_of m (Close time code reason) choice s = Done
-  answer_of m (Ping time) choice s = Done
+  unfoldable pub answer_of : Meaning t → Input → Choice → At t → Answer
+  answer_of m (Datagram time remote ecn bytes) choice a = if is_taken m a.state remote bytes then Done else Dropped
+  answer_of m (Timeout time) choice a = Done
+  answer_of m (Transmit time max) choice a = out_of (transmit_of m time choice a) (transmit_bytes m time choice a)
+  answer_of m (Close time code reason) choice a = Done
+  answer_of m (Ping time) choice a = Done
 
   -- one step: how each group of the view changes, and what is told. A transmit has its choice, one for all that is said here; no other
   -- input reads it.
@@ -98,10 +99,10 @@ module _ {t : Types} where
     pub lower : s'.lower ≡ (step_after m s i choice).lower
     pub forward : s.timers.greatest ≤ time_of i
     pub deeds : x.did ≡ (called m s i choice).did
-    pub allowed : IsAllowed i choice (began s (time_of i)).state
-    pub answer : x.answer ≡ answer_of m i choice (began s (time_of i)).state
-    pub events : x.events ≡ waiting_events (called m s i choice).state.life
-    pub endpoint : x.endpoint ≡ endpoint_events (called m s i choice).state.life
+    pub allowed : IsAllowed m i choice (began s (time_of i))
+    pub answer : x.answer ≡ answer_of m i choice (began s (time_of i))
+    pub events : x.events ≡ waiting_events (called m s i choice).state
+    pub endpoint : x.endpoint ≡ endpoint_events (called m s i choice).state
     pub timeout : x.timeout ≡ next_timeout s'.timers
     pub place : x.at ≡ k
     pub word : x.word ≡ word_of i
@@ -123,8 +124,8 @@ module _ {t : Types} where
   pub record Calls (m : Meaning t) (s : View t) (i : Input) (b : At t) (answer : Answer) : Type 0 where
     pub choice : Choice
     pub leads : b ≡ called m s i choice
-    pub allowed : IsAllowed i choice (began s (time_of i)).state
-    pub answers : answer ≡ answer_of m i choice (began s (time_of i)).state
+    pub allowed : IsAllowed m i choice (began s (time_of i))
+    pub answers : answer ≡ answer_of m i choice (began s (time_of i))
 
   -- a run over the first inputs, as many as there are steps
   pub record Ran (m : Meaning t) (k : ℕ) (s : View t) (is : List Input) (xs : List Step) : Type 0 where

@@ -1,6 +1,7 @@
--- What a transmit may send, and what it leaves. Which of the waiting frames a packet carries is free, where no close is
--- owed; all else is a function of that choice. So far a transmit seals at most one packet, in a datagram of its own.
-use Rattle.std.specs.Prelude.{◌≡◌, ℕ, ◌+◌, ◌-◌, ◌<◌, ◌≤◌, ◌^◌, ◌==◌, ◌⊎◌, Bool, true, false, ◌||◌, ◌&&◌, not, nat_lt, nat_le, if◌then◌else◌, List, [], ◌∷◌, ◌++◌, length, replicate, Option, Some, None}
+-- What a transmit may send, and what it leaves: a list of packets, each a step of what is carried along, and an ending. Which packets
+-- there are, and which of the waiting frames each carries, is free; all else is a function of that choice. So far a transmit seals at
+-- most one packet, in a datagram of its own.
+use Rattle.std.specs.Prelude.{min, ◌≡◌, ℕ, ◌+◌, ◌-◌, ◌<◌, ◌≤◌, ◌^◌, ◌==◌, ◌⊎◌, Bool, true, false, ◌||◌, ◌&&◌, not, nat_lt, nat_le, if◌then◌else◌, List, [], ◌∷◌, ◌++◌, length, replicate, Option, Some, None}
 use Rattle.std.specs.List.{list_any}
 use Rattle.qc_base.specs.declared.ecn.EcnCodepoint.TheVariants.{Ect0}
 use Rattle.qc_base.specs.declared.side.LongType.TheVariants as long
@@ -9,6 +10,7 @@ use Rattle.qc_base.specs.declared.side.SpaceId.{SpaceId}
 use Rattle.qc_base.specs.declared.side.SpaceId.TheVariants.{Initial, Handshake, «Data»}
 use Rattle.qc_base.specs.declared.side.Side.{Side}
 use Rattle.qc_base.specs.PacketNumber.{number_of}
+use Rattle.qc_base.specs.Time.{plus}
 use Rattle.qc_frame.specs.Frame.{AckValue, FrameValue}
 use Rattle.qc_frame.specs.FrameSpelling.{elicits, frames_spelling}
 use Rattle.qc_frame.specs.declared.frames.FrameOf.TheVariants as frames
@@ -19,6 +21,7 @@ use Rattle.qc_header.specs.declared.header.Header.TheVariants as header
 use Rattle.qc_packet.specs.declared.slot.Slot.{Slot}
 use Rattle.qc_packet.specs.Building.{padded_size}
 use Rattle.qc_packet.specs.PacketSpelling.{sealed_packet, padding_len}
+use Rattle.qc_state.specs.declared.deeds.Quiet.{Quiet}
 use Rattle.qc_state.specs.declared.deeds.Quiet.TheVariants.{NothingOwed, Silent, Amplification, Killed}
 use Rattle.qc_state.specs.declared.keys.KeyUse.{KeyUse}
 use Rattle.qc_state.specs.declared.life.Close.{Close}
@@ -26,22 +29,24 @@ use Rattle.qc_state.specs.declared.life.Close.TheVariants.{Connection, Applicati
 use Rattle.qc_state.specs.declared.life.ConnectionError.{ConnectionError}
 use Rattle.qc_state.specs.declared.life.ConnectionError.TheVariants as lost
 use Rattle.qc_state.specs.declared.life.Life.{Life}
+use Rattle.qc_state.specs.declared.transmit.Batch.{Batch}
 use Rattle.qc_state.specs.declared.transmit.Transmit.{Transmit}
 use Rattle.qc_state.specs.declared.transmit.TheConstants.{DATAGRAM_SIZE}
 use Rattle.qc_state.specs.Keys.{has_keys, header_key, packet_key, phase_now, reaches_limit, usage_of}
 use Rattle.qc_state.specs.Life.{is_open, is_closed, is_drained}
 use Rattle.qc_state.specs.Acks.{AckPart, SaysAck, is_ack_owed, may_acknowledge}
+use Rattle.qc_state.specs.Allowed.{WaitAll}
 use Rattle.qc_state.specs.Draws.{bit}
 use Rattle.qc_state.specs.Flight.{counts_in_flight}
-use Rattle.qc_state.specs.Moves.{Begin, Skip, Seal, Take, Forget, Say, move_to, armed_with}
+use Rattle.qc_state.specs.Moves.{Begin, Skip, Seal, Take, Forget, Finish, Say, move_to, armed_with}
 use Rattle.qc_state.specs.Numbers.{next_number, coming_number, is_skipped, acked_number}
+use Rattle.qc_state.specs.Offers.{waits_in, wants_sending}
 use Rattle.qc_state.specs.Paths.{is_blocked}
 use Rattle.qc_state.specs.Spaces.{is_space, space_of}
 use Rattle.qc_state.specs.Setup.{behind_spin, takes_grease}
 use Rattle.qc_state.specs.Stopping.{key_limit_error, killed_after, stopped_after, violation_at}
 use Rattle.qc_state.specs.Types.{Types, Meaning}
 use Rattle.qc_state.specs.View.{View, At, at}
-use Rattle.qc_state.specs.Waiting.{waits_in, wants_sending, WaitAll, TakenPart}
 
 -- INTERNAL_ERROR (RFC 9000, section 20.1), without the type of a frame
 abbrev pub internal_error : ConnectionError
@@ -86,9 +91,71 @@ abbrev pub IsKeptReason : ℕ → (kept : List ℕ) → Option Close → Type 0
 IsKeptReason room kept (Some (Application c)) = IsLongestReason (frames.ApplicationClose (told_application_code c.error_code)) c.reason room kept
 IsKeptReason room kept _ = kept ≡ []
 
--- the choice of a transmit: the frames of the packets that it seals
-abbrev pub Choice : Type 0
-Choice = List (List FrameValue)
+-- a packet of a transmit: its space, whether a datagram begins with it, and its frames
+pub record Sent : Type 0 where
+  pub space : SpaceId
+  pub opens : Bool
+  pub frames : List FrameValue
+
+-- how a transmit ends: what it sealed goes; or it seals nothing, for this cause; or the connection ends, for this reason
+pub data Ending : Type 0 where
+  Went : Ending
+  Hushed : (quiet : Quiet) → Ending
+  Died : (why : ConnectionError) → Ending
+
+-- the choice of a transmit: the packets that it seals, one behind the other, and how it ends
+pub record Choice : Type 0 where
+  pub packets : List Sent
+  pub ending : Ending
+
+-- why a transmit seals nothing, where the connection goes on: the end came before, or no space owes anything, or the path is blocked;
+-- the first of these counts
+abbrev pub quiet_by : (silent owes blocked : Bool) → Option Quiet
+quiet_by true owes blocked = Some Silent
+quiet_by false false blocked = Some NothingOwed
+quiet_by false true true = Some Amplification
+quiet_by false true false = None
+
+-- what a transmit gives that ends so: its datagrams, where they go
+abbrev pub bytes_out : Ending → List ℕ → List ℕ
+bytes_out Went bytes = bytes
+bytes_out (Hushed quiet) bytes = []
+bytes_out (Died why) bytes = []
+
+-- and where they go
+abbrev pub sent_out : Ending → Transmit → Option Transmit
+sent_out Went sent = Some sent
+sent_out (Hushed quiet) sent = None
+sent_out (Died why) sent = None
+
+-- what is known of a transmit that begins, with a close owed or without one, on a path whose datagrams have at most so many bytes
+abbrev pub batch_begun : (closing : Bool) → (segment : ℕ) → Batch
+batch_begun closing segment = record { closing = closing; made = 0; segment = segment; capacity = 0; filled = 0; total = 0; worn = false; shook = false }
+
+-- how many bytes the next datagram may have: what the path takes, and behind the first one what that one has
+abbrev pub next_segment : Batch → ℕ
+next_segment b = if b.made == 1 then b.filled else b.segment
+
+-- a packet is begun; a datagram begins with it, or it joins one. A datagram for a probe has at most the size that others are filled up
+-- to.
+unfoldable pub batch_opened : (opens : Bool) → (probes : Bool) → Batch → Batch
+batch_opened opens probes b =
+    if opens then record b { made = plus b.made 1; segment = next_segment b; capacity = if probes then min DATAGRAM_SIZE (next_segment b) else next_segment b; filled = 0 }
+    else b
+
+-- a packet of this space and size was sealed, whose key could seal only two packets more before, or more
+unfoldable pub batch_grown : SpaceId → (size : ℕ) → (nearly : Bool) → Batch → Batch
+batch_grown id size nearly b = record b { filled = plus b.filled size; total = plus b.total size; worn = nearly; shook = b.shook || is_space id Handshake }
+
+-- how far a transmit has come: the view with the deeds so far, what is known of its datagrams, and their bytes
+pub record Going (t : Types) : Type 0 where
+  pub now : At t
+  pub batch : Batch
+  pub out : List ℕ
+
+module _ {t : Types} where
+  abbrev pub going : At t → Batch → List ℕ → Going t
+  going a b out = record { now = a; batch = b; out = out }
 
 -- how many bytes a transmit gives
 abbrev pub sent_size : Option Transmit → ℕ
@@ -119,30 +186,32 @@ module _ {t : Types} where
   unfoldable pub is_silent : View t → Bool
   is_silent s = is_drained s.life.state || (not (is_open s.life.state) && not s.waiting.close_owed)
 
-  -- a space with keys owes what waits there; while a close is owed, it owes a packet that tells it, unless it sealed one
-  -- since
-  unfoldable pub owes_in : View t → SpaceId → Bool
-  owes_in s id = has_keys s.keys id && (if s.waiting.close_owed then not (space_of s.waiting.spaces id).told else waits_in s.waiting id)
+  -- a space with keys owes what waits there; in a transmit that began with a close owed, it owes a packet that tells it, unless it
+  -- sealed one since
+  unfoldable pub owes_in : (closing : Bool) → View t → SpaceId → Bool
+  owes_in closing s id = has_keys s.keys id && (if closing then not (space_of s.waiting.spaces id).told else waits_in s id)
 
-  -- the space of the next packet: the first one that owes something
-  unfoldable pub sending_space : View t → SpaceId
-  sending_space s = if owes_in s Initial then Initial else if owes_in s Handshake then Handshake else Data
+  -- no space before this one owes anything
+  unfoldable pub is_first_in_turn : (closing : Bool) → View t → SpaceId → Bool
+  is_first_in_turn closing s Initial = true
+  is_first_in_turn closing s Handshake = not (owes_in closing s Initial)
+  is_first_in_turn closing s Data = not (owes_in closing s Initial) && not (owes_in closing s Handshake)
 
-  -- something is owed
-  unfoldable pub owes : View t → Bool
-  owes s = owes_in s (sending_space s)
+  -- some space owes something
+  unfoldable pub owes : (closing : Bool) → View t → Bool
+  owes closing s = owes_in closing s Initial || owes_in closing s Handshake || owes_in closing s Data
 
-  -- the next packet's number is past the limit
-  unfoldable pub is_used_up : View t → Bool
-  is_used_up s = is_past_limit (coming_number s.numbers (sending_space s)) (acked_number s.numbers (sending_space s))
+  -- the number of the space's next packet is past the limit
+  unfoldable pub is_used_up : View t → SpaceId → Bool
+  is_used_up s id = is_past_limit (coming_number s.numbers id) (acked_number s.numbers id)
 
-  -- the next packet's key has sealed as many packets as it may (RFC 9001, section 6.6)
-  unfoldable pub is_key_used_up : View t → Bool
-  is_key_used_up s = reaches_limit 0 (usage_of s.keys (sending_space s))
+  -- its key has sealed as many packets as it may (RFC 9001, section 6.6)
+  unfoldable pub is_key_used_up : View t → SpaceId → Bool
+  is_key_used_up s id = reaches_limit 0 (usage_of s.keys id)
 
   -- so it will have with two packets more
-  unfoldable pub is_key_nearly_used_up : View t → Bool
-  is_key_nearly_used_up s = reaches_limit 2 (usage_of s.keys (sending_space s))
+  unfoldable pub is_key_nearly_used_up : View t → SpaceId → Bool
+  is_key_nearly_used_up s id = reaches_limit 2 (usage_of s.keys id)
 
   -- the spin bit of the next 1-RTT packet: the path's where this connection spins, else it is drawn (RFC 9000, section 17.4)
   unfoldable pub spin_now : View t → Bool
@@ -156,30 +225,45 @@ module _ {t : Types} where
   -- key phase of its keys' epoch
   abbrev pub header_in : View t → SpaceId → Header
   header_in s Initial = header.Initial (record {
-    dst_cid = s.paths.remote_cid;
+    dst_cid = s.paths.current.remote_cid;
     src_cid = s.setup.fixed.local_cid;
     token = s.setup.initial_token;
     number = number_of (next_number s.numbers Initial) (acked_number s.numbers Initial);
     version = s.setup.fixed.version;
   })
-  header_in s Handshake = header.Long long.Handshake s.paths.remote_cid s.setup.fixed.local_cid (number_of (next_number s.numbers Handshake) (acked_number s.numbers Handshake)) s.setup.fixed.version
-  header_in s Data = header.Short (spin_now s) (phase_now s.keys) s.paths.remote_cid (number_of (next_number s.numbers Data) (acked_number s.numbers Data))
+  header_in s Handshake = header.Long long.Handshake s.paths.current.remote_cid s.setup.fixed.local_cid (number_of (next_number s.numbers Handshake) (acked_number s.numbers Handshake)) s.setup.fixed.version
+  header_in s Data = header.Short (spin_now s) (phase_now s.keys) s.paths.current.remote_cid (number_of (next_number s.numbers Data) (acked_number s.numbers Data))
 
   -- what the builder is given of the next packet in a space: its number and how far its key is used, where the space has keys
   abbrev pub slot_with : View t → SpaceId → KeyUse → Slot
   slot_with s id usage = record { space = id; number = next_number s.numbers id; largest_acked = acked_number s.numbers id; sealed = usage.sealed; limit = usage.limit; flip = flips_now s id }
 
-  -- how much room for frames a datagram has behind the header of such a packet, and before its tag of 16 bytes
-  unfoldable pub frame_room : View t → SpaceId → ℕ
-  frame_room s id = DATAGRAM_SIZE - 16 - length (header_spelling (header_in s id) 0)
+  -- how much room for frames a packet of this space has where so many bytes are left in its datagram: behind its header, and before
+  -- its tag of 16 bytes
+  unfoldable pub room_of : (left : ℕ) → View t → SpaceId → ℕ
+  room_of left s id = left - 16 - length (header_spelling (header_in s id) 0)
 
-  -- the token of the next packet, an Initial one, leaves no room for the greatest close without a reason, which has 25 bytes
-  unfoldable pub is_token_too_long : View t → Bool
-  is_token_too_long s = is_space (sending_space s) Initial && nat_lt (frame_room s Initial) 25
+  -- how much it has in the open datagram of a batch
+  unfoldable pub room_in : Batch → View t → SpaceId → ℕ
+  room_in b s id = room_of (b.capacity - b.filled) s id
 
-  -- nothing may be sealed: the end came before, nothing is owed, the path is blocked, or a limit stands
-  unfoldable pub may_be_quiet : View t → Bool
-  may_be_quiet s = is_silent s || not (owes s) || is_blocked s.paths || is_key_used_up s || is_used_up s || is_token_too_long s
+  -- the token of an Initial packet leaves no room for the greatest close without a reason, which has 25 bytes, in a datagram of the
+  -- size that it fills
+  unfoldable pub is_token_too_long : View t → SpaceId → Bool
+  is_token_too_long s id = is_space id Initial && nat_lt (room_of DATAGRAM_SIZE s Initial) 25
+
+  -- why the connection ends as a packet of this space is about to begin: its key has sealed as many packets as it may, or the packet
+  -- numbers are used up, or its token leaves no room for frames; none, where it may begin
+  unfoldable pub kill_in : View t → SpaceId → Option ConnectionError
+  kill_in s id =
+      if is_key_used_up s id then Some (lost.TransportError key_limit_error)
+      else if is_used_up s id then Some internal_error
+      else if is_token_too_long s id then Some (lost.TransportError (violation_at None))
+      else None
+
+  -- why a transmit seals nothing with this view, where the connection goes on
+  unfoldable pub quiet_of : (closing : Bool) → View t → Option Quiet
+  quiet_of closing s = quiet_by (is_silent s) (owes closing s) (is_blocked s.paths)
 
   -- how many bytes a packet of this space with these frames has
   unfoldable pub packet_size : View t → SpaceId → List FrameValue → ℕ
@@ -208,54 +292,61 @@ module _ {t : Types} where
   packet_bytes m s id fs = sealed_with m (header_key s.keys id) (packet_key s.keys id) (flips_now s id) (header_in s id) (next_number s.numbers id) (frames_spelling fs)
 
   -- an ACK, if there is something to acknowledge and it leaves 25 bytes, and the close with the reason that fits behind it
-  pub data Closes (time : ℕ) (s : View t) (id : SpaceId) (fs : List FrameValue) : Type 0 where
-    closing : (acks : List FrameValue) → AckPart time (space_of s.waiting.spaces id) (frame_room s id - 25) acks (may_acknowledge (space_of s.waiting.spaces id).acks) →
-        (kept : List ℕ) → IsKeptReason (frame_room s id - length (frames_spelling acks)) kept s.life.close → fs ≡ acks ++ closing_frame id kept s.life ∷ [] → Closes time s id fs
-
-  -- the frames that this end takes at a time for a packet of this space with so much room: where a close is owed, it alone, else
-  -- frames that wait
-  pub data TakenNow (time : ℕ) (s : View t) (id : SpaceId) (room : ℕ) (fs : List FrameValue) : Type 0 where
-    a_close : s.waiting.close_owed ≡ true → Closes time s id fs → TakenNow time s id room fs
-    what_waits : s.waiting.close_owed ≡ false → TakenPart time s.waiting.bundled (space_of s.waiting.spaces id) room fs → TakenNow time s id room fs
+  pub data Closes (time : ℕ) (s : View t) (id : SpaceId) (room : ℕ) (fs : List FrameValue) : Type 0 where
+    closing : (acks : List FrameValue) → AckPart time (space_of s.waiting.spaces id) (room - 25) acks (may_acknowledge (space_of s.waiting.spaces id).acks) →
+        (kept : List ℕ) → IsKeptReason (room - length (frames_spelling acks)) kept s.life.close → fs ≡ acks ++ closing_frame id kept s.life ∷ [] → Closes time s id room fs
 
   -- an ACK is all that is owed in a space, and has more bytes than there is room for behind the header, with its token
-  pub record LacksAckRoom (time : ℕ) (s : View t) (id : SpaceId) : Type 0 where
+  pub record LacksAckRoom (time : ℕ) (s : View t) (id : SpaceId) (room : ℕ) : Type 0 where
     pub owed : is_ack_owed (space_of s.waiting.spaces id).acks ≡ true
-    pub alone : wants_sending (space_of s.waiting.spaces id) ≡ false
+    pub alone : wants_sending s id ≡ false
     pub ack : AckValue
     pub says : SaysAck time (space_of s.waiting.spaces id) ack
-    pub long : frame_room s id < length (frames_spelling (frames.Ack ack ∷ []))
+    pub long : room < length (frames_spelling (frames.Ack ack ∷ []))
 
-  -- the frames of a packet of this space at a time, with the PADDING that it needs and no more: where a close is owed, it alone;
-  -- else each waits as its turn comes, and there is one, unless only an ACK is owed that has no room
-  pub data Carries (time : ℕ) (s : View t) (id : SpaceId) (fs : List FrameValue) : Type 0 where
-    a_close : s.waiting.close_owed ≡ true → (gs : List FrameValue) → Closes time s id gs → fs ≡ padded s id gs → Carries time s id fs
-    what_waits : s.waiting.close_owed ≡ false → (gs : List FrameValue) → WaitAll time s.waiting.bundled (space_of s.waiting.spaces id) gs →
-        (0 < length gs) ⊎ LacksAckRoom time s id → fs ≡ padded s id gs → Carries time s id fs
+  -- the frames of a packet of this space with so much room at a time, and the PADDING that it needs and no more: in a transmit that began with a close
+  -- owed, the close alone; else each waits as its turn comes, and there is one, unless only an ACK is owed that has no room
+  pub data Carries (closing : Bool) (time : ℕ) (s : View t) (id : SpaceId) (room : ℕ) (fs : List FrameValue) : Type 0 where
+    a_close : closing ≡ true → (gs : List FrameValue) → Closes time s id room gs → fs ≡ padded s id gs → Carries closing time s id room fs
+    what_waits : closing ≡ false → (gs : List FrameValue) → WaitAll time s id gs →
+        (0 < length gs) ⊎ LacksAckRoom time s id room → fs ≡ padded s id gs → Carries closing time s id room fs
 
   -- the number that would be next in a space is skipped, where it is to be
   unfoldable pub skipped_after : SpaceId → At t → At t
   skipped_after id a = if is_skipped a.state.numbers id then move_to Skip a else a
 
-  -- a datagram is begun for the next packet, which has its number from now on
-  unfoldable pub begun_after : SpaceId → At t → At t
-  begun_after id a = skipped_after id (move_to (Begin id) a)
+  -- a packet is begun, which has the space's next number from now on; a datagram begins with it, or it joins one
+  unfoldable pub begun_after : SpaceId → (opens : Bool) → At t → At t
+  begun_after id opens a = skipped_after id (move_to (Begin id opens) a)
 
-  -- the view once a datagram is begun for the next packet
-  unfoldable pub begun_view : View t → View t
-  begun_view s = (begun_after (sending_space s) (at s [])).state
+  -- the view once it is begun
+  unfoldable pub begun_view : View t → SpaceId → (opens : Bool) → View t
+  begun_view s id opens = (begun_after id opens (at s [])).state
 
-  -- a packet with these frames may be sealed at a time: something is owed, the path isn't blocked, no limit stands, and it carries
-  -- what it may
-  pub record MaySeal (time : ℕ) (s : View t) (fs : List FrameValue) : Type 0 where
-    pub alive : is_silent s ≡ false
-    pub owed : owes s ≡ true
+  -- what is known of the datagrams then
+  unfoldable pub begun_batch : View t → SpaceId → (opens : Bool) → Batch → Batch
+  begun_batch s id opens b = batch_opened opens (not ((space_of s.waiting.spaces id).probes == 0)) b
+
+  -- it is the turn of this space: the connection has not ended, and is open, but in a transmit that began with a close owed; the space
+  -- owes something, and none before it does
+  pub record HasTurn (closing : Bool) (s : View t) (id : SpaceId) : Type 0 where
+    pub alive : is_drained s.life.state ≡ false
+    pub unclosed : closing ≡ false → is_open s.life.state ≡ true
+    pub owed : owes_in closing s id ≡ true
+    pub first : is_first_in_turn closing s id ≡ true
+
+  -- a packet of this space may be begun: it is the turn of the space, the path isn't blocked, and no limit stands
+  pub record MayBegin (closing : Bool) (s : View t) (id : SpaceId) : Type 0 where
+    pub turn : HasTurn closing s id
     pub free : is_blocked s.paths ≡ false
-    pub fresh : is_key_used_up s ≡ false
-    pub spelled : is_used_up s ≡ false
-    pub roomy : is_token_too_long s ≡ false
-    pub carries : Carries time (begun_view s) (sending_space s) fs
-    pub fits : packet_size (begun_view s) (sending_space s) fs ≤ DATAGRAM_SIZE
+    pub fresh : kill_in s id ≡ None
+
+  -- the connection ends for this reason: it is the turn of a space on a path that isn't blocked, and its packet can't be begun
+  pub record Dies (closing : Bool) (s : View t) (why : ConnectionError) : Type 0 where
+    pub space : SpaceId
+    pub turn : HasTurn closing s space
+    pub free : is_blocked s.paths ≡ false
+    pub kill : kill_in s space ≡ Some why
 
   -- such an end drops the keys of its Initial space, if it has them still
   unfoldable pub drops_initial : Side → View t → SpaceId → Bool
@@ -274,87 +365,114 @@ module _ {t : Types} where
   abbrev pub flown_after : (time : ℕ) → Bool → At t → At t
   flown_after time counts a = if counts then armed_with false time a else a
 
-  -- a packet of this space is sealed: its frames wait no longer, and its number is used
+  -- a packet of this space is taken and sealed: its frames wait no longer, and its number is used
   unfoldable pub sealed_in : ℕ → SpaceId → List FrameValue → At t → At t
-  sealed_in time id fs a =
-      initial_left Client false time id
-      (flown_after time (is_flown a.state fs) (move_to (Seal time id (next_number a.state.numbers id) (packet_size a.state id fs) fs) (move_to (Take id fs) a)))
+  sealed_in time id fs a = flown_after time (is_flown a.state fs) (move_to (Seal time id (next_number a.state.numbers id) (packet_size a.state id fs) fs) (move_to (Take id fs) a))
 
-  -- where its key could seal only two packets more before, and one now, this end closes, so that the close can be that one (RFC
-  -- 9001, section 6.6)
+  -- a packet is begun, taken and sealed: the steps in their order
+  unfoldable pub packet_after : Meaning t → ℕ → Sent → Going t → Going t
+  packet_after m time p g =
+      let begun : At t = begun_after p.space p.opens g.now in
+      going (sealed_in time p.space p.frames begun)
+      (batch_grown p.space (packet_size begun.state p.space p.frames) (is_key_nearly_used_up g.now.state p.space) (begun_batch g.now.state p.space p.opens g.batch))
+      (g.out ++ packet_bytes m begun.state p.space p.frames)
+
+  -- packets, one behind the other
+  abbrev pub packets_after : Meaning t → ℕ → List Sent → Going t → Going t
+  packets_after m time [] g = g
+  packets_after m time (p ∷ ps) g = packets_after m time ps (packet_after m time p g)
+
+  -- a packet may follow at a time, by the view and the batch before it: it may be begun, and carries what it may, in a datagram of
+  -- which it takes no more than there is, and which UDP can carry. So far a transmit seals one packet, in a datagram of its own.
+  pub record MayFollow (time : ℕ) (s : View t) (b : Batch) (p : Sent) : Type 0 where
+    pub alone : b.made ≡ 0
+    pub opens : p.opens ≡ true
+    pub begins : MayBegin b.closing s p.space
+    pub sized : (begun_batch s p.space p.opens b).capacity ≤ 65527
+    pub carries : Carries b.closing time (begun_view s p.space p.opens) p.space (room_in (begun_batch s p.space p.opens b) (begun_view s p.space p.opens) p.space) p.frames
+    pub fits : (begun_batch s p.space p.opens b).filled + packet_size (begun_view s p.space p.opens) p.space p.frames ≤ (begun_batch s p.space p.opens b).capacity
+
+  -- each of these packets may follow those before it
+  abbrev pub MayAll : Meaning t → ℕ → Going t → List Sent → Type 0
+  MayAll m time g [] = Unit {0}
+  MayAll m time g (p ∷ ps) = MayFollow time g.now.state g.batch p × MayAll m time (packet_after m time p g) ps
+
+  -- how a transmit may end, by the view and the batch behind its packets: with datagrams; or without one, for the cause that there is,
+  -- or as a packet was to begin that can't
+  abbrev pub MayEnd : Ending → View t → Batch → Type 0
+  MayEnd Went s b = 0 < b.made
+  MayEnd (Hushed quiet) s b = (b.made ≡ 0) × (quiet_of b.closing s ≡ Some quiet)
+  MayEnd (Died why) s b = (b.made ≡ 0) × Dies b.closing s why
+
+  -- a client that sealed a Handshake packet leaves the Initial space
+  abbrev pub handshake_left : ℕ → (shook : Bool) → At t → At t
+  handshake_left time shook a = if shook then initial_left Client false time Handshake a else a
+
+  -- where the key of the last packet could seal only two packets more before it, and one now, this end closes, so that the close can
+  -- be that one (RFC 9001, section 6.6)
   unfoldable pub spared_after : (time : ℕ) → (nearly : Bool) → At t → At t
   spared_after time nearly a = if nearly then stopped_after time key_limit_error a else a
 
-  -- a datagram is begun for the next packet, which is sealed
-  unfoldable pub packet_after : ℕ → List FrameValue → At t → At t
-  packet_after time fs a =
-      spared_after time (is_key_nearly_used_up a.state) (sealed_in time (sending_space a.state) fs (begun_after (sending_space a.state) a))
+  -- what a transmit does once, behind its packets; then its bytes go to the path's address
+  unfoldable pub finished_after : ℕ → Batch → At t → At t
+  finished_after time b a = move_to (Finish b.total) (spared_after time b.worn (handshake_left time b.shook a))
 
-  -- why the connection ends where something is owed and the path is free: its key has sealed as many packets as it may, or the packet
-  -- numbers are used up, or else its token leaves no room for frames
-  unfoldable pub limit_met : View t → ConnectionError
-  limit_met s =
-      if is_key_used_up s then lost.TransportError key_limit_error
-      else if is_used_up s then internal_error
-      else lost.TransportError (violation_at None)
+  -- how a transmit ends: where the connection ends, nothing goes
+  unfoldable pub ending_after : ℕ → Ending → Batch → At t → At t
+  ending_after time Went b a = finished_after time b a
+  ending_after time (Hushed quiet) b a = move_to (Say quiet) a
+  ending_after time (Died why) b a = move_to (Say Killed) (killed_after why a)
 
-  -- nothing is sealed of what is owed: because the path is blocked, or because of a limit, which is now the end
-  unfoldable pub owed_quiet_after : At t → At t
-  owed_quiet_after a = if is_blocked a.state.paths then move_to (Say Amplification) a else move_to (Say Killed) (killed_after (limit_met a.state) a)
+  -- how many bytes a datagram to the path may have: so far 1200 on every path (RFC 9000, section 14)
+  abbrev pub path_size : View t → ℕ
+  path_size s = DATAGRAM_SIZE
 
-  -- nothing is sealed: because the end came before, or the path is blocked, or because of a limit, which is now the end, or
-  -- because nothing was owed
-  unfoldable pub quiet_after : At t → At t
-  quiet_after a =
-      if is_silent a.state then move_to (Say Silent) a
-      else if owes a.state then owed_quiet_after a
-      else move_to (Say NothingOwed) a
+  -- a transmit begins
+  abbrev pub going_from : At t → Going t
+  going_from a = going a (batch_begun a.state.waiting.close_owed (path_size a.state)) []
 
-  -- what a transmit leaves that seals these packets
-  unfoldable pub transmit_after : ℕ → Choice → At t → At t
-  transmit_after time [] a = quiet_after a
-  transmit_after time (fs ∷ _) a = packet_after time fs a
+  -- what its packets leave
+  unfoldable pub gone_after : Meaning t → ℕ → Choice → At t → Going t
+  gone_after m time choice a = packets_after m time choice.packets (going_from a)
 
-  -- which packets a transmit may seal: one with something owed, and none only where the end came before, nothing is owed, the path
-  -- is blocked, or a limit stands
-  unfoldable pub MayTransmit : ℕ → View t → Choice → Type 0
-  MayTransmit time s [] = may_be_quiet s ≡ true
-  MayTransmit time s (fs ∷ []) = MaySeal time s fs
-  MayTransmit time s _ = ⊥
+  -- what a transmit leaves with this choice
+  unfoldable pub transmit_after : Meaning t → ℕ → Choice → At t → At t
+  transmit_after m time choice a = ending_after time choice.ending (gone_after m time choice a).batch (gone_after m time choice a).now
 
-  -- the bytes of the datagrams
-  unfoldable pub transmit_bytes : Meaning t → Choice → View t → List ℕ
-  transmit_bytes m [] s = []
-  transmit_bytes m (fs ∷ _) s = packet_bytes m (begun_view s) (sending_space s) fs
+  -- which choice it may have
+  unfoldable pub MayTransmit : Meaning t → ℕ → Choice → At t → Type 0
+  MayTransmit m time choice a =
+      MayAll m time (going_from a) choice.packets × MayEnd choice.ending (gone_after m time choice a).now.state (gone_after m time choice a).batch
+
+  -- the bytes of its datagrams
+  unfoldable pub transmit_bytes : Meaning t → ℕ → Choice → At t → List ℕ
+  transmit_bytes m time choice a = bytes_out choice.ending (gone_after m time choice a).out
 
   -- where a datagram of this size goes, and how
   unfoldable pub transmit_with : View t → ℕ → Transmit
   transmit_with s size = record {
-    destination = s.paths.remote;
+    destination = s.paths.current.remote;
     ecn = if s.lower.path.sending_ecn then Some Ect0 else None;
     size = size;
     segment_size = None;
     src_ip = s.setup.fixed.local_ip;
   }
 
-  -- where the datagrams go, and how; none where nothing was sealed
-  unfoldable pub transmit_of : Choice → View t → Option Transmit
-  transmit_of [] s = None
-  transmit_of (fs ∷ _) s = Some (transmit_with s (packet_size (begun_view s) (sending_space s) fs))
+  -- where they go, and how; none where there are none
+  unfoldable pub transmit_of : Meaning t → ℕ → Choice → At t → Option Transmit
+  transmit_of m time choice a = sent_out choice.ending (transmit_with a.state (gone_after m time choice a).batch.total)
 
-  -- a packet was sealed into an empty buffer, with frames of its choice, and has a datagram of its own
-  pub record SealsOne (m : Meaning t) (time : ℕ) (a b : At t) (buffer : List ℕ) : Type 0 where
-    pub frames : List FrameValue
-    pub may : MaySeal time a.state frames
-    pub leads : b ≡ packet_after time frames a
-    pub bytes : buffer ≡ packet_bytes m (begun_view a.state) (sending_space a.state) frames
-    pub full : length buffer ≡ packet_size (begun_view a.state) (sending_space a.state) frames
+  -- a packet was sealed: what it leaves is what a packet does that may follow
+  pub record SendsOne (m : Meaning t) (time : ℕ) (g h : Going t) : Type 0 where
+    pub packet : Sent
+    pub may : MayFollow time g.now.state g.batch packet
+    pub leads : h ≡ packet_after m time packet g
 
   -- a transmit into an empty buffer
   pub record Transmits (m : Meaning t) (time : ℕ) (a b : At t) (sent : Option Transmit) (buffer : List ℕ) : Type 0 where
     pub choice : Choice
-    pub may : MayTransmit time a.state choice
-    pub leads : b ≡ transmit_after time choice a
-    pub answer : sent ≡ transmit_of choice a.state
-    pub bytes : buffer ≡ transmit_bytes m choice a.state
+    pub may : MayTransmit m time choice a
+    pub leads : b ≡ transmit_after m time choice a
+    pub answer : sent ≡ transmit_of m time choice a
+    pub bytes : buffer ≡ transmit_bytes m time choice a
     pub full : length buffer ≡ sent_size sent

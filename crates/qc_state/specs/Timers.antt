@@ -1,7 +1,25 @@
--- The timers of a connection (RFC 9000, section 10.1; RFC 9002, section 6.2). Times are nanoseconds.
+-- The timers of a connection (RFC 9000, sections 5.1.1, 8.2.4, 10.1, 10.2 and 13.2.1; RFC 9001, section 6.5; RFC 9002, sections
+-- 6.2 and 7.7). Times are nanoseconds.
 use Rattle.std.specs.Prelude.{ℕ, Bool, max, true, false, nat_le, if◌then◌else◌, Option, Some, None}
 use Rattle.qc_base.specs.Time.{plus, times}
 use Rattle.qc_state.specs.declared.timers.Timers.{Timers}
+
+-- the timers of a connection that begins at this time: none is set, and the first packet that is sealed and elicits an
+-- acknowledgement sets the idle timer
+abbrev pub no_timers : (time : ℕ) → Timers
+no_timers time = record {
+  loss_detection = None;
+  idle = None;
+  close = None;
+  key_discard = None;
+  path_validation = None;
+  keep_alive = None;
+  pacing = None;
+  push_new_cid = None;
+  max_ack_delay = None;
+  sets_idle = true;
+  greatest = time;
+}
 
 -- whether a timer has come at this time: it is set, to this time or an earlier one
 abbrev pub has_come : Option ℕ → (time : ℕ) → Bool
@@ -58,17 +76,41 @@ timers_released v = record v { max_ack_delay = None }
 
 -- every timer is stopped
 unfoldable pub timers_stopped : Timers → Timers
-timers_stopped v = record v { loss_detection = None; idle = None; close = None; pacing = None; max_ack_delay = None }
+timers_stopped v = record v {
+  loss_detection = None;
+  idle = None;
+  close = None;
+  key_discard = None;
+  path_validation = None;
+  keep_alive = None;
+  pacing = None;
+  push_new_cid = None;
+  max_ack_delay = None;
+}
 
 -- the connection closes at this time: every timer is stopped, and the close lasts for three probe timeouts (RFC 9000,
 -- section 10.2)
 unfoldable pub timers_closing : Timers → (probe time : ℕ) → Timers
-timers_closing v probe time = record v { loss_detection = None; idle = None; close = Some (plus time (times probe 3)); pacing = None; max_ack_delay = None }
+timers_closing v probe time = record v {
+  loss_detection = None;
+  idle = None;
+  close = Some (plus time (times probe 3));
+  key_discard = None;
+  path_validation = None;
+  keep_alive = None;
+  pacing = None;
+  push_new_cid = None;
+  max_ack_delay = None;
+}
 
 -- the connection is told a time: the greatest one never falls
 unfoldable pub clock_set : Timers → ℕ → Timers
 clock_set v time = record v { greatest = max v.greatest time }
 
--- the least time that is set
+-- the least time of the nine that is set
 unfoldable pub next_timeout : Timers → Option ℕ
-next_timeout v = least (least (least (least v.loss_detection v.idle) v.close) v.pacing) v.max_ack_delay
+next_timeout v =
+    let life : Option ℕ = least (least v.loss_detection v.idle) v.close in
+    let upkeep : Option ℕ = least (least v.key_discard v.path_validation) v.keep_alive in
+    let sending : Option ℕ = least (least v.pacing v.push_new_cid) v.max_ack_delay in
+    least (least life upkeep) sending

@@ -4,6 +4,7 @@ use Rattle.std.specs.Prelude.{ℕ, ◌&&◌, ◌||◌, not, nat_eq, Bool, false,
 use Rattle.std.specs.Cmp.Lexicographic.{pointwise}
 use Rattle.qc_base.specs.declared.side.SpaceId.{SpaceId}
 use Rattle.qc_base.specs.declared.side.SpaceId.TheVariants as space
+use Rattle.qc_state.specs.Paths.{is_other_source}
 use Rattle.qc_state.specs.Spaces.{is_space}
 use Rattle.qc_state.specs.declared.deeds.Verdict.{Verdict}
 use Rattle.qc_state.specs.declared.deeds.Verdict.TheVariants.{Seen, ReadForClose, NumberOnly, AckOnly, Admitted}
@@ -33,7 +34,7 @@ module _ {t : Types} where
       (not (is_new_in s.numbers id number), Seen)
       ∷ (is_closed s.life.state, ReadForClose)
       ∷ (is_handshake s.life.state && (is_space id space.Data || is_other_token id s.setup.token token), NumberOnly)
-      ∷ (is_handshake s.life.state && (s.paths.peer_fixed && not (pointwise nat_eq source s.paths.remote_cid)), AckOnly)
+      ∷ (is_handshake s.life.state && is_other_source s.paths.peer_cid source, AckOnly)
       ∷ []
 
   -- the verdict on the packet

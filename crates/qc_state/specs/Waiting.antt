@@ -1,16 +1,15 @@
--- The frames that wait to be sealed, and what becomes of them.
-use Rattle.std.specs.Prelude.{◌≡◌, ℕ, ◌+◌, ◌-◌, ◌<◌, ◌≤◌, ◌^◌, nat_lt, Bool, true, false, ◌⊎◌, ◌||◌, ◌&&◌, not, ◌==◌, if◌then◌else◌, List, [], ◌∷◌, ◌++◌, length, drop, Option, None, Some, option_map}
+-- The frames that wait to be sealed in the waiting group itself, and what becomes of them. Of each kind of frame a table says what it
+-- makes here: a frame that a layer below offers makes nothing.
+use Rattle.std.specs.Prelude.{◌≡◌, ℕ, ◌+◌, ◌-◌, ◌<◌, ◌≤◌, ◌^◌, nat_lt, Bool, true, false, ◌||◌, ◌&&◌, not, ◌==◌, if◌then◌else◌, List, [], ◌∷◌, ◌++◌, length, drop, Option, None, Some, option_map}
 use Rattle.std.specs.List.{list_any}
 use Rattle.qc_base.specs.declared.ecn.EcnCodepoint.{EcnCodepoint}
 use Rattle.qc_base.specs.declared.side.SpaceId.{SpaceId}
 use Rattle.qc_base.specs.declared.side.SpaceId.TheVariants.{«Data»}
 use Rattle.qc_frame.specs.Frame.{FrameValue}
-use Rattle.qc_frame.specs.FrameSpelling.{frames_spelling}
 use Rattle.qc_frame.specs.declared.frames.EcnCounts.{EcnCounts}
 use Rattle.qc_frame.specs.declared.frames.FrameOf.TheVariants as frames
 use Rattle.qc_base.specs.Time.{plus}
 use Rattle.qc_flight.specs.Packets.{Entry}
-use Rattle.qc_flight.specs.declared.sent.SentPacket.{SentPacket}
 use Rattle.qc_path.specs.Acks.{acks_confirmed, acks_received, marks_expired, sets_delay}
 use Rattle.qc_path.specs.Arrived.{Window}
 use Rattle.qc_path.specs.declared.pending_acks.Arrival.{Arrival}
@@ -19,27 +18,18 @@ use Rattle.qc_recovery.specs.declared.calls.Fired.TheVariants as fired
 use Rattle.qc_send_stream.specs.Buffer.{Buffer, bytes_written, discarded, from_lost, has_bytes, range_lost, range_sealed, row, waiting}
 use Rattle.qc_space.specs.Spaces.{marked}
 use Rattle.qc_state.specs.declared.spaces.Spaces.{Spaces}
-use Rattle.qc_state.specs.declared.waiting.TheConstants.{CRYPTO_HEAD}
 use Rattle.qc_state.specs.declared.waiting.Waiting.{Waiting}
 use Rattle.qc_state.specs.declared.waiting.SpaceWaiting.{SpaceWaiting}
-use Rattle.qc_state.specs.Acks.{AckPart, SaysAck, ack_sent, is_ack, is_ack_first, is_ack_given, is_ack_last, is_ack_owed}
+use Rattle.qc_state.specs.Acks.{ack_sent, is_ack}
 use Rattle.qc_state.specs.Spaces.{is_space, space_of, with_space}
 
 -- bytes of the space's CRYPTO stream wait: lost ones or fresh ones
 abbrev pub crypto_waits : SpaceWaiting → Bool
 crypto_waits w = has_bytes (waiting w.crypto)
 
--- a frame waits that elicits an acknowledgement
-abbrev pub wants_sending : SpaceWaiting → Bool
-wants_sending w = w.done || w.ping || crypto_waits w
-
--- something waits: such a frame, an ACK that is owed, or a probe that is due
-abbrev pub waits_here : SpaceWaiting → Bool
-waits_here w = w.done || w.ping || is_ack_owed w.acks || crypto_waits w || not (w.probes == 0)
-
--- something waits in the space
-unfoldable pub waits_in : Waiting → SpaceId → Bool
-waits_in v id = waits_here (space_of v.spaces id)
+-- a frame waits here that elicits an acknowledgement
+abbrev pub wants_here : SpaceWaiting → Bool
+wants_here w = w.done || w.ping || crypto_waits w
 
 -- a PING waits from now on
 unfoldable pub ping_asked : Waiting → SpaceId → Waiting
@@ -49,11 +39,30 @@ ping_asked v id = record v { spaces = with_space v.spaces id (record (space_of v
 unfoldable pub done_asked : Waiting → Waiting
 done_asked v = record v { spaces = with_space v.spaces «Data» (record (space_of v.spaces «Data») { done = true }) }
 
--- a frame of a packet that is lost waits again: a HANDSHAKE_DONE, and the bytes of a CRYPTO frame
+-- a frame of a packet that is lost waits again, where it waits here: a HANDSHAKE_DONE, and the bytes of a CRYPTO frame
 abbrev pub again : SpaceWaiting → FrameValue → SpaceWaiting
 again w frames.HandshakeDone = record w { done = true }
 again w (frames.Crypto offset body) = record w { crypto = range_lost offset (offset + length body) w.crypto }
-again w _ = w
+again w frames.Padding = w
+again w frames.Ping = w
+again w (frames.Ack ack) = w
+again w (frames.ResetStream id code size) = w
+again w (frames.StopSending id code) = w
+again w (frames.NewToken token) = w
+again w (frames.Stream id offset fin body) = w
+again w (frames.MaxData limit) = w
+again w (frames.MaxStreamData id limit) = w
+again w (frames.MaxStreams dir limit) = w
+again w (frames.DataBlocked limit) = w
+again w (frames.StreamDataBlocked id limit) = w
+again w (frames.StreamsBlocked dir limit) = w
+again w (frames.NewConnectionId cid) = w
+again w (frames.RetireConnectionId sequence) = w
+again w (frames.PathChallenge bits) = w
+again w (frames.PathResponse bits) = w
+again w (frames.ConnectionClose code type reason) = w
+again w (frames.ApplicationClose code reason) = w
+again w (frames.Datagram body) = w
 
 -- so these frames do
 abbrev pub all_again : SpaceWaiting → List FrameValue → SpaceWaiting
@@ -65,10 +74,31 @@ abbrev pub lost_in : SpaceWaiting → List Entry → SpaceWaiting
 lost_in w [] = w
 lost_in w (e ∷ es) = lost_in (all_again w e.1.frames) es
 
--- a frame was acknowledged: the numbers of an ACK needn't be acknowledged again (RFC 9000, section 13.2.4)
+-- a frame was acknowledged: the numbers of an ACK needn't be acknowledged again (RFC 9000, section 13.2.4); the others leave nothing
+-- more to do here
 abbrev pub confirmed : SpaceWaiting → FrameValue → SpaceWaiting
 confirmed w (frames.Ack ack) = record w { acks = acks_confirmed ack.largest w.acks }
-confirmed w _ = w
+confirmed w frames.Padding = w
+confirmed w frames.Ping = w
+confirmed w (frames.ResetStream id code size) = w
+confirmed w (frames.StopSending id code) = w
+confirmed w (frames.Crypto offset body) = w
+confirmed w (frames.NewToken token) = w
+confirmed w (frames.Stream id offset fin body) = w
+confirmed w (frames.MaxData limit) = w
+confirmed w (frames.MaxStreamData id limit) = w
+confirmed w (frames.MaxStreams dir limit) = w
+confirmed w (frames.DataBlocked limit) = w
+confirmed w (frames.StreamDataBlocked id limit) = w
+confirmed w (frames.StreamsBlocked dir limit) = w
+confirmed w (frames.NewConnectionId cid) = w
+confirmed w (frames.RetireConnectionId sequence) = w
+confirmed w (frames.PathChallenge bits) = w
+confirmed w (frames.PathResponse bits) = w
+confirmed w (frames.ConnectionClose code type reason) = w
+confirmed w (frames.ApplicationClose code reason) = w
+confirmed w frames.HandshakeDone = w
+confirmed w (frames.Datagram body) = w
 
 -- so were these frames
 abbrev pub all_confirmed : SpaceWaiting → List FrameValue → SpaceWaiting
@@ -98,27 +128,13 @@ fired_in v (fired.Lost id lost) = packets_lost v id lost
 fired_in v (fired.Probe id count) = probes_added v id count
 fired_in v fired.Nothing = v
 
--- the frames of a packet wait again, where there is one
-abbrev pub packet_again : SpaceWaiting → Option SentPacket → SpaceWaiting
-packet_again w None = w
-packet_again w (Some packet) = all_again w packet.frames
+-- a probe that is due in the space is spent
+unfoldable pub probe_spent : Waiting → SpaceId → Waiting
+probe_spent v id = record v { spaces = with_space v.spaces id (record (space_of v.spaces id) { probes = (space_of v.spaces id).probes - 1 }) }
 
--- a PING waits where no frame does that elicits an acknowledgement
-abbrev pub with_ping : SpaceWaiting → SpaceWaiting
-with_ping w = if wants_sending w then w else record w { ping = true }
-
--- A probe is sent: where no frame waits that elicits an acknowledgement, those of the oldest packet in flight wait again, and where
--- it has none, a PING does (RFC 9002, section 6.2.4).
-unfoldable pub probe_sent : SpaceWaiting → (oldest : Option SentPacket) → SpaceWaiting
-probe_sent w oldest = with_ping (if wants_sending w then w else packet_again w oldest)
-
--- a datagram is begun for the space, which spends a probe that is due
-unfoldable pub begun_in : SpaceWaiting → (oldest : Option SentPacket) → SpaceWaiting
-begun_in w oldest = if w.probes == 0 then w else probe_sent (record w { probes = w.probes - 1 }) oldest
-
--- such a datagram is begun
-unfoldable pub datagram_begun : Waiting → SpaceId → (oldest : Option SentPacket) → Waiting
-datagram_begun v id oldest = record v { spaces = with_space v.spaces id (begun_in (space_of v.spaces id) oldest) }
+-- these frames of a packet wait again in its space
+unfoldable pub frames_again : Waiting → SpaceId → List FrameValue → Waiting
+frames_again v id fs = record v { spaces = with_space v.spaces id (all_again (space_of v.spaces id) fs) }
 
 -- the counts of marks of a space begin with the first mark that comes on the connection: before it there are none
 abbrev pub counts_begun : Option EcnCodepoint → Option EcnCounts → Option EcnCounts
@@ -197,13 +213,30 @@ nothing_left w = record w { done = false; ping = false; crypto = discarded w.cry
 unfoldable pub space_left : Waiting → SpaceId → Waiting
 space_left v id = record v { spaces = with_space v.spaces id (nothing_left (space_of v.spaces id)) }
 
--- a frame that is sealed waits no longer
+-- a frame that is sealed waits no longer, where it waited here
 unfoldable pub without : SpaceWaiting → FrameValue → SpaceWaiting
 without w frames.HandshakeDone = record w { done = false }
 without w frames.Ping = record w { ping = false }
 without w (frames.Ack ack) = record w { acks = ack_sent w.acks }
 without w (frames.Crypto offset body) = record w { crypto = range_sealed offset (offset + length body) w.crypto }
-without w _ = w
+without w frames.Padding = w
+without w (frames.ResetStream id code size) = w
+without w (frames.StopSending id code) = w
+without w (frames.NewToken token) = w
+without w (frames.Stream id offset fin body) = w
+without w (frames.MaxData limit) = w
+without w (frames.MaxStreamData id limit) = w
+without w (frames.MaxStreams dir limit) = w
+without w (frames.DataBlocked limit) = w
+without w (frames.StreamDataBlocked id limit) = w
+without w (frames.StreamsBlocked dir limit) = w
+without w (frames.NewConnectionId cid) = w
+without w (frames.RetireConnectionId sequence) = w
+without w (frames.PathChallenge bits) = w
+without w (frames.PathResponse bits) = w
+without w (frames.ConnectionClose code type reason) = w
+without w (frames.ApplicationClose code reason) = w
+without w (frames.Datagram body) = w
 
 -- the bytes of a CRYPTO frame are those that wait first: lost ones before fresh ones, the lowest of them first, and at least one
 pub record StartsWith (b : Buffer) (offset : ℕ) (body : List ℕ) : Type 0 where
@@ -211,76 +244,10 @@ pub record StartsWith (b : Buffer) (offset : ℕ) (body : List ℕ) : Type 0 whe
   pub first : waiting b ≡ row (has_bytes (from_lost b.kept)) offset body ++ drop (length body) (waiting b)
   pub within : offset + length body ≤ b.written
 
--- a frame waits at a time: the HANDSHAKE_DONE or the PING that was asked for, an ACK that may be given, or the first CRYPTO bytes
-unfoldable pub Waits : (time : ℕ) → (bundled : Option ℕ) → SpaceWaiting → FrameValue → Type 0
-Waits time bundled w frames.HandshakeDone = w.done ≡ true
-Waits time bundled w frames.Ping = w.ping ≡ true
-Waits time bundled w (frames.Ack ack) = (is_ack_given time bundled w.acks ≡ true) × SaysAck time w ack
-Waits time bundled w (frames.Crypto offset body) = StartsWith w.crypto offset body
-Waits time bundled w _ = ⊥
-
 -- what waits once these frames are sealed
 unfoldable pub without_all : SpaceWaiting → List FrameValue → SpaceWaiting
 without_all w [] = w
 without_all w (f ∷ fs) = without_all (without w f) fs
-
--- each frame waits as its turn comes
-unfoldable pub WaitAll : (time : ℕ) → (bundled : Option ℕ) → SpaceWaiting → List FrameValue → Type 0
-WaitAll time bundled w [] = Unit {0}
-WaitAll time bundled w (f ∷ fs) = Waits time bundled w f × WaitAll time bundled (without w f) fs
-
--- the HANDSHAKE_DONE that waits
-unfoldable pub done_part : SpaceWaiting → List FrameValue
-done_part w = if w.done then frames.HandshakeDone ∷ [] else []
-
--- the PING that waits
-unfoldable pub ping_part : SpaceWaiting → List FrameValue
-ping_part w = if w.ping then frames.Ping ∷ [] else []
-
--- the HANDSHAKE_DONE and the PING that wait
-unfoldable pub marks_part : SpaceWaiting → List FrameValue
-marks_part w = done_part w ++ ping_part w
-
--- CRYPTO frames with the bytes that wait first, one behind the other: they fit into the room, and leave less of it than the head of
--- one more and a byte take, or no byte that waits
-unfoldable pub CryptoPart : SpaceWaiting → (room : ℕ) → List FrameValue → Type 0
-CryptoPart w room [] = (crypto_waits w ≡ false) ⊎ (room ≤ CRYPTO_HEAD)
-CryptoPart w room (frames.Crypto offset body ∷ fs) =
-    StartsWith w.crypto offset body × (length body + CRYPTO_HEAD ≤ room) × CryptoPart (without w (frames.Crypto offset body)) (room - (length body + CRYPTO_HEAD)) fs
-CryptoPart w room (_ ∷ fs) = ⊥
-
--- how much of the room such CRYPTO frames leave, each counted with the greatest size of its head
-abbrev pub room_behind : (room : ℕ) → (crypto : List FrameValue) → ℕ
-room_behind room [] = room
-room_behind room (frames.Crypto offset body ∷ fs) = room_behind (room - (length body + CRYPTO_HEAD)) fs
-room_behind room (_ ∷ fs) = room_behind room fs
-
--- The frames that this end takes at a time for a packet with so much room: the HANDSHAKE_DONE, the PING, the ACK that is owed or
--- joins, the CRYPTO bytes that fit behind them, and an ACK that is only bundled.
-pub record TakenPart (time : ℕ) (bundled : Option ℕ) (w : SpaceWaiting) (room : ℕ) (fs : List FrameValue) : Type 0 where
-  pub acks : List FrameValue
-  pub ack : AckPart time w (room - length (marks_part w)) acks (is_ack_first w.acks)
-  pub crypto : List FrameValue
-  pub part : CryptoPart (without_all w (marks_part w ++ acks)) (room - length (marks_part w) - length (frames_spelling acks)) crypto
-  pub last : List FrameValue
-  pub bundle : AckPart time w (room_behind (room - length (marks_part w) - length (frames_spelling acks)) crypto) last (is_ack_last time bundled w.acks)
-  pub all : fs ≡ marks_part w ++ (acks ++ (crypto ++ last))
-
--- the ACK was taken where it was due and had room, and put behind other frames; it has so many bytes
-pub record TakesAck (time : ℕ) (due : Bool) (room : ℕ) (w w' : SpaceWaiting) (fs gs : List FrameValue) (len : ℕ) : Type 0 where
-  pub acks : List FrameValue
-  pub part : AckPart time w room acks due
-  pub list : gs ≡ fs ++ acks
-  pub rest : w' ≡ without_all w acks
-  pub size : len ≡ length (frames_spelling acks)
-
--- CRYPTO frames that fit into the room were taken, and put behind other frames; they leave so much of it
-pub record TakesCrypto (room : ℕ) (w w' : SpaceWaiting) (fs gs : List FrameValue) (left : ℕ) : Type 0 where
-  pub frames : List FrameValue
-  pub part : CryptoPart w room frames
-  pub list : gs ≡ fs ++ frames
-  pub rest : w' ≡ without_all w frames
-  pub behind : left ≡ room_behind room frames
 
 -- these frames were sealed in the space
 unfoldable pub waiting_without : Waiting → SpaceId → List FrameValue → Waiting

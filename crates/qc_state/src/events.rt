@@ -1,6 +1,6 @@
 //! What a connection reports to the application and to its endpoint.
 
-ghost use Rattle.std.specs.Prelude.{◌≡◌, [], ◌∷◌, ◌++◌, OnOk, OnErr, option_to_list};
+ghost use Rattle.std.specs.Prelude.{◌≡◌, ◌==◌, [], ◌∷◌, ◌++◌, drop, length, slice_get, OnOk, OnErr, option_to_list};
 
 use crate::life::ConnectionError;
 use qc_base::{Instant, ResetToken};
@@ -9,7 +9,7 @@ use std::marker::Model;
 use std::net::SocketAddr;
 
 /// What a connection reports to the application.
-#[derive(Drop)]
+#[derive(Debug, Drop, PartialEq, Eq)]
 pub enum Event {
     /// What the handshake settles is known. It is given once.
     HandshakeDataReady,
@@ -23,7 +23,7 @@ pub enum Event {
 }
 
 /// What a connection reports to its endpoint.
-#[derive(Clone, Copy)]
+#[derive(Clone, Copy, Debug, PartialEq, Eq)]
 pub enum EndpointEvent {
     /// The peer can reset the connection with this token, from this address (RFC 9000, 10.3).
     ResetToken(SocketAddr, ResetToken),
@@ -130,6 +130,33 @@ impl EndpointEvents {
             self.events.push(event)?;
         }
         Ok(())
+    }
+
+    /// Whether there is none.
+    pub fn is_empty(&self) -> bool
+        ensures { result ≡ (length self.now == 0) }
+    {
+        self.events.is_empty()
+    }
+
+    /// The first one, which is taken out, if there is one. It takes no memory.
+    #[tactic(auto, using(crate::proofs::FirstTaken::first_taken, crate::proofs::FirstTaken::others_left, crate::proofs::FirstTaken::none_first, crate::proofs::FirstTaken::none_left))]
+    pub fn take_first(&mut self) -> Option<EndpointEvent>
+        ensures first { result ≡ slice_get self.old 0 }
+        ensures rest { self.new ≡ drop 1 self.old }
+    {
+        if self.events.is_empty() {
+            return None;
+        }
+        Some(self.events.remove(0))
+    }
+
+    /// All of them, which are taken out.
+    pub fn take(&mut self, alloc: Global) -> EndpointEvents
+        ensures all { result ≡ self.old }
+        ensures rest { self.new ≡ [] }
+    {
+        std::mem::replace(self, EndpointEvents::new(alloc))
     }
 
     /// The events.

@@ -29,7 +29,25 @@ fn keep(kept: &mut FrameList, alloc: Global, frame: &OwnedFrame) -> Result<(), A
             additional: Vec::new(alloc),
             ecn: None,
         })),
-        _ => Ok(()),
+        FrameOf::Padding
+        | FrameOf::Ping
+        | FrameOf::ResetStream { .. }
+        | FrameOf::StopSending { .. }
+        | FrameOf::NewToken { .. }
+        | FrameOf::Stream { .. }
+        | FrameOf::MaxData(_)
+        | FrameOf::MaxStreamData { .. }
+        | FrameOf::MaxStreams { .. }
+        | FrameOf::DataBlocked { .. }
+        | FrameOf::StreamDataBlocked { .. }
+        | FrameOf::StreamsBlocked { .. }
+        | FrameOf::NewConnectionId(_)
+        | FrameOf::RetireConnectionId { .. }
+        | FrameOf::PathChallenge(_)
+        | FrameOf::PathResponse(_)
+        | FrameOf::ConnectionClose { .. }
+        | FrameOf::ApplicationClose { .. }
+        | FrameOf::Datagram { .. } => Ok(()),
     }
 }
 

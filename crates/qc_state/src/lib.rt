@@ -4,6 +4,7 @@
 #![tactic(auto)]
 
 pub mod body;
+pub mod coming;
 pub mod crypto_queue;
 pub mod deeds;
 pub mod events;
@@ -17,37 +18,39 @@ pub mod numbers;
 pub mod opening;
 pub mod paths;
 pub mod session;
+mod settling;
 pub mod setup;
+mod shown;
 pub mod spaces;
 pub mod suite;
+mod taking;
 pub mod timers;
 pub mod trace;
 pub mod transmit;
 pub mod waiting;
 
 pub use body::Body;
+pub use coming::Coming;
 pub use crypto_queue::CryptoQueue;
 pub use deeds::{Did, Dids, Layer, Quiet, Verdict};
 pub use events::{EndpointEvent, EndpointEvents, Event, Events};
 pub use input::{Input, Word};
 pub use keys::{KeyGroup, KeyUse, OneRttKeys, SpaceKeys};
 pub use laws::{
-    acks_were_accepted, datagrams_keep, datagrams_tell, events_are_datagrams, events_told,
-    first_packets_are_datagrams, harmless_bytes, keys_hold, marks_are_told, numbers_count_once,
-    packets_tell, paths_hold, runs_join, steps_tell,
+    acks_were_accepted, datagrams_alone_tell, datagrams_keep, datagrams_tell, events_are_datagrams,
+    events_told, first_packets_are_datagrams, harmless_bytes, keys_hold, marks_are_told,
+    numbers_count_once, packets_tell, paths_hold, runs_join, steps_tell,
 };
-pub use life::{
-    ApplicationClose, Close, ConnectionClose, ConnectionError, Life, PeerToken, State, Wanted,
-};
+pub use life::{ApplicationClose, Close, ConnectionClose, ConnectionError, Life, State};
 pub use lower::Lower;
 pub use numbers::{Numbers, SpaceNumbers};
 pub use opening::{Opening, Signs};
-pub use paths::Paths;
+pub use paths::{Path, Paths};
 pub use session::SoundSession;
 pub use setup::{Drawn, Fixed, Setup, negotiate_max_idle_timeout};
 pub use spaces::Spaces;
-pub use suite::Suite;
+pub use suite::{Means, Suite};
 pub use timers::Timers;
 pub use trace::{Answer, Step, Trace};
-pub use transmit::{DATAGRAM_SIZE, Transmit};
+pub use transmit::{Batch, DATAGRAM_SIZE, Transmit};
 pub use waiting::{SpaceWaiting, Waiting};

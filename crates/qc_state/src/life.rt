@@ -1,12 +1,12 @@
 //! The life of a connection, the reason of its end, and what of both waits to be reported.
 
-ghost use Rattle.std.specs.Prelude.{◌≡◌, IfOk};
-ghost use Rattle.qc_state.specs.Life.{rank_of, is_open, is_closed, is_handshake, is_established, is_over, is_drained, life_closed, life_drained, life_established, data_ready, reason_given, life_raised, ready_event, ready_reported, connected_event, connected_reported, lost_event, lost_reported, token_learned, token_event, token_reported, identifiers_wanted, wanted_event, wanted_reported, drained_event, drained_reported};
+ghost use Rattle.std.specs.Prelude.{◌≡◌, IfOk, OnOk};
+ghost use Rattle.qc_state.specs.Life.{rank_of, is_open, is_closed, is_handshake, is_established, is_over, is_drained, life_closed, life_drained, life_established, data_ready, reason_given, life_raised, ready_event, ready_reported, connected_event, connected_reported, lost_event, lost_reported, token_learned, identifiers_wanted, first_notice, notice_reported, notices_reported, drained_event, drained_reported};
 
-use crate::events::{EndpointEvent, Event};
+use crate::events::{EndpointEvent, EndpointEvents, Event};
 use bytes::Bytes;
 use qc_base::{Instant, ResetToken, TransportError, TransportErrorCode, VarInt};
-use std::alloc::AllocError;
+use std::alloc::{AllocError, Global};
 use std::net::SocketAddr;
 
 /// Where a connection is in its life (RFC 9000, 10). A life never falls: the variants stand in the order in which a
@@ -26,7 +26,7 @@ pub enum State {
 }
 
 /// A close of a connection by an error of the transport (RFC 9000, 19.19).
-#[derive(Drop)]
+#[derive(Debug, Drop, PartialEq, Eq)]
 pub struct ConnectionClose {
     /// The error's code (RFC 9000, 20.1).
     pub error_code: TransportErrorCode,
@@ -37,7 +37,7 @@ pub struct ConnectionClose {
 }
 
 /// A close of an application (RFC 9000, 10.2).
-#[derive(Drop)]
+#[derive(Debug, Drop, PartialEq, Eq)]
 pub struct ApplicationClose {
     /// The application's error code (RFC 9000, 20.2).
     pub error_code: VarInt,
@@ -46,7 +46,7 @@ pub struct ApplicationClose {
 }
 
 /// A close that this end sends.
-#[derive(Drop)]
+#[derive(Debug, Drop, PartialEq, Eq)]
 pub enum Close {
     /// Because of an error of the transport.
     Connection(ConnectionClose),
@@ -55,7 +55,7 @@ pub enum Close {
 }
 
 /// Why a connection ended.
-#[derive(Drop)]
+#[derive(Debug, Drop, PartialEq, Eq)]
 pub enum ConnectionError {
     /// This end found the error.
     TransportError(TransportError),
@@ -65,24 +65,6 @@ pub enum ConnectionError {
     ApplicationClosed(ApplicationClose),
     /// The peer gave no sign for too long (RFC 9000, 10.1).
     TimedOut,
-}
-
-/// The token with which the peer can reset the connection (RFC 9000, 10.3), and the address that it holds for.
-#[derive(Clone, Copy, Drop)]
-pub struct PeerToken {
-    /// The address.
-    pub remote: SocketAddr,
-    /// The token.
-    pub token: ResetToken,
-}
-
-/// Identifiers that this end wants of its endpoint.
-#[derive(Clone, Copy, Drop)]
-pub struct Wanted {
-    /// When they were wanted.
-    pub now: Instant,
-    /// How many.
-    pub count: u64,
 }
 
 /// The life, the first reason for its end, and what waits to be reported.
@@ -98,11 +80,9 @@ pub struct Life {
     pub connected: bool,
     /// The reason, while its report `ConnectionLost` waits to be given.
     pub lost: Option<ConnectionError>,
-    /// The peer's token, while its report `ResetToken` waits to be given.
-    pub reset_token: Option<PeerToken>,
-    /// The identifiers that are wanted, while the report `NeedIdentifiers` waits to be given.
-    pub wanted: Option<Wanted>,
-    /// Whether `Drained` waits to be given.
+    /// What waits to be reported to the endpoint before the end, in the order of the causes.
+    pub notices: EndpointEvents,
+    /// Whether `Drained` waits to be given: the last that the endpoint is told, and a flag, since the end takes no memory.
     pub drained: bool,
     /// The close with which this end raised the life to `Closed`, if it did.
     pub close: Option<Close>,
@@ -168,7 +148,7 @@ pub fn rank(state: State) -> u8
     }
 }
 
-#[tactic(auto, unfolding(crate::specs::Life::life_raised, crate::specs::Life::life_closed, crate::specs::Life::life_drained, crate::specs::Life::life_established, crate::specs::Life::data_ready, crate::specs::Life::ready_event, crate::specs::Life::ready_reported, crate::specs::Life::connected_event, crate::specs::Life::connected_reported, crate::specs::Life::reason_given, crate::specs::Life::lost_event, crate::specs::Life::lost_reported, crate::specs::Life::token_learned, crate::specs::Life::token_event, crate::specs::Life::token_reported, crate::specs::Life::identifiers_wanted, crate::specs::Life::wanted_event, crate::specs::Life::wanted_reported, crate::specs::Life::drained_event, crate::specs::Life::drained_reported))]
+#[tactic(auto, unfolding(crate::specs::Life::life_raised, crate::specs::Life::life_closed, crate::specs::Life::life_drained, crate::specs::Life::life_established, crate::specs::Life::data_ready, crate::specs::Life::ready_event, crate::specs::Life::ready_reported, crate::specs::Life::connected_event, crate::specs::Life::connected_reported, crate::specs::Life::reason_given, crate::specs::Life::lost_event, crate::specs::Life::lost_reported, crate::specs::Life::token_learned, crate::specs::Life::identifiers_wanted, crate::specs::Life::notice_reported, crate::specs::Life::notices_reported, crate::specs::Life::drained_event, crate::specs::Life::drained_reported))]
 impl Life {
     /// Whether this end hasn't closed, and nothing has ended the connection.
     pub fn is_open(&self) -> bool
@@ -315,40 +295,36 @@ impl Life {
         }
     }
 
-    /// The peer's token for a stateless reset, which comes from this address, waits to be reported.
-    pub fn learn_token(&mut self, remote: SocketAddr, token: ResetToken)
-        ensures { self.new ≡ token_learned self.old remote token }
+    /// The peer's token for a stateless reset, which comes from this address, waits to be reported. Want of memory is the only refusal.
+    pub fn learn_token(&mut self, remote: SocketAddr, token: ResetToken) -> Result<(), AllocError>
+        ensures { OnOk result (self.new ≡ token_learned self.old remote token) }
     {
-        self.reset_token = Some(PeerToken { remote, token });
+        self.notices
+            .push(Some(EndpointEvent::ResetToken(remote, token)))
     }
 
-    /// So many identifiers are wanted at `now`, which waits to be reported.
-    pub fn want(&mut self, now: Instant, count: u64)
-        ensures { self.new ≡ identifiers_wanted self.old now count }
+    /// So many identifiers are wanted at `now`, which waits to be reported. Want of memory is the only refusal.
+    pub fn want(&mut self, now: Instant, count: u64) -> Result<(), AllocError>
+        ensures { OnOk result (self.new ≡ identifiers_wanted self.old now count) }
     {
-        self.wanted = Some(Wanted { now, count });
+        self.notices
+            .push(Some(EndpointEvent::NeedIdentifiers(now, count)))
     }
 
-    /// The report of the peer's token, once.
-    pub fn take_token(&mut self) -> Option<EndpointEvent>
-        ensures event { result ≡ token_event self.old }
-        ensures rest { self.new ≡ token_reported self.old }
+    /// The first that waits to be reported to the endpoint before the end, once.
+    pub fn take_notice(&mut self) -> Option<EndpointEvent>
+        ensures event { result ≡ first_notice self.old }
+        ensures rest { self.new ≡ notice_reported self.old }
     {
-        match self.reset_token.take() {
-            Some(peer) => Some(EndpointEvent::ResetToken(peer.remote, peer.token)),
-            None => None,
-        }
+        self.notices.take_first()
     }
 
-    /// The report of how many identifiers are wanted, once.
-    pub fn take_wanted(&mut self) -> Option<EndpointEvent>
-        ensures event { result ≡ wanted_event self.old }
-        ensures rest { self.new ≡ wanted_reported self.old }
+    /// All that waits to be reported to the endpoint before the end, once.
+    pub fn take_notices(&mut self, alloc: Global) -> EndpointEvents
+        ensures events { result ≡ self.old.notices }
+        ensures rest { self.new ≡ notices_reported self.old }
     {
-        match self.wanted.take() {
-            Some(wanted) => Some(EndpointEvent::NeedIdentifiers(wanted.now, wanted.count)),
-            None => None,
-        }
+        self.notices.take(alloc)
     }
 
     /// The report that the connection is drained, once.

@@ -1,30 +1,39 @@
 //! The path to the peer.
 
 ghost use Rattle.std.specs.Prelude.{◌≡◌, ◌≢◌, true, false};
-ghost use Rattle.qc_state.specs.Paths.{path_idle, path_sent, path_received, path_accepted, path_spun, spun_by, peer_fixed, is_blocked, same_address};
+ghost use Rattle.qc_state.specs.Paths.{new_path, only_path, path_idle, path_sent, path_received, path_accepted, path_spun, spun_by, peer_fixed, peer_id, is_blocked, is_other_source, same_address};
 ghost use Rattle.std.specs.Net.Addr.{ipv4_octets, ipv6_segments};
 
 use crate::deeds::Verdict;
 use qc_base::{ConnectionId, Side, SpaceId};
 use std::net::SocketAddr;
 
-/// The path to the peer (RFC 9000, 9).
+/// A path to the peer (RFC 9000, 9).
 #[derive(Drop)]
-pub struct Paths {
+pub struct Path {
     /// The peer's address.
     pub remote: SocketAddr,
-    /// The id that packets to the peer carry as their destination (RFC 9000, 5.1).
+    /// The id that packets on this path carry as their destination (RFC 9000, 5.1).
     pub remote_cid: ConnectionId,
-    /// Whether that id is the one that the peer chose.
-    pub peer_fixed: bool,
     /// Whether it is known that the peer gets what is sent to its address (RFC 9000, 8.1). A client takes it for known.
     pub validated: bool,
-    /// The spin bit of 1-RTT packets to the peer (RFC 9000, 17.4).
-    pub spin: bool,
     /// Bytes sent to the peer's address. They stand still at 2^64 - 1.
     pub sent: u64,
     /// Bytes received from the peer's address, as far as they count (RFC 9000, 8.1). They stand still at 2^64 - 1.
     pub received: u64,
+}
+
+/// The paths to the peer (RFC 9000, 9), and what is kept beside them.
+#[derive(Drop)]
+pub struct Paths {
+    /// The path in use.
+    pub current: Path,
+    /// The path that was in use before the peer's address changed. None so far, since the address doesn't change.
+    pub previous: Option<Path>,
+    /// The id that the peer chose, once it is known (RFC 9000, 7.2).
+    pub peer_cid: Option<ConnectionId>,
+    /// The spin bit of 1-RTT packets to the peer (RFC 9000, 17.4).
+    pub spin: bool,
     /// Whether the last transmit sent nothing, so that what there is to send holds sending back, and not the window of the
     /// congestion controller (RFC 9002, 7.8).
     pub app_limited: bool,
@@ -40,13 +49,42 @@ fn spun_by(side: Side, bit: bool) -> bool
     }
 }
 
-#[tactic(auto, unfolding(crate::specs::Paths::path_sent, crate::specs::Paths::path_idle, crate::specs::Paths::path_received, crate::specs::Paths::peer_fixed, crate::specs::Paths::path_accepted, crate::specs::Paths::path_spun, crate::specs::Paths::is_blocked))]
+#[tactic(auto, unfolding(crate::specs::Paths::new_path))]
+impl Path {
+    /// A path on which nothing was sent or received so far, whose packets carry this id.
+    pub fn new(remote: SocketAddr, remote_cid: ConnectionId, validated: bool) -> Path
+        ensures { result ≡ new_path remote remote_cid validated }
+    {
+        Path {
+            remote,
+            remote_cid,
+            validated,
+            sent: 0,
+            received: 0,
+        }
+    }
+}
+
+#[tactic(auto, unfolding(crate::specs::Paths::only_path, crate::specs::Paths::path_sent, crate::specs::Paths::path_idle, crate::specs::Paths::path_received, crate::specs::Paths::peer_fixed, crate::specs::Paths::path_accepted, crate::specs::Paths::path_spun, crate::specs::Paths::is_blocked))]
 impl Paths {
+    /// A connection's first path, with the id that the peer chose, where it did.
+    pub fn new(path: Path, peer_cid: Option<ConnectionId>) -> Paths
+        ensures { result ≡ only_path path peer_cid }
+    {
+        Paths {
+            current: path,
+            previous: None,
+            peer_cid,
+            spin: false,
+            app_limited: false,
+        }
+    }
+
     /// So many bytes came from the path's address.
     pub fn received(&mut self, bytes: u64)
         ensures { self.new ≡ path_received self.old bytes }
     {
-        self.received = self.received.saturating_add(bytes);
+        self.current.received = self.current.received.saturating_add(bytes);
     }
 
     /// A packet of this space was accepted: a Handshake packet that was admitted shows that the peer gets what is sent to its
@@ -55,7 +93,7 @@ impl Paths {
         ensures { self.new ≡ path_accepted self.old space verdict }
     {
         match (space, verdict) {
-            (SpaceId::Handshake, Verdict::Admitted) => self.validated = true,
+            (SpaceId::Handshake, Verdict::Admitted) => self.current.validated = true,
             _ => {}
         }
     }
@@ -75,23 +113,44 @@ impl Paths {
     pub fn is_blocked(&self) -> bool
         ensures { result ≡ is_blocked self.now }
     {
-        !self.validated && 3 * u128::from(self.received) <= u128::from(self.sent)
+        !self.current.validated
+            && 3 * u128::from(self.current.received) <= u128::from(self.current.sent)
     }
 
     /// The peer has chosen the id that packets to it carry.
     pub fn fix(&mut self, cid: ConnectionId)
         ensures { self.new ≡ peer_fixed self.old cid }
     {
-        self.remote_cid = cid;
-        self.peer_fixed = true;
+        self.current.remote_cid = cid;
+        self.peer_cid = Some(cid);
     }
 
     /// So many bytes were sent to the path's address.
     pub fn sent(&mut self, bytes: u64)
         ensures { self.new ≡ path_sent self.old bytes }
     {
-        self.sent = self.sent.saturating_add(bytes);
+        self.current.sent = self.current.sent.saturating_add(bytes);
         self.app_limited = false;
+    }
+
+    /// Whether packets with this source id come from another end than the one that chose its id, where it did.
+    pub fn is_other_source(&self, source: &ConnectionId) -> bool
+        ensures { result ≡ is_other_source self.now.peer_cid source.now }
+    {
+        match &self.peer_cid {
+            None => false,
+            Some(chosen) => source.as_slice() != chosen.as_slice(),
+        }
+    }
+
+    /// The id by which the peer is known: the one that it chose, and until then the one that packets to it carry.
+    pub fn peer_id(&self) -> ConnectionId
+        ensures { result ≡ peer_id self.now }
+    {
+        match self.peer_cid {
+            None => self.current.remote_cid,
+            Some(chosen) => chosen,
+        }
     }
 
     /// A transmit sent nothing: what there is to send holds sending back.

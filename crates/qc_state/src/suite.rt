@@ -1,5 +1,7 @@
 //! The types that a connection stands on.
 
+ghost use Rattle.qc_state.specs.Types.{Types, Meaning, meaning as meaning_of};
+
 use qc_crypto::Session;
 use qc_path::ControllerFactory;
 use rand_core::Rng;
@@ -14,4 +16,19 @@ pub trait Suite {
 
     /// The source of random words.
     type Random: Rng + Drop;
+}
+
+/// What a suite means, for contracts: each suite has it, and nothing has to be written for it.
+///
+/// Its meanings: `types`, the types that contracts see values of, and `meaning`, what the calls on such values answer and leave.
+pub trait Means: Suite {
+    ghost types: { Types };
+
+    ghost meaning: { Meaning types };
+}
+
+impl<U: Suite> Means for U {
+    ghost types = { record { S = U.Session; H = U.Session.HeaderKey; P = U.Session.PacketKey; D = U.Session.HandshakeData; I = U.Session.PeerIdentity; C = U.Control.Controller } };
+
+    ghost meaning = { meaning_of U.Session.Session U.Session.HeaderKey.HeaderMask U.Session.PacketKey.PacketKey U.Control.Controller.Controller };
 }

@@ -1,14 +1,15 @@
 //! The timers, and the greatest time so far.
 
 ghost use Rattle.std.specs.Prelude.{◌≡◌};
-ghost use Rattle.qc_state.specs.Timers.{timers_sealed, timers_acking, timers_stopped, timers_closing, timers_accepted, timers_holding, timers_paced, timers_released, timers_armed, clock_set, next_timeout, least, idle_from, has_come};
+ghost use Rattle.qc_state.specs.Timers.{no_timers, timers_sealed, timers_acking, timers_stopped, timers_closing, timers_accepted, timers_holding, timers_paced, timers_released, timers_armed, clock_set, next_timeout, least, idle_from, has_come};
 
 use qc_base::{Duration, Instant};
 
 /// For how long an ACK is held back at most, in milliseconds (RFC 9000, 18.2).
 const ACK_DELAY_MOST: u64 = 25;
 
-/// The timers, each a time or none, and the greatest time that the connection was told.
+/// The timers, each a time or none, in the order in which those that have come are taken, and the greatest time that the
+/// connection was told.
 #[derive(Drop)]
 pub struct Timers {
     /// When packets in flight are taken up again (RFC 9002, 6.2).
@@ -17,8 +18,16 @@ pub struct Timers {
     pub idle: Option<Instant>,
     /// When a connection that closed has waited long enough for its peer (RFC 9000, 10.2).
     pub close: Option<Instant>,
-    /// When a datagram that the pacer holds back may go. No call sets it so far, since sending isn't paced yet.
+    /// When keys that are no longer needed are dropped (RFC 9001, 6.5). No call sets it so far, since keys aren't updated yet.
+    pub key_discard: Option<Instant>,
+    /// When a path that is being validated has failed (RFC 9000, 8.2.4). No call sets it so far, since a connection keeps to its path.
+    pub path_validation: Option<Instant>,
+    /// When a PING keeps the connection open (RFC 9000, 10.1.2). No call sets it so far.
+    pub keep_alive: Option<Instant>,
+    /// When a datagram that the pacer holds back may go (RFC 9002, 7.7). No call sets it so far, since sending isn't paced yet.
     pub pacing: Option<Instant>,
+    /// When new connection ids are asked for (RFC 9000, 5.1.1). No call sets it so far, since ids that are given aren't kept yet.
+    pub push_new_cid: Option<Instant>,
     /// When an ACK that is held back is owed (RFC 9000, 13.2.1).
     pub max_ack_delay: Option<Instant>,
     /// Whether the next packet that is sealed and elicits an acknowledgement sets `idle`.
@@ -74,6 +83,25 @@ fn idle_at(
 
 #[tactic(auto, unfolding(crate::specs::Timers::timers_sealed, crate::specs::Timers::timers_stopped, crate::specs::Timers::timers_closing, crate::specs::Timers::timers_accepted, crate::specs::Timers::timers_armed, crate::specs::Timers::timers_holding, crate::specs::Timers::timers_acking, crate::specs::Timers::timers_paced, crate::specs::Timers::timers_released, crate::specs::Timers::clock_set, crate::specs::Timers::next_timeout))]
 impl Timers {
+    /// The timers of a connection that begins at `now`: none is set.
+    pub fn new(now: Instant) -> Timers
+        ensures { result ≡ no_timers now }
+    {
+        Timers {
+            loss_detection: None,
+            idle: None,
+            close: None,
+            key_discard: None,
+            path_validation: None,
+            keep_alive: None,
+            pacing: None,
+            push_new_cid: None,
+            max_ack_delay: None,
+            sets_idle: true,
+            greatest: now,
+        }
+    }
+
     /// A packet that elicits an acknowledgement was sealed at `now`, in a space with this probe timeout.
     pub fn sealed(&mut self, limit: Option<Duration>, probe: Duration, now: Instant)
         ensures { self.new ≡ timers_sealed self.old limit probe now }
@@ -138,7 +166,11 @@ impl Timers {
         self.loss_detection = None;
         self.idle = None;
         self.close = None;
+        self.key_discard = None;
+        self.path_validation = None;
+        self.keep_alive = None;
         self.pacing = None;
+        self.push_new_cid = None;
         self.max_ack_delay = None;
     }
 
@@ -149,7 +181,11 @@ impl Timers {
         self.loss_detection = None;
         self.idle = None;
         self.close = Some(now.plus(Duration::from_nanos(probe.nanos().saturating_mul(3))));
+        self.key_discard = None;
+        self.path_validation = None;
+        self.keep_alive = None;
         self.pacing = None;
+        self.push_new_cid = None;
         self.max_ack_delay = None;
     }
 
@@ -166,8 +202,12 @@ impl Timers {
     pub fn next(&self) -> Option<Instant>
         ensures { result ≡ next_timeout self.now }
     {
-        let lost_or_idle = earlier(self.loss_detection, self.idle);
-        let paced_or_before = earlier(earlier(lost_or_idle, self.close), self.pacing);
-        earlier(paced_or_before, self.max_ack_delay)
+        let life = earlier(earlier(self.loss_detection, self.idle), self.close);
+        let upkeep = earlier(
+            earlier(self.key_discard, self.path_validation),
+            self.keep_alive,
+        );
+        let sending = earlier(earlier(self.pacing, self.push_new_cid), self.max_ack_delay);
+        earlier(earlier(life, upkeep), sending)
     }
 }

@@ -1,27 +1,26 @@
 //! The frames that wait to be sealed.
 
-ghost use Rattle.std.specs.Prelude.{◌≡◌, ◌<◌, ◌^◌, ◌++◌, ◌∷◌, [], true, length, map, OnOk, IfOk};
+ghost use Rattle.std.specs.Prelude.{◌≡◌, ◌-◌, ◌==◌, not, true, map, OnOk, IfOk};
 ghost use Rattle.std.specs.List.{list_any};
-ghost use Rattle.std.specs.Option.{option_copied};
 ghost use Rattle.qc_base.specs.Time.{plus};
-ghost use Rattle.qc_frame.specs.AckRanges.{ArePackets};
-ghost use Rattle.qc_frame.specs.Frame.{ack_map, owned};
-ghost use Rattle.qc_frame.specs.FrameSpelling.{frames_spelling};
-ghost use Rattle.qc_state.specs.Acks.{AckPart, SaysAck, is_ack, is_ack_first, is_ack_last, is_ack_owed, may_acknowledge, told_count, told_counts};
-ghost use Rattle.qc_frame.specs.declared.frames.FrameOf.TheVariants as frames;
+ghost use Rattle.qc_frame.specs.Frame.{owned};
+ghost use Rattle.qc_state.specs.Acks.{AckPart, is_ack, is_ack_owed, may_acknowledge};
 ghost use Rattle.qc_base.specs.declared.side.SpaceId.TheVariants.{«Data»};
 ghost use Rattle.qc_path.specs.Acks.{sets_delay};
 ghost use Rattle.qc_state.specs.Spaces.{is_space, space_of, with_space};
-ghost use Rattle.qc_state.specs.Waiting.{TakenPart, TakesAck, TakesCrypto, ack_released, acked_in, again, all_again, all_confirmed, begun_in, bundle_next, came_in, close_begun, confirmed, counts_begun, crypto_written, datagram_begun, done_asked, fired_in, holds_back, lost_in, mark_counted, marks_begun, marks_part, nothing_left, packet_came, packet_told, packets_acked, packets_lost, ping_asked, probe_sent, probes_added, space_left, waiting_without, waits_here, waits_in, wants_sending, without_all};
+ghost use Rattle.qc_state.specs.Taking.{TakenPart};
+ghost use Rattle.qc_state.specs.Waiting.{ack_released, bundle_next, came_in, close_begun, counts_begun, crypto_written, done_asked, fired_in, frames_again, holds_back, mark_counted, marks_begun, nothing_left, packet_came, packet_told, packets_acked, packets_lost, ping_asked, probe_spent, probes_added, space_left, waiting_without, wants_here};
 
 use crate::crypto_queue::CryptoQueue;
+use crate::settling::{acknowledge, all_again, lose};
 use crate::spaces::Spaces;
+use crate::taking::{ack_alone, is_ack_owed, take};
 use bytes::Bytes;
 use qc_base::{EcnCodepoint, Instant, SpaceId};
-use qc_flight::{PacketList, SentPacket};
-use qc_frame::{Ack, EcnCounts, FrameList, FrameOf, OwnedAck, OwnedFrame, put_frame};
+use qc_flight::PacketList;
+use qc_frame::{EcnCounts, FrameList, FrameOf, OwnedFrame};
 use qc_path::{Arrival, Dedup, PendingAcks};
-use qc_recovery::Fired;
+use qc_recovery::{Fired, Settled};
 use qc_space::with_mark;
 use std::alloc::{AllocError, Global};
 
@@ -59,108 +58,18 @@ pub struct Waiting {
     pub bundled: Option<Instant>,
 }
 
-/// A frame of a packet that is lost waits again. Want of memory is the only refusal.
-fn again(space: &mut SpaceWaiting, frame: &OwnedFrame) -> Result<(), AllocError>
-    ensures { OnOk result (space.new ≡ again space.old (owned frame.now)) }
-{
-    match frame {
-        FrameOf::HandshakeDone => {
-            space.done = true;
-            Ok(())
-        }
-        FrameOf::Crypto { offset, body } => space.crypto.lose(*offset, body.len()),
-        _ => Ok(()),
-    }
-}
-
-/// So these frames do. Want of memory is the only refusal.
-fn each_again(space: &mut SpaceWaiting, frames: &[OwnedFrame]) -> Result<(), AllocError>
-    ensures { OnOk result (space.new ≡ all_again space.old (map owned frames.now)) }
-{
-    for frame in frames {
-        again(space, frame)?;
-    }
-    Ok(())
-}
-
-/// So all frames of a packet do. Want of memory is the only refusal.
-#[tactic(auto, using(crate::proofs::KeptFrames::again_padded))]
-fn all_again(space: &mut SpaceWaiting, frames: &FrameList) -> Result<(), AllocError>
-    ensures { OnOk result (space.new ≡ all_again space.old frames.now) }
-{
-    let (listed, _padding) = frames.parts();
-    each_again(space, listed)
-}
-
-/// Packets were lost: their frames wait again. Want of memory is the only refusal.
-fn lose(space: &mut SpaceWaiting, lost: &mut PacketList) -> Result<(), AllocError>
-    ensures { OnOk result (space.new ≡ lost_in space.old lost.old) }
-{
-    while let Some((_, packet)) = lost.pop_front() {
-        all_again(space, &packet.frames)?;
-    }
-    Ok(())
-}
-
-/// A frame was acknowledged.
-fn confirm(space: &mut SpaceWaiting, frame: &OwnedFrame)
-    ensures { space.new ≡ confirmed space.old (owned frame.now) }
-{
-    if let FrameOf::Ack(ack) = frame {
-        space.acks.acknowledged(ack.largest);
-    }
-}
-
-/// These frames were acknowledged.
-fn each_confirmed(space: &mut SpaceWaiting, frames: &[OwnedFrame])
-    ensures { space.new ≡ all_confirmed space.old (map owned frames.now) }
-{
-    for frame in frames {
-        confirm(space, frame);
-    }
-}
-
-/// So were all frames of a packet.
-#[tactic(auto, using(crate::proofs::KeptFrames::confirmed_padded))]
-fn all_confirmed(space: &mut SpaceWaiting, frames: &FrameList)
-    ensures { space.new ≡ all_confirmed space.old frames.now }
-{
-    let (listed, _padding) = frames.parts();
-    each_confirmed(space, listed);
-}
-
-/// Packets were acknowledged with their frames.
-fn acknowledge(space: &mut SpaceWaiting, acked: &mut PacketList)
-    ensures { space.new ≡ acked_in space.old acked.old }
-{
-    while let Some((_, packet)) = acked.pop_front() {
-        all_confirmed(space, &packet.frames);
-    }
-}
-
-/// Whether a frame waits that elicits an acknowledgement.
-fn wants_sending(space: &SpaceWaiting) -> bool
-    ensures { result ≡ wants_sending space.now }
+/// Whether a frame waits here that elicits an acknowledgement.
+fn wants_here(space: &SpaceWaiting) -> bool
+    ensures { result ≡ wants_here space.now }
 {
     space.done || (space.ping || space.crypto.waits())
 }
 
-/// A probe is sent: where no frame waits that elicits an acknowledgement, those of the oldest packet in flight wait again, and
-/// where it has none, a PING does. Want of memory is the only refusal.
-#[tactic(auto, unfolding(crate::specs::Waiting::probe_sent))]
-fn probe(space: &mut SpaceWaiting, oldest: Option<&SentPacket>) -> Result<(), AllocError>
-    ensures { OnOk result (space.new ≡ probe_sent space.old (option_copied oldest.entry)) }
+/// A probe is spent.
+fn spend(space: &mut SpaceWaiting)
+    ensures { space.new ≡ record space.old { probes = space.old.probes - 1 } }
 {
-    if wants_sending(space) {
-        return Ok(());
-    }
-    if let Some(packet) = oldest {
-        all_again(space, &packet.frames)?;
-    }
-    if !wants_sending(space) {
-        space.ping = true;
-    }
-    Ok(())
+    space.probes = space.probes.saturating_sub(1);
 }
 
 /// Probes are due.
@@ -168,231 +77,6 @@ fn add_probes(space: &mut SpaceWaiting, count: u64)
     ensures { space.new ≡ record space.old { probes = plus space.old.probes count } }
 {
     space.probes = space.probes.saturating_add(count);
-}
-
-/// A datagram is begun for the space, which spends a probe that is due. Want of memory is the only refusal.
-#[tactic(auto, unfolding(crate::specs::Waiting::begun_in))]
-fn begin(space: &mut SpaceWaiting, oldest: Option<&SentPacket>) -> Result<(), AllocError>
-    ensures { OnOk result (space.new ≡ begun_in space.old (option_copied oldest.entry)) }
-{
-    if space.probes == 0 {
-        return Ok(());
-    }
-    space.probes -= 1;
-    probe(space, oldest)
-}
-
-/// Whether something waits.
-fn waits(space: &SpaceWaiting) -> bool
-    ensures { result ≡ waits_here space.now }
-{
-    space.done
-        || (space.ping || (is_ack_owed(&space.acks) || (space.crypto.waits() || space.probes != 0)))
-}
-
-/// Whether there is something to acknowledge, and each number is one of a packet.
-#[tactic(auto, unfolding(crate::specs::Acks::may_acknowledge), using(crate::proofs::AckLemmas::packets_by))]
-fn may_acknowledge(acks: &PendingAcks) -> bool
-    ensures value { result ≡ may_acknowledge acks.now }
-    ensures packets { result ≡ true → ArePackets acks.now.ranges }
-{
-    let ranges = acks.ranges().as_slice();
-    if ranges.is_empty() {
-        return false;
-    }
-    ranges[ranges.len() - 1].last < 1 << 62
-}
-
-/// Whether an ACK is owed.
-#[tactic(auto, unfolding(crate::specs::Acks::is_ack_owed))]
-fn is_ack_owed(acks: &PendingAcks) -> bool
-    ensures { result ≡ is_ack_owed acks.now }
-{
-    let may = may_acknowledge(acks);
-    acks.owes() && may
-}
-
-/// Whether an ACK stands in front of other frames: it is owed, or joins them.
-#[tactic(auto, unfolding(crate::specs::Acks::is_ack_first))]
-fn is_ack_first(acks: &PendingAcks) -> bool
-    ensures value { result ≡ is_ack_first acks.now }
-    ensures packets { result ≡ true → ArePackets acks.now.ranges }
-{
-    let may = may_acknowledge(acks);
-    acks.gives(Instant::from_nanos(0), None) && may
-}
-
-/// Whether an ACK stands behind other frames: it is only bundled with them, which it may be from `bundled` on.
-#[tactic(auto, unfolding(crate::specs::Acks::is_ack_last))]
-fn is_ack_last(acks: &PendingAcks, now: Instant, bundled: Option<Instant>) -> bool
-    ensures value { result ≡ is_ack_last now bundled acks.now }
-    ensures packets { result ≡ true → ArePackets acks.now.ranges }
-{
-    let may = may_acknowledge(acks);
-    let first = acks.gives(now, None);
-    !first && (acks.gives(now, bundled) && may)
-}
-
-/// A count as an ACK tells it.
-fn told_count(count: u64) -> u64
-    ensures value { result ≡ told_count count }
-    ensures most { result < 2 ^ 62 }
-{
-    count.min((1 << 62) - 1)
-}
-
-/// The counts of marks as an ACK tells them: none before a packet of the connection came with a mark.
-fn told_counts(counts: Option<EcnCounts>) -> Option<EcnCounts>
-    ensures { result ≡ told_counts counts }
-{
-    match counts {
-        None => None,
-        Some(counts) => Some(EcnCounts {
-            ect0: told_count(counts.ect0),
-            ect1: told_count(counts.ect1),
-            ce: told_count(counts.ce),
-        }),
-    }
-}
-
-/// The ACK of the numbers to acknowledge in a space at a time. Want of memory is the only refusal.
-#[tactic(auto, using(crate::proofs::AckLemmas::says, crate::proofs::AckLemmas::small_delay))]
-fn ack_of(alloc: Global, now: Instant, space: &SpaceWaiting) -> Result<OwnedAck, AllocError>
-    requires { ArePackets space.now.acks.ranges }
-    ensures { IfOk result (λ ack. SaysAck now space.now (ack_map (λ bytes. bytes.items) ack)) }
-{
-    let delay = space.acks.delay(now);
-    let counts = told_counts(space.marks);
-    match OwnedAck::of_numbers(alloc, space.acks.ranges(), delay, counts)? {
-        Some(ack) => Ok(ack),
-        None => unreachable!(),
-    }
-}
-
-/// How many bytes an ACK has. Want of memory is the only refusal.
-fn ack_len(alloc: Global, ack: &OwnedAck) -> Result<usize, AllocError>
-    ensures { IfOk result (λ n. n ≡ length (frames_spelling (frames.Ack (ack_map (λ bytes. bytes.items) ack.now) ∷ []))) }
-{
-    let mut bytes = Vec::new(alloc);
-    let frame = FrameOf::Ack(Ack {
-        largest: ack.largest,
-        delay: ack.delay,
-        additional: ack.additional.as_slice(),
-        ecn: ack.ecn,
-    });
-    put_frame(&mut bytes, &frame)?;
-    Ok(bytes.len())
-}
-
-/// Takes the ACK, where it is due and has room, and answers how many bytes it has. Want of memory is the only refusal.
-#[tactic(auto, unfolding(crate::specs::Waiting::without_all, crate::specs::Waiting::without))]
-fn take_ack(
-    space: &mut SpaceWaiting,
-    alloc: Global,
-    now: Instant,
-    due: bool,
-    room: usize,
-    frames: &mut FrameList,
-) -> Result<usize, AllocError>
-    requires { due ≡ true → ArePackets space.old.acks.ranges }
-    ensures { IfOk result (λ n. TakesAck now due room space.old space.new frames.old frames.new n) }
-{
-    if !due {
-        return Ok(0);
-    }
-    let ack = ack_of(alloc, now, space)?;
-    let len = ack_len(alloc, &ack)?;
-    if room < len {
-        return Ok(0);
-    }
-    frames.push(FrameOf::Ack(ack))?;
-    space.acks.sent();
-    Ok(len)
-}
-
-/// Takes the HANDSHAKE_DONE and the PING that wait, and answers how many frames that are. Want of memory is the only refusal.
-#[tactic(auto, unfolding(crate::specs::Waiting::marks_part, crate::specs::Waiting::done_part, crate::specs::Waiting::ping_part, crate::specs::Waiting::without_all, crate::specs::Waiting::without))]
-fn take_marks(space: &mut SpaceWaiting, frames: &mut FrameList) -> Result<usize, AllocError>
-    ensures frames { OnOk result (frames.new ≡ frames.old ++ marks_part space.old) }
-    ensures rest { OnOk result (space.new ≡ without_all space.old (marks_part space.old)) }
-    ensures count { IfOk result (λ n. n ≡ length (marks_part space.old)) }
-{
-    let mut count = 0;
-    if space.done {
-        frames.push(FrameOf::HandshakeDone)?;
-        space.done = false;
-        count += 1;
-    }
-    if space.ping {
-        frames.push(FrameOf::Ping)?;
-        space.ping = false;
-        count += 1;
-    }
-    Ok(count)
-}
-
-/// Takes the CRYPTO bytes that wait first, as many as fit, and answers how much of the room they leave. Want of memory is the only
-/// refusal.
-#[tactic(auto, unfolding(crate::specs::Waiting::CryptoPart, crate::specs::Waiting::without_all, crate::specs::Waiting::without))]
-fn take_crypto(
-    space: &mut SpaceWaiting,
-    alloc: Global,
-    room: usize,
-    frames: &mut FrameList,
-) -> Result<usize, AllocError>
-    ensures { IfOk result (λ left. TakesCrypto room space.old space.new frames.old frames.new left) }
-{
-    let mut left = room;
-    while left > CRYPTO_HEAD {
-        match space.crypto.take(left - CRYPTO_HEAD)? {
-            None => return Ok(left),
-            Some((offset, bytes)) => {
-                left -= bytes.len() + CRYPTO_HEAD;
-                let body = Vec::from_slice(alloc, bytes.as_slice())?;
-                frames.push(FrameOf::Crypto { offset, body })?;
-            }
-        }
-    }
-    Ok(left)
-}
-
-/// Takes frames that wait at a time for a packet with so much room; an ACK may be bundled with them from `bundled` on. Want of
-/// memory is the only refusal.
-fn take(
-    space: &mut SpaceWaiting,
-    alloc: Global,
-    now: Instant,
-    bundled: Option<Instant>,
-    room: usize,
-) -> Result<FrameList, AllocError>
-    ensures frames { IfOk result (λ frames. TakenPart now bundled space.old room frames) }
-    ensures rest { IfOk result (λ frames. space.new ≡ without_all space.old frames) }
-{
-    let mut frames = FrameList::new(alloc);
-    let first = is_ack_first(&space.acks);
-    let last = is_ack_last(&space.acks, now, bundled);
-    let count = take_marks(space, &mut frames)?;
-    let room = room.saturating_sub(count);
-    let len = take_ack(space, alloc, now, first, room, &mut frames)?;
-    let left = take_crypto(space, alloc, room.saturating_sub(len), &mut frames)?;
-    take_ack(space, alloc, now, last, left, &mut frames)?;
-    Ok(frames)
-}
-
-/// Takes the ACK at a time, where there is something to acknowledge and so much room for it. Want of memory is the only refusal.
-fn ack_alone(
-    space: &mut SpaceWaiting,
-    alloc: Global,
-    now: Instant,
-    room: usize,
-) -> Result<FrameList, AllocError>
-    ensures frames { IfOk result (λ frames. AckPart now space.old room frames (may_acknowledge space.old.acks)) }
-    ensures rest { IfOk result (λ frames. space.new ≡ without_all space.old frames) }
-{
-    let mut frames = FrameList::new(alloc);
-    let due = may_acknowledge(&space.acks);
-    take_ack(space, alloc, now, due, room, &mut frames)?;
-    Ok(frames)
 }
 
 /// The counts of a space, which begin with the first mark that comes on the connection.
@@ -476,17 +160,31 @@ fn leave(space: &mut SpaceWaiting)
     space.probes = 0;
 }
 
-#[tactic(auto, unfolding(crate::specs::Waiting::packets_lost, crate::specs::Waiting::packets_acked, crate::specs::Waiting::probes_added, crate::specs::Waiting::datagram_begun, crate::specs::Waiting::packet_came, crate::specs::Waiting::holds_back, crate::specs::Waiting::ack_released, crate::specs::Waiting::bundle_next, crate::specs::Waiting::crypto_written, crate::specs::Waiting::space_left, crate::specs::Waiting::close_begun, crate::specs::Waiting::packet_told, crate::specs::Waiting::waits_in, crate::specs::Waiting::ping_asked, crate::specs::Waiting::done_asked, crate::specs::Waiting::waiting_without))]
+#[tactic(auto, unfolding(crate::specs::Waiting::packets_lost, crate::specs::Waiting::packets_acked, crate::specs::Waiting::probes_added, crate::specs::Waiting::probe_spent, crate::specs::Waiting::frames_again, crate::specs::Waiting::packet_came, crate::specs::Waiting::holds_back, crate::specs::Waiting::ack_released, crate::specs::Waiting::bundle_next, crate::specs::Waiting::crypto_written, crate::specs::Waiting::space_left, crate::specs::Waiting::close_begun, crate::specs::Waiting::packet_told, crate::specs::Waiting::ping_asked, crate::specs::Waiting::done_asked, crate::specs::Waiting::waiting_without))]
 impl Waiting {
-    /// Whether something waits in the space.
-    pub fn waits(&self, space: SpaceId) -> bool
-        ensures { result ≡ waits_in self.now space }
+    /// Whether a frame waits here in the space that elicits an acknowledgement.
+    pub fn wants(&self, space: SpaceId) -> bool
+        ensures { result ≡ wants_here (space_of self.now.spaces space) }
     {
-        waits(self.spaces.get(space))
+        wants_here(self.spaces.get(space))
+    }
+
+    /// Whether an ACK is owed in the space.
+    pub fn owes_ack(&self, space: SpaceId) -> bool
+        ensures { result ≡ is_ack_owed (space_of self.now.spaces space).acks }
+    {
+        is_ack_owed(&self.spaces.get(space).acks)
+    }
+
+    /// Whether a probe is due in the space.
+    pub fn owes_probe(&self, space: SpaceId) -> bool
+        ensures { result ≡ not ((space_of self.now.spaces space).probes == 0) }
+    {
+        self.spaces.get(space).probes != 0
     }
 
     /// Packets of the space were lost: their frames wait again. Want of memory is the only refusal.
-    pub fn lose(&mut self, space: SpaceId, lost: &mut PacketList) -> Result<(), AllocError>
+    fn lose(&mut self, space: SpaceId, lost: &mut PacketList) -> Result<(), AllocError>
         ensures { OnOk result (self.new ≡ packets_lost self.old space lost.old) }
     {
         match space {
@@ -497,7 +195,7 @@ impl Waiting {
     }
 
     /// Packets of the space were acknowledged.
-    pub fn acknowledge(&mut self, space: SpaceId, acked: &mut PacketList)
+    fn acknowledge(&mut self, space: SpaceId, acked: &mut PacketList)
         ensures { self.new ≡ packets_acked self.old space acked.old }
     {
         match space {
@@ -505,6 +203,15 @@ impl Waiting {
             SpaceId::Handshake => acknowledge(&mut self.spaces.handshake, acked),
             SpaceId::Data => acknowledge(&mut self.spaces.application, acked),
         }
+    }
+
+    /// An ACK of the space acknowledged packets, and others are lost by it. Want of memory is the only refusal.
+    pub fn settle(&mut self, space: SpaceId, settled: Settled) -> Result<(), AllocError>
+        ensures { OnOk result (self.new ≡ packets_lost (packets_acked self.old space settled.acked) space settled.lost) }
+    {
+        let mut settled = settled;
+        self.acknowledge(space, &mut settled.acked);
+        self.lose(space, &mut settled.lost)
     }
 
     /// Probes are due in the space.
@@ -532,15 +239,25 @@ impl Waiting {
         }
     }
 
-    /// A datagram is begun for the space, whose oldest packet in flight is this one: a probe that is due is spent. Want of memory
-    /// is the only refusal.
-    pub fn begin(&mut self, space: SpaceId, oldest: Option<&SentPacket>) -> Result<(), AllocError>
-        ensures { OnOk result (self.new ≡ datagram_begun self.old space (option_copied oldest.entry)) }
+    /// A probe that is due in the space is spent.
+    pub fn spend(&mut self, space: SpaceId)
+        ensures { self.new ≡ probe_spent self.old space }
     {
         match space {
-            SpaceId::Initial => begin(&mut self.spaces.initial, oldest),
-            SpaceId::Handshake => begin(&mut self.spaces.handshake, oldest),
-            SpaceId::Data => begin(&mut self.spaces.application, oldest),
+            SpaceId::Initial => spend(&mut self.spaces.initial),
+            SpaceId::Handshake => spend(&mut self.spaces.handshake),
+            SpaceId::Data => spend(&mut self.spaces.application),
+        }
+    }
+
+    /// These frames of a packet wait again in its space. Want of memory is the only refusal.
+    pub fn again(&mut self, space: SpaceId, frames: &FrameList) -> Result<(), AllocError>
+        ensures { OnOk result (self.new ≡ frames_again self.old space frames.now) }
+    {
+        match space {
+            SpaceId::Initial => all_again(&mut self.spaces.initial, frames),
+            SpaceId::Handshake => all_again(&mut self.spaces.handshake, frames),
+            SpaceId::Data => all_again(&mut self.spaces.application, frames),
         }
     }
 

@@ -21,12 +21,12 @@ use Rattle.qc_streams.specs.Credit.{credit_lost, credit_sealed}
 use Rattle.qc_streams.specs.Events.{EventQueue, event_placed, given_up_if, place_given_up, place_put_by, put_by_if}
 use Rattle.qc_streams.specs.Finishing.{finished_now, says_finished, times_finished}
 use Rattle.qc_streams.specs.Owed.{max_data_lost, max_data_sealed, max_streams_lost, max_streams_sealed}
-use Rattle.qc_streams.specs.Parts.{place_again, sealed_part, turned}
+use Rattle.qc_streams.specs.StreamBytes.{place_again, sealed_part, turned}
 use Rattle.qc_streams.specs.Records.{changed, record_of}
 use Rattle.qc_streams.specs.Stops.{with_stop}
 use Rattle.qc_streams.specs.Stream.{has_ended, with_receiving, with_sending}
 use Rattle.qc_streams.specs.Streams.{dir_of, forgotten, fresh_peer, is_peer_unopened, left_over, lingering, met, opened_with, released, removed, settled, stops_later}
-use Rattle.qc_streams.specs.Waiting.{all_filed, dues_at, entered, filed, left, left_from, mark_off, placed, queued, touched, turn_at, turn_filed}
+use Rattle.qc_streams.specs.Queues.{all_filed, dues_at, entered, filed, left, left_from, mark_off, placed, queued, touched, turn_at, turn_filed}
 use Rattle.qc_streams.specs.Writable.{all_told, credit_at, has_place_at, has_room, held_up, needs_place_at, passed, place_reserved, told_first, writables_told}
 
 -- a state counts what another does, and the same events wait

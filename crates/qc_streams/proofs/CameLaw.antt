@@ -12,19 +12,19 @@ use Rattle.qc_streams.specs.declared.state.StreamsState.{StreamsState}
 use Rattle.qc_streams.specs.declared.stream.Stream.{Stream}
 use Rattle.qc_streams.specs.Calls.{after_read, gives, reading_begun, resets, sends, wrote}
 use Rattle.qc_streams.specs.Carried.{keeps_streams}
-use Rattle.qc_streams.specs.Counts.{held}
+use Rattle.qc_streams.specs.Counts.{saturated}
 use Rattle.qc_streams.specs.Credit.{new_incoming, room, tallied, window_set, with_totals, with_window}
 use Rattle.qc_streams.specs.Early.{credit_anew, early_refused}
 use Rattle.qc_streams.specs.Events.{first_dropped}
 use Rattle.qc_streams.specs.Frames.{comes, limit_came, receive_refusal, reset_came, stop_came, stream_came, stream_limit_came, streams_limit_came}
 use Rattle.qc_streams.specs.Owed.{polled, told_opened}
-use Rattle.qc_streams.specs.Parts.{bytes_acked, bytes_gone, bytes_lost, bytes_taken}
+use Rattle.qc_streams.specs.StreamBytes.{bytes_acked, bytes_gone, bytes_lost, bytes_taken}
 use Rattle.qc_streams.specs.Records.{changed, record_of}
 use Rattle.qc_streams.specs.Settings.{max_concurrent_set, priority_set, receive_window_set, send_window_set}
 use Rattle.qc_streams.specs.Stream.{fresh_stream, limit_taken, refusal_at, side_refusal, stop_taken, totals_at, totals_if, totals_of, with_receiving, with_sending}
 use Rattle.qc_streams.specs.Streams.{accepted_one, counted, dir_of, fresh_own, fresh_peer, is_peer_unopened, limits_set, met, new_streams, opened_own, opened_with, target, told_if}
 use Rattle.qc_streams.specs.Tied.{CountsWhatCame, all_ends, end_on, end_raised, ends_came, may_come, may_come_on, with_end}
-use Rattle.qc_streams.specs.Waiting.{queued, touched}
+use Rattle.qc_streams.specs.Queues.{queued, touched}
 use Rattle.qc_streams.specs.Waits.{ArePossible, IsPossible, Step, LimitsKnown, EarlyRefused, Closed, Failed, Opened, Accepted, Wrote, Refused, Finished, WasReset, Began, Read, Stopped, ResetAsked, PrioritySet, SendWindowSet, ReceiveWindowSet, ConcurrentSet, Polled, StreamCame, ResetCame, StopCame, StreamLimitCame, StreamsLimitCame, LimitCame, MarksFiled, ControlSealed, ControlLost, ControlAcked, PartSealed, BytesLost, BytesAcked, after, after_step}
 use Rattle.qc_streams.specs.Within.{AreTaken, IsTaken}
 use Rattle.qc_streams.specs.Writable.{awaits, passed, watched}
@@ -219,9 +219,9 @@ module _ (id end : ℕ) (g : Recv → Recv) (f : Recv → Option SideRefusal)
       by false old = refl
 
   -- what counts as received
-  comes_received : (ends : List (ℕ × ℕ)) (s : StreamsState) → Holds s → receive_refusal f id s ≡ None → LineAt id ends s → s.incoming.received ≡ held (all_ends ends)
-      → (comes g id s).incoming.received ≡ held (all_ends (ends_then s ends))
-  unfolding comes counted tallied with_totals totals_at held
+  comes_received : (ends : List (ℕ × ℕ)) (s : StreamsState) → Holds s → receive_refusal f id s ≡ None → LineAt id ends s → s.incoming.received ≡ saturated (all_ends ends)
+      → (comes g id s).incoming.received ≡ saturated (all_ends (ends_then s ends))
+  unfolding comes counted tallied with_totals totals_at saturated
   comes_received ends s holds none h sum =
       let before : (totals_if (record_of id s.records)).received ≡ (totals_if (target id s)).received = counted_before s holds in
       let now : (totals_if (record_of id (met (with_receiving g) id s).records)).received ≡ (totals_if (option_map (with_receiving g) (target id s))).received =
@@ -293,9 +293,9 @@ stream_same g same None = refl
 stream_same g same (Some st) = side_same g same st.receiving
 
 -- the application reads or stops a stream: nothing comes with it
-gives_received : (g : Recv → Recv) → ((r : Recv) → (g r).greatest ≡ r.greatest) → (id : ℕ) (s : StreamsState) (n : ℕ) → s.incoming.received ≡ held n
-    → (gives g id s).incoming.received ≡ held n
-unfolding gives counted tallied with_totals totals_at held
+gives_received : (g : Recv → Recv) → ((r : Recv) → (g r).greatest ≡ r.greatest) → (id : ℕ) (s : StreamsState) (n : ℕ) → s.incoming.received ≡ saturated n
+    → (gives g id s).incoming.received ≡ saturated n
+unfolding gives counted tallied with_totals totals_at saturated
 gives_received g same id s n sum =
     let now : (totals_if (record_of id (changed (with_receiving g) id s.records))).received ≡ (totals_if (record_of id s.records)).received =
     ap (λ (o : Option Stream). (totals_if o).received) (here (with_receiving g) id s.records) ∙ stream_same g same (record_of id s.records) in
@@ -317,7 +317,7 @@ IsNoEnd (ResetCame id code size) = ⊥
 IsNoEnd EarlyRefused = ⊥
 IsNoEnd x = Unit {0}
 
-rests_received : (x : Step) (s : StreamsState) (n : ℕ) → IsNoEnd x → s.incoming.received ≡ held n → (after_step x s).incoming.received ≡ held n
+rests_received : (x : Step) (s : StreamsState) (n : ℕ) → IsNoEnd x → s.incoming.received ≡ saturated n → (after_step x s).incoming.received ≡ saturated n
 unfolding after_step limits_set opened_own accepted_one wrote resets sends queued passed touched reading_begun priority_set send_window_set receive_window_set window_set with_window max_concurrent_set stop_came stream_limit_came watched streams_limit_came limit_came bytes_lost bytes_acked bytes_gone bytes_taken told_if
 rests_received (StreamCame id o bs last) s n none sum = absurd none
 rests_received (ResetCame id code size) s n none sum = absurd none
@@ -357,7 +357,7 @@ rests_received (BytesAcked id start stop last) s n none sum =
 
 record Counts (ends : List (ℕ × ℕ)) (s : StreamsState) : Type 0 where
   lines : (id : ℕ) → LineAt id ends s
-  sum : s.incoming.received ≡ held (all_ends ends)
+  sum : s.incoming.received ≡ saturated (all_ends ends)
 
 module _ (j end : ℕ) (g : Recv → Recv) (f : Recv → Option SideRefusal) (x : Step) (ends : List (ℕ × ℕ)) (s : StreamsState) (can : IsPossible x) (holds : Holds s)
     (h : Counts ends s) where
@@ -370,7 +370,7 @@ module _ (j end : ℕ) (g : Recv → Recv) (f : Recv → Option SideRefusal) (x 
       by false is = others id is
 
 step_counts : (x : Step) (ends : List (ℕ × ℕ)) (s : StreamsState) → IsPossible x → Holds s → IsTaken x s → Counts ends s → Counts (with_end x s ends) (after_step x s)
-unfolding IsPossible IsTaken keeps_streams with_end after_step stream_came reset_came told_if early_refused credit_anew all_ends held
+unfolding IsPossible IsTaken keeps_streams with_end after_step stream_came reset_came told_if early_refused credit_anew all_ends saturated
 step_counts (StreamCame j o bs last) ends s can holds taken h = record {
   lines = came_lines j (o + length bs) (stream_taken o bs last) (stream_refusal o bs last (room s.incoming)) (StreamCame j o bs last) ends s can holds h
       (λ id is. other_line id (StreamCame j o bs last) ends s can refl is holds (h.lines id))
@@ -401,7 +401,7 @@ after_counts (x ∷ xs) ends s can taken holds h =
     after_counts xs (with_end x s ends) (after_step x s) can.1 taken.1 (step_ok x s can.0 holds) (step_counts x ends s can.0 holds taken.0 h)
 
 first_counts : (side : Side) (uni bi window stream_window send_window : ℕ) (fair : Bool) → Counts [] (new_streams side uni bi window stream_window send_window fair)
-unfolding new_streams new_incoming all_ends held
+unfolding new_streams new_incoming all_ends saturated
 first_counts side uni bi window stream_window send_window fair = record { lines = λ id new. no_end id; sum = omega arith }
 
 first_holds : (side : Side) (uni bi window stream_window send_window : ℕ) (fair : Bool) → Holds (new_streams side uni bi window stream_window send_window fair)

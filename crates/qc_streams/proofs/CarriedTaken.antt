@@ -23,7 +23,7 @@ use Rattle.qc_streams.specs.Records.{changed, record_of}
 use Rattle.qc_streams.specs.Refusals.{first_row, or_else}
 use Rattle.qc_streams.specs.Stream.{fresh_stream, has_ended, is_freed, refusal_at, side_refusal, with_receiving}
 use Rattle.qc_streams.specs.Streams.{counted, dir_of, forgotten, fresh_peer, is_own, is_own_unopened, is_past_limit, is_peer_unopened, is_uni, lingering, lower_opened, met, opened_with, released, removed, settled, stops_later, target, told_if}
-use Rattle.qc_streams.specs.Waiting.{left, left_from, touched, turn_at}
+use Rattle.qc_streams.specs.Queues.{left, left_from, touched, turn_at}
 use Rattle.qc_streams.specs.Waits.{IsPossible, Step, Read, StreamCame, after_step}
 use Rattle.qc_streams.specs.Within.{IsTaken}
 use Rattle.qc_streams.proofs.CarriedSide.{IsFine}

@@ -19,7 +19,7 @@ use Rattle.qc_streams.specs.Calls.{count_taken, if_known, known, known_at, known
 use Rattle.qc_streams.specs.Carried.{HoldsWritten, SendsWhatWasWritten, keeps_streams, with_written, written_on}
 use Rattle.qc_streams.specs.Credit.{budget}
 use Rattle.qc_streams.specs.Early.{early_refused}
-use Rattle.qc_streams.specs.Parts.{IsOfferAt, IsOfferOf, part_end}
+use Rattle.qc_streams.specs.StreamBytes.{IsOfferAt, IsOfferOf, part_end}
 use Rattle.qc_streams.specs.Records.{record_of}
 use Rattle.qc_streams.specs.Stream.{fresh_stream}
 use Rattle.qc_streams.specs.Streams.{fresh_own, fresh_peer, new_streams}

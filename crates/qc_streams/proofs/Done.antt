@@ -1,11 +1,13 @@
 -- What is sealed or lost is acknowledged no more and no less
-use Rattle.std.proofs.Common.{◌≡◌, ◌∙◌, ℕ, min, Bool, true, false, not, ◌&&◌, List, [], ◌∷◌, Option, None, Some, ap, refl}
+use Rattle.std.proofs.Common.{◌≡◌, ◌∙◌, ℕ, ◌==◌, min, Bool, true, false, cond, not, ◌&&◌, ◌||◌, List, [], ◌∷◌, Option, None, Some, is_some, ap, sym, refl}
 use Rattle.qc_send_stream.specs.declared.send.SendPart.{SendPart}
 use Rattle.qc_send_stream.specs.declared.send.Reset.{Reset}
 use Rattle.qc_send_stream.specs.declared.send.Standing.{Standing}
 use Rattle.qc_send_stream.specs.declared.send.Standing.TheVariants.{Waiting, InFlight, Acknowledged}
 use Rattle.qc_send_stream.specs.Buffer.{Kept, has_bytes, marked, range_sealed, range_lost}
-use Rattle.qc_send_stream.specs.Sending.{done_with, end_acked, end_with, is_acked, is_done, lost_standing, part_lost, part_sealed, reset_lost, reset_sealed, reset_with, sealed_standing}
+use Rattle.qc_send_stream.specs.declared.fault.WriteError.{WriteError}
+use Rattle.qc_send_stream.specs.declared.fault.WriteError.TheVariants.{Blocked, ClosedStream}
+use Rattle.qc_send_stream.specs.Sending.{done_with, end_acked, end_with, is_acked, is_closed, is_done, lost_standing, part_lost, part_sealed, part_written, reset_lost, reset_sealed, reset_with, sealed_standing, write_refusal}
 
 acked-sealed : (x : Standing) → is_acked (sealed_standing x) ≡ is_acked x
 acked-sealed Waiting = refl
@@ -58,3 +60,26 @@ reset_sealed_still p p' is = ap (λ (x : SendPart). is_done x) is ∙ reset-kept
 pub reset_lost_still : (p p' : SendPart) → p' ≡ reset_lost p → is_done p' ≡ is_done p
 unfolding is_done reset_lost
 reset_lost_still p p' is = ap (λ (x : SendPart). is_done x) is ∙ reset-kept lost_standing acked-lost p.reset _
+
+-- nothing is acknowledged of a side that is neither finished nor reset
+not-done : (end : Option Standing) (r : Option Reset) (b : Bool) → (is_some end || is_some r) ≡ false → done_with r (end_acked end && b) ≡ false
+not-done None None b is = refl
+not-done None (Some r) b is = absurd (cc)
+not-done (Some x) r b is = absurd (cc)
+
+not-closed : (none closed : Bool) (rest : Option WriteError) → cond none (Some Blocked) (cond closed (Some ClosedStream) rest) ≡ None → closed ≡ false
+not-closed true closed rest is = absurd (cc)
+not-closed false true rest is = absurd (cc)
+not-closed false false rest is = refl
+
+-- a side on which a write isn't refused is neither finished nor reset
+pub open_side : (budget : ℕ) (p : SendPart) → write_refusal budget p ≡ None → (is_some p.end || is_some p.reset) ≡ false
+unfolding is_closed write_refusal
+open_side budget p fits = not-closed (budget == 0) (is_some p.end || is_some p.reset) _ fits
+
+-- a write leaves it so
+pub written_still : (budget : ℕ) (bs : List ℕ) (p p' : SendPart) → write_refusal budget p ≡ None → p' ≡ part_written bs p → is_done p' ≡ is_done p
+unfolding is_done part_written
+written_still budget bs p p' fits is =
+    let open_then : (is_some p.end || is_some p.reset) ≡ false = open_side budget p fits in
+    ap (λ (x : SendPart). is_done x) is ∙ not-done p.end p.reset _ open_then ∙ sym (not-done p.end p.reset _ open_then)

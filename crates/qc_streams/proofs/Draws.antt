@@ -9,10 +9,10 @@ use Rattle.qc_streams.specs.declared.state.StreamsState.{StreamsState}
 use Rattle.qc_streams.specs.declared.stream.Stream.{Stream}
 use Rattle.qc_streams.specs.declared.waiting.Waiting.{Waiting}
 use Rattle.qc_streams.specs.Lending.{AllRecords}
-use Rattle.qc_streams.specs.Parts.{IsTurnAt, IsTurnOf, draw_one, drawn_turn, first_rank, place_after, place_again, seal_one, sealed_part, turn_left, turn_taken, turned}
+use Rattle.qc_streams.specs.StreamBytes.{IsTurnAt, IsTurnOf, draw_one, drawn_turn, first_rank, place_after, place_again, seal_one, sealed_part, turn_left, turn_taken, turned}
 use Rattle.qc_streams.specs.Records.{changed, on_some, record_of, with_record}
 use Rattle.qc_streams.specs.Stream.{with_sending}
-use Rattle.qc_streams.specs.Waiting.{dues_at, dues_of, entered, left, next_place, priority_at, with_turn}
+use Rattle.qc_streams.specs.Queues.{dues_at, dues_of, entered, left, next_place, priority_at, with_turn}
 use Rattle.qc_streams.proofs.Filings.{entered_is, kept_out, left_is, with_both}
 use Rattle.qc_streams.proofs.Keyed.{set_here}
 use Rattle.qc_streams.proofs.Sequels.{set_twice}

@@ -16,7 +16,7 @@ use Rattle.qc_streams.specs.declared.waiting.Waiting.{Waiting}
 use Rattle.qc_streams.specs.Filed.{is_among, is_marked}
 use Rattle.qc_streams.specs.Lending.{AllRecords}
 use Rattle.qc_streams.specs.Records.{changed, on_some, record_of, with_new, without}
-use Rattle.qc_streams.specs.Waiting.{dues_at, dues_of, entered, left, left_from, put_if, sets_filed, turn_at, with_turn}
+use Rattle.qc_streams.specs.Queues.{dues_at, dues_of, entered, left, left_from, put_if, sets_filed, turn_at, with_turn}
 use Rattle.qc_streams.proofs.Keyed.{Ascends, ascends_gone, ascends_new, ascends_set, found, gone_here, gone_other, new_here, new_other, set_other}
 use Rattle.qc_streams.proofs.Waits.{here}
 

@@ -16,7 +16,7 @@ use Rattle.qc_turns.specs.Ready.{place_cmp}
 use Rattle.qc_streams.specs.declared.stream.Stream.{Stream}
 use Rattle.qc_streams.specs.Lending.{AllRecords}
 use Rattle.qc_streams.specs.Records.{changed, on_some, record_of, with_new, without}
-use Rattle.qc_streams.specs.Waiting.{due_at, due_next, dues_of, queue_one, takes_number, turn_at, with_turn}
+use Rattle.qc_streams.specs.Queues.{due_at, due_next, dues_of, queue_one, takes_number, turn_at, with_turn}
 use Rattle.qc_streams.proofs.Waits.{here}
 use Rattle.qc_streams.proofs.Keyed.{Ascends, ascends_set, gone_here as record_gone, gone_other as record_left, new_here as record_new, new_other as record_old, set_alike, set_other}
 

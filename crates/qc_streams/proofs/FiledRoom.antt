@@ -14,10 +14,10 @@ use Rattle.qc_streams.specs.declared.stream.Stream.{Stream}
 use Rattle.qc_streams.specs.declared.waiting.Waiting.{Waiting}
 use Rattle.qc_streams.specs.Filed.{is_among, is_marked, unmarked_count}
 use Rattle.qc_streams.specs.Lending.{AllRecords}
-use Rattle.qc_streams.specs.Parts.{place_again, turned}
+use Rattle.qc_streams.specs.StreamBytes.{place_again, turned}
 use Rattle.qc_streams.specs.Records.{changed, on_some, record_of, with_new, with_record, without}
 use Rattle.qc_streams.specs.Streams.{forgotten, released, removed}
-use Rattle.qc_streams.specs.Waiting.{all_filed, dues_at, entered, filed, is_idle, left, left_from, mark_off, due_at, new_waiting, next_place, or_next, place_left, place_made, placed, queue_one, queued, sets_filed, touched, turn_at, turn_filed, with_mark, with_turn}
+use Rattle.qc_streams.specs.Queues.{all_filed, dues_at, entered, filed, is_idle, left, left_from, mark_off, due_at, new_waiting, next_place, or_next, place_left, place_made, placed, queue_one, queued, sets_filed, touched, turn_at, turn_filed, with_mark, with_turn}
 use Rattle.qc_streams.proofs.Keeps.{Fresh, Keeps, On, changed_in}
 use Rattle.qc_streams.proofs.Keyed.{Ascends, ascends_gone, ascends_new, ascends_set, gone_here, gone_other, new_here, new_other, same_id, set_alike, set_here, set_other}
 use Rattle.qc_streams.proofs.MarksOff.{filed_ids}

@@ -10,11 +10,11 @@ use Rattle.qc_streams.specs.declared.waiting.Dues.{Dues}
 use Rattle.qc_streams.specs.declared.waiting.Waiting.{Waiting}
 use Rattle.qc_streams.specs.Filed.{IsExact, is_marked}
 use Rattle.qc_streams.specs.Lending.{AllRecords}
-use Rattle.qc_streams.specs.Parts.{place_again, turned}
+use Rattle.qc_streams.specs.StreamBytes.{place_again, turned}
 use Rattle.qc_streams.specs.Records.{changed, record_of, with_new, without}
 use Rattle.qc_streams.specs.Stops.{StopCodes}
 use Rattle.qc_streams.specs.Streams.{forgotten, released, removed}
-use Rattle.qc_streams.specs.Waiting.{dues_at, entered, filed, is_idle, left, mark_off, new_waiting, place_left, place_made, placed, queue_one, queued, sets_filed, touched, turn_at, turn_filed, with_mark}
+use Rattle.qc_streams.specs.Queues.{dues_at, entered, filed, is_idle, left, mark_off, new_waiting, place_left, place_made, placed, queue_one, queued, sets_filed, touched, turn_at, turn_filed, with_mark}
 use Rattle.qc_streams.proofs.FiledIds.{AllAscend, Beside, InSets, Others, Sets, TurnOnly, entered_only, entered_turn, left_only, left_turn, none_changes, none_moves, one_changed, one_gone, one_new, one_then, put, put_here, same_turn, sets_beside, sets_here, sets_of, stays, turn_then}
 use Rattle.qc_streams.proofs.Keeps.{Fresh, Keeps, On, Owes, OwesBytes, Stays, changed_in, no_credit, no_reset, no_stop}
 use Rattle.qc_streams.proofs.Keyed.{Ascends, gone_here, new_here, same_id}

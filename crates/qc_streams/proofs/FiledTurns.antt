@@ -6,13 +6,13 @@ use Rattle.qc_turns.specs.Ready.{place_cmp, with_place, without_place}
 use Rattle.qc_streams.specs.declared.state.StreamsState.{StreamsState}
 use Rattle.qc_streams.specs.declared.stream.Stream.{Stream}
 use Rattle.qc_streams.specs.declared.waiting.Waiting.{Waiting}
-use Rattle.qc_streams.specs.Counts.{held}
+use Rattle.qc_streams.specs.Counts.{saturated}
 use Rattle.qc_streams.specs.Filed.{turn_of}
 use Rattle.qc_streams.specs.Lending.{AllRecords}
-use Rattle.qc_streams.specs.Parts.{place_again, turned}
+use Rattle.qc_streams.specs.StreamBytes.{place_again, turned}
 use Rattle.qc_streams.specs.Records.{changed, record_of, with_new, without}
 use Rattle.qc_streams.specs.Streams.{forgotten, released, removed}
-use Rattle.qc_streams.specs.Waiting.{due_at, dues_at, entered, filed, is_idle, left, left_from, mark_off, new_waiting, next_place, or_next, place_left, place_made, placed, queue_one, queued, sets_filed, takes_number, touched, turn_at, turn_filed, with_mark, with_turn}
+use Rattle.qc_streams.specs.Queues.{due_at, dues_at, entered, filed, is_idle, left, left_from, mark_off, new_waiting, next_place, or_next, place_left, place_made, placed, queue_one, queued, sets_filed, takes_number, touched, turn_at, turn_filed, with_mark, with_turn}
 use Rattle.qc_streams.proofs.FiledPlaces.{Agree, Claims, Once, came, claims_entered, claims_left, claims_queued, claims_same, due_alike, either, gone_here, gone_other, new_claims, new_here, new_other, new_turn, once_gone, once_new, order_changed, place_exact, place_tied, turn_alike, turn_none, turn_other, turn_some, went, without_claims, without_turn}
 use Rattle.qc_streams.proofs.Keeps.{Fresh, Keeps, On, Stays, changed_in}
 use Rattle.qc_streams.proofs.Keyed.{Ascends, ascends_gone, ascends_new}
@@ -66,8 +66,8 @@ alike f same due id all w w' ready turns =
 below_limit : (n m : ℕ) → min (n + 1) m < m → (min (n + 1) m ≡ n + 1) × (n < m)
 below_limit n m fewer = (omega (arith, fewer), omega (arith, fewer))
 
-counted : (n : ℕ) → held (n + 1) < 2 ^ 64 - 1 → (held (n + 1) ≡ n + 1) × (n < 2 ^ 64 - 1)
-unfolding held
+counted : (n : ℕ) → saturated (n + 1) < 2 ^ 64 - 1 → (saturated (n + 1) ≡ n + 1) × (n < 2 ^ 64 - 1)
+unfolding saturated
 counted n fewer = below_limit n (2 ^ 64 - 1) fewer
 
 free-in : (o : Option ℕ) → (is_some o ≡ true → ⊥) → o ≡ None
@@ -111,8 +111,8 @@ free place id all w own none i =
 
 -- a stream without a turn takes a place that it alone claims
 enters : (place : ℤ × ℕ) (id : ℕ) (all : AllRecords) (w : Waiting) → Own place id all w → turn_at (record_of id all) ≡ None → is_some (record_of id all) ≡ true
-    → held (w.turns + 1) ≡ w.turns + 1 → InTurn all w
-    → InTurn (changed (with_turn (Some place)) id all) (record w { ready = with_place place id w.ready; turns = held (w.turns + 1) })
+    → saturated (w.turns + 1) ≡ w.turns + 1 → InTurn all w
+    → InTurn (changed (with_turn (Some place)) id all) (record w { ready = with_place place id w.ready; turns = saturated (w.turns + 1) })
 enters place id all w own none known more i = record {
   order = order_changed (with_turn (Some place)) id all i.order;
   once = once_new place_cmp place_tied place_exact place w.ready id (free place id all w own none i) i.once;
@@ -137,7 +137,7 @@ enters place id all w own none known more i = record {
         (new_here place_cmp place_tied place_exact place w.ready id)
         (record { stands = i.stands; takes = i.takes })
 
-    below : (q : ℤ × ℕ) → is_some (turn_of q (with_place place id w.ready)) ≡ true → (place ≡ q) ⊎ (place ≡ q → ⊥) → q.1 < held (w.turns + 1)
+    below : (q : ℤ × ℕ) → is_some (turn_of q (with_place place id w.ready)) ≡ true → (place ≡ q) ⊎ (place ≡ q → ⊥) → q.1 < saturated (w.turns + 1)
     below q there (inl same) =
         let at_end : q.1 ≡ place.1 = ap (λ (p : ℤ × ℕ). p.1) (sym same) in
         omega (arith, at_end, own.most, more)
@@ -146,7 +146,7 @@ enters place id all w own none known more i = record {
         i.below q (ap (λ (o : Option ℕ). is_some o) (sym (new_other place_cmp place_tied place_exact place q w.ready id apart)) ∙ there) in
         omega (arith, less, more)
 
-    fewer : (j : ℕ) (q : ℤ × ℕ) → ((id ≡ j) × (place ≡ q)) ⊎ Claims (record_of j all) q → q.1 < held (w.turns + 1)
+    fewer : (j : ℕ) (q : ℤ × ℕ) → ((id ≡ j) × (place ≡ q)) ⊎ Claims (record_of j all) q → q.1 < saturated (w.turns + 1)
     fewer j q (inl new) =
         let at_end : q.1 ≡ place.1 = ap (λ (p : ℤ × ℕ). p.1) (sym new.1) in
         omega (arith, at_end, own.most, more)
@@ -162,7 +162,7 @@ entered_ok : (place : ℤ × ℕ) (id : ℕ) (s : StreamsState) → (InTurn s.re
     → turn_at (record_of id s.records) ≡ None → is_some (record_of id s.records) ≡ true → On TurnsFit s → On TurnsFit (entered place id s)
 unfolding entered
 entered_ok place id s own none known h fewer =
-    let more : (held (s.waiting.turns + 1) ≡ s.waiting.turns + 1) × (s.waiting.turns < 2 ^ 64 - 1) = counted s.waiting.turns fewer in
+    let more : (saturated (s.waiting.turns + 1) ≡ s.waiting.turns + 1) × (s.waiting.turns < 2 ^ 64 - 1) = counted s.waiting.turns fewer in
     enters place id s.records s.waiting (own (h more.1)) none known more.0 (h more.1)
 
 -- ---- a stream began to wait
@@ -196,10 +196,10 @@ waits id all w w' ready most number i = record {
     one j k p q is (inr claim) (inr also) = i.apart j k p q claim also is
 
 queued-in : (b : Bool) (id : ℕ) (s : StreamsState) → takes_number (record_of id s.records) ≡ b → On TurnsFit s
-    → TurnsFit (changed (queue_one s.waiting.turns) id s.records) (record s.waiting { turns = cond b (held (s.waiting.turns + 1)) s.waiting.turns })
+    → TurnsFit (changed (queue_one s.waiting.turns) id s.records) (record s.waiting { turns = cond b (saturated (s.waiting.turns + 1)) s.waiting.turns })
 queued-in true id s is h fewer =
-    let more : (held (s.waiting.turns + 1) ≡ s.waiting.turns + 1) × (s.waiting.turns < 2 ^ 64 - 1) = counted s.waiting.turns fewer in
-    waits id s.records s.waiting (record s.waiting { turns = held (s.waiting.turns + 1) }) refl (omega (arith, more.0)) (λ takes. omega (arith, more.0)) (h more.1)
+    let more : (saturated (s.waiting.turns + 1) ≡ s.waiting.turns + 1) × (s.waiting.turns < 2 ^ 64 - 1) = counted s.waiting.turns fewer in
+    waits id s.records s.waiting (record s.waiting { turns = saturated (s.waiting.turns + 1) }) refl (omega (arith, more.0)) (λ takes. omega (arith, more.0)) (h more.1)
 queued-in false id s is h fewer =
     waits id s.records s.waiting s.waiting refl (omega arith) (λ takes. absurd (false≢true (sym is ∙ takes))) (h fewer)
 

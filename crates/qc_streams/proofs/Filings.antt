@@ -8,7 +8,7 @@ use Rattle.qc_streams.specs.declared.stream.Stream.{Stream}
 use Rattle.qc_streams.specs.declared.waiting.Waiting.{Waiting}
 use Rattle.qc_streams.specs.Lending.{AllRecords}
 use Rattle.qc_streams.specs.Records.{changed, on_some, record_of, with_record}
-use Rattle.qc_streams.specs.Waiting.{due_at, dues_at, dues_of, entered, file_one, filed, filed_turn, left, left_from, mark_off, mark_taken, next_place, or_next, place_behind, placed, priority_at, sets_filed, turn_at, turn_filed, turn_moved, with_mark, with_turn}
+use Rattle.qc_streams.specs.Queues.{due_at, dues_at, dues_of, entered, file_one, filed, filed_turn, left, left_from, mark_off, mark_taken, next_place, or_next, place_behind, placed, priority_at, sets_filed, turn_at, turn_filed, turn_moved, with_mark, with_turn}
 use Rattle.qc_streams.proofs.Keyed.{set_here}
 use Rattle.qc_streams.proofs.Sequels.{set_twice}
 

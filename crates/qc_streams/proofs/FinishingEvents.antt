@@ -14,11 +14,11 @@ use Rattle.qc_streams.specs.Events.{event_added, first_dropped, first_event}
 use Rattle.qc_streams.specs.Finishing.{finished_now, says_finished, times_finished, with_told}
 use Rattle.qc_streams.specs.Frames.{comes, limit_came, reads_more, reset_came, stop_came, stream_came, stream_limit_came, streams_limit_came}
 use Rattle.qc_streams.specs.Owed.{next_event, polled, told_opened}
-use Rattle.qc_streams.specs.Parts.{bytes_acked, bytes_gone, bytes_lost, bytes_taken, finishes}
+use Rattle.qc_streams.specs.StreamBytes.{bytes_acked, bytes_gone, bytes_lost, bytes_taken, finishes}
 use Rattle.qc_streams.specs.Settings.{max_concurrent_set, priority_set, receive_window_set, send_window_set}
 use Rattle.qc_streams.specs.Stream.{limit_taken, stop_taken, stops_at, with_receiving, with_sending}
 use Rattle.qc_streams.specs.Streams.{accepted_one, counted, limits_set, met, opened_own, target, told_if}
-use Rattle.qc_streams.specs.Waiting.{queued, touched}
+use Rattle.qc_streams.specs.Queues.{queued, touched}
 use Rattle.qc_streams.specs.Waits.{Step, LimitsKnown, EarlyRefused, Closed, Failed, Opened, Accepted, Wrote, Refused, Finished, WasReset, Began, Read, Stopped, ResetAsked, PrioritySet, SendWindowSet, ReceiveWindowSet, ConcurrentSet, Polled, StreamCame, ResetCame, StopCame, StreamLimitCame, StreamsLimitCame, LimitCame, MarksFiled, ControlSealed, ControlLost, ControlAcked, PartSealed, BytesLost, BytesAcked, after_step}
 use Rattle.qc_streams.specs.Writable.{passed, watched, writables_told}
 use Rattle.qc_streams.proofs.Beside.{acked_beside, all_filed_beside, lost_beside, met_beside, one_more, part_beside, refused_beside, sealed_beside, sends_beside, settled_beside, told_telling}

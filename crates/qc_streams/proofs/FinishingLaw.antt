@@ -15,7 +15,7 @@ use Rattle.qc_streams.specs.Carried.{keeps_streams, with_written, written_on}
 use Rattle.qc_streams.specs.Early.{early_refused}
 use Rattle.qc_streams.specs.Events.{no_events}
 use Rattle.qc_streams.specs.Finishing.{FinishedIsToldOnce, acked_on, ended_on, times_finished, times_told, with_acked, with_ended, with_told}
-use Rattle.qc_streams.specs.Parts.{bytes_taken, finished_at, finishes, is_finished}
+use Rattle.qc_streams.specs.StreamBytes.{bytes_taken, finished_at, finishes, is_finished}
 use Rattle.qc_streams.specs.Records.{record_of}
 use Rattle.qc_streams.specs.Stream.{fresh_stream, with_sending}
 use Rattle.qc_streams.specs.Streams.{fresh_own, fresh_peer, new_streams}

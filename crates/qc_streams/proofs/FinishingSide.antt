@@ -14,7 +14,7 @@ use Rattle.qc_streams.specs.declared.control.Control.TheVariants.{Reset as Reset
 use Rattle.qc_streams.specs.Calls.{if_known}
 use Rattle.qc_streams.specs.Carried.{keeps_streams}
 use Rattle.qc_streams.specs.Finishing.{with_acked, with_ended}
-use Rattle.qc_streams.specs.Parts.{is_finished, part_end}
+use Rattle.qc_streams.specs.StreamBytes.{is_finished, part_end}
 use Rattle.qc_streams.specs.Waits.{Step, EarlyRefused, Wrote, Finished, WasReset, ControlSealed, ControlLost, ControlAcked, PartSealed, BytesLost, BytesAcked}
 use Rattle.qc_streams.proofs.StepAt.{SendsAlike, control_sent, sent_to}
 

@@ -34,14 +34,14 @@ use Rattle.qc_streams.specs.Events.{first_dropped}
 use Rattle.qc_streams.specs.Frames.{comes, limit_came, reset_came, stop_came, stream_came, stream_limit_came, streams_limit_came}
 use Rattle.qc_streams.specs.Lending.{AllRecords}
 use Rattle.qc_streams.specs.Owed.{max_data_lost, max_data_sealed, max_streams_lost, max_streams_sealed, polled, told_opened}
-use Rattle.qc_streams.specs.Parts.{bytes_acked, bytes_gone, bytes_lost, bytes_taken, part_end, sealed_part}
+use Rattle.qc_streams.specs.StreamBytes.{bytes_acked, bytes_gone, bytes_lost, bytes_taken, part_end, sealed_part}
 use Rattle.qc_streams.specs.Records.{changed, on_some, record_of}
 use Rattle.qc_streams.specs.Sends.{was_taken}
 use Rattle.qc_streams.specs.Settings.{max_concurrent_set, priority_set, receive_window_set, send_window_set, with_priority}
 use Rattle.qc_streams.specs.Stops.{with_stop, without_stop}
 use Rattle.qc_streams.specs.Stream.{has_ended, is_freed, limit_taken, stop_taken, totals_at, with_freed, with_receiving, with_sending}
 use Rattle.qc_streams.specs.Streams.{accepted_one, counted, dir_of, fresh_own, fresh_peer, is_own, is_peer_unopened, left_over, limits_set, lingering, lower_opened, lower_unopened, made, met, new_streams, next_accepted, next_own, opened_own, opened_with, released, settled, stops_later, told_if}
-use Rattle.qc_streams.specs.Waiting.{all_filed, filed, places_made, touched}
+use Rattle.qc_streams.specs.Queues.{all_filed, filed, places_made, touched}
 use Rattle.qc_streams.specs.Waits.{ArePossible, Step, LimitsKnown, EarlyRefused, Closed, Failed, Opened, Accepted, Wrote, Refused, Finished, WasReset, Began, Read, Stopped, ResetAsked, PrioritySet, SendWindowSet, ReceiveWindowSet, ConcurrentSet, Polled, StreamCame, ResetCame, StopCame, StreamLimitCame, StreamsLimitCame, LimitCame, MarksFiled, ControlSealed, ControlLost, ControlAcked, PartSealed, BytesLost, BytesAcked, after, after_step}
 use Rattle.qc_streams.specs.Writable.{all_told, credit_at, has_room, held_up, needs_place_at, passed, place_reserved, told_first, watched, writables_told}
 use Rattle.qc_streams.proofs.Keeps.{Fresh, Keeps, On, Owes, Stays, changed_in}

@@ -22,7 +22,7 @@ use Rattle.qc_streams.specs.Sends.{was_taken}
 use Rattle.qc_streams.specs.Settings.{with_priority}
 use Rattle.qc_streams.specs.Stream.{fresh_stream, limit_taken, stop_taken, with_receiving, with_sending}
 use Rattle.qc_streams.specs.Streams.{fresh_own, fresh_peer}
-use Rattle.qc_streams.specs.Waiting.{dues_of, owes_credit, owes_data, owes_reset, owes_stop}
+use Rattle.qc_streams.specs.Queues.{dues_of, owes_credit, owes_data, owes_reset, owes_stop}
 use Rattle.qc_streams.proofs.Keeps.{Fresh, Owes, OwesBytes, Stays, no_credit, no_reset, no_stop}
 
 -- ---- a side changes

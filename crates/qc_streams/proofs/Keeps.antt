@@ -6,11 +6,11 @@ use Rattle.qc_streams.specs.declared.waiting.Dues.{Dues}
 use Rattle.qc_streams.specs.declared.waiting.Waiting.{Waiting}
 use Rattle.qc_turns.specs.Ids.{without_id}
 use Rattle.qc_streams.specs.Lending.{AllRecords}
-use Rattle.qc_streams.specs.Parts.{turned}
+use Rattle.qc_streams.specs.StreamBytes.{turned}
 use Rattle.qc_streams.specs.Records.{changed, record_of, with_new}
 use Rattle.qc_streams.specs.Stops.{StopCodes}
 use Rattle.qc_streams.specs.Streams.{released}
-use Rattle.qc_streams.specs.Waiting.{dues_at, dues_of, filed, new_waiting, place_made, queued, touched}
+use Rattle.qc_streams.specs.Queues.{dues_at, dues_of, filed, new_waiting, place_made, queued, touched}
 
 -- a change that leaves a stream's mark as it was, its turn, and the place that is put by for it
 pub record Stays (f : Stream → Stream) : Type 0 where

@@ -26,7 +26,7 @@ at_more id k more = grind (arith, nat_tests)
 at_other : (id j k : ℕ) → (id == j) ≡ false → id ≡ k → is_at (nat_cmp j) k ≡ false
 at_other id j k apart is = grind (arith, nat_tests)
 
-at_is : (id k : ℕ) → is_at (nat_cmp id) k ≡ true → id ≡ k
+pub at_is : (id k : ℕ) → is_at (nat_cmp id) k ≡ true → id ≡ k
 at_is id k is = grind (arith, nat_tests)
 
 -- what is found under an id

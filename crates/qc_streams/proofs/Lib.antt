@@ -63,3 +63,7 @@ pub mod WithinTaken
 pub mod Told
 pub mod Placed
 pub mod PlacedLaw
+pub mod JustWritten
+pub mod PendingStops
+pub mod PendingFiled
+pub mod PendingLaw

@@ -4,7 +4,7 @@ use Rattle.std.specs.Prelude.{ℤ}
 use Rattle.qc_turns.specs.Marks.{MarkList, first_mark, unmarked, place_dropped}
 use Rattle.qc_streams.specs.declared.state.StreamsState.{StreamsState}
 use Rattle.qc_streams.specs.Records.{record_of}
-use Rattle.qc_streams.specs.Waiting.{all_filed, dues_at, entered, filed, left, left_from, mark_off, placed, sets_filed, turn_at, turn_filed}
+use Rattle.qc_streams.specs.Queues.{all_filed, dues_at, entered, filed, left, left_from, mark_off, placed, sets_filed, turn_at, turn_filed}
 
 left_from_marks : (turn : Option (ℤ × ℕ)) (id : ℕ) (s : StreamsState) → (left_from turn id s).waiting.marks ≡ s.waiting.marks
 left_from_marks None id s = refl

@@ -7,7 +7,7 @@ use Rattle.qc_send_stream.specs.Sending.{end_waits, has_more}
 use Rattle.qc_turns.specs.Ids.{first_id, without_id}
 use Rattle.qc_streams.specs.declared.waiting.Dues.{Dues}
 use Rattle.qc_streams.specs.declared.waiting.Waiting.{Waiting}
-use Rattle.qc_streams.specs.Waiting.{has_some, owes_frames, put_if, sets_filed}
+use Rattle.qc_streams.specs.Queues.{has_some, owes_frames, put_if, sets_filed}
 
 -- of no stream none leaves
 none_leaves : (id : ℕ) (ids : List ℕ) → is_some (first_id ids) ≡ false → without_id id ids ≡ ids

@@ -15,11 +15,11 @@ use Rattle.qc_streams.specs.declared.state.StreamsState.{StreamsState}
 use Rattle.qc_streams.specs.declared.stream.Stream.{Stream}
 use Rattle.qc_streams.specs.Calls.{if_known}
 use Rattle.qc_streams.specs.Lending.{AllRecords}
-use Rattle.qc_streams.specs.Parts.{place_again, turned}
+use Rattle.qc_streams.specs.StreamBytes.{place_again, turned}
 use Rattle.qc_streams.specs.Records.{changed, on_some, record_of, with_new, with_record, without}
 use Rattle.qc_streams.specs.Stream.{fresh_stream, has_ended, limit_taken, stop_taken, with_freed, with_receiving, with_sending}
 use Rattle.qc_streams.specs.Streams.{dir_of, forgotten, fresh_own, fresh_peer, is_peer_unopened, left_over, lingering, lower_opened, lower_unopened, made, met, next_own, opened_own, opened_with, released, removed, settled, stops_later}
-use Rattle.qc_streams.specs.Waiting.{all_filed, dues_at, entered, filed, left, left_from, mark_off, placed, queue_one, queued, sets_filed, touched, turn_at, turn_filed, with_mark, with_turn}
+use Rattle.qc_streams.specs.Queues.{all_filed, dues_at, entered, filed, left, left_from, mark_off, placed, queue_one, queued, sets_filed, touched, turn_at, turn_filed, with_mark, with_turn}
 use Rattle.qc_streams.specs.Waits.{placed_count}
 use Rattle.qc_streams.specs.Writable.{has_place, has_place_at}
 use Rattle.qc_streams.specs.Counts.{by_dir}

@@ -30,14 +30,14 @@ use Rattle.qc_streams.specs.Events.{EventQueue, event_added, event_placed, first
 use Rattle.qc_streams.specs.Frames.{comes, limit_came, reads_more, reset_came, stop_came, stream_came, stream_limit_came, streams_limit_came}
 use Rattle.qc_streams.specs.Lending.{AllRecords}
 use Rattle.qc_streams.specs.Owed.{max_data_lost, max_data_sealed, max_streams_lost, max_streams_sealed, polled, told_opened}
-use Rattle.qc_streams.specs.Parts.{bytes_acked, bytes_gone, bytes_lost, bytes_taken, finishes, part_end, sealed_part}
+use Rattle.qc_streams.specs.StreamBytes.{bytes_acked, bytes_gone, bytes_lost, bytes_taken, finishes, part_end, sealed_part}
 use Rattle.qc_streams.specs.Records.{changed, on_some, record_of}
 use Rattle.qc_streams.specs.Sends.{was_taken}
 use Rattle.qc_streams.specs.Settings.{max_concurrent_set, priority_set, receive_window_set, send_window_set, with_priority}
 use Rattle.qc_streams.specs.Stops.{with_stop}
 use Rattle.qc_streams.specs.Stream.{limit_taken, stop_taken, stops_at, with_receiving, with_sending}
 use Rattle.qc_streams.specs.Streams.{accepted_one, counted, limits_set, met, new_streams, next_accepted, opened_own, target, told_if}
-use Rattle.qc_streams.specs.Waiting.{all_filed, queued, touched}
+use Rattle.qc_streams.specs.Queues.{all_filed, queued, touched}
 use Rattle.qc_streams.specs.Waits.{ArePossible, BlockedHavePlaces, CreditIsToldAtOnce, EventsWaitInOrder, IsPossible, QueuesBehind, Step, LimitsKnown, EarlyRefused, Closed, Failed, Opened, Accepted, Wrote, Refused, Finished, WasReset, Began, Read, Stopped, ResetAsked, PrioritySet, SendWindowSet, ReceiveWindowSet, ConcurrentSet, Polled, StreamCame, ResetCame, StopCame, StreamLimitCame, StreamsLimitCame, LimitCame, MarksFiled, ControlSealed, ControlLost, ControlAcked, PartSealed, BytesLost, BytesAcked, after, after_step, gives_credit, placed_count, waits_at}
 use Rattle.qc_streams.specs.Writable.{all_told, awaits, awaits_at, credit_at, has_credit, has_place, has_place_at, has_room, held_up, needs_place, needs_place_at, passed, place_reserved, told_first, watched, writables_told}
 use Rattle.qc_streams.proofs.Keyed.{own_key}

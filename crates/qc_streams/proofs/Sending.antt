@@ -10,7 +10,7 @@ use Rattle.std.proofs.lemmas.List.{length-map}
 use Rattle.std.proofs.lemmas.List.Sums.{count_by-le-length}
 use Rattle.std.proofs.lemmas.Map.Entries.{sum_by-set_value, sum_by-insert_entry, sum_by-remove_entry}
 use Rattle.qc_streams.specs.declared.stream.Stream.{Stream}
-use Rattle.qc_streams.specs.Counts.{held}
+use Rattle.qc_streams.specs.Counts.{saturated}
 use Rattle.qc_streams.specs.Lending.{AllRecords}
 use Rattle.qc_streams.specs.Records.{record_of, with_record, with_new, without}
 use Rattle.qc_streams.specs.Sends.{sends, sends_of, sends_at, sends_in, recounted}
@@ -41,8 +41,8 @@ bound : (all : AllRecords) → sends_in all ≤ length all
 unfolding sends_in
 bound all = subst (λ (n : ℕ). sends_in all ≤ n) (length-map all (λ e. e.1)) (count_by-le-length sends (values_of all))
 
-held_is : (n most : ℕ) → n ≤ most → most < 2 ^ 64 → held n ≡ n
-unfolding held
+held_is : (n most : ℕ) → n ≤ most → most < 2 ^ 64 → saturated n ≡ n
+unfolding saturated
 held_is n most within fits = omega (arith, within, fits)
 
 -- a stream counts as before

@@ -18,11 +18,11 @@ use Rattle.qc_streams.specs.Credit.{outgoing_written, tallied}
 use Rattle.qc_streams.specs.Lending.{AllRecords}
 use Rattle.qc_streams.specs.Records.{changed, on_some, record_of, with_record}
 use Rattle.qc_streams.specs.Sequel.{followed, looked_at, queueing, sequel_at, sequel_of, settling, write_followed}
-use Rattle.qc_streams.specs.Parts.{bytes_acked, bytes_gone, bytes_taken, finished_at, finishes}
+use Rattle.qc_streams.specs.StreamBytes.{bytes_acked, bytes_gone, bytes_taken, finished_at, finishes}
 use Rattle.qc_streams.specs.Stream.{has_ended, is_over, totals_at, totals_if, with_receiving, with_sending}
 use Rattle.qc_streams.specs.Streams.{counted, lingering, released, settled, stops_later, told_if}
-use Rattle.qc_streams.specs.Counts.{held}
-use Rattle.qc_streams.specs.Waiting.{is_idle, owes_stop, queue_one, queued, takes_number, touched, with_mark}
+use Rattle.qc_streams.specs.Counts.{saturated}
+use Rattle.qc_streams.specs.Queues.{is_idle, owes_stop, queue_one, queued, takes_number, touched, with_mark}
 use Rattle.qc_streams.specs.Writable.{credit_at, passed, writables_told}
 use Rattle.qc_streams.proofs.Keyed.{set_here}
 
@@ -155,7 +155,7 @@ touched_is o id s is = subst (λ (x : Option Stream). touched id s ≡ touched_a
 queued_at : (o : Option Stream) → ℕ → StreamsState → StreamsState
 queued_at o id s = record s {
   records = on_some (queue_one s.waiting.turns) id o s.records;
-  waiting = record s.waiting { turns = if takes_number o then held (s.waiting.turns + 1) else s.waiting.turns };
+  waiting = record s.waiting { turns = if takes_number o then saturated (s.waiting.turns + 1) else s.waiting.turns };
 }
 
 queued_is : (o : Option Stream) (id : ℕ) (s : StreamsState) → record_of id s.records ≡ o → queued id s ≡ queued_at o id s
@@ -168,7 +168,7 @@ noted_with f id o s = record s {
   records = on_some (queueing s.waiting.turns f) id o s.records;
   waiting = record s.waiting {
     marks = if is_idle (option_map f o) then marked id s.waiting.marks else s.waiting.marks;
-    turns = if takes_number (option_map f o) then held (s.waiting.turns + 1) else s.waiting.turns;
+    turns = if takes_number (option_map f o) then saturated (s.waiting.turns + 1) else s.waiting.turns;
   };
 }
 
@@ -180,7 +180,7 @@ noted_as f id s (Some st) is =
     let n : ℕ = s.waiting.turns in
     let w : Stream = f st in
     let v : Stream = queue_one n w in
-    let turns : ℕ = (if takes_number (Some w) then held (n + 1) else n) in
+    let turns : ℕ = (if takes_number (Some w) then saturated (n + 1) else n) in
     let after : AllRecords → StreamsState = (λ (l : AllRecords). (let t : StreamsState = record s { records = l; waiting = record s.waiting { turns = turns } } in t)) in
     ap (λ (t : StreamsState). touched id t)
     (queued_is (Some w) id (with_all (with_record id w s.records) s) (set_here id s.records st w is)

@@ -29,13 +29,13 @@ use Rattle.qc_streams.specs.Counts.{accepted, at_most, by_dir, dir_put, opening_
 use Rattle.qc_streams.specs.Events.{first_dropped}
 use Rattle.qc_streams.specs.Frames.{comes, limit_came, reset_came, stop_came, stream_came, stream_limit_came, streams_limit_came}
 use Rattle.qc_streams.specs.Owed.{max_data_lost, max_data_sealed, max_streams_lost, max_streams_sealed, polled, told_opened}
-use Rattle.qc_streams.specs.Parts.{bytes_acked, bytes_gone, bytes_lost, bytes_taken, finishes, place_again, sealed_part, turned}
+use Rattle.qc_streams.specs.StreamBytes.{bytes_acked, bytes_gone, bytes_lost, bytes_taken, finishes, place_again, sealed_part, turned}
 use Rattle.qc_streams.specs.Records.{changed, record_of}
 use Rattle.qc_streams.specs.Settings.{concurrent_set, max_concurrent_set, priority_set, receive_window_set, send_window_set}
 use Rattle.qc_streams.specs.Stops.{with_stop}
 use Rattle.qc_streams.specs.Stream.{has_ended, is_freed, stop_taken, limit_taken, with_receiving, with_sending}
 use Rattle.qc_streams.specs.Streams.{accepted_one, counted, dir_of, forgotten, fresh_peer, is_own, is_peer_unopened, left_over, limits_set, lingering, met, opened_own, opened_with, released, removed, settled, stops_later, told_if}
-use Rattle.qc_streams.specs.Waiting.{all_filed, dues_at, entered, filed, left, left_from, mark_off, placed, queued, sets_filed, touched, turn_at, turn_filed}
+use Rattle.qc_streams.specs.Queues.{all_filed, dues_at, entered, filed, left, left_from, mark_off, placed, queued, sets_filed, touched, turn_at, turn_filed}
 use Rattle.qc_streams.specs.Waits.{IsPossible, Step, LimitsKnown, EarlyRefused, Closed, Failed, Opened, Accepted, Wrote, Refused, Finished, WasReset, Began, Read, Stopped, ResetAsked, PrioritySet, SendWindowSet, ReceiveWindowSet, ConcurrentSet, Polled, StreamCame, ResetCame, StopCame, StreamLimitCame, StreamsLimitCame, LimitCame, MarksFiled, ControlSealed, ControlLost, ControlAcked, PartSealed, BytesLost, BytesAcked, after_step}
 use Rattle.qc_streams.specs.Writable.{all_told, credit_at, has_room, held_up, needs_place_at, passed, place_reserved, told_first, watched, writables_told}
 use Rattle.qc_streams.specs.Blocked.{BlockedIds, is_below}

@@ -13,7 +13,7 @@ use Rattle.qc_streams.specs.declared.state.StreamsState.{StreamsState}
 use Rattle.qc_streams.specs.declared.stream.Stream.{Stream}
 use Rattle.qc_streams.specs.Calls.{after_read, if_known}
 use Rattle.qc_streams.specs.Carried.{keeps_streams}
-use Rattle.qc_streams.specs.Parts.{part_end}
+use Rattle.qc_streams.specs.StreamBytes.{part_end}
 use Rattle.qc_streams.specs.Records.{record_of}
 use Rattle.qc_streams.specs.Streams.{fresh_own, fresh_peer}
 use Rattle.qc_streams.specs.Waits.{IsPossible, Step, Wrote, Finished, WasReset, Began, Read, Stopped, ResetAsked, StreamCame, ResetCame, ControlSealed, ControlLost, ControlAcked, PartSealed, BytesLost, BytesAcked, after_step}

@@ -10,7 +10,7 @@ use Rattle.qc_send_stream.specs.Sending.{finished, part_acked, part_lost, part_s
 use Rattle.qc_streams.specs.declared.control.Control.TheVariants.{Reset, Stop, MaxData, MaxStreamData, MaxStreams}
 use Rattle.qc_streams.specs.declared.parts.StreamPart.{StreamPart}
 use Rattle.qc_streams.specs.Calls.{after_read, if_known}
-use Rattle.qc_streams.specs.Parts.{part_end}
+use Rattle.qc_streams.specs.StreamBytes.{part_end}
 use Rattle.qc_streams.specs.Waits.{Accepted, Wrote, Refused, Finished, WasReset, Began, Read, Stopped, ResetAsked, PrioritySet, StreamCame, ResetCame, StopCame, StreamLimitCame, ControlSealed, ControlLost, ControlAcked, PartSealed, BytesLost, BytesAcked}
 use Rattle.qc_streams.proofs.StepAt.{came_to, sent_to}
 use Rattle.qc_streams.proofs.Stepped.{ChangesNone, ChangesReceiving, ChangesSending}

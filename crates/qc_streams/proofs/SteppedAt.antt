@@ -11,11 +11,11 @@ use Rattle.qc_streams.specs.Blocked.{BlockedIds, is_below}
 use Rattle.qc_streams.specs.Writable.{all_told, has_room, told_first, writables_told}
 use Rattle.qc_streams.specs.declared.stream.Stream.{Stream}
 use Rattle.qc_streams.specs.Lending.{AllRecords}
-use Rattle.qc_streams.specs.Parts.{place_again, turned}
+use Rattle.qc_streams.specs.StreamBytes.{place_again, turned}
 use Rattle.qc_streams.specs.Records.{changed, on_some, record_of, without}
 use Rattle.qc_streams.specs.Stream.{has_ended, with_freed, with_receiving, with_sending}
 use Rattle.qc_streams.specs.Streams.{forgotten, left_over, lingering, released, removed, settled, stops_later}
-use Rattle.qc_streams.specs.Waiting.{all_filed, dues_at, entered, filed, left, left_from, mark_off, placed, queue_one, queued, sets_filed, touched, turn_at, turn_filed, with_mark, with_turn}
+use Rattle.qc_streams.specs.Queues.{all_filed, dues_at, entered, filed, left, left_from, mark_off, placed, queue_one, queued, sets_filed, touched, turn_at, turn_filed, with_mark, with_turn}
 use Rattle.qc_streams.specs.Waits.{Step, after_step}
 use Rattle.qc_streams.proofs.Keyed.{Ascends, ascends_gone, ascends_set, gone_here, gone_other, same_id, set_other}
 use Rattle.qc_streams.proofs.StepAt.{AlikeIf, ComesFrom, Gone, IsStepped, SendsAlike, SteppedAt, Stood, There, came_to, sent_to}

@@ -26,7 +26,7 @@ use Rattle.qc_streams.specs.Events.{first_dropped}
 use Rattle.qc_streams.specs.Frames.{comes, limit_came, reset_came, stop_came, stream_came, stream_limit_came, streams_limit_came}
 use Rattle.qc_streams.specs.Lending.{AllRecords}
 use Rattle.qc_streams.specs.Owed.{max_data_lost, max_data_sealed, max_streams_lost, max_streams_sealed, polled, told_opened}
-use Rattle.qc_streams.specs.Parts.{bytes_acked, bytes_gone, bytes_lost, bytes_taken, finishes, part_end, sealed_part, turned}
+use Rattle.qc_streams.specs.StreamBytes.{bytes_acked, bytes_gone, bytes_lost, bytes_taken, finishes, part_end, sealed_part, turned}
 use Rattle.qc_streams.specs.Records.{changed, on_some, record_of}
 use Rattle.qc_streams.specs.Sends.{was_taken}
 use Rattle.qc_streams.specs.Settings.{max_concurrent_set, priority_set, receive_window_set, send_window_set, with_priority}
@@ -34,7 +34,7 @@ use Rattle.qc_turns.specs.Ids.{without_id}
 use Rattle.qc_streams.specs.Stops.{with_stop, without_stop}
 use Rattle.qc_streams.specs.Stream.{limit_taken, stop_taken, totals_at, with_receiving, with_sending}
 use Rattle.qc_streams.specs.Streams.{accepted_one, counted, left_over, limits_set, met, next_accepted, settled, told_if}
-use Rattle.qc_streams.specs.Waiting.{queued, touched}
+use Rattle.qc_streams.specs.Queues.{queued, touched}
 use Rattle.qc_streams.specs.Waits.{Step, LimitsKnown, EarlyRefused, Closed, Failed, Opened, Accepted, Wrote, Refused, Finished, WasReset, Began, Read, Stopped, ResetAsked, PrioritySet, SendWindowSet, ReceiveWindowSet, ConcurrentSet, Polled, StreamCame, ResetCame, StopCame, StreamLimitCame, StreamsLimitCame, LimitCame, MarksFiled, ControlSealed, ControlLost, ControlAcked, PartSealed, BytesLost, BytesAcked, after_step}
 use Rattle.qc_streams.specs.Writable.{credit_at, has_place_at, held_up, needs_place_at, passed, place_released, place_reserved, watched, writables_told}
 use Rattle.qc_streams.proofs.Keyed.{Ascends}

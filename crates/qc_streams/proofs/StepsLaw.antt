@@ -13,7 +13,7 @@ use Rattle.qc_streams.specs.declared.stream.Stream.{Stream as StreamRecord}
 use Rattle.qc_streams.specs.Carried.{AreAnswered, IsAnswered}
 use Rattle.qc_streams.specs.Control.{control_len, credit_of, data_with, gone_stop, if_fits, next_control, of_first, or_else, reset_of, stop_of, streams_with}
 use Rattle.qc_streams.specs.Owed.{max_data_owed, max_streams_owed}
-use Rattle.qc_streams.specs.Parts.{IsDrawn, IsOfferAt, IsTurn, part_on}
+use Rattle.qc_streams.specs.StreamBytes.{IsDrawn, IsOfferAt, IsTurn, part_on}
 use Rattle.qc_streams.specs.Records.{record_of}
 use Rattle.qc_streams.specs.Steps.{AllMay, Handed, IsOffered, IsOwed, IsSealedSo, MaxData, MaxStreamData, MaxStreams, NamesStream, OwesData, OwesGoneStop, OwesReset, OwesStop, OwesStreamData, OwesStreams, ResetStream, StopSending, Stream, StreamDataBlocked, StreamsBlocked, came, handed, refusal_of, steps_of, unless_refused}
 use Rattle.qc_streams.specs.Waits.{ArePossible, IsPossible, Step, after, after_step}

@@ -8,18 +8,18 @@ use Rattle.qc_send_stream.specs.Sending.{takes}
 use Rattle.qc_streams.specs.declared.credit.Outgoing.{Outgoing}
 use Rattle.qc_streams.specs.declared.state.StreamsState.{StreamsState}
 use Rattle.qc_streams.specs.Calls.{count_taken, gives, known_at, reading_begun, resets, send_room, sends, wrote}
-use Rattle.qc_streams.specs.Counts.{held}
+use Rattle.qc_streams.specs.Counts.{saturated}
 use Rattle.qc_streams.specs.Credit.{budget, new_outgoing, outgoing_raised, outgoing_written}
 use Rattle.qc_streams.specs.Early.{early_refused}
 use Rattle.qc_streams.specs.Events.{first_dropped}
 use Rattle.qc_streams.specs.Frames.{comes, limit_came, reset_came, stop_came, stream_came, stream_limit_came, streams_limit_came}
 use Rattle.qc_streams.specs.Owed.{polled, told_opened}
-use Rattle.qc_streams.specs.Parts.{bytes_acked, bytes_gone, bytes_lost, bytes_taken}
+use Rattle.qc_streams.specs.StreamBytes.{bytes_acked, bytes_gone, bytes_lost, bytes_taken}
 use Rattle.qc_streams.specs.Settings.{max_concurrent_set, priority_set, receive_window_set, send_window_set}
 use Rattle.qc_streams.specs.Stream.{limit_taken, stop_taken, with_receiving, with_sending}
 use Rattle.qc_streams.specs.Streams.{accepted_one, counted, limits_set, new_streams, opened_own, told_if}
 use Rattle.qc_streams.specs.Tied.{HasLimit, HaveLimits, WritesWithin, bytes_written, greatest_limit, with_bytes, with_limit}
-use Rattle.qc_streams.specs.Waiting.{queued, touched}
+use Rattle.qc_streams.specs.Queues.{queued, touched}
 use Rattle.qc_streams.specs.Waits.{Step, LimitsKnown, EarlyRefused, Closed, Failed, Opened, Accepted, Wrote, Refused, Finished, WasReset, Began, Read, Stopped, ResetAsked, PrioritySet, SendWindowSet, ReceiveWindowSet, ConcurrentSet, Polled, StreamCame, ResetCame, StopCame, StreamLimitCame, StreamsLimitCame, LimitCame, MarksFiled, ControlSealed, ControlLost, ControlAcked, PartSealed, BytesLost, BytesAcked, after_step}
 use Rattle.qc_streams.specs.Within.{AreTaken, IsTaken}
 use Rattle.qc_streams.specs.Writable.{passed, watched}
@@ -104,7 +104,7 @@ raised_tied n k m o fits h = record {
 }
 
 wrote_tied : (n room k m : ℕ) (chunk : List ℕ) (o : Outgoing) → n ≤ budget room o → Tied k m o → Tied (k + length (take n chunk)) m (outgoing_written n o)
-unfolding outgoing_written held budget
+unfolding outgoing_written saturated budget
 wrote_tied n room k m chunk o fits h = record {
   counts = omega (arith, h.counts, h.within, h.small, fits, length-take n chunk);
   within = omega (arith, h.within, h.small, fits);

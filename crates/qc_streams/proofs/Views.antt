@@ -27,7 +27,7 @@ use Rattle.qc_streams.specs.Credit.{budget, outgoing_written}
 use Rattle.qc_streams.specs.Records.{changed, record_of}
 use Rattle.qc_streams.specs.Stream.{has_ended, is_over, receiving_over, sending_over, with_receiving, with_sending}
 use Rattle.qc_streams.specs.Streams.{counted, failed, lingering, released, settled, stops_later}
-use Rattle.qc_streams.specs.Waiting.{queued, touched, with_mark}
+use Rattle.qc_streams.specs.Queues.{queued, touched, with_mark}
 use Rattle.qc_streams.specs.Writable.{passed}
 use Rattle.qc_streams.proofs.Waits.{here}
 use Rattle.qc_streams.specs.Views.{IsBarred, IsGiven, IsUntaken, fault_marked, is_lost, is_shut, may_want, read_error, read_on, side_marked, told_after, unrefused, unwritten, write_bar, write_error}

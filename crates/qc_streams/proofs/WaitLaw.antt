@@ -32,21 +32,21 @@ use Rattle.qc_streams.specs.Early.{early_refused}
 use Rattle.qc_streams.specs.Events.{first_dropped}
 use Rattle.qc_streams.specs.Frames.{comes, limit_came, reset_came, stop_came, stream_came, stream_limit_came, streams_limit_came}
 use Rattle.qc_streams.specs.Owed.{max_data_lost, max_data_sealed, max_streams_lost, max_streams_sealed, polled, told_opened}
-use Rattle.qc_streams.specs.Parts.{bytes_acked, bytes_gone, bytes_lost, bytes_taken, part_end, place_again, sealed_part, turned}
+use Rattle.qc_streams.specs.StreamBytes.{bytes_acked, bytes_gone, bytes_lost, bytes_taken, part_end, place_again, sealed_part, turned}
 use Rattle.qc_streams.specs.Records.{changed, record_of}
 use Rattle.qc_streams.specs.Sends.{was_taken}
 use Rattle.qc_streams.specs.Settings.{concurrent_set, max_concurrent_set, priority_set, receive_window_set, send_window_set, with_priority}
 use Rattle.qc_streams.specs.Stops.{with_stop}
 use Rattle.qc_streams.specs.Stream.{fresh_stream, limit_taken, stop_taken, with_receiving, with_sending}
 use Rattle.qc_streams.specs.Streams.{accepted_one, counted, dir_of, fresh_peer, is_own, is_peer_unopened, limits_set, met, new_streams, next_accepted, opened_with, told_if}
-use Rattle.qc_streams.specs.Waiting.{all_filed, dues_at, entered, filed, left, mark_off, placed, queued, touched, turn_filed, with_mark, with_turn}
+use Rattle.qc_streams.specs.Queues.{all_filed, dues_at, entered, filed, left, mark_off, placed, queued, touched, turn_filed, with_mark, with_turn}
 use Rattle.qc_streams.specs.Waits.{ArePossible, IsPossible, Step, LimitsKnown, EarlyRefused, Closed, Failed, Opened, Accepted, Wrote, Refused, Finished, WasReset, Began, Read, Stopped, ResetAsked, PrioritySet, SendWindowSet, ReceiveWindowSet, ConcurrentSet, Polled, StreamCame, ResetCame, StopCame, StreamLimitCame, StreamsLimitCame, LimitCame, MarksFiled, ControlSealed, ControlLost, ControlAcked, PartSealed, BytesLost, BytesAcked, WaitWhereBlocked, after, after_step}
 use Rattle.qc_streams.specs.Writable.{all_told, awaits, awaits_at, credit_at, has_credit, has_room, held_up, needs_place_at, passed, place_reserved, told_first, watched, writables_told}
 use Rattle.qc_streams.proofs.Keyed.{own_key}
 use Rattle.qc_streams.proofs.WaitOpened.{met_ok, opened_own_ok, opened_with_ok}
 use Rattle.qc_streams.proofs.WaitSides.{acked_alike, finished_credit, lost_alike, reset_acked_alike, reset_credit, reset_lost_alike, reset_sealed_alike, sealed_alike, side_alike, side_credit, side_limit, side_told, stop_alike, written_credit}
 use Rattle.qc_streams.proofs.WaitSteps.{Holds, accepted_same, concurrent_same, left_ok, left_over_ok, lost_same, opened_same, put_same, queued_ok, sealed_same, settled_ok, told_same, touched_ok, was_opened}
-use Rattle.qc_streams.proofs.Waits.{Sound, alike, held, pass, raise, told, watch, watch-in, weaken}
+use Rattle.qc_streams.proofs.Waits.{Sound, alike, blocked_still, pass, raise, told, watch, watch-in, weaken}
 
 -- ---- streams that change, and wait as before
 
@@ -127,7 +127,7 @@ wrote_ok id n chunk s h =
 
 refused_ok : (e : WriteError) (id : ℕ) (s : StreamsState) → Holds s → Holds (write_refused e id s)
 unfolding write_refused held_up
-refused_ok Blocked id s h = by s.closed (held (was_opened s.side s.own s.peer) id s.records s.blocked h)
+refused_ok Blocked id s h = by s.closed (blocked_still (was_opened s.side s.own s.peer) id s.records s.blocked h)
   where
     by : (b : Bool) → Holds (held_up (credit_at (record_of id s.records)) id (record s { records = changed (with_sending (if_known was_blocked)) id s.records }))
         → Holds (cond b s (place_reserved (needs_place_at (record_of id s.records)) (held_up (credit_at (record_of id s.records)) id (record s { records = changed (with_sending (if_known was_blocked)) id s.records }))))

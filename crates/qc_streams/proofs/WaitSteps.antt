@@ -15,7 +15,7 @@ use Rattle.qc_streams.specs.Records.{changed, record_of, without}
 use Rattle.qc_streams.specs.Settings.{concurrent_set, with_concurrent}
 use Rattle.qc_streams.specs.Stream.{has_ended, is_freed, with_freed}
 use Rattle.qc_streams.specs.Streams.{dir_of, forgotten, is_own, left_over, lingering, released, removed, settled, stops_later}
-use Rattle.qc_streams.specs.Waiting.{left, left_from, queue_one, queued, touched, turn_at, with_mark, with_turn}
+use Rattle.qc_streams.specs.Queues.{left, left_from, queue_one, queued, touched, turn_at, with_mark, with_turn}
 use Rattle.qc_streams.specs.Writable.{awaits_at}
 use Rattle.qc_streams.proofs.Waits.{Sound, alike, ended_not, here, leaves, raise}
 

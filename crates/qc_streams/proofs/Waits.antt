@@ -198,16 +198,16 @@ unfolding with_sending
 block-at None = refl
 block-at (Some st) = block-of st.sending
 
-held-credit : (b : Bool) (op : ℕ → Bool) (id : ℕ) (all : AllRecords) (ids : BlockedIds) → SoundBut id op all ids → awaits_at (record_of id all) ≡ b
+still-credit : (b : Bool) (op : ℕ → Bool) (id : ℕ) (all : AllRecords) (ids : BlockedIds) → SoundBut id op all ids → awaits_at (record_of id all) ≡ b
     → Sound op all (cond b (with_blocked id ids) (without_blocked id ids))
-held-credit true op id all ids h is = close id op all (with_blocked id ids) (with_but id op all ids h) (in_set id ids ∙ sym is)
-held-credit false op id all ids h is = close id op all (without_blocked id ids) (without_but id op all ids h) (out_set id ids h.set ∙ sym is)
+still-credit true op id all ids h is = close id op all (with_blocked id ids) (with_but id op all ids h) (in_set id ids ∙ sym is)
+still-credit false op id all ids h is = close id op all (without_blocked id ids) (without_but id op all ids h) (out_set id ids h.set ∙ sym is)
 
-pub held : (op : ℕ → Bool) (id : ℕ) (all : AllRecords) (ids : BlockedIds) → Sound op all ids
+pub blocked_still : (op : ℕ → Bool) (id : ℕ) (all : AllRecords) (ids : BlockedIds) → Sound op all ids
     → Sound op (changed (with_sending (if_known was_blocked)) id all)
     (cond (credit_at (record_of id all)) (with_blocked id ids) (without_blocked id ids))
-held op id all ids h =
-    held-credit (credit_at (record_of id all)) op id (changed (with_sending (if_known was_blocked)) id all) ids
+blocked_still op id all ids h =
+    still-credit (credit_at (record_of id all)) op id (changed (with_sending (if_known was_blocked)) id all) ids
     (changed_but (with_sending (if_known was_blocked)) op id all ids h)
     (ap (λ (o : Option Stream). awaits_at o) (here (with_sending (if_known was_blocked)) id all) ∙ block-at (record_of id all))
 

@@ -31,20 +31,20 @@ use Rattle.qc_streams.specs.declared.state.StreamsState.{StreamsState}
 use Rattle.qc_streams.specs.declared.stream.Stream.{Stream}
 use Rattle.qc_streams.specs.Calls.{after_read, count_taken, if_known, known, known_at, known_of, reading_begun, resets, send_room, sends, write_refused, wrote}
 use Rattle.qc_streams.specs.Control.{control_acked, control_lost, control_sealed, stop_again}
-use Rattle.qc_streams.specs.Counts.{accepted, at_most, by_dir, dir_put, held, opening_told, own_raised, places_lost, places_sealed}
+use Rattle.qc_streams.specs.Counts.{accepted, at_most, by_dir, dir_put, saturated, opening_told, own_raised, places_lost, places_sealed}
 use Rattle.qc_streams.specs.Credit.{budget, credit_lost, credit_sealed, credit_value, incoming_credit, new_incoming, new_outgoing, outgoing_raised, outgoing_written, room, window_set, with_window}
 use Rattle.qc_streams.specs.Early.{credit_anew, early_refused, places_anew}
 use Rattle.qc_streams.specs.Events.{first_dropped}
 use Rattle.qc_streams.specs.Frames.{limit_came, reset_came, stop_came, stream_came, stream_limit_came, streams_limit_came}
 use Rattle.qc_streams.specs.Owed.{max_data_lost, max_data_sealed, max_streams_lost, max_streams_sealed, polled, told_opened}
-use Rattle.qc_streams.specs.Parts.{bytes_acked, bytes_gone, bytes_lost, bytes_taken, part_end, sealed_part}
+use Rattle.qc_streams.specs.StreamBytes.{bytes_acked, bytes_gone, bytes_lost, bytes_taken, part_end, sealed_part}
 use Rattle.qc_streams.specs.Records.{changed, record_of}
 use Rattle.qc_streams.specs.Sends.{was_taken}
 use Rattle.qc_streams.specs.Settings.{concurrent_set, max_concurrent_set, priority_set, receive_window_set, send_window_set, with_concurrent, with_priority}
 use Rattle.qc_streams.specs.Stops.{with_stop}
 use Rattle.qc_streams.specs.Stream.{limit_taken, stop_taken, with_receiving, with_sending}
 use Rattle.qc_streams.specs.Streams.{accepted_one, limits_set, new_streams, next_accepted, no_own, no_peer, told_if}
-use Rattle.qc_streams.specs.Waiting.{queued, touched}
+use Rattle.qc_streams.specs.Queues.{queued, touched}
 use Rattle.qc_streams.specs.Waits.{Step, LimitsKnown, EarlyRefused, Closed, Failed, Opened, Accepted, Wrote, Refused, Finished, WasReset, Began, Read, Stopped, ResetAsked, PrioritySet, SendWindowSet, ReceiveWindowSet, ConcurrentSet, Polled, StreamCame, ResetCame, StopCame, StreamLimitCame, StreamsLimitCame, LimitCame, MarksFiled, ControlSealed, ControlLost, ControlAcked, PartSealed, BytesLost, BytesAcked, after, after_step}
 use Rattle.qc_streams.specs.Within.{AreTaken, CreditIsKept, IsTaken, SendsWithin, StaysWithin}
 use Rattle.qc_streams.specs.Writable.{all_told, credit_at, has_room, held_up, needs_place_at, passed, place_reserved, told_first, watched, writables_told}
@@ -84,7 +84,7 @@ no_more wanted most n None fits = omega (arith, fits)
 no_more wanted most n (Some p) fits = (least n wanted (p.limit - p.buffer.written) most fits).1
 
 more_within : (n room : ℕ) (out : Outgoing) → n ≤ budget room out → out.written ≤ out.limit → (outgoing_written n out).written ≤ (outgoing_written n out).limit
-unfolding budget outgoing_written held
+unfolding budget outgoing_written saturated
 more_within n room out fits h = omega (arith, fits, h)
 
 wrote_fits : (id n : ℕ) (chunk : List ℕ) (s : StreamsState) → n ≤ count_taken (length chunk) (budget (send_room s) s.outgoing) (known_at id s) → Fits s
@@ -186,11 +186,11 @@ with_incoming : (c : Incoming) (s : StreamsState) → IncomingFits c → Fits s 
 with_incoming c s i h = record { good = h.good; incoming = i; sent = h.sent; own = h.own; peer = h.peer; small = h.small }
 
 set_fits : (window : ℕ) (c : Incoming) → IncomingFits c → IncomingFits (window_set window c)
-unfolding window_set with_window incoming_credit held
+unfolding window_set with_window incoming_credit saturated
 set_fits window c i = record { came = omega (arith, i.came); announced = omega (arith, i.announced); first = omega (arith, i.first) }
 
 anew_fits : (c : Incoming) → IncomingFits c → IncomingFits (credit_anew c)
-unfolding credit_anew incoming_credit held
+unfolding credit_anew incoming_credit saturated
 anew_fits c i = record { came = omega arith; announced = omega (arith, i.first); first = i.first }
 
 sealed_fits : (c : Incoming) → IncomingFits c → IncomingFits (credit_sealed c)
@@ -241,7 +241,7 @@ unfolding places_lost
 places_lost_fits k h = record { opened = h.opened; announced = h.announced; first = h.first; most = h.most }
 
 concurrent_fits : (n : ℕ) (k : PeerStreams) → PeerFits k → PeerFits (concurrent_set n k)
-unfolding concurrent_set with_concurrent at_most held
+unfolding concurrent_set with_concurrent at_most saturated
 concurrent_fits n k h = record {
   opened = omega (arith, h.opened, h.most);
   announced = omega (arith, h.announced, h.most);
@@ -400,7 +400,7 @@ after_fits (x ∷ xs) s can h = after_fits xs (after_step x s) can.1 (step_fits 
 
 new_fits : (side : Side) (uni bi window stream_window send_window : ℕ) (fair : Bool) → window < 2 ^ 64 → stream_window < 2 ^ 64
     → Fits (new_streams side uni bi window stream_window send_window fair)
-unfolding new_streams new_incoming new_outgoing incoming_credit held
+unfolding new_streams new_incoming new_outgoing incoming_credit saturated
 new_fits side uni bi window stream_window send_window fair fits small = record {
   good = tt;
   incoming = record { came = omega arith; announced = omega (arith, fits); first = omega (arith, fits) };

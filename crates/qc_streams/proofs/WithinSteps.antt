@@ -19,16 +19,16 @@ use Rattle.qc_streams.specs.declared.state.StreamsState.{StreamsState}
 use Rattle.qc_streams.specs.declared.stream.Stream.{Stream}
 use Rattle.qc_streams.specs.declared.stream.Totals.{Totals}
 use Rattle.qc_streams.specs.Calls.{gives}
-use Rattle.qc_streams.specs.Counts.{at_most, by_dir, dir_put, held, own_opened, peer_opened, place_freed, with_place}
+use Rattle.qc_streams.specs.Counts.{at_most, by_dir, dir_put, saturated, own_opened, peer_opened, place_freed, with_place}
 use Rattle.qc_streams.specs.Credit.{incoming_credit, room, tallied, with_totals}
 use Rattle.qc_streams.specs.Frames.{bars_receiving, bars_sending, comes, receive_bar, receive_refusal, send_refusal}
 use Rattle.qc_streams.specs.Lending.{AllRecords}
-use Rattle.qc_streams.specs.Parts.{place_again, turned}
+use Rattle.qc_streams.specs.StreamBytes.{place_again, turned}
 use Rattle.qc_streams.specs.Records.{changed, record_of, without}
 use Rattle.qc_streams.specs.Refusals.{first_row, or_else}
 use Rattle.qc_streams.specs.Stream.{fresh_stream, has_ended, is_freed, refusal_at, side_refusal, totals_at, totals_if, totals_of, with_freed, with_receiving}
 use Rattle.qc_streams.specs.Streams.{counted, dir_of, forgotten, fresh_own, fresh_peer, is_own, is_past_limit, is_peer_unopened, left_over, lingering, lower_opened, made, may_open, met, opened_own, opened_with, released, removed, settled, stops_later, target}
-use Rattle.qc_streams.specs.Waiting.{all_filed, dues_at, entered, filed, left, left_from, mark_off, placed, queue_one, queued, touched, turn_at, turn_filed, with_mark, with_turn}
+use Rattle.qc_streams.specs.Queues.{all_filed, dues_at, entered, filed, left, left_from, mark_off, placed, queue_one, queued, touched, turn_at, turn_filed, with_mark, with_turn}
 use Rattle.qc_streams.specs.Within.{TakesWithin}
 use Rattle.qc_streams.proofs.Keyed.{new_here}
 use Rattle.qc_streams.proofs.Waits.{here}
@@ -39,7 +39,7 @@ use Rattle.qc_streams.proofs.WithinTaken.{CanBe}
 pub record IncomingFits (c : Incoming) : Type 0 where
   pub came : c.received ≤ incoming_credit c
   pub announced : c.announced ≤ incoming_credit c
-  pub first : c.first ≤ max c.reached (held c.window)
+  pub first : c.first ≤ max c.reached (saturated c.window)
 
 -- this end's streams of a direction
 pub record OwnFits (k : OwnStreams) : Type 0 where
@@ -132,7 +132,7 @@ unfolding entered
 entered_fits place id s h = changed_fits (with_turn (Some place)) (turn_good (Some place)) id s h
 
 freed_fits : (k : PeerStreams) → PeerFits k → PeerFits (place_freed k)
-unfolding place_freed with_place at_most held
+unfolding place_freed with_place at_most saturated
 freed_fits k h = record {
   opened = omega (arith, h.opened, h.most);
   announced = omega (arith, h.announced, h.most);
@@ -274,7 +274,7 @@ met_fits f keeps id s past h = by (is_peer_unopened id s) refl
 
 tallied_fits : (before after : Totals) (c : Incoming) → c.received + (after.received - before.received) ≤ incoming_credit c → IncomingFits c
     → IncomingFits (tallied before after c)
-unfolding tallied with_totals incoming_credit held
+unfolding tallied with_totals incoming_credit saturated
 tallied_fits before after c fits h =
     record { came = omega (arith, fits, h.came); announced = omega (arith, h.announced); first = h.first }
 

@@ -23,7 +23,7 @@ use Rattle.qc_streams.specs.Kept.{kept_in}
 use Rattle.qc_streams.specs.Records.{record_of, changed}
 use Rattle.qc_streams.specs.Stream.{totals_at, with_receiving, with_sending}
 use Rattle.qc_streams.specs.Streams.{counted, settled}
-use Rattle.qc_streams.specs.Waiting.{queued, touched}
+use Rattle.qc_streams.specs.Queues.{queued, touched}
 use Rattle.qc_streams.specs.Writable.{credit_at, has_place_at, held_up, needs_place_at, passed, place_released, place_reserved, writables_told}
 
 -- a sending side that the application knows: not one of which all is acknowledged

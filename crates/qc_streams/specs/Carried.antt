@@ -10,7 +10,7 @@ use Rattle.qc_streams.specs.declared.fault.ReadFault.{ReadFault}
 use Rattle.qc_streams.specs.declared.fault.ReadFault.TheVariants.{ClosedStream, OutOfMemory}
 use Rattle.qc_streams.specs.declared.state.StreamsState.{StreamsState}
 use Rattle.qc_streams.specs.Calls.{IsReadOf, receiving_at}
-use Rattle.qc_streams.specs.Parts.{IsOfferAt}
+use Rattle.qc_streams.specs.StreamBytes.{IsOfferAt}
 use Rattle.qc_streams.specs.Records.{record_of}
 use Rattle.qc_streams.specs.Waits.{ArePossible, Step, Began, EarlyRefused, Read, StreamCame, Wrote, after, after_step}
 use Rattle.qc_streams.specs.Within.{AreTaken}

@@ -20,7 +20,7 @@ use Rattle.qc_streams.specs.Records.{record_of, changed}
 use Rattle.qc_streams.specs.Stops.{first_stop, with_stop, without_stop}
 use Rattle.qc_streams.specs.Stream.{with_receiving, with_sending}
 use Rattle.qc_streams.specs.Streams.{left_over, settled}
-use Rattle.qc_streams.specs.Waiting.{touched}
+use Rattle.qc_streams.specs.Queues.{touched}
 
 -- the code and the final size of the RESET_STREAM that a sending side owes
 abbrev pub reset_due : Option SendPart → Option (VarInt × ℕ)

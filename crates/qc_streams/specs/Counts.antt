@@ -33,8 +33,8 @@ unfoldable pub peer_opened : ℕ → PeerStreams → PeerStreams
 peer_opened index k = record k { opened = at_most (index + 1); tells = true }
 
 -- numbers stand still at the greatest of 64 bits
-unfoldable pub held : ℕ → ℕ
-held n = min n (2 ^ 64 - 1)
+unfoldable pub saturated : ℕ → ℕ
+saturated n = min n (2 ^ 64 - 1)
 
 -- whether the places that the peer wasn't told exceed an eighth of those that may be open at a time
 unfoldable pub owes_places : PeerStreams → Bool
@@ -43,8 +43,8 @@ owes_places k = nat_lt (k.concurrent / 8) (k.limit - k.announced)
 -- the peer may open as many as ended, and those that may be open at a time: a limit only rises
 unfoldable pub with_place : PeerStreams → PeerStreams
 with_place k = record k {
-  ended = held (k.ended + 1);
-  limit = at_most (max k.limit (held (held (k.ended + 1) + k.concurrent)));
+  ended = saturated (k.ended + 1);
+  limit = at_most (max k.limit (saturated (saturated (k.ended + 1) + k.concurrent)));
 }
 
 -- one of the peer's streams ended, which frees a place: a MAX_STREAMS waits where one is owed

@@ -3,7 +3,7 @@ use Rattle.std.specs.Prelude.{ℕ, ◌+◌, ◌-◌, ◌/◌, ◌^◌, Bool, tru
 use Rattle.qc_streams.specs.declared.credit.Incoming.{Incoming}
 use Rattle.qc_streams.specs.declared.credit.Outgoing.{Outgoing}
 use Rattle.qc_streams.specs.declared.stream.Totals.{Totals}
-use Rattle.qc_streams.specs.Counts.{held}
+use Rattle.qc_streams.specs.Counts.{saturated}
 
 -- nothing came
 unfoldable pub new_incoming : ℕ → Incoming
@@ -11,7 +11,7 @@ new_incoming window = record { received = 0; returned = 0; window = window; reac
 
 -- up to where the peer may send: what was given back, and the window; no less than before the window was last set
 unfoldable pub incoming_credit : Incoming → ℕ
-incoming_credit c = max c.reached (held (c.returned + c.window))
+incoming_credit c = max c.reached (saturated (c.returned + c.window))
 
 -- how many new bytes may come
 unfoldable pub room : Incoming → ℕ
@@ -28,8 +28,8 @@ incoming_owes c = nat_lt c.announced (credit_value c) && nat_le (c.window / 8) (
 -- a stream's bytes count as far as they are new, and those that it gives back
 unfoldable pub with_totals : Totals → Totals → Incoming → Incoming
 with_totals before after c = record c {
-  received = held (c.received + (after.received - before.received));
-  returned = held (c.returned + (after.returned - before.returned));
+  received = saturated (c.received + (after.received - before.received));
+  returned = saturated (c.returned + (after.returned - before.returned));
 }
 
 -- a frame of credit waits where one is owed
@@ -63,7 +63,7 @@ outgoing_raised n c = record c { limit = max c.limit n }
 
 -- so many bytes were written
 unfoldable pub outgoing_written : ℕ → Outgoing → Outgoing
-outgoing_written n c = record c { written = held (c.written + n) }
+outgoing_written n c = record c { written = saturated (c.written + n) }
 
 -- how many bytes may be written: no more than the peer takes, nor than may be kept until they are acknowledged
 unfoldable pub budget : ℕ → Outgoing → ℕ

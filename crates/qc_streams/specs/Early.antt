@@ -7,7 +7,7 @@ use Rattle.qc_streams.specs.Counts.{owes_places}
 use Rattle.qc_streams.specs.Credit.{incoming_owes, new_outgoing}
 use Rattle.qc_streams.specs.Events.{no_events}
 use Rattle.qc_streams.specs.Streams.{no_limits, no_own}
-use Rattle.qc_streams.specs.Waiting.{new_waiting}
+use Rattle.qc_streams.specs.Queues.{new_waiting}
 
 -- the peer opened no stream, and knows the limit that the transport parameters announced
 abbrev pub none_opened : PeerStreams → PeerStreams

@@ -10,7 +10,7 @@ use Rattle.qc_streams.specs.declared.stream.Stream.{Stream}
 use Rattle.qc_streams.specs.declared.waiting.Waiting.{Waiting}
 use Rattle.qc_streams.specs.Lending.{AllRecords}
 use Rattle.qc_streams.specs.Records.{record_of}
-use Rattle.qc_streams.specs.Waiting.{dues_at, turn_at}
+use Rattle.qc_streams.specs.Queues.{dues_at, turn_at}
 use Rattle.qc_streams.specs.Waits.{Step, MarksFiled, after, after_step}
 
 -- whether there is a stream that is marked

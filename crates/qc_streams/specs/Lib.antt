@@ -11,7 +11,7 @@ pub mod Refusals
 pub mod Lent
 pub mod Stops
 pub mod Blocked
-pub mod Waiting
+pub mod Queues
 pub mod Streams
 pub mod Writable
 pub mod Frames
@@ -19,7 +19,7 @@ pub mod Calls
 pub mod Chunks
 pub mod Owed
 pub mod Control
-pub mod Parts
+pub mod StreamBytes
 pub mod Settings
 pub mod Early
 pub mod Views
@@ -30,3 +30,4 @@ pub mod Carried
 pub mod Steps
 pub mod Tied
 pub mod Finishing
+pub mod Pending

@@ -5,7 +5,7 @@ use Rattle.std.specs.Map.{values_of}
 use Rattle.qc_send_stream.specs.declared.send.SendPart.{SendPart}
 use Rattle.qc_send_stream.specs.Sending.{is_done}
 use Rattle.qc_streams.specs.declared.stream.Stream.{Stream}
-use Rattle.qc_streams.specs.Counts.{held}
+use Rattle.qc_streams.specs.Counts.{saturated}
 use Rattle.qc_streams.specs.Lending.{AllRecords}
 
 -- this end opened a stream, or the application accepted it
@@ -36,4 +36,4 @@ sends_in all = count_by sends (values_of all)
 
 -- such a count, where one stream counted `before` and counts `after` now
 abbrev pub recounted : ℕ → ℕ → ℕ → ℕ
-recounted count before after = held (count - before + after)
+recounted count before after = saturated (count - before + after)

@@ -8,8 +8,8 @@ use Rattle.qc_streams.specs.declared.stream.Stream.{Stream}
 use Rattle.qc_streams.specs.Blocked.{without_blocked}
 use Rattle.qc_streams.specs.Stream.{is_over}
 use Rattle.qc_streams.specs.Streams.{lingering, released}
-use Rattle.qc_streams.specs.Counts.{held}
-use Rattle.qc_streams.specs.Waiting.{owes_stop, queue_one, with_mark}
+use Rattle.qc_streams.specs.Counts.{saturated}
+use Rattle.qc_streams.specs.Queues.{owes_stop, queue_one, with_mark}
 
 -- a stream that was changed is marked, unless it has ended
 unfoldable pub looked_at : Stream → Stream
@@ -47,6 +47,6 @@ write_followed credit numbered idle id s = record s {
   blocked = if credit then s.blocked else without_blocked id s.blocked;
   waiting = record s.waiting {
     marks = if idle then marked id s.waiting.marks else s.waiting.marks;
-    turns = if numbered then held (s.waiting.turns + 1) else s.waiting.turns;
+    turns = if numbered then saturated (s.waiting.turns + 1) else s.waiting.turns;
   };
 }

@@ -6,7 +6,7 @@ use Rattle.qc_send_stream.specs.declared.send.SendPart.{SendPart}
 use Rattle.qc_streams.specs.declared.counts.PeerStreams.{PeerStreams}
 use Rattle.qc_streams.specs.declared.stream.Stream.{Stream}
 use Rattle.qc_streams.specs.declared.state.StreamsState.{StreamsState}
-use Rattle.qc_streams.specs.Counts.{at_most, by_dir, dir_put, held, owes_places}
+use Rattle.qc_streams.specs.Counts.{at_most, by_dir, dir_put, saturated, owes_places}
 use Rattle.qc_streams.specs.Credit.{window_set}
 use Rattle.qc_streams.specs.Records.{changed}
 use Rattle.qc_streams.specs.Writable.{writables_told}
@@ -39,7 +39,7 @@ receive_window_set n s = record s { incoming = window_set n s.incoming }
 
 -- the peer may have so many streams open at a time, and open as many more at once
 unfoldable pub with_concurrent : ℕ → PeerStreams → PeerStreams
-with_concurrent n k = record k { concurrent = at_most n; limit = at_most (max k.limit (held (k.ended + at_most n))) }
+with_concurrent n k = record k { concurrent = at_most n; limit = at_most (max k.limit (saturated (k.ended + at_most n))) }
 
 -- the same; a MAX_STREAMS waits where one is owed
 unfoldable pub concurrent_set : ℕ → PeerStreams → PeerStreams

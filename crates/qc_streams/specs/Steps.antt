@@ -13,7 +13,7 @@ use Rattle.qc_streams.specs.Control.{credit_of, data_with, gone_stop, reset_of, 
 use Rattle.qc_streams.specs.Credit.{room}
 use Rattle.qc_streams.specs.Frames.{blocked_refusal, count_refusal, receive_refusal, send_refusal}
 use Rattle.qc_streams.specs.Owed.{max_data_owed, max_streams_owed}
-use Rattle.qc_streams.specs.Parts.{IsOfferAt}
+use Rattle.qc_streams.specs.StreamBytes.{IsOfferAt}
 use Rattle.qc_streams.specs.Records.{record_of}
 use Rattle.qc_streams.specs.Waits.{IsPossible, Step, StreamCame, ResetCame, StopCame, StreamLimitCame, StreamsLimitCame, LimitCame, ControlSealed, PartSealed, after, after_step}
 use Rattle.qc_streams.specs.Within.{IsTaken}

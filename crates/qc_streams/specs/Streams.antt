@@ -22,7 +22,7 @@ use Rattle.qc_streams.specs.Records.{record_of, with_new, without, changed}
 use Rattle.qc_streams.specs.Sends.{was_taken}
 use Rattle.qc_streams.specs.Stream.{fresh_stream, totals_at, has_ended, is_freed, with_freed}
 use Rattle.qc_streams.specs.Writable.{writables_told}
-use Rattle.qc_streams.specs.Waiting.{new_waiting, place_made, places_made, place_left, dues_at, sets_filed, left, owes_stop, touched, is_idle}
+use Rattle.qc_streams.specs.Queues.{new_waiting, place_made, places_made, place_left, dues_at, sets_filed, left, owes_stop, touched, is_idle}
 
 -- the other end
 abbrev pub other : Side → Side

@@ -5,7 +5,7 @@ use Rattle.qc_recv.specs.declared.recv.Recv.{Recv}
 use Rattle.qc_recv.specs.Receiving.{is_ended}
 use Rattle.qc_streams.specs.declared.state.StreamsState.{StreamsState}
 use Rattle.qc_streams.specs.declared.stream.Stream.{Stream}
-use Rattle.qc_streams.specs.Counts.{held}
+use Rattle.qc_streams.specs.Counts.{saturated}
 use Rattle.qc_streams.specs.Streams.{target}
 use Rattle.qc_streams.specs.Waits.{ArePossible, Step, EarlyRefused, LimitCame, LimitsKnown, ResetCame, StreamCame, Wrote, after, after_step}
 use Rattle.qc_streams.specs.Within.{AreTaken}
@@ -90,4 +90,4 @@ all_ends (e ∷ ends) = e.1 + all_ends ends
 
 -- Whatever happened, what counts as received is the sum over all streams of the greatest end that came, which stands still at 2^64 - 1
 unfoldable pub CountsWhatCame : StreamsState → List Step → Type 0
-CountsWhatCame s xs = ArePossible xs → AreTaken xs s → (after xs s).incoming.received ≡ held (all_ends (ends_came xs s []))
+CountsWhatCame s xs = ArePossible xs → AreTaken xs s → (after xs s).incoming.received ≡ saturated (all_ends (ends_came xs s []))

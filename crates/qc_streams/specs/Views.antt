@@ -25,7 +25,7 @@ use Rattle.qc_streams.specs.declared.state.StreamsState.{StreamsState}
 use Rattle.qc_streams.specs.Calls.{IsReadOf, after_read, begin_refusal, count_taken, finish_refusal, gives, receiving_at, write_fault, write_refusal, write_refused}
 use Rattle.qc_streams.specs.Chunks.{Chunks}
 use Rattle.qc_streams.specs.Streams.{failed}
-use Rattle.qc_streams.specs.Waiting.{owes_credit}
+use Rattle.qc_streams.specs.Queues.{owes_credit}
 
 -- why a call that only wants memory gives up: the connection had failed, or has now
 abbrev pub fault_of : Bool → Fault

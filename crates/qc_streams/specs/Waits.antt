@@ -22,11 +22,11 @@ use Rattle.qc_streams.specs.Control.{control_acked, control_lost, control_sealed
 use Rattle.qc_streams.specs.Early.{early_refused}
 use Rattle.qc_streams.specs.Frames.{limit_came, reset_came, stop_came, stream_came, stream_limit_came, streams_limit_came}
 use Rattle.qc_streams.specs.Owed.{polled}
-use Rattle.qc_streams.specs.Parts.{bytes_acked, bytes_lost, sealed_part}
+use Rattle.qc_streams.specs.StreamBytes.{bytes_acked, bytes_lost, sealed_part}
 use Rattle.qc_streams.specs.Records.{record_of}
 use Rattle.qc_streams.specs.Settings.{max_concurrent_set, priority_set, receive_window_set, send_window_set}
 use Rattle.qc_streams.specs.Streams.{accepted_one, closed, failed, limits_set, opened_own}
-use Rattle.qc_streams.specs.Waiting.{all_filed}
+use Rattle.qc_streams.specs.Queues.{all_filed}
 use Rattle.qc_streams.specs.Writable.{awaits_at, has_place, has_room}
 use Rattle.qc_streams.specs.Lending.{AllRecords}
 

@@ -8,7 +8,7 @@ ghost use Rattle.qc_streams.specs.Records.{changed, record_of};
 ghost use Rattle.qc_streams.specs.Sends.{sends_of};
 ghost use Rattle.qc_streams.specs.Stream.{with_receiving};
 ghost use Rattle.qc_streams.specs.Views.{owes_frames};
-ghost use Rattle.qc_streams.specs.Waiting.{owes_credit};
+ghost use Rattle.qc_streams.specs.Queues.{owes_credit};
 
 use crate::records::Records;
 use crate::state::StreamsState;

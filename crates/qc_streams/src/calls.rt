@@ -10,7 +10,7 @@ ghost use Rattle.qc_streams.specs.Kept.{kept_in};
 ghost use Rattle.qc_streams.specs.Records.{changed, record_of};
 ghost use Rattle.qc_streams.specs.Sequel.{queueing, sequel_at, settling};
 ghost use Rattle.qc_streams.specs.Stream.{totals_at, totals_if, with_receiving, with_sending};
-ghost use Rattle.qc_streams.specs.Waiting.{is_idle, takes_number};
+ghost use Rattle.qc_streams.specs.Queues.{is_idle, takes_number};
 ghost use Rattle.qc_streams.specs.Writable.{credit_at, needs_place_at, place_after};
 
 use crate::credit::Incoming;
@@ -29,7 +29,7 @@ use qc_send_stream::{FinishError, WriteError};
 
 impl Records {
     /// Writes on the stream with an id, where so many turns were given; it waits from then on, and is marked.
-    #[tactic(auto, using(crate::proofs::Keeping::same, crate::proofs::Sending::still, crate::proofs::Sending::recounts), unfolding(crate::specs::Calls::IsRefused, crate::specs::Sequel::queueing))]
+    #[tactic(auto, using(crate::proofs::Keeping::same, crate::proofs::Sending::still), unfolding(crate::specs::Calls::IsRefused, crate::specs::Sequel::queueing))]
     fn write(
         &mut self,
         id: u64,
@@ -55,13 +55,10 @@ impl Records {
     {
         match self.streams.get_mut(id) {
             Some(stream) => {
-                let before = stream.sends();
                 let count = stream.write(chunk, most, events)?;
-                let noted = stream.note_write(turns);
-                let after = stream.sends();
-                let _count = self.streams.len();
+                let owes = stream.has_waiting();
+                let noted = stream.note_write(turns, owes);
                 self.kept += count as u64;
-                self.sending = recounted(self.sending, before, after);
                 Ok((count, noted))
             }
             None => Err(WriteError::ClosedStream),

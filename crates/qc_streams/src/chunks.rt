@@ -1,10 +1,10 @@
 //! A write of several chunks, one behind the other.
 
-ghost use Rattle.std.specs.Prelude.{◌≡◌, ◌+◌, ◌<◌, ◌≤◌, ◌^◌, false, min, length, take, IfErr, IfOk, OnErr, OnOk, None, Some};
+ghost use Rattle.std.specs.Prelude.{◌≡◌, ◌+◌, ◌<◌, ◌≤◌, ◌^◌, true, false, min, length, take, IfErr, IfOk, OnErr, OnOk, None, Some};
 ghost use Rattle.std.specs.List.{concat};
 ghost use Rattle.std.specs.Option.{option_map};
 ghost use Rattle.qc_send_stream.specs.Buffer.{bytes_written};
-ghost use Rattle.qc_send_stream.specs.Sending.{IsWriteRefusal, after_refusal, is_done, kept_count, part_written, write_refusal as part_refusal};
+ghost use Rattle.qc_send_stream.specs.Sending.{IsWriteRefusal, after_refusal, has_more, is_done, kept_count, part_written, write_refusal as part_refusal};
 ghost use Rattle.qc_streams.specs.Calls.{IsRefused, count_taken, if_known, known, known_at, known_of, send_room, write_fault, write_refusal, write_refused, wrote};
 ghost use Rattle.qc_streams.specs.Chunks.{IsUnwritten, cut_front, whole_in};
 ghost use Rattle.qc_streams.specs.Credit.{budget};
@@ -13,12 +13,11 @@ ghost use Rattle.qc_streams.specs.Records.{changed, record_of};
 ghost use Rattle.qc_streams.specs.Sends.{sends_of};
 ghost use Rattle.qc_streams.specs.Sequel.{queueing};
 ghost use Rattle.qc_streams.specs.Stream.{with_sending};
-ghost use Rattle.qc_streams.specs.Waiting.{is_idle, takes_number};
+ghost use Rattle.qc_streams.specs.Queues.{is_idle, owes_data, takes_number};
 ghost use Rattle.qc_streams.specs.Writable.{credit_at, needs_place, needs_place_at, place_after};
 
 use crate::events::Events;
 use crate::records::Records;
-use crate::sends::recounted;
 use crate::state::StreamsState;
 use crate::stream::Stream;
 use crate::writable::{Noted, put_by};
@@ -35,6 +34,15 @@ pub struct Written {
     pub chunks: usize,
 }
 
+/// What a buffer took of the front of chunks, and whether it ended for want of memory.
+#[derive(Clone, Copy, Debug)]
+struct Front {
+    bytes: usize,
+    chunks: usize,
+    // whether memory ran out
+    lacked: bool,
+}
+
 /// What a write of chunks took, and whether it ended for want of memory.
 #[derive(Clone, Copy, Debug)]
 pub(crate) struct Taken {
@@ -42,10 +50,12 @@ pub(crate) struct Taken {
     chunks: usize,
     // whether memory ran out
     lacked: bool,
+    // whether bytes wait then, or the end
+    owes: bool,
 }
 
 /// Writes so many bytes of the front of chunks, or fewer for want of memory.
-fn write_front(buffer: &mut SendBuffer, chunks: &mut [Bytes], most: u64) -> Taken
+fn write_front(buffer: &mut SendBuffer, chunks: &mut [Bytes], most: u64) -> Front
     requires { buffer.old.written + most < 2 ^ 64 }
     ensures written { buffer.new ≡ bytes_written (take result.bytes (concat chunks.old)) buffer.old }
     ensures rest { chunks.new ≡ cut_front result.bytes chunks.old }
@@ -62,7 +72,7 @@ fn write_front(buffer: &mut SendBuffer, chunks: &mut [Bytes], most: u64) -> Take
         match buffer.write_front(&mut chunks[at], count) {
             Ok(()) => bytes += count,
             Err(_) => {
-                return Taken {
+                return Front {
                     bytes,
                     chunks: at,
                     lacked: true,
@@ -74,7 +84,7 @@ fn write_front(buffer: &mut SendBuffer, chunks: &mut [Bytes], most: u64) -> Take
         }
         at += 1;
     }
-    Taken {
+    Front {
         bytes,
         chunks: at,
         lacked: false,
@@ -110,10 +120,22 @@ fn test(sending: &mut SendPart, most: u64) -> Result<(), WriteError>
     Ok(())
 }
 
+/// Whether bytes of a sending side wait, or its end, on which so many bytes were just written, where so many had been
+/// sent of those that had been written.
+fn is_owing(sending: &SendPart, count: usize, sent: u64, written: u64) -> bool
+    requires { 0 < count → sent ≤ written → has_more sending.now ≡ true }
+    ensures { result ≡ has_more sending.now }
+{
+    if count > 0 && sent <= written {
+        return true;
+    }
+    sending.has_waiting()
+}
+
 /// Writes the front of chunks on a sending side, unless all of it is acknowledged.
 ///
 /// A place for the event that it can be written on again is put by where it blocks and needs one.
-#[tactic(auto, using(crate::proofs::Refused::refusal_so, crate::proofs::Refused::placed_so), unfolding(qc_send_stream::specs::Sending::IsWriteRefusal, qc_send_stream::specs::Sending::was_blocked, qc_send_stream::specs::Sending::is_done))]
+#[tactic(auto, using(crate::proofs::Refused::refusal_so, crate::proofs::Refused::placed_so, crate::proofs::Done::written_still), unfolding(qc_send_stream::specs::Sending::IsWriteRefusal, qc_send_stream::specs::Sending::was_blocked, qc_send_stream::specs::Sending::is_done))]
 fn write(
     sending: &mut SendPart,
     chunks: &mut [Bytes],
@@ -129,20 +151,31 @@ fn write(
     ensures more { IfOk result (λ t. kept_count sending.new ≡ kept_count sending.old + t.bytes) }
     ensures same { OnErr result (kept_count sending.new ≡ kept_count sending.old) }
     ensures still { OnErr result (is_done sending.new ≡ is_done sending.old) }
+    ensures open { OnOk result (is_done sending.new ≡ is_done sending.old) }
     ensures fits { OnOk result (write_fault most (known (Some sending.old)) ≡ None) }
     ensures refused { IfErr result (λ e. IsRefused e (write_fault most (known (Some sending.old)))) }
     ensures err { IfErr result (λ e. sending.new ≡ if_known (after_refusal e) sending.old) }
     ensures kept { OnErr result (chunks.new ≡ chunks.old) }
     ensures placed { IfErr result (λ e. events.new ≡ place_after e (needs_place (Some sending.old)) events.old) }
     ensures unplaced { OnOk result (events.new ≡ events.old) }
+    ensures owes { IfOk result (λ t. t.owes ≡ has_more sending.new) }
 {
     if sending.is_done() {
         return Err(WriteError::ClosedStream);
     }
     put_by(sending, most, events)?;
     test(sending, most)?;
-    let credit = sending.limit.saturating_sub(sending.buffer.written());
-    Ok(write_front(&mut sending.buffer, chunks, credit.min(most)))
+    let written = sending.buffer.written();
+    let sent = sending.buffer.sent();
+    let credit = sending.limit.saturating_sub(written);
+    let front = write_front(&mut sending.buffer, chunks, credit.min(most));
+    let owes = is_owing(sending, front.bytes, sent, written);
+    Ok(Taken {
+        bytes: front.bytes,
+        chunks: front.chunks,
+        lacked: front.lacked,
+        owes,
+    })
 }
 
 impl Stream {
@@ -163,12 +196,14 @@ impl Stream {
         ensures more { IfOk result (λ t. kept_of self.new ≡ kept_of self.old + t.bytes) }
         ensures same { OnErr result (kept_of self.new ≡ kept_of self.old) }
         ensures still { OnErr result (sends_of self.new ≡ sends_of self.old) }
+        ensures open { OnOk result (sends_of self.new ≡ sends_of self.old) }
         ensures fits { OnOk result (write_fault most (known self.old.sending) ≡ None) }
         ensures refused { IfErr result (λ e. IsRefused e (write_fault most (known self.old.sending))) }
         ensures err { IfErr result (λ e. self.new ≡ with_sending (if_known (after_refusal e)) self.old) }
         ensures kept { OnErr result (chunks.new ≡ chunks.old) }
         ensures placed { IfErr result (λ e. events.new ≡ place_after e (needs_place self.old.sending) events.old) }
         ensures unplaced { OnOk result (events.new ≡ events.old) }
+        ensures owes { IfOk result (λ t. t.owes ≡ owes_data self.new.sending) }
     {
         match &mut self.sending {
             Some(sending) => write(sending, chunks, most, events),
@@ -180,7 +215,7 @@ impl Stream {
 impl Records {
     /// Writes the front of chunks on the stream with an id, where so many turns were given; it waits from then
     /// on, and is marked.
-    #[tactic(auto, using(crate::proofs::Keeping::same, crate::proofs::Sending::still, crate::proofs::Sending::recounts), unfolding(crate::specs::Calls::IsRefused, crate::specs::Sequel::queueing))]
+    #[tactic(auto, using(crate::proofs::Keeping::same, crate::proofs::Sending::still), unfolding(crate::specs::Calls::IsRefused, crate::specs::Sequel::queueing))]
     fn write_chunks(
         &mut self,
         id: u64,
@@ -207,13 +242,9 @@ impl Records {
     {
         match self.streams.get_mut(id) {
             Some(stream) => {
-                let before = stream.sends();
                 let taken = stream.write_chunks(chunks, most, events)?;
-                let noted = stream.note_write(turns);
-                let after = stream.sends();
-                let _count = self.streams.len();
+                let noted = stream.note_write(turns, taken.owes);
                 self.kept += taken.bytes as u64;
-                self.sending = recounted(self.sending, before, after);
                 Ok((taken, noted))
             }
             None => Err(WriteError::ClosedStream),

@@ -153,7 +153,7 @@ impl PeerStreams {
     }
 
     /// One of them ended, which frees a place.
-    #[tactic(auto, unfolding(crate::specs::Counts::place_freed, crate::specs::Counts::with_place, crate::specs::Counts::held))]
+    #[tactic(auto, unfolding(crate::specs::Counts::place_freed, crate::specs::Counts::with_place, crate::specs::Counts::saturated))]
     pub fn with_place(self) -> PeerStreams
         ensures { result ≡ place_freed self }
     {
@@ -167,7 +167,7 @@ impl PeerStreams {
     }
 
     /// So many of them may be open at a time.
-    #[tactic(auto, unfolding(crate::specs::Settings::concurrent_set, crate::specs::Settings::with_concurrent, crate::specs::Counts::held, crate::specs::Counts::at_most))]
+    #[tactic(auto, unfolding(crate::specs::Settings::concurrent_set, crate::specs::Settings::with_concurrent, crate::specs::Counts::saturated, crate::specs::Counts::at_most))]
     pub fn with_concurrent(self, count: u64) -> PeerStreams
         ensures { result ≡ concurrent_set count self }
     {

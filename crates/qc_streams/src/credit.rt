@@ -43,7 +43,7 @@ impl Incoming {
     }
 
     /// Up to where the peer may send.
-    #[tactic(auto, unfolding(crate::specs::Credit::incoming_credit, crate::specs::Counts::held))]
+    #[tactic(auto, unfolding(crate::specs::Credit::incoming_credit, crate::specs::Counts::saturated))]
     pub fn credit(&self) -> u64
         ensures { result ≡ incoming_credit self.now }
     {
@@ -69,7 +69,7 @@ impl Incoming {
     }
 
     /// A stream counted `before`, and counts `after` now.
-    #[tactic(auto, unfolding(crate::specs::Credit::tallied, crate::specs::Credit::with_totals, crate::specs::Counts::held))]
+    #[tactic(auto, unfolding(crate::specs::Credit::tallied, crate::specs::Credit::with_totals, crate::specs::Counts::saturated))]
     pub fn tally(&mut self, before: Totals, after: Totals)
         ensures { self.new ≡ tallied before after self.old }
     {
@@ -172,7 +172,7 @@ impl Outgoing {
     }
 
     /// So many bytes were written.
-    #[tactic(auto, unfolding(crate::specs::Credit::outgoing_written, crate::specs::Counts::held))]
+    #[tactic(auto, unfolding(crate::specs::Credit::outgoing_written, crate::specs::Counts::saturated))]
     pub fn write(&mut self, count: u64)
         ensures { self.new ≡ outgoing_written count self.old }
     {

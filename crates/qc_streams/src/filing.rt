@@ -4,7 +4,7 @@ ghost use Rattle.std.specs.Prelude.{◌≡◌, OnOk, Some, true, is_some};
 ghost use Rattle.qc_streams.specs.Kept.{kept_of};
 ghost use Rattle.qc_streams.specs.Records.{changed, record_of};
 ghost use Rattle.qc_streams.specs.Sends.{sends_of};
-ghost use Rattle.qc_streams.specs.Waiting.{all_filed, due_next, dues_at, dues_of, file_one, filed, filed_turn, is_idle, left, mark_taken, or_next, place_behind, priority_at, queue_one, queued, takes_number, touched, turn_at, turn_moved, with_mark, with_turn};
+ghost use Rattle.qc_streams.specs.Queues.{all_filed, due_next, dues_at, dues_of, file_one, filed, filed_turn, is_idle, left, mark_taken, or_next, owes_data, place_behind, priority_at, queue_one, queued, takes_number, touched, turn_at, turn_moved, with_mark, with_turn};
 
 use crate::records::Records;
 use crate::state::StreamsState;
@@ -27,7 +27,7 @@ struct Filed {
 
 impl Stream {
     /// It is looked at, where so many turns were given.
-    #[tactic(auto, unfolding(crate::specs::Waiting::file_one, crate::specs::Waiting::with_mark, crate::specs::Waiting::with_turn, crate::specs::Waiting::dues_of))]
+    #[tactic(auto, unfolding(crate::specs::Queues::file_one, crate::specs::Queues::with_mark, crate::specs::Queues::with_turn, crate::specs::Queues::dues_of))]
     fn file(&mut self, turns: u64) -> Filed
         ensures filed { self.new ≡ file_one turns self.old }
         ensures known { result.known ≡ true }
@@ -64,7 +64,7 @@ fn or_next(due: Option<Place>, next: Place) -> Place
 impl Stream {
     /// It was looked at: it takes a place where it has none and bytes wait, or the end, and gives up the one
     /// that it has where neither does.
-    #[tactic(auto, unfolding(crate::specs::Waiting::with_turn))]
+    #[tactic(auto, unfolding(crate::specs::Queues::with_turn))]
     fn move_turn(&mut self, owes: bool, next: Place)
         ensures moved { self.new ≡ filed_turn owes self.old.turn next self.old }
         ensures same { kept_of self.new ≡ kept_of self.old }
@@ -85,14 +85,25 @@ impl Stream {
     }
 
     /// It began to wait, where so many turns were given, or waits no more; answers whether a number is taken.
-    #[tactic(auto, unfolding(crate::specs::Waiting::queue_one, crate::specs::Waiting::dues_of))]
-    pub(crate) fn queue(&mut self, turns: u64) -> bool
+    fn queue(&mut self, turns: u64) -> bool
         ensures queued { self.new ≡ queue_one turns self.old }
         ensures number { result ≡ takes_number (Some self.old) }
         ensures same { kept_of self.new ≡ kept_of self.old }
         ensures still { sends_of self.new ≡ sends_of self.old }
     {
         let owes = owes_data(&mut self.sending);
+        self.wait(owes, turns)
+    }
+
+    /// The same, where it is known whether bytes wait, or the end.
+    #[tactic(auto, unfolding(crate::specs::Queues::queue_one, crate::specs::Queues::dues_of))]
+    pub(crate) fn wait(&mut self, owes: bool, turns: u64) -> bool
+        requires { owes ≡ owes_data self.old.sending }
+        ensures queued { self.new ≡ queue_one turns self.old }
+        ensures number { result ≡ takes_number (Some self.old) }
+        ensures same { kept_of self.new ≡ kept_of self.old }
+        ensures still { sends_of self.new ≡ sends_of self.old }
+    {
         let numbered = owes && (self.turn.is_none() && self.due.is_none());
         self.due = due_next(
             owes,
@@ -132,7 +143,7 @@ impl Waiting {
     }
 
     /// A stream takes the next place where it has none, and gives up the one that it has, by what it owes.
-    #[tactic(auto, unfolding(crate::specs::Counts::held))]
+    #[tactic(auto, unfolding(crate::specs::Counts::saturated))]
     fn move_turn(&mut self, filed: Filed, id: u64) -> Result<(), AllocError>
         ensures { OnOk result (self.new ≡ turn_moved filed.dues.bytes filed.turn filed.next id self.old) }
     {
@@ -252,7 +263,7 @@ impl Records {
 
 impl StreamsState {
     /// What a stream owes is to be looked at.
-    #[tactic(auto, unfolding(crate::specs::Waiting::touched))]
+    #[tactic(auto, unfolding(crate::specs::Queues::touched))]
     pub(crate) fn touch(&mut self, id: u64)
         ensures { self.new ≡ touched id self.old }
     {
@@ -263,7 +274,7 @@ impl StreamsState {
     }
 
     /// A stream began to wait: its first turn is that of this moment.
-    #[tactic(auto, unfolding(crate::specs::Waiting::queued, crate::specs::Counts::held))]
+    #[tactic(auto, unfolding(crate::specs::Queues::queued, crate::specs::Counts::saturated))]
     pub(crate) fn queue(&mut self, id: u64)
         ensures { self.new ≡ queued id self.old }
     {
@@ -273,7 +284,7 @@ impl StreamsState {
     }
 
     /// A stream gives its place up.
-    #[tactic(auto, unfolding(crate::specs::Waiting::left))]
+    #[tactic(auto, unfolding(crate::specs::Queues::left))]
     pub(crate) fn leave(&mut self, id: u64)
         ensures { self.new ≡ left id self.old }
     {

@@ -5,7 +5,7 @@ ghost use Rattle.qc_base.specs.declared.side.Side.{Side};
 ghost use Rattle.qc_streams.specs.Carried.{EndIsToldOnce, GivesEachOnce, ReadsWhatCame, SendsWhatWasWritten};
 ghost use Rattle.qc_streams.specs.Filed.{FiledIsExact, OwedIsFiled, TurnsStand, UnmarkedHavePlaces};
 ghost use Rattle.qc_streams.specs.Control.{next_control};
-ghost use Rattle.qc_streams.specs.Parts.{IsDrawn};
+ghost use Rattle.qc_streams.specs.StreamBytes.{IsDrawn};
 ghost use Rattle.qc_streams.specs.Steps.{AllMay, Handed, IsOffered, IsOwed, NamesStream, steps_of};
 ghost use Rattle.qc_streams.specs.Streams.{new_streams};
 ghost use Rattle.qc_streams.specs.declared.control.Control.{Control};

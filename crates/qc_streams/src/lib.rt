@@ -23,6 +23,8 @@ mod map;
 mod opening;
 mod owed;
 mod parts;
+mod pending;
+mod pending_laws;
 mod received;
 mod records;
 mod recv_stream;
@@ -54,6 +56,7 @@ pub use laws::{
     what_is_owed_is_filed,
 };
 pub use parts::StreamPart;
+pub use pending_laws::{control_that_waits_is_drawn, what_waits_is_drawn};
 pub use qc_recv::{Chunk, ReadableError};
 pub use records::Records;
 pub use recv_stream::{Chunks, RecvStream, ShouldTransmit};

@@ -4,7 +4,7 @@ ghost use Rattle.std.specs.Prelude.{◌≡◌, ◌<◌, ◌^◌, ◌||◌, OnOk,
 ghost use Rattle.qc_streams.specs.Counts.{by_dir, dir_put, place_freed};
 ghost use Rattle.qc_streams.specs.Kept.{kept_of};
 ghost use Rattle.qc_streams.specs.Streams.{counted, dir_of, is_own, is_own_unopened, is_past_limit, is_peer_unopened, opened_with, left_over, lingering, released, settled, stops_later, told_if, removed, with_lower};
-ghost use Rattle.qc_streams.specs.Waiting.{place_made};
+ghost use Rattle.qc_streams.specs.Queues.{place_made};
 ghost use Rattle.qc_streams.specs.Records.{changed, record_of, with_new};
 ghost use Rattle.qc_streams.specs.Sends.{sends_of};
 ghost use Rattle.qc_streams.specs.Stream.{is_freed, with_freed};
@@ -104,7 +104,7 @@ impl StreamsState {
     }
 
     /// Adds a stream, with a place for its mark.
-    #[tactic(auto, unfolding(crate::specs::Waiting::place_made))]
+    #[tactic(auto, unfolding(crate::specs::Queues::place_made))]
     pub(crate) fn add(&mut self, id: u64, stream: Stream) -> Result<(), AllocError>
         requires { kept_of stream ≡ 0 }
         ensures added { OnOk result (self.new ≡ record self.old { records = with_new id stream self.old.records; waiting = place_made self.old.waiting }) }
@@ -121,7 +121,7 @@ impl StreamsState {
     }
 
     /// Adds all streams of the peer that lie below an id of their kind and aren't open.
-    #[tactic(auto, unfolding(crate::specs::Streams::lower_opened, crate::specs::Streams::lower_unopened, crate::specs::Streams::made, crate::specs::Waiting::places_made))]
+    #[tactic(auto, unfolding(crate::specs::Streams::lower_opened, crate::specs::Streams::lower_unopened, crate::specs::Streams::made, crate::specs::Queues::places_made))]
     fn open_lower(&mut self, id: u64) -> Result<(), AllocError>
         requires { id < 2 ^ 62 }
         ensures { OnOk result (self.new ≡ with_lower id self.old) }
@@ -166,7 +166,7 @@ impl StreamsState {
     }
 
     /// A stream leaves.
-    #[tactic(auto, unfolding(crate::specs::Streams::removed, crate::specs::Waiting::place_left))]
+    #[tactic(auto, unfolding(crate::specs::Streams::removed, crate::specs::Queues::place_left))]
     fn remove(&mut self, id: u64)
         ensures { self.new ≡ removed id self.old }
     {

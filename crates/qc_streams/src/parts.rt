@@ -5,7 +5,7 @@ ghost use Rattle.std.specs.Option.{option_map};
 ghost use Rattle.qc_send_stream.specs.Sending.{IsOffer, part_acked, part_lost, part_sealed};
 ghost use Rattle.qc_streams.specs.Kept.{kept_of};
 ghost use Rattle.qc_streams.specs.Sends.{sends_of};
-ghost use Rattle.qc_streams.specs.Parts.{IsDrawn, IsOfferAt, IsOfferOf, IsTurnAt, IsTurnOf, bytes_acked, bytes_lost, draw_one, drawn_turn, finished_at, is_finished, part_drawn, part_end, place_after, turn_left, turn_taken};
+ghost use Rattle.qc_streams.specs.StreamBytes.{IsDrawn, IsOfferAt, IsOfferOf, IsTurnAt, IsTurnOf, bytes_acked, bytes_lost, draw_one, drawn_turn, finished_at, is_finished, part_drawn, part_end, place_after, turn_left, turn_taken};
 ghost use Rattle.qc_streams.specs.Records.{changed, record_of};
 ghost use Rattle.qc_streams.specs.Sequel.{sequel_at, sequel_of, settling};
 ghost use Rattle.qc_streams.specs.Stream.{with_sending};
@@ -60,7 +60,7 @@ fn place_again(fair: bool, priority: i32, turns: u64) -> Place
 }
 
 /// Where a part ends.
-#[tactic(auto, unfolding(crate::specs::Parts::part_end, crate::specs::Counts::held))]
+#[tactic(auto, unfolding(crate::specs::StreamBytes::part_end, crate::specs::Counts::saturated))]
 fn part_end(part: &Part) -> u64
     ensures { result ≡ part_end part.now }
 {
@@ -79,7 +79,7 @@ fn is_finished(sending: &Option<SendPart>) -> bool
 
 impl Stream {
     /// What it may give next, with at most so many bytes.
-    #[tactic(auto, unfolding(crate::specs::Parts::IsOfferOf))]
+    #[tactic(auto, unfolding(crate::specs::StreamBytes::IsOfferOf))]
     fn offer(&mut self, most: usize) -> Result<Option<Part>, AllocError>
         ensures next { IfOk result (λ p. IsOfferOf most self.old.sending p) }
         ensures same { self.new ≡ self.old }
@@ -108,7 +108,7 @@ impl Stream {
 
     /// It had a turn: it takes the next place where it has more, and gives up the one that it has where it
     /// hasn't.
-    #[tactic(auto, unfolding(crate::specs::Waiting::with_turn))]
+    #[tactic(auto, unfolding(crate::specs::Queues::with_turn))]
     fn pass_turn(&mut self, owes: bool, turn: Option<Place>, next: Place)
         ensures passed { self.new ≡ drawn_turn owes turn next self.old }
         ensures same { kept_of self.new ≡ kept_of self.old }
@@ -122,7 +122,7 @@ impl Stream {
     }
 
     /// Draws what it gives next, with at most so many bytes, where so many turns were given.
-    #[tactic(auto, unfolding(crate::specs::Parts::draw_one, crate::specs::Parts::seal_one, crate::specs::Waiting::dues_of, crate::specs::Waiting::with_turn))]
+    #[tactic(auto, unfolding(crate::specs::StreamBytes::draw_one, crate::specs::StreamBytes::seal_one, crate::specs::Queues::dues_of, crate::specs::Queues::with_turn))]
     fn draw(&mut self, most: usize, fair: bool, turns: u64) -> Result<Option<Drawn>, AllocError>
         ensures next { IfOk result (λ d. IsOfferOf most self.old.sending (option_map (λ d. d.part) d)) }
         ensures drawn { IfOk result (λ d. IfSome d (λ d. self.new ≡ draw_one fair turns d.part self.old)) }
@@ -213,7 +213,7 @@ impl Stream {
 
 impl Records {
     /// Draws what the stream with an id gives next, with at most so many bytes, where so many turns were given.
-    #[tactic(auto, using(crate::proofs::Back::record_back, crate::proofs::Draws::turn_so, crate::proofs::Keeping::same, crate::proofs::Sending::still), unfolding(crate::specs::Parts::IsOfferAt))]
+    #[tactic(auto, using(crate::proofs::Back::record_back, crate::proofs::Draws::turn_so, crate::proofs::Keeping::same, crate::proofs::Sending::still), unfolding(crate::specs::StreamBytes::IsOfferAt))]
     fn draw(
         &mut self,
         id: u64,
@@ -276,7 +276,7 @@ impl Records {
 
 impl Waiting {
     /// A stream that had a turn gives its place up, and takes the next one where it has more.
-    #[tactic(auto, unfolding(crate::specs::Counts::held))]
+    #[tactic(auto, unfolding(crate::specs::Counts::saturated))]
     fn pass_turn(
         &mut self,
         turn: Option<Place>,
@@ -305,7 +305,7 @@ impl StreamsState {
     /// # Errors
     ///
     /// Want of memory.
-    #[tactic(auto, unfolding(crate::specs::Parts::IsDrawn, crate::specs::Parts::IsTurn))]
+    #[tactic(auto, unfolding(crate::specs::StreamBytes::IsDrawn, crate::specs::StreamBytes::IsTurn))]
     pub fn draw_part(&mut self, room: usize) -> Result<Option<StreamPart>, AllocError>
         ensures next { IfOk result (λ d. IsDrawn room self.old d) }
         ensures drawn { IfOk result (λ d. self.new ≡ part_drawn d self.old) }
@@ -334,7 +334,7 @@ impl StreamsState {
     /// # Errors
     ///
     /// Want of memory.
-    #[tactic(auto, unfolding(crate::specs::Parts::bytes_lost))]
+    #[tactic(auto, unfolding(crate::specs::StreamBytes::bytes_lost))]
     pub fn bytes_lost(
         &mut self,
         id: StreamId,

@@ -10,7 +10,7 @@ ghost use Rattle.qc_streams.specs.Credit.{budget};
 ghost use Rattle.qc_streams.specs.Records.{record_of};
 ghost use Rattle.qc_streams.specs.Settings.{is_unknown, priority_set, stop_code};
 ghost use Rattle.qc_streams.specs.Views.{IsBarred, IsUntaken, finish_bar, unwritten, write_bar};
-ghost use Rattle.qc_streams.specs.Waiting.{priority_at};
+ghost use Rattle.qc_streams.specs.Queues.{priority_at};
 
 use crate::chunks::Written;
 use crate::fault::{ClosedStream, FinishError, WriteError, finish_error};

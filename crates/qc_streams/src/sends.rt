@@ -1,7 +1,7 @@
 //! How many streams this end sends on.
 
 ghost use Rattle.std.specs.Prelude.{◌≡◌, ◌+◌, ◌-◌};
-ghost use Rattle.qc_streams.specs.Counts.{held};
+ghost use Rattle.qc_streams.specs.Counts.{saturated};
 ghost use Rattle.qc_streams.specs.Kept.{kept_of};
 ghost use Rattle.qc_streams.specs.Records.{changed};
 ghost use Rattle.qc_streams.specs.Sends.{recounted, sends_at, sends_in, sends_of, was_taken};
@@ -11,7 +11,7 @@ use crate::state::StreamsState;
 use crate::stream::Stream;
 
 /// A count of streams that this end sends on, where one counted `before` and counts `after` now.
-#[tactic(auto, unfolding(crate::specs::Counts::held))]
+#[tactic(auto, unfolding(crate::specs::Counts::saturated))]
 pub(crate) fn recounted(count: u64, before: u64, after: u64) -> u64
     ensures { result ≡ recounted count before after }
 {

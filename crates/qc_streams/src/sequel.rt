@@ -4,7 +4,7 @@ ghost use Rattle.std.specs.Prelude.{◌≡◌, true, not};
 ghost use Rattle.qc_streams.specs.Kept.{kept_of};
 ghost use Rattle.qc_streams.specs.Sends.{sends_of};
 ghost use Rattle.qc_streams.specs.Sequel.{followed, looked_at, sequel_of};
-ghost use Rattle.qc_streams.specs.Waiting.{with_mark};
+ghost use Rattle.qc_streams.specs.Queues.{with_mark};
 
 use crate::state::StreamsState;
 use crate::stream::Stream;
@@ -25,7 +25,7 @@ pub(crate) enum Sequel {
 
 impl Stream {
     /// It was changed: it is marked, unless it has ended. Answers what is to be done.
-    #[tactic(auto, unfolding(crate::specs::Sequel::looked_at, crate::specs::Sequel::sequel_of, crate::specs::Waiting::with_mark))]
+    #[tactic(auto, unfolding(crate::specs::Sequel::looked_at, crate::specs::Sequel::sequel_of, crate::specs::Queues::with_mark))]
     pub(crate) fn look_at(&mut self) -> Sequel
         ensures sequel { result ≡ sequel_of self.old }
         ensures looked { self.new ≡ looked_at self.old }
@@ -51,7 +51,7 @@ impl Stream {
 
 impl Stream {
     /// It is marked; answers whether it wasn't before.
-    #[tactic(auto, unfolding(crate::specs::Waiting::with_mark))]
+    #[tactic(auto, unfolding(crate::specs::Queues::with_mark))]
     pub(crate) fn mark(&mut self) -> bool
         ensures idle { result ≡ not self.old.marked }
         ensures marked { self.new ≡ with_mark true self.old }

@@ -2,13 +2,13 @@
 
 ghost use Rattle.std.specs.Prelude.{◌≡◌, ◌+◌, max, IfOk, OnErr, OnOk, is_err};
 ghost use Rattle.qc_streams.specs.Calls.{known, known_at, known_of};
-ghost use Rattle.qc_streams.specs.Counts.{by_dir, held};
+ghost use Rattle.qc_streams.specs.Counts.{by_dir, saturated};
 ghost use Rattle.qc_streams.specs.Credit.{incoming_credit};
 ghost use Rattle.qc_streams.specs.Kept.{kept_of};
 ghost use Rattle.qc_streams.specs.Sends.{sends_of};
 ghost use Rattle.qc_streams.specs.Records.{changed, record_of};
 ghost use Rattle.qc_streams.specs.Settings.{is_unknown, max_concurrent_set, priority_set, receive_window_set, send_window_set, stop_code, with_priority};
-ghost use Rattle.qc_streams.specs.Waiting.{priority_at};
+ghost use Rattle.qc_streams.specs.Queues.{priority_at};
 
 use crate::fault::ClosedStream;
 use crate::records::Records;
@@ -122,7 +122,7 @@ impl StreamsState {
     #[tactic(auto, unfolding(crate::specs::Settings::receive_window_set, crate::specs::Credit::window_set, crate::specs::Credit::with_window, crate::specs::Credit::incoming_credit))]
     pub fn set_receive_window(&mut self, receive_window: VarInt)
         ensures set { self.new ≡ receive_window_set receive_window self.old }
-        ensures credit { incoming_credit self.new.incoming ≡ max (incoming_credit self.old.incoming) (held (self.old.incoming.returned + receive_window)) }
+        ensures credit { incoming_credit self.new.incoming ≡ max (incoming_credit self.old.incoming) (saturated (self.old.incoming.returned + receive_window)) }
     {
         self.incoming.set_window(receive_window.into_inner());
     }

@@ -46,7 +46,7 @@ fn closed_fault(error: ReadableError) -> ReadFault
 /// Writes on a sending side, unless all of it is acknowledged.
 ///
 /// A place for the event that it can be written on again is put by where it blocks and needs one.
-#[tactic(auto, using(crate::proofs::Refused::refusal_so, crate::proofs::Refused::placed_so), unfolding(qc_send_stream::specs::Sending::IsWriteRefusal, qc_send_stream::specs::Sending::was_blocked, qc_send_stream::specs::Sending::is_done))]
+#[tactic(auto, using(crate::proofs::Refused::refusal_so, crate::proofs::Refused::placed_so, crate::proofs::Done::written_still), unfolding(qc_send_stream::specs::Sending::IsWriteRefusal, qc_send_stream::specs::Sending::was_blocked, qc_send_stream::specs::Sending::is_done))]
 fn write(
     sending: &mut SendPart,
     chunk: &mut Bytes,
@@ -61,6 +61,7 @@ fn write(
     ensures more { IfOk result (λ n. kept_count sending.new ≡ kept_count sending.old + n) }
     ensures same { OnErr result (kept_count sending.new ≡ kept_count sending.old) }
     ensures still { OnErr result (is_done sending.new ≡ is_done sending.old) }
+    ensures open { OnOk result (is_done sending.new ≡ is_done sending.old) }
     ensures fits { OnOk result (write_fault most (known (Some sending.old)) ≡ None) }
     ensures refused { IfErr result (λ e. IsRefused e (write_fault most (known (Some sending.old)))) }
     ensures err { IfErr result (λ e. sending.new ≡ if_known (after_refusal e) sending.old) }
@@ -139,6 +140,7 @@ impl Stream {
         ensures more { IfOk result (λ n. kept_of self.new ≡ kept_of self.old + n) }
         ensures same { OnErr result (kept_of self.new ≡ kept_of self.old) }
         ensures still { OnErr result (sends_of self.new ≡ sends_of self.old) }
+        ensures open { OnOk result (sends_of self.new ≡ sends_of self.old) }
         ensures fits { OnOk result (write_fault most (known self.old.sending) ≡ None) }
         ensures refused { IfErr result (λ e. IsRefused e (write_fault most (known self.old.sending))) }
         ensures err { IfErr result (λ e. self.new ≡ with_sending (if_known (after_refusal e)) self.old) }

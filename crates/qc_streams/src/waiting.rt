@@ -4,7 +4,7 @@ ghost use Rattle.std.specs.Prelude.{◌≡◌, None, OnOk};
 ghost use Rattle.qc_send_stream.specs.Sending.{has_more};
 ghost use Rattle.qc_streams.specs.Kept.{kept_of};
 ghost use Rattle.qc_streams.specs.Sends.{sends_of};
-ghost use Rattle.qc_streams.specs.Waiting.{dues_at, dues_of, has_some, new_waiting, owes_credit, owes_data, owes_frames, owes_reset, owes_stop, put_if, sets_filed, with_mark, with_turn};
+ghost use Rattle.qc_streams.specs.Queues.{dues_at, dues_of, has_some, new_waiting, owes_credit, owes_data, owes_frames, owes_reset, owes_stop, put_if, sets_filed, with_mark, with_turn};
 
 use crate::stops::Stops;
 use crate::stream::Stream;
@@ -46,7 +46,7 @@ pub struct Waiting {
 }
 
 /// Whether a RESET_STREAM waits.
-fn owes_reset(sending: &Option<SendPart>) -> bool
+pub(crate) fn owes_reset(sending: &Option<SendPart>) -> bool
     ensures { result ≡ owes_reset sending.now }
 {
     match sending {
@@ -89,7 +89,7 @@ pub(crate) fn owes_stop(receiving: &Option<Recv>) -> bool
 }
 
 /// Whether a MAX_STREAM_DATA waits.
-fn owes_credit(receiving: &Option<Recv>) -> bool
+pub(crate) fn owes_credit(receiving: &Option<Recv>) -> bool
     ensures { result ≡ owes_credit receiving.now }
 {
     match receiving {
@@ -111,7 +111,7 @@ fn put_if(ids: &mut Ids, owes: bool, id: u64) -> Result<(), AllocError>
 
 impl Stream {
     /// What waits of it.
-    #[tactic(auto, unfolding(crate::specs::Waiting::dues_of))]
+    #[tactic(auto, unfolding(crate::specs::Queues::dues_of))]
     pub(crate) fn dues(&mut self) -> Dues
         ensures dues { result ≡ dues_of self.old }
         ensures same { self.new ≡ self.old }
@@ -125,7 +125,7 @@ impl Stream {
     }
 
     /// It is marked, or isn't any more.
-    #[tactic(auto, unfolding(crate::specs::Waiting::with_mark))]
+    #[tactic(auto, unfolding(crate::specs::Queues::with_mark))]
     pub(crate) fn set_mark(&mut self, marked: bool)
         ensures mark { self.new ≡ with_mark marked self.old }
         ensures same { kept_of self.new ≡ kept_of self.old }
@@ -135,7 +135,7 @@ impl Stream {
     }
 
     /// It has a place among those that have bytes to send, or none; none is put by for it any more.
-    #[tactic(auto, unfolding(crate::specs::Waiting::with_turn))]
+    #[tactic(auto, unfolding(crate::specs::Queues::with_turn))]
     pub(crate) fn set_turn(&mut self, turn: Option<Place>)
         ensures turn { self.new ≡ with_turn turn self.old }
         ensures same { kept_of self.new ≡ kept_of self.old }
@@ -148,7 +148,7 @@ impl Stream {
 
 impl Dues {
     /// Whether a frame without bytes waits.
-    fn owes_frames(self) -> bool
+    pub(crate) fn owes_frames(self) -> bool
         ensures { result ≡ owes_frames self }
     {
         self.reset || (self.stop || self.credit)
@@ -169,7 +169,7 @@ impl Dues {
 
 impl Waiting {
     /// Nothing waits.
-    #[tactic(auto, unfolding(crate::specs::Waiting::new_waiting))]
+    #[tactic(auto, unfolding(crate::specs::Queues::new_waiting))]
     pub fn new(alloc: Global) -> Waiting
         ensures { result ≡ new_waiting }
     {
@@ -204,7 +204,7 @@ impl Waiting {
     }
 
     /// The same, of any sets.
-    #[tactic(auto, unfolding(crate::specs::Waiting::sets_filed))]
+    #[tactic(auto, unfolding(crate::specs::Queues::sets_filed))]
     fn put_into_sets(&mut self, dues: Dues, id: u64) -> Result<(), AllocError>
         ensures { OnOk result (self.new ≡ sets_filed dues id self.old) }
     {
@@ -214,7 +214,7 @@ impl Waiting {
     }
 
     /// A stream is in none of the sets.
-    #[tactic(auto, unfolding(crate::specs::Waiting::sets_filed))]
+    #[tactic(auto, unfolding(crate::specs::Queues::sets_filed))]
     pub(crate) fn forget(&mut self, id: u64)
         ensures { self.new ≡ sets_filed (dues_at None) id self.old }
     {

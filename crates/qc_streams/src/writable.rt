@@ -9,7 +9,7 @@ ghost use Rattle.qc_streams.specs.Records.{changed, record_of};
 ghost use Rattle.qc_streams.specs.Sends.{sends_of};
 ghost use Rattle.qc_streams.specs.Sequel.{write_followed};
 ghost use Rattle.qc_streams.specs.Stream.{with_sending};
-ghost use Rattle.qc_streams.specs.Waiting.{queue_one, takes_number, with_mark};
+ghost use Rattle.qc_streams.specs.Queues.{owes_data, queue_one, takes_number, with_mark};
 ghost use Rattle.qc_streams.specs.Writable.{all_told, awaits, awaits_at, blocks_anew, credit_at, credit_of, has_credit, has_place, has_place_at, has_room, held_up, needs_place, needs_place_at, passed, place_reserved, told_first, watched, writables_told};
 
 use crate::events::{Events, StreamEvent};
@@ -145,10 +145,11 @@ pub(crate) struct Noted {
 }
 
 impl Stream {
-    /// It was written on, where so many turns were given: it waits from this moment on, and is marked.
-    /// Answers what is to be done.
-    #[tactic(auto, unfolding(crate::specs::Waiting::queue_one))]
-    pub(crate) fn note_write(&mut self, turns: u64) -> Noted
+    /// It was written on, where so many turns were given, and it is known whether it has bytes or an end
+    /// that wait: it waits from this moment on, and is marked. Answers what is to be done.
+    #[tactic(auto, unfolding(crate::specs::Queues::queue_one))]
+    pub(crate) fn note_write(&mut self, turns: u64, owes: bool) -> Noted
+        requires { owes ≡ owes_data self.old.sending }
         ensures credit { result.credit ≡ credit_of self.old.sending }
         ensures numbered { result.numbered ≡ takes_number (Some self.old) }
         ensures idle { result.idle ≡ not self.old.marked }
@@ -157,7 +158,7 @@ impl Stream {
         ensures still { sends_of self.new ≡ sends_of self.old }
     {
         let credit = has_credit(&self.sending);
-        let numbered = self.queue(turns);
+        let numbered = self.wait(owes, turns);
         let idle = self.mark();
         Noted {
             credit,
@@ -284,7 +285,7 @@ impl StreamsState {
     }
 
     /// What a write on a stream left to be done is done.
-    #[tactic(auto, unfolding(crate::specs::Counts::held))]
+    #[tactic(auto, unfolding(crate::specs::Counts::saturated))]
     pub(crate) fn follow_write(&mut self, noted: Noted, id: u64)
         ensures { self.new ≡ write_followed noted.credit noted.numbered noted.idle id self.old }
     {

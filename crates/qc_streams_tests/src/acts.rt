@@ -80,6 +80,8 @@ pub enum Act {
     MaxData(u32),
     /// What marked streams owe is filed.
     File,
+    /// Whether a STREAM frame waits, and whether a frame without bytes does.
+    Waits(bool, bool),
     /// The frame without bytes that would be drawn into so much room.
     Next(usize, Option<Control>),
     /// The frame without bytes that is drawn into so much room.
@@ -455,6 +457,9 @@ impl Act {
     fn sends(&self, streams: &mut StreamsState) -> bool {
         match *self {
             Act::File => streams.file_marks().is_ok(),
+            Act::Waits(bytes, control) => {
+                streams.has_waiting() == bytes && streams.has_control() == control
+            }
             Act::Next(room, frame) => streams.next_control(room) == frame,
             Act::Draw(room, frame) => streams.draw_control(room) == frame,
             Act::Part(room, part) => draws(streams, room, part),

@@ -154,6 +154,52 @@ fn frames_go_in_their_order(rt: HostRuntime) -> Result<(), Fail> {
 }
 
 #[test]
+fn what_waits_is_known_before_it_is_filed(rt: HostRuntime) -> Result<(), Fail> {
+    let reset = Control::Reset {
+        id: 0,
+        code: number(6),
+        size: 6,
+    };
+    let acts = [
+        fifty(),
+        Act::Waits(false, false),
+        Act::Open(Dir::Bi, Some(0)),
+        Act::Write(0, 3, Ok(3)),
+        // the stream is marked, then it has a turn, and then its bytes are drawn, lost and acknowledged
+        Act::Waits(true, false),
+        Act::File,
+        Act::Waits(true, false),
+        Act::Part(22, Some((0, 0, 3, false))),
+        Act::Waits(false, false),
+        Act::BytesLost(0, 0, 3, false),
+        Act::Waits(true, false),
+        Act::BytesAcked(0, 0, 3, false),
+        Act::Waits(false, false),
+        // a stream that is stopped is marked, and its bytes are credit
+        Act::Stream(1, 0, 4, false, None),
+        Act::Waits(false, false),
+        Act::Stop(1, 5, true),
+        Act::Waits(false, true),
+        Act::File,
+        drawn(stop(1)),
+        Act::Waits(false, true),
+        drawn(data()),
+        Act::Waits(false, false),
+        // a stream that is reset has its turn until it is looked at, and has no bytes
+        Act::Write(0, 3, Ok(3)),
+        Act::File,
+        Act::Reset(0, 6, true),
+        Act::Waits(false, true),
+        Act::File,
+        Act::Waits(false, true),
+        drawn(reset),
+        Act::Waits(false, false),
+    ];
+    assert_eq!(rt; first_of_client(rt.alloc(), usual(), &acts)?, None);
+    Ok(())
+}
+
+#[test]
 fn a_lost_stop_outlives_its_stream(rt: HostRuntime) -> Result<(), Fail> {
     let four = Some(Control::MaxStreams {
         dir: Dir::Uni,

@@ -147,12 +147,11 @@ IsSpaceBelowLimit space = space.crypto.written < 2 ^ 62
 abbrev pub IsBelowLimit : Waiting → Type 0
 IsBelowLimit waiting = IsSpaceBelowLimit waiting.spaces.initial × IsSpaceBelowLimit waiting.spaces.handshake × IsSpaceBelowLimit waiting.spaces.application
 
--- a state whose traces leave nothing out of their text: a token that waits to be reported holds for an address such as the
--- path's
+-- a state whose traces leave nothing out of their text, where what waits to be reported to the endpoint leaves nothing out
 pub record IsPlainStart (waiting : Waiting) (paths : Paths) (life : Life) : Type 0 where
   pub crypto : IsBelowLimit waiting
-  pub address : IsPlainAddress paths.remote
-  pub token : IfSome life.reset_token (λ peer. IsPlainAddress peer.remote)
+  pub address : IsPlainAddress paths.current.remote
+  pub notices : All IsEndpointPlain life.notices
 
 module _ {t : Types} where
   -- the steps of a run, with values that their types hold and with addresses that have neither flow label nor scope

@@ -51,6 +51,13 @@ impl Ids {
         self.set.remove(&id);
     }
 
+    /// The streams, in ascending order.
+    pub fn as_set(&self) -> &BTreeSet<u64>
+        ensures { result.now.keys ≡ self.now }
+    {
+        &self.set
+    }
+
     /// The least of them; None where there is none.
     pub fn first(&self) -> Option<u64>
         ensures { result ≡ first_id self.now }

@@ -74,6 +74,13 @@ impl Marks {
         }
     }
 
+    /// The marked streams, the oldest mark first.
+    pub fn as_deque(&self) -> &VecDeque<u64>
+        ensures { result.now.items ≡ self.now.ids }
+    {
+        &self.ids
+    }
+
     /// The oldest mark; None where there is none.
     pub fn first(&self) -> Option<u64>
         ensures { result ≡ first_mark self.now.ids }

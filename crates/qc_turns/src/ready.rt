@@ -54,6 +54,13 @@ impl Ready {
         self.places.remove(&place);
     }
 
+    /// The streams, each under its place.
+    pub fn as_map(&self) -> &BTreeMap<Place, u64>
+        ensures { result.now.entries ≡ self.now }
+    {
+        &self.places
+    }
+
     /// The stream whose turn is next; None where there is none.
     pub fn first(&self) -> Option<u64>
         ensures { result ≡ next_turn self.now }

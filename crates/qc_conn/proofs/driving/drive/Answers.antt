@@ -11,6 +11,8 @@ use Rattle.qc_state.specs.KeyLaws.{KeysHold}
 use Rattle.qc_state.specs.Run.{Run}
 use Rattle.qc_state.specs.Types.{Types, Meaning}
 use Rattle.qc_state.specs.View.{View}
+use Rattle.qc_conn.proofs.Stores.{store_kept, store_part, store_run}
+use Rattle.qc_state.specs.Headline.{deeds_of}
 use Rattle.qc_conn.proofs.driving.drive.Goals as goal
 
 -- no key seals more than it may over a run, if there is one
@@ -51,3 +53,13 @@ returns-then-is_failed-clause-once_part g c = λ _. none_tells_once _ _ c.new.en
 
 pub returns-then-is_failed-clause-marks_part : goal.returns-then-is_failed-clause-marks_part
 returns-then-is_failed-clause-marks_part g c = none_each_told _ _ _ c.new.ensures
+
+-- the store was given nothing
+pub returns-clause-store : goal.returns-clause-store
+returns-clause-store g c = store_run _ c.drive_all.result _
+
+pub returns-clause-store_part : goal.returns-clause-store_part
+returns-clause-store_part g c = store_part _ c.drive_all.result _
+
+pub returns-then-is_failed-clause-store_part : goal.returns-then-is_failed-clause-store_part
+returns-then-is_failed-clause-store_part g c = λ name. store_kept g.G.TokenStore.inserted name (deeds_of c.new.result) _

@@ -1,6 +1,5 @@
 use Rattle.std.proofs.Common.{ℕ, ap, length, arith, refl, sym, ◌∙◌}
-use Rattle.qc_conn.specs.Refusal.{refusal_of}
-use Rattle.qc_conn.proofs.Refusals.{refusal_past, refusal_done, refused_at}
+use Rattle.qc_conn.proofs.Refusals.{takes_none, takes_next, refused_at}
 use Rattle.qc_state.proofs.Steps.{run_empty, ran_kept, run_next, added_length, ran}
 use Rattle.qc_conn.proofs.Counting.{none_counted, one_counted, counted_before}
 use Rattle.qc_conn.proofs.driving.drive_all.Goals as goal
@@ -11,7 +10,7 @@ loop-input-init g c = record {
   count = ap length c.new-trace.ensures;
   place = refl;
   run = run_empty _ _ _ _ c.new-trace.ensures;
-  left = refl;
+  taken = takes_none _ _ _ _ c.new-trace.ensures;
   alive = c.requires.alive;
   steps = none_counted _ _ c.steps-before.ensures.fits c.new-trace.ensures;
 }
@@ -26,8 +25,8 @@ loop-input-preserved g c = record {
   count = added_length _ _ _ _ _ _ _ c.in-Ok.ensures.adds ∙ omega (arith, c.loop-input.invariant.count);
   place = omega (arith, c.loop-input.invariant.place);
   run = run_next _ _ _ _ _ _ _ _ _ _ c.loop-input-test.true c.input-item.is c.loop-input.invariant.count c.loop-input.invariant.place c.loop-input.invariant.run c.in-Ok.ensures.adds;
-  left = refusal_past _ _ _ _ _ _ _ c.loop-input-test.true c.input-item.is c.loop-input.invariant.place c.in-Ok.ensures.time
-      (ap (λ (n : ℕ). refusal_of c.loop-input.at n c.input-item.result) (sym c.greatest.ensures) ∙ sym c.refusal.ensures ∙ c.in_default.is) c.loop-input.invariant.left;
+  taken = takes_next _ _ _ _ _ _ _ _ _ _ c.loop-input-test.true c.input-item.is c.loop-input.invariant.count c.loop-input.invariant.place
+      (sym c.refusal.ensures ∙ c.in_default.is) c.loop-input.invariant.taken c.in-Ok.ensures.adds;
   alive = c.in-Ok.ensures.alive;
   steps = one_counted _ _ _ _ _ c.loop-input.invariant.steps c.in-Ok.ensures.count (added_length _ _ _ _ _ _ _ c.in-Ok.ensures.adds);
 }
@@ -39,12 +38,7 @@ returns-in-Some-clause-part g c = ran _ _ _ _ _ _ _ c.loop-input.invariant.count
 -- this input is the first that is refused
 pub returns-in-Some-clause-refused : goal.returns-in-Some-clause-refused
 returns-in-Some-clause-refused g c = λ _. refused_at _ _ _ _ _ _ _ _ _ _ c.loop-input-test.true c.input-item.is c.loop-input.invariant.count c.loop-input.invariant.place
-    (ap (λ (n : ℕ). refusal_of c.loop-input.at n c.input-item.result) (sym c.greatest.ensures) ∙ sym c.refusal.ensures ∙ c.in-Some.is)
-    c.loop-input.invariant.left c.loop-input.invariant.run c.loop-input.invariant.alive
-
--- none was refused
-pub returns-clause-valid : goal.returns-clause-valid
-returns-clause-valid g c = refusal_done _ _ _ _ c.loop-input-test.false c.loop-input.invariant.left
+    (sym c.refusal.ensures ∙ c.in-Some.is) c.loop-input.invariant.taken c.loop-input.invariant.alive
 
 -- the steps before want of memory, or before an input that is refused, are those that were counted
 pub returns-in-Err-clause-count_part : goal.returns-in-Err-clause-count_part

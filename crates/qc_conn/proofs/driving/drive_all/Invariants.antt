@@ -1,18 +1,18 @@
-use Rattle.std.proofs.Common.{◌≡◌, length, take, drop, false}
-use Rattle.qc_conn.specs.Refusal.{first_refusal}
+use Rattle.std.proofs.Common.{◌≡◌, length, take, false}
+use Rattle.qc_conn.specs.Refusal.{TakesAll}
 use Rattle.qc_conn.specs.Seen.{counted}
 use Rattle.qc_state.specs.Run.{Run}
 use Rattle.qc_state.specs.Types.{meaning}
 use Rattle.qc_state.specs.View.{ideal}
 use Rattle.qc_conn.proofs.driving.drive_all.Given as goal
 
--- the steps so far are a run over the inputs so far, and the first refusal is among the inputs that are left
+-- the steps so far are a run over the inputs so far, none of which was refused
 abbrev pub invariant-loop-input : goal.invariant-loop-input
 invariant-loop-input g l = record {
   count : length l.trace ≡ l.input-index;
   place : l.at ≡ l.input-index;
   run : Run (meaning g.U.Session.Session g.U.Session.HeaderKey.HeaderMask g.U.Session.PacketKey.PacketKey g.U.Control.Controller.Controller) 0 (ideal g.U.Random.Rng.stream l.fn.connection.core) (take l.input-index l.inputs) l.trace (ideal g.U.Random.Rng.stream l.connection.core);
-  left : first_refusal l.input-index l.connection.core.timers.greatest (drop l.input-index l.inputs) ≡ first_refusal 0 l.fn.connection.core.timers.greatest l.inputs;
+  taken : TakesAll (meaning g.U.Session.Session g.U.Session.HeaderKey.HeaderMask g.U.Session.PacketKey.PacketKey g.U.Control.Controller.Controller) 0 (ideal g.U.Random.Rng.stream l.fn.connection.core) (take l.input-index l.inputs) l.trace (ideal g.U.Random.Rng.stream l.connection.core);
   alive : l.connection.failed ≡ false;
   steps : l.connection.steps ≡ counted l.fn.connection.steps (length l.trace);
 }

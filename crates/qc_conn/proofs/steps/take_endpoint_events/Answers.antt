@@ -3,10 +3,8 @@ use Rattle.qc_conn.proofs.steps.take_endpoint_events.Goals as goal
 
 -- the events that waited
 pub returns-clause-events : goal.returns-clause-events
-returns-clause-events g c =
-    endpoint_told _ _ _ _ _ _ _ _ _ _ c.new-events.ensures c.poll_token.ensures.event c.poll_token.ensures.leads c.in_ok-push.ensures.ok c.poll_wanted.ensures.event c.poll_wanted.ensures.leads c.in_ok-push-2.ensures.ok
-    c.poll_drained.ensures.event c.in_ok-push-3.ensures.ok
+returns-clause-events g c = endpoint_told _ _ _ _ _ c.take_notices-events.ensures.events c.take_notices-events.ensures.leads c.poll_drained.ensures.event c.in_ok-push.ensures.ok
 
 -- they wait no longer
 pub returns-clause-leads : goal.returns-clause-leads
-returns-clause-leads g c = endpoint_leads _ _ _ _ c.poll_token.ensures.leads c.poll_wanted.ensures.leads c.poll_drained.ensures.leads
+returns-clause-leads g c = endpoint_leads _ _ _ c.take_notices-events.ensures.leads c.poll_drained.ensures.leads

@@ -21,7 +21,7 @@ returns-then-is_short-clause-answer g c =
 pub returns-in_ok-pieces-in-Some-clause-leads : goal.returns-in_ok-pieces-in-Some-clause-leads
 returns-in_ok-pieces-in-Some-clause-leads g c =
     let cut = cut_some c.cutting_of-cutting.result c.args.bytes c.in_ok-cut.field-0 c.in-Some.first c.in-Some.behind c.in-Some.is c.in_ok-cut.ensures.some in
-    heard_is _ c.args.now c.args.mark c.cutting_of-cutting.result c.args.remote c.args.bytes.items c.in-Some.first c.in-Some.behind _ _ _ _ _ c.cutting_of-cutting.ensures.cuts cut.0 (sym c.if-lets_in.true ∙ c.lets_in.ensures) c.len-len.ensures.value c.is_blocked-blocked.ensures
+    heard_is _ c.args.coming.now c.cutting_of-cutting.result c.args.bytes.items c.in-Some.first c.in-Some.behind _ _ _ _ _ c.cutting_of-cutting.ensures.cuts cut.0 (sym c.if-lets_in.true ∙ c.lets_in.ensures) c.len-len.ensures.value c.is_blocked-blocked.ensures
     c.in_ok-pieces-in-Some.ensures c.counted.ensures
 
 -- one that doesn't count begins with a packet as well

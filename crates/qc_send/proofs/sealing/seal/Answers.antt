@@ -10,11 +10,11 @@ seal_with-requires-clause-keyed g c = keyed_still (ideal g.U.Random.Rng.stream c
 -- its packet can be begun
 pub seal_with-requires-clause-begins : goal.seal_with-requires-clause-begins
 seal_with-requires-clause-begins g c =
-    begins_still (ideal g.U.Random.Rng.stream c.args.core.now) (ideal g.U.Random.Rng.stream c.header_and_flip.new.core) c.args.space c.in_ok-header.header c.in_ok-header.flip
-    c.in_ok-header.ensures.leads c.in_ok-header.ensures.header c.in_ok-header.ensures.flip c.requires.fresh c.requires.low c.requires.near c.requires.wide
+    begins_still c.args.capacity (ideal g.U.Random.Rng.stream c.args.core.now) (ideal g.U.Random.Rng.stream c.header_and_flip.new.core) c.args.space c.in_ok-header.header c.in_ok-header.flip
+    c.requires.most c.in_ok-header.ensures.leads c.in_ok-header.ensures.header c.in_ok-header.ensures.flip c.requires.fresh c.requires.low c.requires.near c.requires.wide
 
 pub seal_with-requires-clause-sized : goal.seal_with-requires-clause-sized
-seal_with-requires-clause-sized g c = sized_still (ideal g.U.Random.Rng.stream c.args.core.now) c.args.space c.in_ok-header.header c.in_ok-header.ensures.header c.requires.wide
+seal_with-requires-clause-sized g c = sized_still c.args.capacity (ideal g.U.Random.Rng.stream c.args.core.now) c.args.space c.in_ok-header.header c.in_ok-header.ensures.header c.requires.wide
 
 -- sealing is the move of the view before what was drawn
 pub returns-clause-leads : goal.returns-clause-leads

@@ -5,4 +5,4 @@ use Rattle.qc_conn.proofs.connection.Connection.first_datagram.Goals as goal
 
 -- the greatest time
 pub returns-in-Ok-clause-clock : goal.returns-in-Ok-clause-clock
-returns-in-Ok-clause-clock g c = datagram_clock _ c.args.now _ _ _ _ _ c.in-Ok.ensures.leads ∙ ap (λ v. max v.core.timers.greatest c.args.now) c.self.view_is
+returns-in-Ok-clause-clock g c = datagram_clock _ (record { time = c.args.now; remote = c.args.remote; mark = c.args.ecn }) _ _ _ c.in-Ok.ensures.leads ∙ ap (λ v. max v.core.timers.greatest c.args.now) c.self.view_is

@@ -1,12 +1,13 @@
 use Rattle.std.proofs.Common.{ap, ◌∙◌}
 use Rattle.std.specs.Prelude.{max}
+use Rattle.qc_state.specs.Life.{is_handshake}
 use Rattle.qc_state.proofs.Clocks.{first_packet_clock}
 use Rattle.qc_conn.proofs.connection.Connection.handle_first_packet.Goals as goal
 
 -- the greatest time, where the packet gave no reason for the end
 pub returns-in-Ok-None-clause-clock : goal.returns-in-Ok-None-clause-clock
-returns-in-Ok-None-clause-clock g c = first_packet_clock _ c.args.now _ _ _ _ _ _ _ _ _ c.in-Ok-None.ensures.leads ∙ ap (λ v. max v.core.timers.greatest c.args.now) c.self.view_is
+returns-in-Ok-None-clause-clock g c = first_packet_clock _ (record { time = c.args.now; remote = c.args.remote; mark = c.args.ecn }) _ _ _ _ _ _ _ _ (ap (λ v. is_handshake v.core.life.state) c.self.view_is ∙ c.requires.first.shakes) c.in-Ok-None.ensures.leads ∙ ap (λ v. max v.core.timers.greatest c.args.now) c.self.view_is
 
 -- and where it gave one
 pub returns-in-Ok-Some-clause-clock : goal.returns-in-Ok-Some-clause-clock
-returns-in-Ok-Some-clause-clock g c = first_packet_clock _ c.args.now _ _ _ _ _ _ _ _ _ c.in-Ok-Some.ensures.leads ∙ ap (λ v. max v.core.timers.greatest c.args.now) c.self.view_is
+returns-in-Ok-Some-clause-clock g c = first_packet_clock _ (record { time = c.args.now; remote = c.args.remote; mark = c.args.ecn }) _ _ _ _ _ _ _ _ (ap (λ v. is_handshake v.core.life.state) c.self.view_is ∙ c.requires.first.shakes) c.in-Ok-Some.ensures.leads ∙ ap (λ v. max v.core.timers.greatest c.args.now) c.self.view_is

@@ -1,3 +1,4 @@
+use Rattle.qc_conn.proofs.NewEnds.{first_ends}
 use Rattle.qc_conn.proofs.RunsPlain.{first_plain, first_told}
 use Rattle.qc_conn.proofs.connection.Connection.new_client.Goals as goal
 
@@ -8,3 +9,7 @@ returns-clause-plain g c plain = first_plain g.U.Random.Rng.stream _ _ _ _ c.arg
 -- nothing waits to be told
 pub returns-clause-told : goal.returns-clause-told
 returns-clause-told g c = first_told g.U.Random.Rng.stream _ _ _ _ c.args.setup.remote c.args.setup.first_cid _ _ _ c.args.now c.in_ok-core.core c.in_ok-core.ensures.made
+
+-- its life is open
+pub returns-clause-ends : goal.returns-clause-ends
+returns-clause-ends g c = first_ends g.U.Random.Rng.stream _ _ _ _ c.args.setup.remote c.args.setup.first_cid _ _ _ c.args.now c.in_ok-core.core c.in_ok-core.ensures.made

@@ -1,3 +1,4 @@
+use Rattle.qc_conn.proofs.NewEnds.{server_ends}
 use Rattle.qc_conn.proofs.RunsPlain.{server_plain, server_told}
 use Rattle.qc_conn.proofs.connection.Connection.new_server.Goals as goal
 
@@ -8,3 +9,7 @@ returns-clause-plain g c plain = server_plain g.U.Random.Rng.stream _ _ _ _ c.ar
 -- nothing waits to be told
 pub returns-clause-told : goal.returns-clause-told
 returns-clause-told g c = server_told g.U.Random.Rng.stream _ _ _ _ c.args.setup.remote c.args.setup.remote_cid c.args.setup.validated _ _ c.args.now c.in_ok-core.core c.in_ok-core.ensures
+
+-- its life is open
+pub returns-clause-ends : goal.returns-clause-ends
+returns-clause-ends g c = server_ends g.U.Random.Rng.stream _ _ _ _ c.args.setup.remote c.args.setup.remote_cid c.args.setup.validated _ _ c.args.now c.in_ok-core.core c.in_ok-core.ensures

@@ -1,5 +1,5 @@
 use Rattle.std.proofs.Common.{◌≡◌, length}
-use Rattle.qc_streams.specs.Waiting.{all_filed}
+use Rattle.qc_streams.specs.Queues.{all_filed}
 use Rattle.qc_streams.proofs.state.StreamsState.file_marks.Given as goal
 
 abbrev pub invariant-loop-id : goal.invariant-loop-id

@@ -1,6 +1,6 @@
 use Rattle.std.proofs.Common.{◌≡◌, ◌-◌, ◌≤◌}
 use Rattle.qc_streams.specs.Streams.{made, fresh_peer}
-use Rattle.qc_streams.specs.Waiting.{places_made}
+use Rattle.qc_streams.specs.Queues.{places_made}
 use Rattle.qc_streams.proofs.state.StreamsState.open_lower.Given as goal
 
 abbrev pub invariant-loop-count : goal.invariant-loop-count

@@ -1,6 +1,0 @@
-use Rattle.qc_admit.proofs.Payloads.{payload_done}
-use Rattle.qc_admit.proofs.admitting.apply_payload.Goals as goal
-
--- the frames of a payload with bytes
-pub returns-in-Ok : goal.returns-in-Ok
-returns-in-Ok g c = payload_done _ _ _ _ _ _ _ _ c.in-Ok.ensures.bytes c.in-Ok.ensures.empty.1 c.items.ensures

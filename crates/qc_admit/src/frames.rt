@@ -1,0 +1,197 @@
+//! What one frame does.
+
+ghost use Rattle.std.specs.Prelude.{◌≡◌, OnOk, IfOk};
+ghost use Rattle.qc_admit.specs.Behind.{left_by};
+ghost use Rattle.qc_frame.specs.Frame.{ack_map, borrowed, typed};
+ghost use Rattle.qc_frame.specs.FrameFits.{Fits};
+ghost use Rattle.qc_frame.specs.FrameSpelling.{spelling};
+ghost use Rattle.qc_state.specs.Receiving.{acked_after, applied_after, close_after, close_given, confirmed_after, frame_after, left_after};
+ghost use Rattle.qc_state.specs.View.{held};
+
+use crate::behind::Behind;
+use crate::handshake::crypto;
+use crate::stops::stop_in;
+use bytes::Bytes;
+use qc_base::{Instant, SpaceId};
+use qc_core::Core;
+use qc_frame::{Ack, Frame, FrameOf, TypedFrame, put_frame};
+use qc_state::{
+    ApplicationClose, Body, Coming, ConnectionClose, ConnectionError, Dids, Layer, Means, Suite,
+};
+use std::alloc::{AllocError, Global};
+
+/// The frame as it is written. Want of memory is the only refusal.
+fn spelled(alloc: Global, frame: &Frame<'_>) -> Result<Body, AllocError>
+    ensures { IfOk result (λ body. body ≡ spelling (borrowed frame.now)) }
+{
+    let mut bytes = Vec::new(alloc);
+    put_frame(&mut bytes, frame)?;
+    Ok(Body::from_vec(bytes))
+}
+
+/// The peer closed, for this reason: the connection drains, if it was open.
+#[tactic(auto, unfolding(qc_state::specs::Receiving::left_after))]
+pub(crate) fn left<U: Suite>(
+    core: &mut Core<U>,
+    did: &mut Dids,
+    now: Instant,
+    why: ConnectionError,
+) -> Result<(), AllocError>
+    ensures { OnOk result ((held U.Random.stream core.new did.new) ≡ left_after now why (held U.Random.stream core.old did.old)) }
+{
+    if !core.life.is_open() {
+        return Ok(());
+    }
+    core.do_leave(did, now)?;
+    core.give(did, why)
+}
+
+/// Loss recovery is given an ACK: what it acknowledges, and what is lost by it, is in flight no longer. Where it newly
+/// acknowledges packets, the loss timer is set anew.
+#[tactic(auto, unfolding(qc_state::specs::Receiving::acked_after, qc_state::specs::Receiving::settled_after, qc_state::specs::Moves::move_to, qc_state::specs::Moves::deeds_move))]
+fn acked<U: Suite>(
+    core: &mut Core<U>,
+    alloc: Global,
+    did: &mut Dids,
+    now: Instant,
+    space: SpaceId,
+    ack: &Ack<'_>,
+    body: Body,
+) -> Result<(), AllocError>
+    requires fits { Fits (FrameOf.Ack (ack_map (λ bytes. bytes.now) ack.now)) }
+    requires body { body ≡ spelling (FrameOf.Ack (ack_map (λ bytes. bytes.now) ack.now)) }
+    ensures { OnOk result ((held U.Random.stream core.new did.new) ≡ acked_after ⟦<U as Means>⟧.meaning now space (ack_map (λ bytes. bytes.now) ack.now) (held U.Random.stream core.old did.old)) }
+{
+    core.do_tell_gave(did, Layer::Recovery, body)?;
+    if core.do_ack(alloc, now, space, ack)? {
+        core.arm(did, now);
+    }
+    Ok(())
+}
+
+/// The server has confirmed the handshake: the Handshake keys are dropped (RFC 9001, section 4.9.2).
+#[tactic(auto, unfolding(qc_state::specs::Receiving::confirmed_after, qc_state::specs::Moves::move_to, qc_state::specs::Moves::deeds_move))]
+fn confirmed<U: Suite>(
+    core: &mut Core<U>,
+    did: &mut Dids,
+    now: Instant,
+    body: Body,
+) -> Result<(), AllocError>
+    requires { body ≡ spelling FrameOf.HandshakeDone }
+    ensures { OnOk result ((held U.Random.stream core.new did.new) ≡ confirmed_after now (held U.Random.stream core.old did.old)) }
+{
+    core.do_tell_gave(did, Layer::Life, body)?;
+    core.do_forget(SpaceId::Handshake);
+    core.arm(did, now);
+    Ok(())
+}
+
+/// A close of the peer's is given to the life.
+#[tactic(auto, unfolding(qc_state::specs::Receiving::close_given))]
+fn close_given<U: Suite>(
+    core: &mut Core<U>,
+    alloc: Global,
+    did: &mut Dids,
+    frame: &Frame<'_>,
+) -> Result<(), AllocError>
+    ensures { OnOk result ((held U.Random.stream core.new did.new) ≡ close_given (borrowed frame.now) (held U.Random.stream core.old did.old)) }
+{
+    let body = spelled(alloc, frame)?;
+    core.do_tell_gave(did, Layer::Life, body)
+}
+
+/// A close of the peer's, for this reason: the first one ends an Initial or Handshake packet, and the connection drains;
+/// of those in a 1-RTT packet the last one counts.
+fn closed<U: Suite>(
+    core: &mut Core<U>,
+    alloc: Global,
+    did: &mut Dids,
+    coming: &Coming,
+    space: SpaceId,
+    frame: &Frame<'_>,
+    why: ConnectionError,
+) -> Result<Behind, AllocError>
+    ensures { IfOk result (λ behind. left_by behind (held U.Random.stream core.new did.new) ≡ close_after coming.now space (borrowed frame.now) why (held U.Random.stream core.old did.old)) }
+{
+    close_given(core, alloc, did, frame)?;
+    match space {
+        SpaceId::Initial | SpaceId::Handshake => {
+            left(core, did, coming.time, why)?;
+            Ok(Behind::Ends)
+        }
+        SpaceId::Data => Ok(Behind::Closes(why)),
+    }
+}
+
+/// What a frame does that its kind doesn't stop: a row for each kind that does something.
+#[tactic(auto, unfolding(qc_state::specs::Receiving::applied_after))]
+fn applied<U: Suite>(
+    core: &mut Core<U>,
+    alloc: Global,
+    did: &mut Dids,
+    coming: &Coming,
+    space: SpaceId,
+    frame: &Frame<'_>,
+) -> Result<Behind, AllocError>
+    requires { Fits (borrowed frame.now) }
+    ensures { IfOk result (λ behind. left_by behind (held U.Random.stream core.new did.new) ≡ applied_after ⟦<U as Means>⟧.meaning coming.now space (borrowed frame.now) (held U.Random.stream core.old did.old)) }
+{
+    match frame {
+        FrameOf::Ack(ack) => {
+            let body = spelled(alloc, frame)?;
+            acked(core, alloc, did, coming.time, space, ack, body)?;
+            Ok(Behind::Goes)
+        }
+        FrameOf::Crypto { offset, body } => crypto(core, alloc, did, coming, space, *offset, body),
+        FrameOf::HandshakeDone => {
+            let body = spelled(alloc, frame)?;
+            confirmed(core, did, coming.time, body)?;
+            Ok(Behind::Goes)
+        }
+        FrameOf::ConnectionClose {
+            error_code,
+            frame_type,
+            reason,
+        } => {
+            let reason = Bytes::copy_from_slice(alloc, reason)?;
+            let why = ConnectionError::ConnectionClosed(ConnectionClose {
+                error_code: *error_code,
+                frame_type: *frame_type,
+                reason,
+            });
+            closed(core, alloc, did, coming, space, frame, why)
+        }
+        FrameOf::ApplicationClose { error_code, reason } => {
+            let reason = Bytes::copy_from_slice(alloc, reason)?;
+            let why = ConnectionError::ApplicationClosed(ApplicationClose {
+                error_code: *error_code,
+                reason,
+            });
+            closed(core, alloc, did, coming, space, frame, why)
+        }
+        _ => Ok(Behind::Goes),
+    }
+}
+
+/// One frame, which stops its packet by its kind, or does what its kind does.
+#[tactic(auto, unfolding(qc_state::specs::Setup::ideal_setup))]
+pub(crate) fn one_frame<U: Suite>(
+    core: &mut Core<U>,
+    alloc: Global,
+    did: &mut Dids,
+    coming: &Coming,
+    space: SpaceId,
+    read: &TypedFrame<'_>,
+) -> Result<Behind, AllocError>
+    requires { Fits (borrowed read.now.frame) }
+    ensures { IfOk result (λ behind. left_by behind (held U.Random.stream core.new did.new) ≡ frame_after ⟦<U as Means>⟧.meaning coming.now space (typed read.now) (held U.Random.stream core.old did.old)) }
+{
+    let side = core.setup.fixed.side;
+    let next = core.numbers.next(space);
+    let skipped = core.numbers.skipped();
+    if let Some(error) = stop_in(side, space, next, skipped, read.ty, &read.frame) {
+        core.stopped(did, coming.time, error)?;
+        return Ok(Behind::Ends);
+    }
+    applied(core, alloc, did, coming, space, &read.frame)
+}

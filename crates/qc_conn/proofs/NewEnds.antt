@@ -1,0 +1,33 @@
+-- In a connection that was just made the life is open, and no close is owed.
+use Rattle.std.proofs.Common.{◌≡◌, ℕ, ◌≤◌, ◌<◌, List, Bool, true, false, refl, ap, sym, subst, arith}
+use Rattle.rand_core.specs.Stream.{Stream}
+use Rattle.std.specs.declared.net.SocketAddr.{SocketAddr}
+use Rattle.qc_recovery.specs.TransportValues.{TransportValues}
+use Rattle.qc_state.specs.declared.setup.Fixed.{Fixed}
+use Rattle.qc_state.specs.EndLaws.{Ends}
+use Rattle.qc_state.specs.First.{first_view, server_view}
+use Rattle.qc_state.specs.Types.{Types, Meaning}
+use Rattle.qc_state.specs.View.{Held, View, ideal}
+
+module _ {t : Types} where
+  -- a client
+  client_view_ends : (m : Meaning t) (session : t.S) (words : Stream) (fixed : Fixed) (remote : SocketAddr) (first_cid token : List ℕ) (transport : TransportValues) (congestion : t.C) (time : ℕ) → Ends (first_view m session words fixed remote first_cid token transport congestion time)
+  unfolding first_view
+  client_view_ends m session words fixed remote first_cid token transport congestion time = record { closing = λ low high. absurd (omega (arith, low)); ended = λ d. absurd cc; owed = λ e. absurd cc }
+
+  -- a server
+  server_view_ends : (m : Meaning t) (session : t.S) (words : Stream) (fixed : Fixed) (remote : SocketAddr) (remote_cid : List ℕ) (validated : Bool) (transport : TransportValues) (congestion : t.C) (time : ℕ) → Ends (server_view m session words fixed remote remote_cid validated transport congestion time)
+  unfolding server_view
+  server_view_ends m session words fixed remote remote_cid validated transport congestion time = record { closing = λ low high. absurd (omega (arith, low)); ended = λ d. absurd cc; owed = λ e. absurd cc }
+
+-- so is one that was made so
+module _ {t : Types} {R : Type 0} where
+  pub first_ends : (stream : R → Stream) (m : Meaning t) (session : t.S) (words : Stream) (fixed : Fixed) (remote : SocketAddr) (first_cid token : List ℕ) (transport : TransportValues) (congestion : t.C) (time : ℕ) (v : Held t R) →
+      ideal stream v ≡ first_view m session words fixed remote first_cid token transport congestion time → Ends (ideal stream v)
+  first_ends stream m session words fixed remote first_cid token transport congestion time v made =
+      subst (λ (s : View t). Ends s) (sym made) (client_view_ends m session words fixed remote first_cid token transport congestion time)
+
+  pub server_ends : (stream : R → Stream) (m : Meaning t) (session : t.S) (words : Stream) (fixed : Fixed) (remote : SocketAddr) (remote_cid : List ℕ) (validated : Bool) (transport : TransportValues) (congestion : t.C) (time : ℕ) (v : Held t R) →
+      ideal stream v ≡ server_view m session words fixed remote remote_cid validated transport congestion time → Ends (ideal stream v)
+  server_ends stream m session words fixed remote remote_cid validated transport congestion time v made =
+      subst (λ (s : View t). Ends s) (sym made) (server_view_ends m session words fixed remote remote_cid validated transport congestion time)

@@ -1,0 +1,200 @@
+-- Where a packet may begin: a frame waits once it is begun, and its number, its keys and its room are those that sealing asks for.
+use Rattle.std.proofs.Common.{◌≡◌, ℕ, ◌+◌, ◌-◌, ◌≤◌, List, [], length, refl, ap, sym, ◌∙◌, subst, Bool, true, false, ◌&&◌, ◌||◌, if◌then◌else◌, nat_le, nat_lt, ◌<◌, ◌^◌, arith}
+use Rattle.std.proofs.lemmas.Bool.Decides.{nat_tests}
+use Rattle.qc_base.specs.declared.side.SpaceId.{SpaceId}
+use Rattle.qc_base.specs.declared.side.SpaceId.TheVariants.{Initial, Handshake, «Data»}
+use Rattle.qc_frame.specs.Frame.{FrameValue}
+use Rattle.qc_header.specs.declared.header.Header.{Header}
+use Rattle.qc_header.specs.HeaderSpelling.{header_spelling}
+use Rattle.qc_state.specs.declared.transmit.TheConstants.{DATAGRAM_SIZE}
+use Rattle.qc_state.specs.declared.keys.KeyGroup.{KeyGroup}
+use Rattle.qc_state.specs.Keys.{has_keys, reaches_limit, usage_of}
+use Rattle.qc_state.specs.Moves.{Begin, Skip, Take, state_move, move_to, numbers_move, keys_move, paths_move, waiting_move, setup_move, deeds_move}
+use Rattle.qc_state.specs.Numbers.{next_number, acked_number, coming_number, is_skipped, number_skipped, used_in}
+use Rattle.qc_state.specs.declared.numbers.Numbers.{Numbers}
+use Rattle.qc_state.specs.Sending.{owes_in, is_past_limit, is_used_up, is_key_used_up, is_token_too_long, header_in, room_of, skipped_after, begun_after, begun_view, MayBegin}
+use Rattle.qc_state.specs.Spaces.{is_space}
+use Rattle.qc_state.specs.Types.{Types}
+use Rattle.qc_state.specs.View.{View, At, at}
+use Rattle.qc_state.specs.Offers.{packet_begun, waits_in, wants_sending}
+use Rattle.qc_send.proofs.Waits.{begun_wanted, is_wanted}
+use Rattle.qc_state.proofs.Transmitted.{unlimited}
+use Rattle.qc_send.proofs.Takes.{number_kept}
+
+-- of two tests that hold the second holds
+and_right : (a b : Bool) → (a && b) ≡ true → b ≡ true
+and_right true b h = h
+and_right false b h = cc
+
+-- of two tests of which none holds the first doesn't hold
+neither_left : (a b : Bool) → (a || b) ≡ false → a ≡ false
+neither_left true b h = cc
+neither_left false b h = refl
+
+-- and the second doesn't
+neither_right : (a b : Bool) → (a || b) ≡ false → b ≡ false
+neither_right true b h = cc
+neither_right false b h = h
+
+-- of two tests that hold the first holds
+and_left : (a b : Bool) → (a && b) ≡ true → a ≡ true
+and_left true b h = refl
+and_left false b h = cc
+
+-- a number within the limit is below the greatest
+number_low : (number acked : ℕ) → is_past_limit number acked ≡ false → number < 2 ^ 62 - 1
+number_low number acked h =
+    let below : nat_le (2 ^ 62 - 1) number ≡ false = neither_left (nat_le (2 ^ 62 - 1) number) (nat_le (2 ^ 31) (number - acked)) h in
+    grind (arith, nat_tests)
+
+-- and near the greatest acknowledged one
+number_near : (number acked : ℕ) → is_past_limit number acked ≡ false → number - acked < 2 ^ 31
+number_near number acked h =
+    let below : nat_le (2 ^ 31) (number - acked) ≡ false = neither_right (nat_le (2 ^ 62 - 1) number) (nat_le (2 ^ 31) (number - acked)) h in
+    grind (arith, nat_tests)
+
+-- what is owed where no close is waits
+owed_by : (a b c : Bool) → b ≡ false → (if b then c else a) ≡ true → a ≡ true
+owed_by a true c e h = cc
+owed_by a false c e h = h
+
+module _ {t : Types} where
+  -- what is owed waits, where it is no close
+  owed_waits : (closing : Bool) (s : View t) (id : SpaceId) → closing ≡ false → owes_in closing s id ≡ true → waits_in s id ≡ true
+  unfolding owes_in
+  owed_waits closing s id e h = owed_by (waits_in s id) closing _ e (and_right _ _ h)
+
+  -- a number is skipped, or isn't, with no deed
+  skip_at : (a : At t) (b : Bool) → (if b then move_to Skip a else a) ≡ at (if b then move_to Skip (at a.state []) else at a.state []).state a.did
+  unfolding move_to deeds_move
+  skip_at a true = refl
+  skip_at a false = refl
+
+  -- a datagram is begun with no deed
+  pub begun_at : (opens : Bool) (id : SpaceId) (a : At t) → begun_after id opens a ≡ at (begun_after id opens (at a.state [])).state a.did
+  unfolding begun_after skipped_after move_to deeds_move
+  begun_at opens id a = skip_at (at (state_move (Begin id opens) a.state) a.did) (is_skipped (state_move (Begin id opens) a.state).numbers id)
+
+  -- a skipped number leaves the keys
+  skip_keys : (a : At t) (b : Bool) → (if b then move_to Skip a else a).state.keys ≡ a.state.keys
+  unfolding move_to state_move keys_move
+  skip_keys a true = refl
+  skip_keys a false = refl
+
+  -- a number that is skipped leaves what waits
+  skip_wanted : (id : SpaceId) (a : At t) (b : Bool) → is_wanted (if b then move_to Skip a else a).state id ≡ is_wanted a.state id
+  unfolding wants_sending move_to state_move waiting_move
+  skip_wanted id a true = refl
+  skip_wanted id a false = refl
+
+  first_wanted : (id : SpaceId) (opens : Bool) (s : View t) → is_wanted (move_to (Begin id opens) (at s [])).state id ≡ is_wanted (packet_begun id opens s) id
+  unfolding wants_sending move_to state_move waiting_move
+  first_wanted id opens s = refl
+
+  -- a frame waits once a packet is begun, where something is owed that is no close
+  pub begun_waits : (opens closing : Bool) (s : View t) (id : SpaceId) → closing ≡ false → owes_in closing s id ≡ true → is_wanted (begun_view s id opens) id ≡ true
+  unfolding begun_view begun_after skipped_after
+  begun_waits opens closing s id e h =
+      let b : At t = move_to (Begin id opens) (at s []) in
+      skip_wanted id b (is_skipped b.state.numbers id) ∙ first_wanted id opens s ∙ begun_wanted id opens s (owed_waits closing s id e h)
+
+  -- the view once a datagram is begun, of the answer of the call that begins it
+  pub begun_state : (opens : Bool) (a : At t) (e : View t) (space : SpaceId) → at e a.did ≡ begun_after space opens a → e ≡ (begun_after space opens (at a.state [])).state
+  begun_state opens a e space is = ap (λ (x : At t). x.state) (is ∙ begun_at opens space a)
+
+  -- there is room for 25 bytes in an Initial packet, where its token isn't too long, and so there is in the others
+  initial_header : (opens : Bool) (s : View t) → header_in (begun_after Initial opens (at s [])).state Initial ≡ header_in s Initial
+  unfolding begun_after skipped_after is_skipped move_to state_move numbers_move paths_move setup_move
+  initial_header opens s = refl
+
+  initial_wide : (opens : Bool) (capacity : ℕ) (s : View t) → DATAGRAM_SIZE ≤ capacity → nat_lt (room_of DATAGRAM_SIZE s Initial) 25 ≡ false → 25 ≤ room_of capacity (begun_after Initial opens (at s [])).state Initial
+  unfolding room_of
+  initial_wide opens capacity s large long = subst (λ (x : Header). 25 ≤ capacity - 16 - length (header_spelling x 0)) (sym (initial_header opens s)) (grind (arith, nat_tests))
+
+  wide_by : (opens : Bool) (capacity : ℕ) (s : View t) (id : SpaceId) → DATAGRAM_SIZE ≤ capacity → (is_space id Initial && nat_lt (room_of DATAGRAM_SIZE s Initial) 25) ≡ false →
+      (is_space id Initial ≡ false → 25 ≤ room_of capacity (begun_after id opens (at s [])).state id) → 25 ≤ room_of capacity (begun_after id opens (at s [])).state id
+  wide_by opens capacity s Initial large long others = initial_wide opens capacity s large long
+  wide_by opens capacity s Handshake large long others = others refl
+  wide_by opens capacity s Data large long others = others refl
+
+  pub room_wide : (opens closing : Bool) (capacity : ℕ) (a : At t) (e : View t) (space : SpaceId) → DATAGRAM_SIZE ≤ capacity → MayBegin closing a.state space → at e a.did ≡ begun_after space opens a →
+      (is_space space Initial ≡ false → 25 ≤ room_of capacity e space) → 25 ≤ room_of capacity e space
+  unfolding is_token_too_long
+  room_wide opens closing capacity a e space large may begun others =
+      let is_e : e ≡ (begun_after space opens (at a.state [])).state = begun_state opens a e space begun in
+      subst (λ (v : View t). 25 ≤ room_of capacity v space) (sym is_e)
+      (wide_by opens capacity a.state space large (unlimited a.state space may.fresh).2 (λ other. subst (λ (v : View t). 25 ≤ room_of capacity v space) is_e (others other)))
+
+  -- once a datagram is begun, the next number is the one that was to come
+  skip_number : (id : SpaceId) (a : At t) (b : Bool) → is_skipped a.state.numbers id ≡ b → next_number (if b then move_to Skip a else a).state.numbers id ≡ (if b then next_number a.state.numbers id + 1 else next_number a.state.numbers id)
+  unfolding is_skipped move_to state_move numbers_move number_skipped used_in next_number
+  skip_number Initial a true e = cc
+  skip_number Handshake a true e = cc
+  skip_number Data a true e = refl
+  skip_number id a false e = refl
+
+  begun_number : (opens : Bool) (s : View t) (id : SpaceId) → next_number (begun_after id opens (at s [])).state.numbers id ≡ coming_number s.numbers id
+  unfolding begun_after skipped_after coming_number move_to state_move numbers_move deeds_move
+  begun_number opens s id = skip_number id (at (state_move (Begin id opens) s) []) (is_skipped s.numbers id) refl
+
+  -- and no packet is acknowledged no longer
+  skip_acked : (id : SpaceId) (a : At t) (b : Bool) → is_skipped a.state.numbers id ≡ b → acked_number a.state.numbers id ≤ acked_number (if b then move_to Skip a else a).state.numbers id
+  unfolding is_skipped move_to state_move numbers_move number_skipped used_in next_number acked_number
+  skip_acked Initial a true e = cc
+  skip_acked Handshake a true e = cc
+  skip_acked Data a true e = omega arith
+  skip_acked id a false e = omega arith
+
+  begun_acked : (opens : Bool) (s : View t) (id : SpaceId) → acked_number s.numbers id ≤ acked_number (begun_after id opens (at s [])).state.numbers id
+  unfolding begun_after skipped_after move_to state_move numbers_move deeds_move
+  begun_acked opens s id = skip_acked id (at (state_move (Begin id opens) s) []) (is_skipped s.numbers id) refl
+
+  -- where a packet may be sealed, its number is near the greatest acknowledged one once a datagram is begun for it
+  pub loud_near_begun : (opens closing : Bool) (a : At t) (e : View t) (space : SpaceId) → MayBegin closing a.state space → at e a.did ≡ begun_after space opens a → next_number e.numbers space - acked_number e.numbers space < 2 ^ 31
+  unfolding is_used_up
+  loud_near_begun opens closing a e space may begun =
+      let s : View t = a.state in
+      let near : coming_number s.numbers space - acked_number s.numbers space < 2 ^ 31 = number_near (coming_number s.numbers space) (acked_number s.numbers space) (unlimited s space may.fresh).1 in
+      subst (λ (v : View t). next_number v.numbers space - acked_number v.numbers space < 2 ^ 31) (sym (begun_state opens a e space begun)) (omega (arith, near, begun_number opens s space, begun_acked opens s space))
+
+  -- so it is once frames were taken
+  pub loud_near : (opens closing : Bool) (a : At t) (e mid : View t) (space : SpaceId) (fs : List FrameValue) → MayBegin closing a.state space → at e a.did ≡ begun_after space opens a → mid ≡ state_move (Take space fs) e →
+      next_number mid.numbers space - acked_number mid.numbers space < 2 ^ 31
+  loud_near opens closing a e mid space fs may begun is_mid =
+      subst (λ (v : Numbers). next_number v space - acked_number v space < 2 ^ 31) (sym (ap (λ (x : View t). x.numbers) is_mid ∙ number_kept e space fs)) (loud_near_begun opens closing a e space may begun)
+
+  -- and it is below the greatest of all
+  pub loud_low : (opens closing : Bool) (a : At t) (e mid : View t) (space : SpaceId) (fs : List FrameValue) → MayBegin closing a.state space → at e a.did ≡ begun_after space opens a → mid ≡ state_move (Take space fs) e →
+      next_number mid.numbers space < 2 ^ 62 - 1
+  unfolding is_used_up
+  loud_low opens closing a e mid space fs may begun is_mid =
+      let s : View t = a.state in
+      let low : coming_number s.numbers space < 2 ^ 62 - 1 = number_low (coming_number s.numbers space) (acked_number s.numbers space) (unlimited s space may.fresh).1 in
+      let same : next_number mid.numbers space ≡ coming_number s.numbers space =
+      ap (λ (v : Numbers). next_number v space) (ap (λ (x : View t). x.numbers) is_mid ∙ number_kept e space fs) ∙ ap (λ (v : View t). next_number v.numbers space) (begun_state opens a e space begun) ∙ begun_number opens s space in
+      subst (λ (n : ℕ). n < 2 ^ 62 - 1) (sym same) low
+
+  -- taking frames leaves the keys, and so does a datagram that is begun
+  taken_keys : (e : View t) (space : SpaceId) (fs : List FrameValue) → (state_move (Take space fs) e).keys ≡ e.keys
+  unfolding state_move keys_move
+  taken_keys e space fs = refl
+
+  begun_keys : (opens : Bool) (s : View t) (id : SpaceId) → (begun_after id opens (at s [])).state.keys ≡ s.keys
+  unfolding begun_after skipped_after move_to state_move keys_move numbers_move deeds_move
+  begun_keys opens s id = skip_keys (at (state_move (Begin id opens) s) []) (is_skipped s.numbers id)
+
+  same_keys : (opens : Bool) (a : At t) (e mid : View t) (space : SpaceId) (fs : List FrameValue) → at e a.did ≡ begun_after space opens a → mid ≡ state_move (Take space fs) e → mid.keys ≡ a.state.keys
+  same_keys opens a e mid space fs begun is_mid =
+      ap (λ (x : View t). x.keys) is_mid ∙ taken_keys e space fs ∙ ap (λ (x : View t). x.keys) (begun_state opens a e space begun) ∙ begun_keys opens a.state space
+
+  -- and its space has keys
+  pub loud_keyed : (opens closing : Bool) (a : At t) (e mid : View t) (space : SpaceId) (fs : List FrameValue) → MayBegin closing a.state space → at e a.did ≡ begun_after space opens a → mid ≡ state_move (Take space fs) e →
+      has_keys mid.keys space ≡ true
+  unfolding owes_in
+  loud_keyed opens closing a e mid space fs may begun is_mid = ap (λ (k : KeyGroup t.H t.P). has_keys k space) (same_keys opens a e mid space fs begun is_mid) ∙ and_left _ _ may.turn.owed
+
+  -- and its key may seal one packet more
+  pub loud_fresh : (opens closing : Bool) (a : At t) (e mid : View t) (space : SpaceId) (fs : List FrameValue) → MayBegin closing a.state space → at e a.did ≡ begun_after space opens a → mid ≡ state_move (Take space fs) e →
+      reaches_limit 0 (usage_of mid.keys space) ≡ false
+  unfolding is_key_used_up
+  loud_fresh opens closing a e mid space fs may begun is_mid = ap (λ (k : KeyGroup t.H t.P). reaches_limit 0 (usage_of k space)) (same_keys opens a e mid space fs begun is_mid) ∙ (unlimited a.state space may.fresh).0

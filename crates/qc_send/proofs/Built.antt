@@ -1,0 +1,130 @@
+-- Where a packet may begin, its builder takes it: its space has keys, and no limit of the builder stands.
+use Rattle.std.proofs.Common.{◌≡◌, ℕ, ◌+◌, ◌-◌, ◌≤◌, length, length-append, refl, ap, ◌∙◌, Bool, true, false, ◌&&◌, ◌||◌, if◌then◌else◌, Option, Some, None, is_some, IsSome, nat_le, nat_lt, ◌<◌, ◌^◌, arith}
+use Rattle.std.specs.Prelude.{min}
+use Rattle.std.proofs.lemmas.Bool.Decides.{nat_tests}
+use Rattle.std.specs.Option.{option_map}
+use Rattle.qc_base.specs.declared.side.SpaceId.{SpaceId}
+use Rattle.qc_base.specs.declared.side.SpaceId.TheVariants.{Initial, Handshake, «Data»}
+use Rattle.qc_header.specs.declared.header.Header.{Header}
+use Rattle.qc_header.specs.HeaderSpelling.{header_spelling, header_number, initial_spelling, short_spelling, long_start}
+use Rattle.qc_packet.specs.Building.{dst_cid_of, is_initial, is_short, kill_of, lacks_room, max_size_of, min_size_of}
+use Rattle.qc_packet.specs.declared.slot.Kill.TheVariants.{KeyLimit, NumberLimit, TokenRoom}
+use Rattle.qc_state.specs.declared.keys.KeyGroup.{KeyGroup}
+use Rattle.qc_state.specs.declared.keys.KeyUse.{KeyUse}
+use Rattle.qc_state.specs.Keys.{has_keys, header_key, packet_key, reaches_limit, usage_of}
+use Rattle.qc_state.specs.Numbers.{next_number, acked_number}
+use Rattle.qc_state.specs.Sending.{header_in, slot_with, room_of}
+use Rattle.qc_state.specs.Types.{Types}
+use Rattle.qc_state.specs.View.{View}
+
+-- what is computed of something is there where it is
+some_map : {A B : Type 0} (f : A → B) (o : Option A) → is_some o ≡ true → IsSome (option_map f o)
+some_map f None h = cc
+some_map f (Some x) h = refl
+
+-- a key that may seal one packet more has sealed fewer than it may
+pub fresh_use : (usage : KeyUse) → reaches_limit 0 (Some usage) ≡ false → usage.sealed < usage.limit
+fresh_use usage h = below_limit usage.sealed usage.limit h
+  where
+    below_limit : (sealed limit : ℕ) → nat_le limit (sealed + 0) ≡ false → sealed < limit
+    below_limit sealed limit e = grind (arith, nat_tests)
+
+module _ {H P : Type 0} where
+  -- a space with keys has one that masks, one that seals, and how far that one is used
+  pub keyed_header : (v : KeyGroup H P) (id : SpaceId) → has_keys v id ≡ true → IsSome (header_key v id)
+  unfolding has_keys header_key
+  keyed_header v Initial h = some_map _ v.initial h
+  keyed_header v Handshake h = some_map _ v.handshake h
+  keyed_header v Data h = some_map _ v.«data» h
+
+  pub keyed_packet : (v : KeyGroup H P) (id : SpaceId) → has_keys v id ≡ true → IsSome (packet_key v id)
+  unfolding has_keys packet_key
+  keyed_packet v Initial h = some_map _ v.initial h
+  keyed_packet v Handshake h = some_map _ v.handshake h
+  keyed_packet v Data h = some_map _ v.«data» h
+
+  pub keyed_usage : (v : KeyGroup H P) (id : SpaceId) → has_keys v id ≡ true → IsSome (usage_of v id)
+  unfolding has_keys usage_of
+  keyed_usage v Initial h = some_map _ v.initial h
+  keyed_usage v Handshake h = some_map _ v.handshake h
+  keyed_usage v Data h = some_map _ v.«data» h
+
+-- where no cause holds, a packet can be begun
+no_cause : (key number room : Bool) → key ≡ false → number ≡ false → room ≡ false → (if key then Some KeyLimit else (if number then Some NumberLimit else (if room then Some TokenRoom else None))) ≡ None
+no_cause true number room k n r = cc
+no_cause false true room k n r = cc
+no_cause false false true k n r = cc
+no_cause false false false k n r = refl
+
+-- neither of two tests holds
+both_fail : (a b : Bool) → a ≡ false → b ≡ false → (a || b) ≡ false
+both_fail true b x y = cc
+both_fail false b x y = y
+
+-- a test of numbers that fails
+not_le : (m n : ℕ) → n < m → nat_le m n ≡ false
+not_le m n h = grind (arith, nat_tests)
+
+not_lt : (m n : ℕ) → n ≤ m → nat_lt m n ≡ false
+not_lt m n h = grind (arith, nat_tests)
+
+-- a long header's packet may fill a datagram that has no more bytes than its Length can say
+long_by : (capacity : ℕ) (b : Bool) (n : ℕ) → capacity ≤ 16383 → b ≡ false → (if b then capacity - 16 else min (capacity - 16) (n + 16367)) ≡ capacity - 16
+long_by capacity true n most h = cc
+long_by capacity false n most h = omega (arith, most)
+
+long_size : (capacity : ℕ) (h : Header) → capacity ≤ 16383 → is_short h ≡ false → max_size_of 0 h capacity ≡ capacity - 16
+unfolding max_size_of
+long_size capacity h most long = long_by capacity (is_short h) _ most long
+
+-- a packet whose header leaves room for 25 bytes needs no more than a datagram has
+least_fits : (capacity : ℕ) (h : Header) → length (header_spelling h 0) + 41 ≤ capacity → length (dst_cid_of h) ≤ length (header_spelling h 0) → min_size_of 0 h + 16 ≤ capacity
+unfolding min_size_of
+least_fits capacity h short dst = omega (arith, short, dst)
+
+-- a header that leaves room for 25 bytes and the tag lacks none
+wide_enough : (capacity : ℕ) (h : Header) → capacity ≤ 16383 → is_short h ≡ false → length (header_spelling h 0) + 41 ≤ capacity → length (dst_cid_of h) ≤ length (header_spelling h 0) → lacks_room 0 h capacity ≡ false
+unfolding lacks_room
+wide_enough capacity h most long short dst =
+    let size : max_size_of 0 h capacity ≡ capacity - 16 = long_size capacity h most long in
+    let least : min_size_of 0 h + 16 ≤ capacity = least_fits capacity h short dst in
+    both_fail _ _ (not_lt (max_size_of 0 h capacity) (min_size_of 0 h) (omega (arith, size, least)))
+    (not_lt (max_size_of 0 h capacity - (0 + length (header_spelling h 0))) 25 (omega (arith, size, short)))
+
+module _ {t : Types} where
+  -- a header in each space has its destination id
+  pub dst_within : (s : View t) (id : SpaceId) → length (dst_cid_of (header_in s id)) ≤ length (header_spelling (header_in s id) 0)
+  unfolding header_spelling initial_spelling short_spelling long_start
+  dst_within s Initial = simp length-append (omega arith)
+  dst_within s Handshake = simp length-append (omega arith)
+  dst_within s Data = simp length-append (omega arith)
+
+  -- where there is room for 25 bytes in a packet, it needs no more than a datagram has
+  pub least_wide : (capacity : ℕ) (s : View t) (id : SpaceId) → 25 ≤ room_of capacity s id → min_size_of 0 (header_in s id) + 16 ≤ capacity
+  unfolding room_of
+  least_wide capacity s id wide = least_fits capacity (header_in s id) (omega (arith, wide)) (dst_within s id)
+
+  -- and its token leaves room for frames
+  roomy : (capacity : ℕ) (s : View t) (id : SpaceId) → capacity ≤ 16383 → length (header_spelling (header_in s id) 0) + 41 ≤ capacity → (is_initial (header_in s id) && lacks_room 0 (header_in s id) capacity) ≡ false
+  roomy capacity s Initial most short = wide_enough capacity (header_in s Initial) most refl short (dst_within s Initial)
+  roomy capacity s Handshake most short = refl
+  roomy capacity s Data most short = refl
+
+  -- so it can be begun, where its key may seal one more and its number can be spelled
+  pub no_kill : (capacity : ℕ) (s : View t) (id : SpaceId) (usage : KeyUse) → capacity ≤ 16383 → usage.sealed < usage.limit → next_number s.numbers id < 2 ^ 62 - 1 → next_number s.numbers id - acked_number s.numbers id < 2 ^ 31 → 25 ≤ room_of capacity s id →
+      kill_of (slot_with s id usage) (header_in s id) 0 capacity ≡ None
+  unfolding kill_of room_of
+  no_kill capacity s id usage most fresh low near wide =
+      no_cause _ _ _ (not_le usage.limit usage.sealed fresh)
+      (both_fail _ _ (not_le 4611686018427387903 (next_number s.numbers id) low) (not_le (acked_number s.numbers id + 2147483648) (next_number s.numbers id) (omega arith)))
+      (roomy capacity s id most (omega (arith, wide)))
+
+  -- a header in each space has a number
+  number_by : (s : View t) (space : SpaceId) → IsSome (header_number (header_in s space))
+  number_by s Initial = refl
+  number_by s Handshake = refl
+  number_by s Data = refl
+
+  -- it has a number
+  pub header_has_number : (s : View t) (space : SpaceId) (h : Header) → h ≡ header_in s space → IsSome (header_number h)
+  header_has_number s space h e = ap (λ (x : Header). is_some (header_number x)) e ∙ number_by s space

@@ -1,0 +1,115 @@
+-- What taking frames leaves: the header of the next packet, its size and its bytes; a close and PADDING are taken without a change.
+use Rattle.std.proofs.Common.{◌≡◌, ℕ, ◌+◌, ◌-◌, List, [], ◌∷◌, ◌++◌, length, replicate, refl, ap, sym, ◌∙◌, Bool, true, false, ◌&&◌, if◌then◌else◌, Option, Some, None}
+use Rattle.std.specs.List.{list_any}
+use Rattle.qc_base.specs.declared.side.SpaceId.{SpaceId}
+use Rattle.qc_base.specs.declared.side.SpaceId.TheVariants.{Initial, Handshake, «Data»}
+use Rattle.qc_frame.specs.Frame.{FrameValue}
+use Rattle.qc_frame.specs.FrameSpelling.{elicits, frames_spelling}
+use Rattle.qc_frame.specs.declared.frames.FrameOf.TheVariants.{Padding}
+use Rattle.qc_state.specs.Acks.{AckPart, may_acknowledge}
+use Rattle.qc_state.specs.Life.{is_closed}
+use Rattle.qc_state.specs.declared.life.Close.{Close}
+use Rattle.qc_state.specs.declared.life.Close.TheVariants.{Connection, Application}
+use Rattle.qc_header.specs.declared.header.Header.{Header}
+use Rattle.qc_header.specs.HeaderSpelling.{header_spelling}
+use Rattle.qc_packet.specs.Building.{padded_size}
+use Rattle.qc_packet.specs.PacketSpelling.{padding_len}
+use Rattle.qc_state.specs.Draws.{bit}
+use Rattle.qc_state.specs.declared.deeds.Did.{Did}
+use Rattle.qc_state.specs.declared.transmit.TheConstants.{DATAGRAM_SIZE}
+use Rattle.qc_state.specs.declared.waiting.SpaceWaiting.{SpaceWaiting}
+use Rattle.qc_state.specs.Keys.{header_key, packet_key}
+use Rattle.qc_state.specs.Moves.{Take, Seal, state_move, move_to, numbers_move, keys_move, life_move, paths_move, timers_move, waiting_move, setup_move, lower_move, deeds_move}
+use Rattle.qc_state.specs.Numbers.{next_number}
+use Rattle.qc_state.specs.Setup.{behind_spin, takes_grease}
+use Rattle.qc_state.specs.Sending.{close_frame, application_close, told_close, closing_frame, IsKeptReason, Closes, header_in, spin_now, flips_now, sealed_with, packet_bytes, is_flown, flown_after, sealed_in, fills, packet_size, least_size, padding_of, padded}
+use Rattle.qc_state.specs.Spaces.{space_of, with_space}
+use Rattle.qc_state.specs.Types.{Types, Meaning}
+use Rattle.qc_state.specs.View.{View, At, at}
+use Rattle.qc_state.specs.Taking.{TakenPart}
+use Rattle.qc_state.specs.Waiting.{waiting_without, without, without_all}
+use Rattle.qc_send.proofs.Waits.{without_all_append, without_padded}
+use Rattle.qc_send.specs.Taking.{TakenNow}
+
+-- a close is sealed without leaving what waits
+application_stays : (w : SpaceWaiting) (id : SpaceId) (code : ℕ) (kept : List ℕ) → without w (application_close id code kept) ≡ w
+unfolding without
+application_stays w Initial code kept = refl
+application_stays w Handshake code kept = refl
+application_stays w Data code kept = refl
+
+close_stays : (w : SpaceWaiting) (id : SpaceId) (kept : List ℕ) (b : Bool) (c : Option Close) → without w (if b then told_close id kept c else close_frame 0x00 None) ≡ w
+unfolding without
+close_stays w id kept true None = refl
+close_stays w id kept true (Some (Connection c)) = refl
+close_stays w id kept true (Some (Application c)) = application_stays w id c.error_code kept
+close_stays w id kept false c = refl
+
+module _ {t : Types} where
+  -- PADDING changes nothing of what waits
+  pub take_padded : (id : SpaceId) (fs : List FrameValue) (s : View t) → state_move (Take id (padded s id fs)) s ≡ state_move (Take id fs) s
+  unfolding state_move numbers_move keys_move life_move paths_move timers_move waiting_move setup_move lower_move waiting_without padded
+  take_padded id fs s = ap (λ (w : SpaceWaiting). record s { waiting = record s.waiting { spaces = with_space s.waiting.spaces id w } }) (without_padded (space_of s.waiting.spaces id) fs (padding_of s id fs))
+
+  -- a close behind an ACK changes nothing more of what waits
+  close_behind : (s : View t) (id : SpaceId) (kept : List ℕ) (acks : List FrameValue) → state_move (Take id acks) s ≡ state_move (Take id (acks ++ closing_frame id kept s.life ∷ [])) s
+  unfolding state_move numbers_move keys_move life_move paths_move timers_move waiting_move setup_move lower_move waiting_without without_all
+  close_behind s id kept acks =
+      let w : SpaceWaiting = space_of s.waiting.spaces id in
+      ap (λ (x : SpaceWaiting). record s { waiting = record s.waiting { spaces = with_space s.waiting.spaces id x } })
+      (sym (without_all_append w acks (closing_frame id kept s.life ∷ []) ∙ close_stays (without_all w acks) id kept (is_closed s.life.state) s.life.close))
+
+  -- where the ACK was taken, the close behind it was taken too
+  pub close_taken : (s mid : View t) (id : SpaceId) (kept : List ℕ) (acks fs : List FrameValue) → mid ≡ state_move (Take id acks) s → fs ≡ acks ++ closing_frame id kept s.life ∷ [] → mid ≡ state_move (Take id fs) s
+  close_taken s mid id kept acks fs is_mid is_fs = is_mid ∙ close_behind s id kept acks ∙ ap (λ (x : List FrameValue). state_move (Take id x) s) (sym is_fs)
+
+  -- the ACK and the close, with the reason that fits behind the ACK, are the frames that this end takes, where a close is owed
+  pub takes_close : (closing : Bool) (time : ℕ) (s : View t) (id : SpaceId) (room : ℕ) (kept : List ℕ) (acks fs : List FrameValue) → closing ≡ true →
+      AckPart time (space_of s.waiting.spaces id) (room - 25) acks (may_acknowledge (space_of s.waiting.spaces id).acks) → IsKeptReason (room - length (frames_spelling acks)) kept s.life.close →
+      fs ≡ acks ++ closing_frame id kept s.life ∷ [] → TakenNow closing time s id room fs
+  takes_close closing time s id room kept acks fs owed part reason is = TakenNow.a_close owed (Closes.closing acks part kept reason is)
+
+  -- and else it takes frames that wait
+  pub takes_waiting : (closing : Bool) (time : ℕ) (s : View t) (id : SpaceId) (room : ℕ) (fs : List FrameValue) → closing ≡ false → TakenPart time s.waiting.bundled (space_of s.waiting.spaces id) room fs → TakenNow closing time s id room fs
+  takes_waiting closing time s id room fs free part = TakenNow.what_waits free part
+
+  -- taking frames leaves whether a packet with these counts as in flight
+  flown_taken : (s mid : View t) (id : SpaceId) (fs : List FrameValue) → mid ≡ state_move (Take id fs) s → is_flown mid fs ≡ is_flown s fs
+  unfolding is_flown state_move waiting_move waiting_without
+  flown_taken s mid id fs is = ap (λ (x : View t). is_flown x fs) is
+
+  -- a packet of the space is sealed, where its frames are taken first
+  pub sealed_now : (time : ℕ) (space : SpaceId) (ds : List Did) (e mid : View t) (b f : At t) (gs : List FrameValue) → mid ≡ state_move (Take space gs) e →
+      b ≡ move_to (Seal time space (next_number e.numbers space) (packet_size e space gs) gs) (at mid ds) → f ≡ flown_after time (is_flown mid gs) b → f ≡ sealed_in time space gs (at e ds)
+  unfolding sealed_in move_to deeds_move
+  sealed_now time space ds e mid b f gs same is_b is_f =
+      is_f ∙ ap (λ (x : Bool). flown_after time x b) (flown_taken e mid space gs same)
+      ∙ ap (λ (x : At t). flown_after time (is_flown e gs) x)
+      (is_b ∙ ap (λ (x : View t). move_to (Seal time space (next_number e.numbers space) (packet_size e space gs) gs) (at x ds)) same)
+
+  -- taking frames leaves the header of the next packet
+  header_kept : (s : View t) (id : SpaceId) (fs : List FrameValue) → header_in (state_move (Take id fs) s) id ≡ header_in s id
+  unfolding state_move numbers_move keys_move paths_move setup_move spin_now
+  header_kept s Initial fs = refl
+  header_kept s Handshake fs = refl
+  header_kept s Data fs = refl
+
+  pub header_taken : (s mid : View t) (id : SpaceId) (fs : List FrameValue) → mid ≡ state_move (Take id fs) s → header_in mid id ≡ header_in s id
+  header_taken s mid id fs is = ap (λ (x : View t). header_in x id) is ∙ header_kept s id fs
+
+  -- nor does it change what a packet with given frames is
+  pub size_kept : (s : View t) (id : SpaceId) (fs gs : List FrameValue) → packet_size (state_move (Take id fs) s) id gs ≡ packet_size s id gs
+  unfolding packet_size
+  size_kept s id fs gs = ap (λ (x : Header). length (header_spelling x 0) + length (frames_spelling gs) + 16) (header_kept s id fs)
+
+  pub padded_kept : (s : View t) (id : SpaceId) (fs gs : List FrameValue) → padded (state_move (Take id fs) s) id gs ≡ padded s id gs
+  unfolding padded padding_of least_size state_move setup_move
+  padded_kept s id fs gs = ap (λ (x : Header). gs ++ replicate (padding_len x gs (padded_size x gs (if fills s.setup.fixed.side id (list_any elicits gs) then DATAGRAM_SIZE else 0))) Padding) (header_kept s id fs)
+
+  pub bytes_kept : (m : Meaning t) (s : View t) (id : SpaceId) (fs gs : List FrameValue) → packet_bytes m (state_move (Take id fs) s) id gs ≡ packet_bytes m s id gs
+  unfolding packet_bytes flips_now state_move keys_move setup_move numbers_move
+  bytes_kept m s id fs gs = ap (λ (x : Header). sealed_with m (header_key s.keys id) (packet_key s.keys id) (takes_grease s.setup.peer && bit (behind_spin s.setup id)) x (next_number s.numbers id) (frames_spelling gs)) (header_kept s id fs)
+
+  pub number_kept : (s : View t) (id : SpaceId) (fs : List FrameValue) → (state_move (Take id fs) s).numbers ≡ s.numbers
+  unfolding state_move numbers_move
+  number_kept s id fs = refl

@@ -1,0 +1,197 @@
+-- The frames that this end takes, from the parts in which they are taken.
+use Rattle.std.proofs.Common.{◌≡◌, ℕ, ◌+◌, ◌-◌, ◌<◌, ◌≤◌, ◌⊎◌, inl, List, [], ◌∷◌, ◌++◌, length, refl, ap, sym, ◌∙◌, subst, Bool, true, false, if◌then◌else◌, Option, arith}
+use Rattle.std.proofs.lemmas.List.{append_assoc, append-nil}
+use Rattle.qc_frame.specs.AckRanges.{ArePackets}
+use Rattle.qc_frame.specs.Frame.{AckValue, FrameValue}
+use Rattle.qc_frame.specs.declared.frames.FrameOf.TheVariants as frames
+use Rattle.qc_frame.specs.FrameSpelling.{frames_spelling}
+use Rattle.qc_frame.specs.declared.frames.FrameOf.TheVariants.{HandshakeDone, Ping}
+use Rattle.qc_path.specs.Acks.{PendingValues}
+use Rattle.qc_send_stream.specs.Buffer.{Buffer, range_sealed}
+use Rattle.qc_state.specs.Acks.{AckPart, SaysAck, ack_sent, is_ack_first, is_ack_last}
+use Rattle.qc_state.specs.Taking.{CryptoPart, TakenPart, TakesAck, TakesCrypto, marks_part, done_part, ping_part, room_behind}
+use Rattle.qc_state.specs.Waiting.{StartsWith, crypto_waits, without, without_all}
+use Rattle.qc_state.specs.declared.waiting.SpaceWaiting.{SpaceWaiting}
+use Rattle.qc_state.proofs.AckLemmas.{none_due, not_both, part_same}
+
+-- what waits once joined lists are sealed
+append_left : (w : SpaceWaiting) (fs gs : List FrameValue) → without_all w (fs ++ gs) ≡ without_all (without_all w fs) gs
+unfolding without_all
+append_left w [] gs = refl
+append_left w (f ∷ fs) gs = append_left (without w f) fs gs
+
+-- a HANDSHAKE_DONE and a PING leave the numbers to acknowledge and the counts of marks
+marks_acks_by : (w : SpaceWaiting) (a b : Bool) → (without_all w ((if a then HandshakeDone ∷ [] else []) ++ (if b then Ping ∷ [] else []))).acks ≡ w.acks
+unfolding without_all without
+marks_acks_by w true true = refl
+marks_acks_by w true false = refl
+marks_acks_by w false true = refl
+marks_acks_by w false false = refl
+
+marks_counts_by : (w : SpaceWaiting) (a b : Bool) → (without_all w ((if a then HandshakeDone ∷ [] else []) ++ (if b then Ping ∷ [] else []))).marks ≡ w.marks
+unfolding without_all without
+marks_counts_by w true true = refl
+marks_counts_by w true false = refl
+marks_counts_by w false true = refl
+marks_counts_by w false false = refl
+
+marks_counts : (w : SpaceWaiting) → (without_all w (marks_part w)).marks ≡ w.marks
+unfolding marks_part done_part ping_part
+marks_counts w = marks_counts_by w w.done w.ping
+
+marks_acks : (w : SpaceWaiting) → (without_all w (marks_part w)).acks ≡ w.acks
+unfolding marks_part done_part ping_part
+marks_acks w = marks_acks_by w w.done w.ping
+
+-- an ACK leaves the numbers to acknowledge
+ack_ranges : (time room : ℕ) (w : SpaceWaiting) (fs : List FrameValue) (b : Bool) → AckPart time w room fs b → (without_all w fs).acks.ranges ≡ w.acks.ranges
+unfolding without_all without
+ack_ranges time room w fs true (AckPart.one ack says fits is) = ap (λ (x : List FrameValue). (without_all w x).acks.ranges) is
+ack_ranges time room w fs true (AckPart.left_out ack says long is) = ap (λ (x : List FrameValue). (without_all w x).acks.ranges) is
+ack_ranges time room w fs false (AckPart.none is) = ap (λ (x : List FrameValue). (without_all w x).acks.ranges) is
+
+-- CRYPTO frames leave them, and all else that is kept for an ACK
+pub crypto_acks : (w : SpaceWaiting) (room : ℕ) (fs : List FrameValue) → CryptoPart w room fs → (without_all w fs).acks ≡ w.acks
+unfolding without_all without CryptoPart
+crypto_acks w room [] h = refl
+crypto_acks w room (frames.Crypto offset body ∷ fs) h = crypto_acks (without w (frames.Crypto offset body)) _ fs h.2
+crypto_acks w room (_ ∷ fs) h = absurd h
+
+pub crypto_counts : (w : SpaceWaiting) (room : ℕ) (fs : List FrameValue) → CryptoPart w room fs → (without_all w fs).marks ≡ w.marks
+unfolding without_all without CryptoPart
+crypto_counts w room [] h = refl
+crypto_counts w room (frames.Crypto offset body ∷ fs) h = crypto_counts (without w (frames.Crypto offset body)) _ fs h.2
+crypto_counts w room (_ ∷ fs) h = absurd h
+
+-- where an ACK is bundled behind other frames, what is kept for it is as it was before them
+pub last_same : (time room rest : ℕ) (bundled : Option ℕ) (w v : SpaceWaiting) (acks crypto : List FrameValue) → w.acks ≡ v.acks → AckPart time w room acks (is_ack_first w.acks) →
+    CryptoPart (without_all v acks) rest crypto → is_ack_last time bundled w.acks ≡ true → (without_all (without_all v acks) crypto).acks ≡ w.acks
+unfolding without_all
+last_same time room rest bundled w v acks crypto same part bytes e =
+    let none : acks ≡ [] = none_due time room w acks (is_ack_first w.acks) (not_both time bundled w.acks e) part in
+    crypto_acks (without_all v acks) rest crypto bytes ∙ ap (λ (x : List FrameValue). (without_all v x).acks) none ∙ sym same
+
+-- so are the counts of marks
+ack_counts : (time room : ℕ) (w v : SpaceWaiting) (fs : List FrameValue) (b : Bool) → AckPart time w room fs b → (without_all v fs).marks ≡ v.marks
+unfolding without_all without
+ack_counts time room w v fs true (AckPart.one ack says fits is) = ap (λ (x : List FrameValue). (without_all v x).marks) is
+ack_counts time room w v fs true (AckPart.left_out ack says long is) = ap (λ (x : List FrameValue). (without_all v x).marks) is
+ack_counts time room w v fs false (AckPart.none is) = ap (λ (x : List FrameValue). (without_all v x).marks) is
+
+pub last_counts : (time room rest : ℕ) (w v : SpaceWaiting) (acks crypto : List FrameValue) (b : Bool) → w.marks ≡ v.marks → AckPart time w room acks b → CryptoPart (without_all v acks) rest crypto →
+    (without_all (without_all v acks) crypto).marks ≡ w.marks
+last_counts time room rest w v acks crypto b same part bytes = crypto_counts (without_all v acks) rest crypto bytes ∙ ack_counts time room w v acks b part ∙ sym same
+
+-- the numbers are those of packets once the marks were taken, too
+pub same_acks : (w w1 : SpaceWaiting) (due : Bool) → w1 ≡ without_all w (marks_part w) → (due ≡ true → ArePackets w.acks.ranges) → due ≡ true → ArePackets w1.acks.ranges
+same_acks w w1 due is packets h = subst (λ (p : PendingValues). ArePackets p.ranges) (sym (ap (λ (x : SpaceWaiting). x.acks) is ∙ marks_acks w)) (packets h)
+
+-- and once the ACK in front and the CRYPTO bytes were
+pub same_numbers : (time room rest len left : ℕ) (due last : Bool) (w w1 w2 w3 : SpaceWaiting) (fs1 fs2 fs3 : List FrameValue) → w1 ≡ without_all w (marks_part w) → TakesAck time due room w1 w2 fs1 fs2 len →
+    TakesCrypto rest w2 w3 fs2 fs3 left → (last ≡ true → ArePackets w.acks.ranges) → last ≡ true → ArePackets w3.acks.ranges
+same_numbers time room rest len left due last w w1 w2 w3 fs1 fs2 fs3 is takes crypto packets h =
+    let same : w3.acks.ranges ≡ w.acks.ranges =
+    ap (λ (x : SpaceWaiting). x.acks.ranges) crypto.rest ∙ ap (λ (p : PendingValues). p.ranges) (crypto_acks w2 rest crypto.frames crypto.part) ∙ ap (λ (x : SpaceWaiting). x.acks.ranges) takes.rest
+    ∙ ack_ranges time room w1 takes.acks due takes.part ∙ ap (λ (x : SpaceWaiting). x.acks.ranges) is ∙ ap (λ (p : PendingValues). p.ranges) (marks_acks w) in
+    subst ArePackets (sym same) (packets h)
+
+-- the frames, part by part
+parts_list : (w : SpaceWaiting) (fs0 fs1 fs2 fs3 fs4 acks crypto last : List FrameValue) → fs0 ≡ [] → fs1 ≡ fs0 ++ marks_part w → fs2 ≡ fs1 ++ acks → fs3 ≡ fs2 ++ crypto → fs4 ≡ fs3 ++ last →
+    fs4 ≡ marks_part w ++ (acks ++ (crypto ++ last))
+parts_list w fs0 fs1 fs2 fs3 fs4 acks crypto last is_fs0 is_fs1 is_fs2 is_fs3 is_fs4 =
+    is_fs4 ∙ ap (λ (x : List FrameValue). x ++ last) is_fs3 ∙ ap (λ (x : List FrameValue). (x ++ crypto) ++ last) is_fs2
+    ∙ ap (λ (x : List FrameValue). ((x ++ acks) ++ crypto) ++ last) (is_fs1 ∙ ap (λ (x : List FrameValue). x ++ marks_part w) is_fs0) ∙ simp append_assoc
+
+-- what is left once all parts were taken
+pub without_parts : (time room rest left len len' : ℕ) (due due' : Bool) (w w1 w2 w3 w4 : SpaceWaiting) (fs0 fs1 fs2 fs3 fs4 : List FrameValue) →
+    fs0 ≡ [] → fs1 ≡ fs0 ++ marks_part w → w1 ≡ without_all w (marks_part w) → TakesAck time due room w1 w2 fs1 fs2 len →
+    TakesCrypto rest w2 w3 fs2 fs3 left → TakesAck time due' left w3 w4 fs3 fs4 len' → w4 ≡ without_all w fs4
+without_parts time room rest left len len' due due' w w1 w2 w3 w4 fs0 fs1 fs2 fs3 fs4 is_fs0 is_fs1 is_w1 takes crypto bundle =
+    let all : fs4 ≡ marks_part w ++ (takes.acks ++ (crypto.frames ++ bundle.acks)) = parts_list w fs0 fs1 fs2 fs3 fs4 takes.acks crypto.frames bundle.acks is_fs0 is_fs1 takes.list crypto.list bundle.list in
+    bundle.rest ∙ ap (λ (x : SpaceWaiting). without_all x bundle.acks) (crypto.rest ∙ ap (λ (x : SpaceWaiting). without_all x crypto.frames) (takes.rest ∙ ap (λ (x : SpaceWaiting). without_all x takes.acks) is_w1))
+    ∙ sym (ap (λ (fs : List FrameValue). without_all w fs) all ∙ append_left w (marks_part w) (takes.acks ++ (crypto.frames ++ bundle.acks)) ∙ append_left (without_all w (marks_part w)) takes.acks (crypto.frames ++ bundle.acks)
+    ∙ append_left (without_all (without_all w (marks_part w)) takes.acks) crypto.frames bundle.acks)
+
+-- the ACK behind other frames is one of what waited before them
+last_part : (time room rest left : ℕ) (bundled : Option ℕ) (b : Bool) (w v u : SpaceWaiting) (acks crypto last : List FrameValue) → w.acks ≡ v.acks → w.marks ≡ v.marks → AckPart time w room acks (is_ack_first w.acks) →
+    CryptoPart (without_all v acks) rest crypto → u ≡ without_all (without_all v acks) crypto → is_ack_last time bundled w.acks ≡ b → AckPart time u left last b → AckPart time w left last b
+last_part time room rest left bundled true w v u acks crypto last same counts part bytes is e taken =
+    part_same time left u w last true (ap (λ (x : SpaceWaiting). x.acks) is ∙ last_same time room rest bundled w v acks crypto same part bytes e)
+    (ap (λ (x : SpaceWaiting). x.marks) is ∙ last_counts time room rest w v acks crypto (is_ack_first w.acks) counts part bytes) taken
+last_part time room rest left bundled false w v u acks crypto last same counts part bytes is e (AckPart.none none) = AckPart.none none
+
+-- the parts are the frames that may be taken
+pub taken_part : (time room count less rest left len len' : ℕ) (bundled : Option ℕ) (first last : Bool) (w w1 w2 w3 w4 : SpaceWaiting) (fs0 fs1 fs2 fs3 fs4 : List FrameValue) →
+    first ≡ is_ack_first w.acks → last ≡ is_ack_last time bundled w.acks → fs0 ≡ [] → fs1 ≡ fs0 ++ marks_part w → w1 ≡ without_all w (marks_part w) → count ≡ length (marks_part w) → less ≡ room - count →
+    TakesAck time first less w1 w2 fs1 fs2 len → rest ≡ less - len → TakesCrypto rest w2 w3 fs2 fs3 left → TakesAck time last left w3 w4 fs3 fs4 len' → TakenPart time bundled w room fs4
+taken_part time room count less rest left len len' bundled first last w w1 w2 w3 w4 fs0 fs1 fs2 fs3 fs4 is_first is_last is_fs0 is_fs1 is_w1 is_count is_less takes is_rest crypto bundle =
+    let same : w1.acks ≡ w.acks = ap (λ (x : SpaceWaiting). x.acks) is_w1 ∙ marks_acks w in
+    let counts : w1.marks ≡ w.marks = ap (λ (x : SpaceWaiting). x.marks) is_w1 ∙ marks_counts w in
+    let behind : less ≡ room - length (marks_part w) = is_less ∙ ap (λ (n : ℕ). room - n) is_count in
+    let front : AckPart time w less takes.acks (is_ack_first w.acks) = subst (λ (b : Bool). AckPart time w less takes.acks b) is_first (part_same time less w1 w takes.acks first same counts takes.part) in
+    let bytes : CryptoPart (without_all w1 takes.acks) rest crypto.frames = subst (λ (x : SpaceWaiting). CryptoPart x rest crypto.frames) takes.rest crypto.part in
+    let size : rest ≡ room - length (marks_part w) - length (frames_spelling takes.acks) = is_rest ∙ ap (λ (n : ℕ). n - len) behind ∙ ap (λ (n : ℕ). room - length (marks_part w) - n) takes.size in
+    let is_w3 : w3 ≡ without_all (without_all w1 takes.acks) crypto.frames = crypto.rest ∙ ap (λ (x : SpaceWaiting). without_all x crypto.frames) takes.rest in
+    let here : without_all w1 takes.acks ≡ without_all w (marks_part w ++ takes.acks) = ap (λ (x : SpaceWaiting). without_all x takes.acks) is_w1 ∙ sym (append_left w (marks_part w) takes.acks) in
+    let behind_all : AckPart time w left bundle.acks (is_ack_last time bundled w.acks) =
+    last_part time less rest left bundled (is_ack_last time bundled w.acks) w w1 w3 takes.acks crypto.frames bundle.acks (sym same) (sym counts) front bytes is_w3 refl (subst (λ (b : Bool). AckPart time w3 left bundle.acks b) is_last bundle.part) in
+    record {
+      acks = takes.acks;
+      ack = subst (λ (n : ℕ). AckPart time w n takes.acks (is_ack_first w.acks)) behind front;
+      crypto = crypto.frames;
+      part = subst (λ (n : ℕ). CryptoPart (without_all w (marks_part w ++ takes.acks)) n crypto.frames) size (subst (λ (x : SpaceWaiting). CryptoPart x rest crypto.frames) here bytes);
+      last = bundle.acks;
+      bundle = subst (λ (n : ℕ). AckPart time w n bundle.acks (is_ack_last time bundled w.acks)) (crypto.behind ∙ ap (λ (n : ℕ). room_behind n crypto.frames) size) behind_all;
+      all = parts_list w fs0 fs1 fs2 fs3 fs4 takes.acks crypto.frames bundle.acks is_fs0 is_fs1 takes.list crypto.list bundle.list;
+    }
+
+-- no CRYPTO bytes wait, or there is no room for them
+pub crypto_none : (room : ℕ) (w : SpaceWaiting) (fs : List FrameValue) → (crypto_waits w ≡ false) ⊎ (room ≤ 17) → TakesCrypto room w w fs fs room
+unfolding without_all CryptoPart
+crypto_none room w fs why = record { frames = []; part = why; list = sym (append-nil fs); rest = refl; behind = refl }
+
+-- none wait, of the answer of the call that takes them
+pub crypto_end : (room : ℕ) (w : SpaceWaiting) (queue : Buffer) (fs : List FrameValue) → crypto_waits w ≡ false → queue ≡ w.crypto → TakesCrypto room w (record w { crypto = queue }) fs fs room
+crypto_end room w queue fs none same = subst (λ (x : Buffer). TakesCrypto room w (record w { crypto = x }) fs fs room) (sym same) (crypto_none room w fs (inl none))
+
+-- those that wait first are taken, and others behind them
+pub crypto_more : (room left : ℕ) (w w1 w' : SpaceWaiting) (fs fs1 gs : List FrameValue) (offset : ℕ) (body : List ℕ) → StartsWith w.crypto offset body → length body + 17 ≤ room →
+    w1 ≡ record w { crypto = range_sealed offset (offset + length body) w.crypto } → fs1 ≡ fs ++ frames.Crypto offset body ∷ [] → TakesCrypto (room - (length body + 17)) w1 w' fs1 gs left →
+    TakesCrypto room w w' fs gs left
+unfolding without_all without CryptoPart
+crypto_more room left w w1 w' fs fs1 gs offset body starts fits is_w1 is_fs1 takes = record {
+  frames = frames.Crypto offset body ∷ takes.frames;
+  part = (starts, fits, subst (λ (x : SpaceWaiting). CryptoPart x (room - (length body + 17)) takes.frames) is_w1 takes.part);
+  list = takes.list ∙ ap (λ (x : List FrameValue). x ++ takes.frames) is_fs1 ∙ append_assoc fs (frames.Crypto offset body ∷ []) takes.frames;
+  rest = takes.rest ∙ ap (λ (x : SpaceWaiting). without_all x takes.frames) is_w1;
+  behind = takes.behind;
+}
+
+-- the same, of the answers of the calls that take them
+pub crypto_taken : (room len left : ℕ) (w w' : SpaceWaiting) (fs fs1 gs : List FrameValue) (queue : Buffer) (offset : ℕ) (bytes slice body : List ℕ) → 17 < room → StartsWith w.crypto offset bytes → length bytes ≤ room - 17 →
+    queue ≡ range_sealed offset (offset + length bytes) w.crypto → len ≡ length bytes → slice ≡ bytes → body ≡ slice → fs1 ≡ fs ++ frames.Crypto offset body ∷ [] →
+    TakesCrypto (room - (len + 17)) (record w { crypto = queue }) w' fs1 gs left → TakesCrypto room w w' fs gs left
+crypto_taken room len left w w' fs fs1 gs queue offset bytes slice body some starts fits is_queue is_len is_slice is_body is_fs1 takes =
+    crypto_more room left w (record w { crypto = queue }) w' fs fs1 gs offset bytes starts (omega (arith, some, fits)) (ap (λ (x : Buffer). record w { crypto = x }) is_queue)
+    (is_fs1 ∙ ap (λ (x : List ℕ). fs ++ frames.Crypto offset x ∷ []) (is_body ∙ is_slice)) (subst (λ (n : ℕ). TakesCrypto (room - (n + 17)) (record w { crypto = queue }) w' fs1 gs left) is_len takes)
+
+-- no ACK is due, and none is taken
+pub takes_none : (time room : ℕ) (due : Bool) (w w' : SpaceWaiting) (fs gs : List FrameValue) (len : ℕ) → due ≡ false → w' ≡ w → gs ≡ fs → len ≡ 0 → TakesAck time due room w w' fs gs len
+unfolding without_all
+takes_none time room true w w' fs gs len e is_w is_gs is_len = cc
+takes_none time room false w w' fs gs len e is_w is_gs is_len = record { acks = []; part = AckPart.none refl; list = is_gs ∙ sym (append-nil fs); rest = is_w; size = is_len }
+
+-- an ACK is due, and is left out for want of room
+pub takes_left_out : (time room : ℕ) (due : Bool) (w : SpaceWaiting) (fs : List FrameValue) (len : ℕ) (ack : AckValue) → due ≡ true → SaysAck time w ack → len ≡ length (frames_spelling (frames.Ack ack ∷ [])) → room < len →
+    TakesAck time due room w w fs fs 0
+unfolding without_all
+takes_left_out time room false w fs len ack e says is_len long = cc
+takes_left_out time room true w fs len ack e says is_len long = record { acks = []; part = AckPart.left_out ack says (subst (λ (n : ℕ). room < n) is_len long) refl; list = sym (append-nil fs); rest = refl; size = refl }
+
+-- an ACK is due, and is taken
+pub takes_one : (time room : ℕ) (due : Bool) (w w' : SpaceWaiting) (fs gs : List FrameValue) (len : ℕ) (ack : AckValue) → due ≡ true → SaysAck time w ack → len ≤ room → gs ≡ fs ++ frames.Ack ack ∷ [] →
+    w' ≡ record w { acks = ack_sent w.acks } → len ≡ length (frames_spelling (frames.Ack ack ∷ [])) → TakesAck time due room w w' fs gs len
+unfolding without_all without
+takes_one time room false w w' fs gs len ack e says fits is_gs is_w is_len = cc
+takes_one time room true w w' fs gs len ack e says fits is_gs is_w is_len =
+    record { acks = frames.Ack ack ∷ []; part = AckPart.one ack says (subst (λ (n : ℕ). n ≤ room) is_len fits) refl; list = is_gs; rest = is_w; size = is_len }

@@ -1,0 +1,43 @@
+-- Which frames may go: those that wait in a space, over all layers.
+use Rattle.std.specs.Prelude.{◌≡◌, ℕ, true, List, [], ◌∷◌}
+use Rattle.qc_base.specs.declared.side.SpaceId.{SpaceId}
+use Rattle.qc_frame.specs.Frame.{FrameValue}
+use Rattle.qc_frame.specs.declared.frames.FrameOf.TheVariants as frames
+use Rattle.qc_state.specs.Acks.{SaysAck, is_ack_given}
+use Rattle.qc_state.specs.Moves.{Take, state_move}
+use Rattle.qc_state.specs.Spaces.{space_of}
+use Rattle.qc_state.specs.Types.{Types}
+use Rattle.qc_state.specs.View.{View}
+use Rattle.qc_state.specs.Waiting.{StartsWith}
+
+module _ {t : Types} where
+  -- a frame waits in a space at a time: the HANDSHAKE_DONE or the PING that was asked for, an ACK that may be given, or the first CRYPTO
+  -- bytes; a frame of another kind doesn't, until a layer offers it
+  unfoldable pub Waits : (time : ℕ) → View t → SpaceId → FrameValue → Type 0
+  Waits time s id frames.HandshakeDone = (space_of s.waiting.spaces id).done ≡ true
+  Waits time s id frames.Ping = (space_of s.waiting.spaces id).ping ≡ true
+  Waits time s id (frames.Ack ack) = (is_ack_given time s.waiting.bundled (space_of s.waiting.spaces id).acks ≡ true) × SaysAck time (space_of s.waiting.spaces id) ack
+  Waits time s id (frames.Crypto offset body) = StartsWith (space_of s.waiting.spaces id).crypto offset body
+  Waits time s id frames.Padding = ⊥
+  Waits time s id (frames.ResetStream stream code size) = ⊥
+  Waits time s id (frames.StopSending stream code) = ⊥
+  Waits time s id (frames.NewToken token) = ⊥
+  Waits time s id (frames.Stream stream offset fin body) = ⊥
+  Waits time s id (frames.MaxData limit) = ⊥
+  Waits time s id (frames.MaxStreamData stream limit) = ⊥
+  Waits time s id (frames.MaxStreams dir limit) = ⊥
+  Waits time s id (frames.DataBlocked limit) = ⊥
+  Waits time s id (frames.StreamDataBlocked stream limit) = ⊥
+  Waits time s id (frames.StreamsBlocked dir limit) = ⊥
+  Waits time s id (frames.NewConnectionId cid) = ⊥
+  Waits time s id (frames.RetireConnectionId sequence) = ⊥
+  Waits time s id (frames.PathChallenge bits) = ⊥
+  Waits time s id (frames.PathResponse bits) = ⊥
+  Waits time s id (frames.ConnectionClose code type reason) = ⊥
+  Waits time s id (frames.ApplicationClose code reason) = ⊥
+  Waits time s id (frames.Datagram body) = ⊥
+
+  -- each frame waits as its turn comes: those before it were taken, and wait no longer
+  unfoldable pub WaitAll : (time : ℕ) → View t → SpaceId → List FrameValue → Type 0
+  WaitAll time s id [] = Unit {0}
+  WaitAll time s id (f ∷ fs) = Waits time s id f × WaitAll time (state_move (Take id (f ∷ [])) s) id fs

@@ -1,0 +1,45 @@
+-- What waits in a space, over all layers: frames that the waiting group keeps, and those that a layer below offers in its own words;
+-- so far none below does.
+use Rattle.std.specs.Prelude.{Bool, ◌||◌, not, ◌==◌, if◌then◌else◌, Option, None, Some}
+use Rattle.qc_base.specs.declared.side.SpaceId.{SpaceId}
+use Rattle.qc_flight.specs.Packets.{first_of}
+use Rattle.qc_flight.specs.declared.sent.SentPacket.{SentPacket}
+use Rattle.qc_recovery.specs.Steps as recovery
+use Rattle.qc_state.specs.Acks.{is_ack_owed}
+use Rattle.qc_state.specs.Spaces.{space_of}
+use Rattle.qc_state.specs.Types.{Types}
+use Rattle.qc_state.specs.View.{View}
+use Rattle.qc_state.specs.Waiting.{frames_again, ping_asked, probe_spent, wants_here}
+
+module _ {t : Types} where
+  -- a frame waits in the space that elicits an acknowledgement
+  unfoldable pub wants_sending : View t → SpaceId → Bool
+  wants_sending s id = wants_here (space_of s.waiting.spaces id)
+
+  -- something waits there: such a frame, an ACK that is owed, or a probe that is due
+  unfoldable pub waits_in : View t → SpaceId → Bool
+  waits_in s id = wants_sending s id || is_ack_owed (space_of s.waiting.spaces id).acks || not ((space_of s.waiting.spaces id).probes == 0)
+
+  -- the oldest packet of the space that is in flight
+  abbrev pub oldest_in : View t → SpaceId → Option SentPacket
+  oldest_in s id = first_of (recovery.space_of id s.lower.recovery).flight
+
+  -- the frames of a packet wait again in its space, where there is one
+  abbrev pub packet_again : SpaceId → Option SentPacket → View t → View t
+  packet_again id None s = s
+  packet_again id (Some packet) s = record s { waiting = frames_again s.waiting id packet.frames }
+
+  -- a PING waits where no frame does that elicits an acknowledgement
+  unfoldable pub with_ping : SpaceId → View t → View t
+  with_ping id s = if wants_sending s id then s else record s { waiting = ping_asked s.waiting id }
+
+  -- A probe is sent: where no frame waits that elicits an acknowledgement, those of the oldest packet in flight wait again, and where
+  -- it has none, a PING does (RFC 9002, section 6.2.4).
+  unfoldable pub probe_sent : SpaceId → View t → View t
+  probe_sent id s = with_ping id (if wants_sending s id then s else packet_again id (oldest_in s id) s)
+
+  -- a packet is begun in the space: where a probe is due, its frames wait from now on; a datagram that the packet opens spends it
+  unfoldable pub packet_begun : SpaceId → (opens : Bool) → View t → View t
+  packet_begun id opens s =
+      if (space_of s.waiting.spaces id).probes == 0 then s
+      else probe_sent id (if opens then record s { waiting = probe_spent s.waiting id } else s)

@@ -1,0 +1,159 @@
+-- Loss recovery as the fold of its own steps: over moves, and over whole runs (RFC 9002).
+use Rattle.std.specs.Prelude.{◌≡◌, ◌⊎◌, ℕ, Bool, true, false, if◌then◌else◌, List, [], ◌∷◌, ◌++◌, IsPermutation}
+use Rattle.std.specs.List.{list_any}
+use Rattle.qc_base.specs.declared.range_set.NumberRange.{NumberRange}
+use Rattle.qc_base.specs.declared.side.SpaceId.{SpaceId}
+use Rattle.qc_flight.specs.Packets.{Entry}
+use Rattle.qc_flight.specs.declared.sent.SentPacket.{SentPacket}
+use Rattle.qc_frame.specs.Frame.{FrameValue}
+use Rattle.qc_frame.specs.FrameSpelling.{elicits}
+use Rattle.qc_path.specs.declared.controller.Controller.{Ghosts as Control}
+use Rattle.qc_recovery.specs.Calls.{dropped_after}
+use Rattle.qc_recovery.specs.Runs.{in_space}
+use Rattle.qc_recovery.specs.Steps.{After, FiredAfter, ack_after, path_dropped, sent_after, timeout_after}
+use Rattle.qc_recovery.specs.Steps as recovery
+use Rattle.qc_recovery.specs.declared.calls.AckValues.{AckValues}
+use Rattle.qc_recovery.specs.declared.calls.Around.{Around}
+use Rattle.qc_recovery.specs.declared.path.PathData.{PathData}
+use Rattle.qc_recovery.specs.declared.recovery.Recovery.{Recovery}
+use Rattle.qc_state.specs.declared.deeds.Did.{Did}
+use Rattle.qc_state.specs.declared.deeds.Did.TheVariants as did
+use Rattle.qc_state.specs.declared.lower.Lower.{Lower}
+use Rattle.qc_state.specs.Flight.{counts_in_flight, flown_packet, kept_frames}
+use Rattle.qc_state.specs.Moves.{Move, Ack, Fire, Forget, Seal, is_close}
+use Rattle.qc_state.specs.Spaces.{is_space}
+use Rattle.qc_state.specs.Types.{Types, Meaning}
+use Rattle.qc_state.specs.View.{View}
+
+-- ---- recovery's steps
+
+-- what recovery keeps: of the packets, and of the path
+pub record Kept (C : Type 0) : Type 0 where
+  pub recovery : Recovery
+  pub path : PathData C
+
+-- a step of recovery: a packet is in flight from then on, an ACK came, the loss timer fired, or the keys of a space were dropped; of an
+-- ACK and of the timer what they leave
+pub data RecoveryStep (C : Type 0) : Type 0 where
+  Sent : (space : SpaceId) → (number : ℕ) → (packet : SentPacket) → RecoveryStep C
+  Settled : (space : SpaceId) → (after : After C) → RecoveryStep C
+  Fired : (after : FiredAfter C) → RecoveryStep C
+  Dropped : (space : SpaceId) → RecoveryStep C
+
+module _ {C : Type 0} where
+  -- what a step leaves
+  unfoldable pub step_after : RecoveryStep C → Kept C → Kept C
+  step_after (Sent space number packet) k = record k { recovery = sent_after space number packet k.recovery }
+  step_after (Settled space after) k = record { recovery = after.recovery; path = after.path }
+  step_after (Fired after) k = record { recovery = after.recovery; path = after.path }
+  step_after (Dropped space) k = record { recovery = dropped_after space k.recovery; path = path_dropped space k.path }
+
+  -- what steps leave, one after the other
+  abbrev pub steps_after : List (RecoveryStep C) → Kept C → Kept C
+  steps_after [] k = k
+  steps_after (x ∷ xs) k = steps_after xs (step_after x k)
+
+  -- an ACK leaves what recovery makes of it (RFC 9002, appendix A.7)
+  pub record IsSettling (m : Control C) (space : SpaceId) (after : After C) (k : Kept C) : Type 0 where
+    pub now : ℕ
+    pub next : ℕ
+    pub began : ℕ
+    pub ack : AckValues
+    pub ranges : List NumberRange
+    pub around : Around
+    pub is : after ≡ ack_after m now space next began ack ranges around k.recovery k.path
+
+  -- the loss timer leaves what recovery makes of it (RFC 9002, appendix A.9)
+  pub record IsFiring (m : Control C) (after : FiredAfter C) (k : Kept C) : Type 0 where
+    pub now : ℕ
+    pub around : Around
+    pub is : after ≡ timeout_after m now around k.recovery k.path
+
+  -- a step may be made
+  abbrev pub MayStep : Control C → RecoveryStep C → Kept C → Type 0
+  MayStep m (Sent space number packet) k = Unit {0}
+  MayStep m (Settled space after) k = IsSettling m space after k
+  MayStep m (Fired after) k = IsFiring m after k
+  MayStep m (Dropped space) k = Unit {0}
+
+  -- each step may be made as its turn comes
+  abbrev pub AllMay : Control C → List (RecoveryStep C) → Kept C → Type 0
+  AllMay m [] k = Unit {0}
+  AllMay m (x ∷ xs) k = MayStep m x k × AllMay m xs (step_after x k)
+
+  -- the packets of a space that steps put in flight, in order
+  abbrev pub sent_in : SpaceId → List (RecoveryStep C) → List Entry
+  sent_in id [] = []
+  sent_in id (Sent space number packet ∷ xs) = in_space id space ((number, packet) ∷ []) ++ sent_in id xs
+  sent_in id (Settled space after ∷ xs) = sent_in id xs
+  sent_in id (Fired after ∷ xs) = sent_in id xs
+  sent_in id (Dropped space ∷ xs) = sent_in id xs
+
+module _ {C : Type 0} where
+  -- the packets of a space that steps acknowledged, in order
+  abbrev pub acked_in : SpaceId → List (RecoveryStep C) → List Entry
+  acked_in id [] = []
+  acked_in id (Settled space after ∷ xs) = in_space id space after.acked ++ acked_in id xs
+  acked_in id (Sent space number packet ∷ xs) = acked_in id xs
+  acked_in id (Fired after ∷ xs) = acked_in id xs
+  acked_in id (Dropped space ∷ xs) = acked_in id xs
+
+-- ---- which steps a move is
+
+module _ {t : Types} where
+  -- what recovery keeps of a connection
+  abbrev pub kept : View t → Kept t.C
+  kept s = record { recovery = s.lower.recovery; path = s.lower.path }
+
+  -- which of recovery's steps a move is
+  unfoldable pub steps_of : Move t → View t → List (RecoveryStep t.C)
+  steps_of (Seal time id n size fs) s = if s.waiting.close_owed then [] else Sent id n (flown_packet time size fs) ∷ []
+  steps_of (Forget id) s = Dropped id ∷ []
+  steps_of (Ack id n after) s = Settled id after ∷ []
+  steps_of (Fire after) s = Fired after ∷ []
+  steps_of _ s = []
+
+-- ---- what is sealed is in flight
+
+-- what is kept in flight of a packet with these frames: those that are sent again where it is lost, and which numbers an ACK
+-- acknowledged; whether it counts as in flight, and whether it elicits an ACK (RFC 9002, section 2)
+pub record IsKeptOf (fs : List FrameValue) (packet : SentPacket) : Type 0 where
+  pub frames : packet.frames ≡ kept_frames fs
+  pub counted : packet.counted ≡ counts_in_flight fs
+  pub eliciting : packet.ack_eliciting ≡ list_any elicits fs
+
+-- a packet that was sealed is in flight, unless it holds a close
+abbrev pub IsFlown : (number : ℕ) → List FrameValue → List Entry → Type 0
+IsFlown n fs es = ((packet : SentPacket) × (es ≡ (n, packet) ∷ []) × IsKeptOf fs packet) ⊎ ((es ≡ []) × (list_any is_close fs ≡ true))
+
+-- these are the packets in flight of those that deeds sealed in a space, in order
+abbrev pub AreFlown : SpaceId → List Did → List Entry → Type 0
+AreFlown id [] es = es ≡ []
+AreFlown id (did.Sealed space n epoch early fs ∷ ds) es =
+    (front : List Entry) × (rest : List Entry) × (es ≡ in_space id space front ++ rest) × IsFlown n fs front × AreFlown id ds rest
+AreFlown id (_ ∷ ds) es = AreFlown id ds es
+
+module _ {t : Types} where
+  -- From one view to another, between which these deeds were done, recovery made steps: each of them may be made as its turn comes, and
+  -- what recovery keeps is what they leave. And the packets that they put in flight in a space are those that the deeds sealed
+  -- there, but for closes. So whatever holds over any calls of recovery holds over these.
+  pub record Recovers (m : Meaning t) (ds : List Did) (s s' : View t) : Type 0 where
+    pub steps : List (RecoveryStep t.C)
+    pub may : AllMay m.control steps (kept s)
+    pub leads : kept s' ≡ steps_after steps (kept s)
+    pub sent : (id : SpaceId) → AreFlown id ds (sent_in id steps)
+
+-- Of a space, with these packets in flight before and those behind: each that was in flight, or was sealed there since and holds no close,
+-- was acknowledged, or lost, or left with the space as its keys were dropped, or is in flight, and that once.
+pub record SettlesOnce (id : SpaceId) (ds : List Did) (before after : List Entry) : Type 0 where
+  pub sealed : List Entry
+  pub acked : List Entry
+  pub lost : List Entry
+  pub dropped : List Entry
+  pub flown : AreFlown id ds sealed
+  pub once : IsPermutation (before ++ sealed) (acked ++ (lost ++ (dropped ++ after)))
+
+module _ {t : Types} where
+  -- so it is in each space
+  unfoldable pub EachSettlesOnce : List Did → View t → View t → Type 0
+  EachSettlesOnce ds s s' = (id : SpaceId) → SettlesOnce id ds (recovery.space_of id s.lower.recovery).flight (recovery.space_of id s'.lower.recovery).flight

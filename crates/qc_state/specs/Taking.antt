@@ -1,0 +1,63 @@
+-- In which order this end takes frames that wait for a packet, and how many: these are the words of the calls that take, and the
+-- contract of a transmit has none of them.
+use Rattle.std.specs.Prelude.{◌≡◌, ℕ, ◌+◌, ◌-◌, ◌≤◌, Bool, false, ◌⊎◌, if◌then◌else◌, List, [], ◌∷◌, ◌++◌, length, Option}
+use Rattle.qc_frame.specs.Frame.{FrameValue}
+use Rattle.qc_frame.specs.FrameSpelling.{frames_spelling}
+use Rattle.qc_frame.specs.declared.frames.FrameOf.TheVariants as frames
+use Rattle.qc_state.specs.declared.waiting.TheConstants.{CRYPTO_HEAD}
+use Rattle.qc_state.specs.declared.waiting.SpaceWaiting.{SpaceWaiting}
+use Rattle.qc_state.specs.Acks.{AckPart, is_ack_first, is_ack_last}
+use Rattle.qc_state.specs.Waiting.{StartsWith, crypto_waits, without, without_all}
+
+-- the HANDSHAKE_DONE that waits
+unfoldable pub done_part : SpaceWaiting → List FrameValue
+done_part w = if w.done then frames.HandshakeDone ∷ [] else []
+
+-- the PING that waits
+unfoldable pub ping_part : SpaceWaiting → List FrameValue
+ping_part w = if w.ping then frames.Ping ∷ [] else []
+
+-- the HANDSHAKE_DONE and the PING that wait
+unfoldable pub marks_part : SpaceWaiting → List FrameValue
+marks_part w = done_part w ++ ping_part w
+
+-- CRYPTO frames with the bytes that wait first, one behind the other: they fit into the room, and leave less of it than the head of
+-- one more and a byte take, or no byte that waits
+unfoldable pub CryptoPart : SpaceWaiting → (room : ℕ) → List FrameValue → Type 0
+CryptoPart w room [] = (crypto_waits w ≡ false) ⊎ (room ≤ CRYPTO_HEAD)
+CryptoPart w room (frames.Crypto offset body ∷ fs) =
+    StartsWith w.crypto offset body × (length body + CRYPTO_HEAD ≤ room) × CryptoPart (without w (frames.Crypto offset body)) (room - (length body + CRYPTO_HEAD)) fs
+CryptoPart w room (_ ∷ fs) = ⊥
+
+-- how much of the room such CRYPTO frames leave, each counted with the greatest size of its head
+abbrev pub room_behind : (room : ℕ) → (crypto : List FrameValue) → ℕ
+room_behind room [] = room
+room_behind room (frames.Crypto offset body ∷ fs) = room_behind (room - (length body + CRYPTO_HEAD)) fs
+room_behind room (_ ∷ fs) = room_behind room fs
+
+-- The frames that this end takes at a time for a packet with so much room: the HANDSHAKE_DONE, the PING, the ACK that is owed or
+-- joins, the CRYPTO bytes that fit behind them, and an ACK that is only bundled.
+pub record TakenPart (time : ℕ) (bundled : Option ℕ) (w : SpaceWaiting) (room : ℕ) (fs : List FrameValue) : Type 0 where
+  pub acks : List FrameValue
+  pub ack : AckPart time w (room - length (marks_part w)) acks (is_ack_first w.acks)
+  pub crypto : List FrameValue
+  pub part : CryptoPart (without_all w (marks_part w ++ acks)) (room - length (marks_part w) - length (frames_spelling acks)) crypto
+  pub last : List FrameValue
+  pub bundle : AckPart time w (room_behind (room - length (marks_part w) - length (frames_spelling acks)) crypto) last (is_ack_last time bundled w.acks)
+  pub all : fs ≡ marks_part w ++ (acks ++ (crypto ++ last))
+
+-- the ACK was taken where it was due and had room, and put behind other frames; it has so many bytes
+pub record TakesAck (time : ℕ) (due : Bool) (room : ℕ) (w w' : SpaceWaiting) (fs gs : List FrameValue) (len : ℕ) : Type 0 where
+  pub acks : List FrameValue
+  pub part : AckPart time w room acks due
+  pub list : gs ≡ fs ++ acks
+  pub rest : w' ≡ without_all w acks
+  pub size : len ≡ length (frames_spelling acks)
+
+-- CRYPTO frames that fit into the room were taken, and put behind other frames; they leave so much of it
+pub record TakesCrypto (room : ℕ) (w w' : SpaceWaiting) (fs gs : List FrameValue) (left : ℕ) : Type 0 where
+  pub frames : List FrameValue
+  pub part : CryptoPart w room frames
+  pub list : gs ≡ fs ++ frames
+  pub rest : w' ≡ without_all w frames
+  pub behind : left ≡ room_behind room frames

@@ -1,0 +1,221 @@
+//! The frames that are taken for a packet of a space, and in which order.
+
+ghost use Rattle.std.specs.Prelude.{◌≡◌, ◌<◌, ◌^◌, ◌++◌, ◌∷◌, [], true, length, OnOk, IfOk};
+ghost use Rattle.qc_frame.specs.AckRanges.{ArePackets};
+ghost use Rattle.qc_frame.specs.Frame.{ack_map};
+ghost use Rattle.qc_frame.specs.FrameSpelling.{frames_spelling};
+ghost use Rattle.qc_state.specs.Acks.{AckPart, SaysAck, is_ack_first, is_ack_last, is_ack_owed, may_acknowledge, told_count, told_counts};
+ghost use Rattle.qc_frame.specs.declared.frames.FrameOf.TheVariants as frames;
+ghost use Rattle.qc_state.specs.Taking.{TakenPart, TakesAck, TakesCrypto, marks_part};
+ghost use Rattle.qc_state.specs.Waiting.{without_all};
+
+use crate::waiting::{CRYPTO_HEAD, SpaceWaiting};
+use qc_base::Instant;
+use qc_frame::{Ack, EcnCounts, FrameList, FrameOf, OwnedAck, put_frame};
+use qc_path::PendingAcks;
+use std::alloc::{AllocError, Global};
+
+/// Whether there is something to acknowledge, and each number is one of a packet.
+#[tactic(auto, unfolding(crate::specs::Acks::may_acknowledge), using(crate::proofs::AckLemmas::packets_by))]
+fn may_acknowledge(acks: &PendingAcks) -> bool
+    ensures value { result ≡ may_acknowledge acks.now }
+    ensures packets { result ≡ true → ArePackets acks.now.ranges }
+{
+    let ranges = acks.ranges().as_slice();
+    if ranges.is_empty() {
+        return false;
+    }
+    ranges[ranges.len() - 1].last < 1 << 62
+}
+
+/// Whether an ACK is owed.
+#[tactic(auto, unfolding(crate::specs::Acks::is_ack_owed))]
+pub(crate) fn is_ack_owed(acks: &PendingAcks) -> bool
+    ensures { result ≡ is_ack_owed acks.now }
+{
+    let may = may_acknowledge(acks);
+    acks.owes() && may
+}
+
+/// Whether an ACK stands in front of other frames: it is owed, or joins them.
+#[tactic(auto, unfolding(crate::specs::Acks::is_ack_first))]
+fn is_ack_first(acks: &PendingAcks) -> bool
+    ensures value { result ≡ is_ack_first acks.now }
+    ensures packets { result ≡ true → ArePackets acks.now.ranges }
+{
+    let may = may_acknowledge(acks);
+    acks.gives(Instant::from_nanos(0), None) && may
+}
+
+/// Whether an ACK stands behind other frames: it is only bundled with them, which it may be from `bundled` on.
+#[tactic(auto, unfolding(crate::specs::Acks::is_ack_last))]
+fn is_ack_last(acks: &PendingAcks, now: Instant, bundled: Option<Instant>) -> bool
+    ensures value { result ≡ is_ack_last now bundled acks.now }
+    ensures packets { result ≡ true → ArePackets acks.now.ranges }
+{
+    let may = may_acknowledge(acks);
+    let first = acks.gives(now, None);
+    !first && (acks.gives(now, bundled) && may)
+}
+
+/// A count as an ACK tells it.
+fn told_count(count: u64) -> u64
+    ensures value { result ≡ told_count count }
+    ensures most { result < 2 ^ 62 }
+{
+    count.min((1 << 62) - 1)
+}
+
+/// The counts of marks as an ACK tells them: none before a packet of the connection came with a mark.
+fn told_counts(counts: Option<EcnCounts>) -> Option<EcnCounts>
+    ensures { result ≡ told_counts counts }
+{
+    match counts {
+        None => None,
+        Some(counts) => Some(EcnCounts {
+            ect0: told_count(counts.ect0),
+            ect1: told_count(counts.ect1),
+            ce: told_count(counts.ce),
+        }),
+    }
+}
+
+/// The ACK of the numbers to acknowledge in a space at a time. Want of memory is the only refusal.
+#[tactic(auto, using(crate::proofs::AckLemmas::says, crate::proofs::AckLemmas::small_delay))]
+fn ack_of(alloc: Global, now: Instant, space: &SpaceWaiting) -> Result<OwnedAck, AllocError>
+    requires { ArePackets space.now.acks.ranges }
+    ensures { IfOk result (λ ack. SaysAck now space.now (ack_map (λ bytes. bytes.items) ack)) }
+{
+    let delay = space.acks.delay(now);
+    let counts = told_counts(space.marks);
+    match OwnedAck::of_numbers(alloc, space.acks.ranges(), delay, counts)? {
+        Some(ack) => Ok(ack),
+        None => unreachable!(),
+    }
+}
+
+/// How many bytes an ACK has. Want of memory is the only refusal.
+fn ack_len(alloc: Global, ack: &OwnedAck) -> Result<usize, AllocError>
+    ensures { IfOk result (λ n. n ≡ length (frames_spelling (frames.Ack (ack_map (λ bytes. bytes.items) ack.now) ∷ []))) }
+{
+    let mut bytes = Vec::new(alloc);
+    let frame = FrameOf::Ack(Ack {
+        largest: ack.largest,
+        delay: ack.delay,
+        additional: ack.additional.as_slice(),
+        ecn: ack.ecn,
+    });
+    put_frame(&mut bytes, &frame)?;
+    Ok(bytes.len())
+}
+
+/// Takes the ACK, where it is due and has room, and answers how many bytes it has. Want of memory is the only refusal.
+#[tactic(auto, unfolding(crate::specs::Waiting::without_all, crate::specs::Waiting::without))]
+fn take_ack(
+    space: &mut SpaceWaiting,
+    alloc: Global,
+    now: Instant,
+    due: bool,
+    room: usize,
+    frames: &mut FrameList,
+) -> Result<usize, AllocError>
+    requires { due ≡ true → ArePackets space.old.acks.ranges }
+    ensures { IfOk result (λ n. TakesAck now due room space.old space.new frames.old frames.new n) }
+{
+    if !due {
+        return Ok(0);
+    }
+    let ack = ack_of(alloc, now, space)?;
+    let len = ack_len(alloc, &ack)?;
+    if room < len {
+        return Ok(0);
+    }
+    frames.push(FrameOf::Ack(ack))?;
+    space.acks.sent();
+    Ok(len)
+}
+
+/// Takes the HANDSHAKE_DONE and the PING that wait, and answers how many frames that are. Want of memory is the only refusal.
+#[tactic(auto, unfolding(crate::specs::Taking::marks_part, crate::specs::Taking::done_part, crate::specs::Taking::ping_part, crate::specs::Waiting::without_all, crate::specs::Waiting::without))]
+fn take_marks(space: &mut SpaceWaiting, frames: &mut FrameList) -> Result<usize, AllocError>
+    ensures frames { OnOk result (frames.new ≡ frames.old ++ marks_part space.old) }
+    ensures rest { OnOk result (space.new ≡ without_all space.old (marks_part space.old)) }
+    ensures count { IfOk result (λ n. n ≡ length (marks_part space.old)) }
+{
+    let mut count = 0;
+    if space.done {
+        frames.push(FrameOf::HandshakeDone)?;
+        space.done = false;
+        count += 1;
+    }
+    if space.ping {
+        frames.push(FrameOf::Ping)?;
+        space.ping = false;
+        count += 1;
+    }
+    Ok(count)
+}
+
+/// Takes the CRYPTO bytes that wait first, as many as fit, and answers how much of the room they leave. Want of memory is the only
+/// refusal.
+#[tactic(auto, unfolding(crate::specs::Taking::CryptoPart, crate::specs::Waiting::without_all, crate::specs::Waiting::without))]
+fn take_crypto(
+    space: &mut SpaceWaiting,
+    alloc: Global,
+    room: usize,
+    frames: &mut FrameList,
+) -> Result<usize, AllocError>
+    ensures { IfOk result (λ left. TakesCrypto room space.old space.new frames.old frames.new left) }
+{
+    let mut left = room;
+    while left > CRYPTO_HEAD {
+        match space.crypto.take(left - CRYPTO_HEAD)? {
+            None => return Ok(left),
+            Some((offset, bytes)) => {
+                left -= bytes.len() + CRYPTO_HEAD;
+                let body = Vec::from_slice(alloc, bytes.as_slice())?;
+                frames.push(FrameOf::Crypto { offset, body })?;
+            }
+        }
+    }
+    Ok(left)
+}
+
+/// Takes frames that wait at a time for a packet with so much room; an ACK may be bundled with them from `bundled` on. Want of
+/// memory is the only refusal.
+pub(crate) fn take(
+    space: &mut SpaceWaiting,
+    alloc: Global,
+    now: Instant,
+    bundled: Option<Instant>,
+    room: usize,
+) -> Result<FrameList, AllocError>
+    ensures frames { IfOk result (λ frames. TakenPart now bundled space.old room frames) }
+    ensures rest { IfOk result (λ frames. space.new ≡ without_all space.old frames) }
+{
+    let mut frames = FrameList::new(alloc);
+    let first = is_ack_first(&space.acks);
+    let last = is_ack_last(&space.acks, now, bundled);
+    let count = take_marks(space, &mut frames)?;
+    let room = room.saturating_sub(count);
+    let len = take_ack(space, alloc, now, first, room, &mut frames)?;
+    let left = take_crypto(space, alloc, room.saturating_sub(len), &mut frames)?;
+    take_ack(space, alloc, now, last, left, &mut frames)?;
+    Ok(frames)
+}
+
+/// Takes the ACK at a time, where there is something to acknowledge and so much room for it. Want of memory is the only refusal.
+pub(crate) fn ack_alone(
+    space: &mut SpaceWaiting,
+    alloc: Global,
+    now: Instant,
+    room: usize,
+) -> Result<FrameList, AllocError>
+    ensures frames { IfOk result (λ frames. AckPart now space.old room frames (may_acknowledge space.old.acks)) }
+    ensures rest { IfOk result (λ frames. space.new ≡ without_all space.old frames) }
+{
+    let mut frames = FrameList::new(alloc);
+    let due = may_acknowledge(&space.acks);
+    take_ack(space, alloc, now, due, room, &mut frames)?;
+    Ok(frames)
+}
