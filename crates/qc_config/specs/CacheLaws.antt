@@ -45,6 +45,7 @@ puts_of name [] = 0
 puts_of name (Put other token ∷ calls) = (if is_name name other then 1 else 0) + puts_of name calls
 puts_of name (Take other ∷ calls) = puts_of name calls
 
+-- how many of the calls concern another name than this one
 abbrev pub others_in : List ℕ → List CacheCall → ℕ
 others_in name [] = 0
 others_in name (Put other token ∷ calls) = (if is_name name other then 0 else 1) + others_in name calls
@@ -64,6 +65,7 @@ given_to name (Put other token ∷ calls) c = given_to name calls (cache_inserte
 given_to name (Take other ∷ calls) c =
     (if is_name name other then option_to_list (cache_taken c other) else []) ++ given_to name calls (cache_after_take c other)
 
+-- the tokens that the calls bring under one name
 abbrev pub brought_for : List ℕ → List CacheCall → List (List ℕ)
 brought_for name [] = []
 brought_for name (Put other token ∷ calls) = (if is_name name other then token ∷ [] else []) ++ brought_for name calls

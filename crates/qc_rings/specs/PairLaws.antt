@@ -78,28 +78,35 @@ HearKeepsStep = (a b : End) (number : ℕ) → number < start b → AreInStep a 
 abbrev pub FirstCounts : Type 0
 FirstCounts = Counts first_end
 
+-- ... as it seals a packet.
 abbrev pub SealKeepsCounts : Type 0
 SealKeepsCounts = (e : End) (number : ℕ) (carried : List ℕ) → e.next ≤ number → Counts e → Counts (end_seals e number carried)
 
+-- ... as it updates its keys.
 abbrev pub UpdateKeepsCounts : Type 0
 UpdateKeepsCounts = (e : End) → e.ring.epoch + 1 < 2 ^ 64 → Counts e → Counts (end_updated e)
 
+-- ... as it opens a packet that the other end ever sealed.
 abbrev pub OpenKeepsCounts : Type 0
 OpenKeepsCounts =
     (a b : End) (which : Which) (index : ℕ) (p : Packet) → a.ring.epoch + 1 < 2 ^ 64 → slice_get b.sent index ≡ Some p
     → is_of_epoch a.ring which p.epoch ≡ true → AreInStep a b → Counts a → Counts (end_noted a which p.number)
 
+-- ... as a number is acknowledged that lies below the bound of what some packet of the other end carries.
 abbrev pub AckKeepsCounts : Type 0
 AckKeepsCounts =
     (a b : End) (index : ℕ) (p : Packet) (number : ℕ) → slice_get b.sent index ≡ Some p → number < bound p.carried → AreInStep a b
     → Counts a → Counts (end_acked a number)
 
+-- ... as it gives up its previous keys.
 abbrev pub DiscardKeepsCounts : Type 0
 DiscardKeepsCounts = (e : End) → Counts e → Counts (end_discarded e)
 
+-- ... as it passes over numbers before it sealed anything in its epoch.
 abbrev pub RiseKeepsCounts : Type 0
 RiseKeepsCounts = (e : End) (number : ℕ) → e.next ≤ number → e.ring.first ≡ None → Counts e → Counts (end_risen e number)
 
+-- ... as it opens a packet by keys of no epoch.
 abbrev pub HearKeepsCounts : Type 0
 HearKeepsCounts = (e : End) (number : ℕ) → Counts e → Counts (end_heard e number)
 

@@ -45,5 +45,6 @@ first_dropped q = record q { items = drop 1 q.items }
 abbrev pub put_by_if : Bool → EventQueue → EventQueue
 put_by_if needs q = if needs then place_put_by q else q
 
+-- the same, where there is one
 abbrev pub given_up_if : Bool → EventQueue → EventQueue
 given_up_if has q = if has then place_given_up q else q

@@ -17,13 +17,15 @@ use Rattle.qc_streams.specs.Waits.{Step, MarksFiled, after, after_step}
 abbrev pub bytes_wait : StreamsState → ℕ → Bool
 bytes_wait s id = (dues_at (record_of id s.records)).bytes
 
--- whether it owes a RESET_STREAM, a STOP_SENDING, a MAX_STREAM_DATA
+-- whether it owes a RESET_STREAM
 abbrev pub reset_waits : StreamsState → ℕ → Bool
 reset_waits s id = (dues_at (record_of id s.records)).reset
 
+-- whether it owes a STOP_SENDING
 abbrev pub stop_waits : StreamsState → ℕ → Bool
 stop_waits s id = (dues_at (record_of id s.records)).stop
 
+-- whether it owes a MAX_STREAM_DATA
 abbrev pub credit_waits : StreamsState → ℕ → Bool
 credit_waits s id = (dues_at (record_of id s.records)).credit
 
