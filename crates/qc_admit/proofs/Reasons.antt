@@ -1,5 +1,5 @@
 -- The reason for the end that was given since.
-use Rattle.std.proofs.Common.{◌≡◌, Bool, false, if◌then◌else◌, ap, sym, ◌∙◌, Option, None, Some}
+use Rattle.std.proofs.Common.{◌≡◌, Bool, false, if◌then◌else◌, ap, sym, ◌∙◌, None, Some}
 use Rattle.qc_state.specs.declared.life.ConnectionError.{ConnectionError}
 use Rattle.qc_state.specs.Types.{Types}
 use Rattle.qc_state.specs.View.{Held}

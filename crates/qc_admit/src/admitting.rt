@@ -120,7 +120,7 @@ fn read_for_close<U: Suite>(
 {
     core.do_enter(did, space, number, Verdict::ReadForClose)?;
     if holds_close(payload) {
-        return core.do_drain(did);
+        return core.do_peer_closes_too(did);
     }
     core.do_owe();
     Ok(())

@@ -42,7 +42,7 @@ pub(crate) fn left<U: Suite>(
     if !core.life.is_open() {
         return Ok(());
     }
-    core.do_leave(did, now)?;
+    core.do_peer_closes(did, now)?;
     core.give(did, why)
 }
 

@@ -1,13 +1,13 @@
 -- A token that isn't pushed out is given, the oldest first
-use Rattle.std.proofs.Common.{◌≡◌, ℕ, zero, suc, ◌+◌, ◌-◌, ◌<◌, ◌≤◌, ◌⊎◌, inl, inr, Bool, true, false, cond, List, [], ◌∷◌, ◌++◌, Option, Some, None, Contains, length, take, drop, slice_get, replicate, nat_le, option_to_list, arith, refl, sym, ap, subst, ◌∙◌, append_assoc, length-append, if◌then◌else◌}
+use Rattle.std.proofs.Common.{◌≡◌, ℕ, zero, suc, ◌+◌, ◌-◌, ◌<◌, ◌≤◌, ◌⊎◌, inl, inr, true, false, cond, List, [], ◌∷◌, ◌++◌, Option, Some, None, Contains, length, take, drop, slice_get, replicate, nat_le, option_to_list, arith, refl, sym, ap, subst, ◌∙◌, append_assoc, length-append, if◌then◌else◌}
 use Rattle.std.proofs.lemmas.Bool.Decides.{nat_tests}
 use Rattle.std.proofs.lemmas.List.{length_push, length-drop}
-use Rattle.std.proofs.lemmas.List.Elements.{Contains-append_left, Contains-append_right}
-use Rattle.std.specs.Map.{lookup, remove_entry}
+use Rattle.std.proofs.lemmas.List.Elements.{Contains-append_right}
+use Rattle.std.specs.Map.{remove_entry}
 use Rattle.std.specs.Option.{option_and_then}
 use Rattle.std.specs.Cmp.Lexicographic.{bytes_decides}
 use Rattle.qc_config.specs.TokenCache.{CacheValues, HaveTokens, cache_after_take, cache_inserted, cache_taken, empty_cache, entries_with, entries_without, holds_nothing, is_name, oldest_of, others, pushed, queue_of, with_token, without_token}
-use Rattle.qc_config.specs.CacheLaws.{CacheCall, GivesInOrder, GivesKept, IsPart, Put, Take, brought_for, cache_after, cache_run, given_of, given_to, named, others_in, puts_of}
+use Rattle.qc_config.specs.CacheLaws.{CacheCall, GivesInOrder, GivesKept, IsPart, Put, Take, brought_for, cache_run, given_of, given_to, named, others_in, puts_of}
 use Rattle.qc_config.proofs.CacheEntries.{found_has, pushed_size, with_tokens, without_tokens}
 
 abbrev Entries : Type 0

@@ -1,5 +1,5 @@
 -- In a connection that was just made the life is open, and no close is owed.
-use Rattle.std.proofs.Common.{◌≡◌, ℕ, ◌≤◌, ◌<◌, List, Bool, true, false, refl, ap, sym, subst, arith}
+use Rattle.std.proofs.Common.{◌≡◌, ℕ, ◌≤◌, ◌<◌, List, Bool, sym, subst, arith}
 use Rattle.rand_core.specs.Stream.{Stream}
 use Rattle.std.specs.declared.net.SocketAddr.{SocketAddr}
 use Rattle.qc_recovery.specs.TransportValues.{TransportValues}

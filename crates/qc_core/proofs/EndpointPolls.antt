@@ -1,6 +1,6 @@
 -- The events that the endpoint asks for one by one.
 use Rattle.std.proofs.Common.{◌≡◌, List, [], ◌∷◌, ◌++◌, length, refl, sym, ◌∙◌, Bool, true, false, Option, Some, None, if◌then◌else◌, arith}
-use Rattle.std.specs.Prelude.{◌==◌, not, is_some, option_to_list, slice_get}
+use Rattle.std.specs.Prelude.{◌==◌, is_some, option_to_list, slice_get}
 use Rattle.qc_state.specs.declared.events.EndpointEvent.{EndpointEvent}
 use Rattle.qc_state.specs.declared.events.EndpointEvent.TheVariants as endpoint
 use Rattle.qc_state.specs.Life.{drained_event, first_notice}

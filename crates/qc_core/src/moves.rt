@@ -12,7 +12,7 @@ ghost use Rattle.qc_frame.specs.FrameSpelling.{elicits};
 ghost use Rattle.qc_frame.specs.declared.frames.FrameOf.TheVariants as frames;
 ghost use Rattle.std.specs.List.{list_any};
 ghost use Rattle.qc_state.specs.Flight.{flown_packet};
-ghost use Rattle.qc_state.specs.Moves.{Clock, Ask, Take, Forget, Expect, Enter, Fail, Accept, Fix, Hear, Ack, Fire, Arm, Come, Pace, Ready, Release, Skip, Token, Learn, Want, Confirm, Establish, Tell, Drain, Leave, Owe, Shut, Raise, Give, Finish, Say, ReportReady, ReportConnected, ReportLost, ReportNotice, ReportNotices, ReportDrained, move_to, state_move, tells_congestion};
+ghost use Rattle.qc_state.specs.Moves.{Clock, Ask, Take, Forget, Expect, Enter, Fail, Accept, Fix, Hear, Ack, Fire, Arm, Come, Pace, Ready, Release, Skip, Token, Learn, Want, Confirm, Establish, Tell, PeerClosesToo, PeerCloses, Owe, Shut, Raise, Give, Finish, Say, ReportReady, ReportConnected, ReportLost, ReportNotice, ReportNotices, ReportDrained, move_to, state_move, tells_congestion};
 ghost use Rattle.qc_base.specs.declared.side.SpaceId.TheVariants.{«Data»};
 ghost use Rattle.qc_state.specs.Numbers.{is_skipped};
 ghost use Rattle.qc_state.specs.Recovering.{fired_by, probe_timeout_now, settled_by};
@@ -390,16 +390,16 @@ impl<U: Suite> Core<U> {
     }
 
     /// The peer closed as well.
-    pub fn do_drain(&mut self, did: &mut Dids) -> Result<(), AllocError>
-        ensures { OnOk result ((held U.Random.stream self.new did.new) ≡ move_to Drain (held U.Random.stream self.old did.old)) }
+    pub fn do_peer_closes_too(&mut self, did: &mut Dids) -> Result<(), AllocError>
+        ensures { OnOk result ((held U.Random.stream self.new did.new) ≡ move_to PeerClosesToo (held U.Random.stream self.old did.old)) }
     {
         self.life.drain();
         did.push_rose(3)
     }
 
     /// The peer closed.
-    pub fn do_leave(&mut self, did: &mut Dids, now: Instant) -> Result<(), AllocError>
-        ensures { OnOk result ((held U.Random.stream self.new did.new) ≡ move_to (Leave now) (held U.Random.stream self.old did.old)) }
+    pub fn do_peer_closes(&mut self, did: &mut Dids, now: Instant) -> Result<(), AllocError>
+        ensures { OnOk result ((held U.Random.stream self.new did.new) ≡ move_to (PeerCloses now) (held U.Random.stream self.old did.old)) }
     {
         let probe = self.probe_timeout(self.keys.highest);
         self.life.drain();

@@ -2,13 +2,11 @@
 use Rattle.std.proofs.Common.{◌≡◌, ℕ, ◌+◌, ◌<◌, ◌≤◌, List, [], ◌∷◌, ◌++◌, length, take, drop, refl, ap, sym, ◌∙◌, subst, Bool, true, false, Option, Some, None, arith}
 use Rattle.std.proofs.lemmas.Bool.Decides.{nat_tests}
 use Rattle.std.proofs.lemmas.List.{take-append-drop, take_at, length-take-le, length-drop}
-use Rattle.std.specs.Prelude.{◌&&◌, ◌-◌, ◌/◌, ◌%◌, ◌==◌, nat_lt, cond, if◌then◌else◌, Result, Ok}
-use Rattle.std.specs.Global.{Global}
-use Rattle.bytes.specs.declared.unique.BytesMut.{BytesMut}
+use Rattle.std.specs.Prelude.{◌&&◌, ◌-◌, ◌/◌, ◌%◌, ◌==◌, nat_lt, cond, if◌then◌else◌, Ok}
 use Rattle.qc_base.specs.Mask.{first_byte, number_len_in, unmasked}
 use Rattle.qc_base.specs.Time.{plus}
 use Rattle.qc_base.specs.declared.packet_number.PacketNumber.{PacketNumber}
-use Rattle.qc_receive.specs.Cutting.{Cuts, front_of, others_of, rest_of}
+use Rattle.qc_receive.specs.Cutting.{Cuts, front_of}
 use Rattle.qc_receive.specs.Short.{short_in}
 use Rattle.qc_receive.specs.declared.receiving.Cutting.{Cutting}
 use Rattle.qc_receive.proofs.Behind.{heard_is}
@@ -18,7 +16,6 @@ use Rattle.qc_header.specs.HeaderReading.{piece_at}
 use Rattle.qc_header.specs.Piece.{Piece}
 use Rattle.qc_header.specs.Unprotected.{header_from}
 use Rattle.qc_header.specs.declared.header.Header.TheVariants as header
-use Rattle.qc_header.specs.declared.protected.PacketDecodeError.{PacketDecodeError}
 use Rattle.qc_header.specs.declared.protected.ProtectedHeader.TheVariants.{Short}
 use Rattle.qc_header.proofs.Datagrams.{pieces_none}
 use Rattle.qc_header.proofs.ReadHeaders.{short_piece}

@@ -35,7 +35,7 @@ use Rattle.rand_core.specs.Stream.{Stream}
 use Rattle.qc_run.specs.Words.{words_named, words_of}
 use Rattle.qc_run.specs.declared.random.ScriptRandom.{ScriptRandom}
 use Rattle.std.specs.declared.net.socket_addr.SocketAddr.{SocketAddr}
-use Rattle.qc_run.specs.RunText.{IsScriptAddress, IsAddressOf, IsScriptEnd, IsToyRun, IsToyRefusal, IsToldRun, IsRefusalTold, Sessions, client_session, server_session, script_client, script_server, view_for, local_of, remote_of, first_of, token_of, start_of, transport_of, INITIAL_WINDOW, toy}
+use Rattle.qc_run.specs.RunText.{IsAddressOf, IsScriptEnd, IsToyRun, IsToyRefusal, IsToldRun, IsRefusalTold, Sessions, client_session, server_session, script_client, script_server, view_for, local_of, remote_of, first_of, token_of, start_of, transport_of, INITIAL_WINDOW, toy}
 
 -- its trace, as a text
 toy_run_of : (s : Sessions) (h : HeaderMaskGhosts ToyHeaderKey) (p : PacketKeyGhosts ToyPacketKey) (c : ControllerGhosts Reno) (set : Settings) (end : Seen toy ScriptRandom) (inputs : List Input) (steps : List Step) (last : View toy) (text : List ℕ)

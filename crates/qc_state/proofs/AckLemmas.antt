@@ -16,7 +16,7 @@ use Rattle.qc_frame.specs.declared.frames.EcnCounts.{EcnCounts}
 use Rattle.qc_frame.specs.declared.frames.FrameOf.TheVariants as frames
 use Rattle.qc_frame.proofs.RangesUp.{packets_there}
 use Rattle.qc_path.specs.Acks.{PendingValues, ack_delay, gives_ack, has_come_by, is_clear, joins_ack, owes_ack}
-use Rattle.qc_state.specs.Acks.{AckPart, SaysAck, greatest_number, is_ack_first, is_ack_given, is_ack_last, is_ack_owed, may_acknowledge, told_count, told_counts}
+use Rattle.qc_state.specs.Acks.{AckPart, SaysAck, greatest_number, is_ack_first, is_ack_given, is_ack_last, is_ack_owed, may_acknowledge, told_counts}
 use Rattle.qc_state.specs.declared.waiting.SpaceWaiting.{SpaceWaiting}
 
 -- ranges whose last number is one of a packet are ranges of packet numbers

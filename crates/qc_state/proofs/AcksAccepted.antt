@@ -1,7 +1,6 @@
 -- Each number that a run acknowledges is that of a packet which was accepted before.
 use Rattle.std.proofs.Common.{◌≡◌, ℕ, ◌+◌, ◌-◌, ◌⊎◌, inl, inr, List, [], ◌∷◌, ◌++◌, length, take, refl, ap, sym, ◌∙◌, subst, Bool, true, false, Option, Some, None, if◌then◌else◌, append_assoc, append-nil}
 use Rattle.std.specs.List.{list_any}
-use Rattle.std.specs.declared.net.SocketAddr.{SocketAddr}
 use Rattle.qc_base.specs.RangeSet.{Member}
 use Rattle.qc_base.specs.declared.ecn.EcnCodepoint.{EcnCodepoint}
 use Rattle.qc_base.specs.declared.side.SpaceId.{SpaceId}
@@ -22,7 +21,7 @@ use Rattle.qc_state.specs.declared.waiting.SpaceWaiting.{SpaceWaiting}
 use Rattle.qc_state.specs.declared.waiting.Waiting.{Waiting}
 use Rattle.qc_state.specs.Headline.{deeds_of, KnownBehind, AcksOnly, SealsKnown, AcksKnown, IsKept, EachAcksKnown}
 use Rattle.qc_state.specs.Life.{is_open}
-use Rattle.qc_state.specs.Moves.{Move, Clock, Ask, Take, Seal, Forget, Enter, Expect, Fail, Accept, Fix, Hear, Ack, Fire, Arm, Pace, Release, Begin, Skip, Come, Read, Write, Ready, Token, Learn, Want, Confirm, Establish, Tell, Drain, Leave, Owe, Shut, Raise, Give, Say, ReportReady, ReportConnected, ReportLost, ReportNotice, ReportNotices, ReportDrained, accepts, state_move, move_to, deeds_move, waiting_move, numbers_move, keys_move, life_move, MayMove, IsTold, told, arrival_of, Finish}
+use Rattle.qc_state.specs.Moves.{Move, Clock, Ask, Take, Seal, Forget, Enter, Expect, Fail, Accept, Fix, Hear, Ack, Fire, Arm, Pace, Release, Begin, Skip, Come, Read, Write, Ready, Token, Learn, Want, Confirm, Establish, Tell, PeerClosesToo, PeerCloses, Owe, Shut, Raise, Give, Say, ReportReady, ReportConnected, ReportLost, ReportNotice, ReportNotices, ReportDrained, accepts, state_move, move_to, deeds_move, waiting_move, numbers_move, keys_move, life_move, MayMove, IsTold, told, arrival_of, Finish}
 use Rattle.qc_state.specs.Numbers.{next_number}
 use Rattle.qc_state.specs.Offers.{packet_begun}
 use Rattle.qc_state.proofs.Probed.{begun_holds}
@@ -245,8 +244,8 @@ module _ {t : Types} where
   knows_move id Confirm a h k = silent_knows id Confirm a refl (same_kept id «Data» a.state.waiting _ refl)
   knows_move id Establish a h k = deed_knows id Establish _ a refl tt (λ n m. m)
   knows_move id (Tell d) a h k = tell_knows id d a h
-  knows_move id Drain a h k = deed_knows id Drain _ a refl tt (λ n m. m)
-  knows_move id (Leave time) a h k = deed_knows id (Leave time) _ a refl tt (λ n m. m)
+  knows_move id PeerClosesToo a h k = deed_knows id PeerClosesToo _ a refl tt (λ n m. m)
+  knows_move id (PeerCloses time) a h k = deed_knows id (PeerCloses time) _ a refl tt (λ n m. m)
   knows_move id Owe a h k = silent_knows id Owe a refl (begun_kept id a.state.waiting a.state.waiting.close_owed)
   knows_move id (Shut time close) a h k = deed_knows id (Shut time close) _ a refl tt (begun_kept id a.state.waiting a.state.waiting.close_owed)
   knows_move id (Raise to) a h k = deed_knows id (Raise to) _ a refl tt (λ n m. m)
@@ -283,8 +282,8 @@ module _ {t : Types} where
   received_knows Confirm s r = tt
   received_knows Establish s r = tt
   received_knows (Tell d) s r = tt
-  received_knows Drain s r = tt
-  received_knows (Leave time) s r = tt
+  received_knows PeerClosesToo s r = tt
+  received_knows (PeerCloses time) s r = tt
   received_knows Owe s r = tt
   received_knows (Shut time close) s r = tt
   received_knows (Raise to) s r = tt

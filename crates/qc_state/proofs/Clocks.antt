@@ -1,8 +1,6 @@
 -- Behind each call that takes a time, the greatest time is the greater of that one and of the one before: it never falls.
 use Rattle.std.proofs.Common.{◌≡◌, ℕ, List, ◌∷◌, refl, ap, ◌∙◌, Bool, true, false, if◌then◌else◌, Option, Ok}
 use Rattle.std.specs.Prelude.{max}
-use Rattle.std.specs.declared.net.SocketAddr.{SocketAddr}
-use Rattle.qc_base.specs.declared.ecn.EcnCodepoint.{EcnCodepoint}
 use Rattle.qc_base.specs.declared.side.SpaceId.TheVariants.{Initial}
 use Rattle.qc_header.specs.HeaderGrammar.{DatagramItem}
 use Rattle.qc_header.specs.Piece.{Piece}

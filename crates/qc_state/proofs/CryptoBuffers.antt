@@ -1,5 +1,5 @@
 -- The bytes of a CRYPTO stream as they are written, sealed and lost: which of them are kept, and which wait.
-use Rattle.std.proofs.Common.{◌≡◌, ℕ, zero, suc, ◌+◌, ◌<◌, ◌≤◌, ◌⊎◌, inl, inr, List, [], ◌∷◌, ◌++◌, length, refl, ap, sym, ◌∙◌, subst, Bool, true, false, if◌then◌else◌, nat_lt, nat_le, ◌==◌, arith}
+use Rattle.std.proofs.Common.{◌≡◌, ℕ, suc, ◌+◌, ◌<◌, ◌≤◌, ◌⊎◌, List, [], ◌∷◌, ◌++◌, length, refl, ap, sym, ◌∙◌, subst, Bool, true, false, if◌then◌else◌, nat_lt, nat_le, ◌==◌, arith}
 use Rattle.std.specs.Prelude.{◌&&◌, ◌||◌, min, max}
 use Rattle.std.specs.List.{list_any}
 use Rattle.std.proofs.lemmas.Bool.Decides.{nat_tests}
@@ -7,7 +7,7 @@ use Rattle.std.proofs.lemmas.List.Folds.{list_any-append}
 use Rattle.qc_flight.specs.Packets.{Entry}
 use Rattle.qc_frame.specs.Frame.{FrameValue}
 use Rattle.qc_frame.specs.declared.frames.FrameOf.TheVariants as frames
-use Rattle.qc_send_stream.specs.Buffer.{Buffer, Kept, bytes_written, discarded, lies_in, marked, range_lost, range_sealed, row, sent_with}
+use Rattle.qc_send_stream.specs.Buffer.{Buffer, Kept, bytes_written, lies_in, marked, range_lost, range_sealed, row, sent_with}
 use Rattle.qc_state.specs.declared.waiting.SpaceWaiting.{SpaceWaiting}
 use Rattle.qc_state.specs.CryptoLaws.{BytesHold, carries, is_awaited, is_carried, is_kept, is_lost}
 use Rattle.qc_state.specs.Flight.{kept_frames, kept_of}

@@ -1,5 +1,5 @@
 -- What holds of the moves by which this end leaves a space, sets its loss timer, or closes, holds of the ways in which it does so.
-use Rattle.std.proofs.Common.{◌≡◌, ℕ, ◌<◌, refl, Bool, true, false, Option, None, if◌then◌else◌}
+use Rattle.std.proofs.Common.{◌≡◌, ℕ, ◌<◌, refl, Bool, true, false, None, if◌then◌else◌}
 use Rattle.std.specs.Prelude.{is_none}
 use Rattle.qc_base.specs.declared.side.Side.{Side}
 use Rattle.qc_base.specs.declared.side.SpaceId.{SpaceId}

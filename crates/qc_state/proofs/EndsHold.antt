@@ -1,13 +1,10 @@
 -- Over a run the timers stand as the life has it, and a close is owed only where an end has closed.
 use Rattle.std.proofs.Common.{◌≡◌, ℕ, ◌+◌, ◌<◌, ◌≤◌, List, [], ◌∷◌, refl, ap, sym, ◌∙◌, subst, Bool, true, false, Option, Some, None, if◌then◌else◌, arith}
-use Rattle.std.specs.Prelude.{◌&&◌, is_none, is_some, not}
+use Rattle.std.specs.Prelude.{◌&&◌, is_none, is_some}
 use Rattle.std.specs.List.{list_any}
 use Rattle.qc_base.specs.declared.side.SpaceId.{SpaceId}
 use Rattle.qc_frame.specs.Frame.{FrameValue}
 use Rattle.qc_frame.specs.FrameSpelling.{elicits}
-use Rattle.qc_path.specs.Acks.{next_bundle}
-use Rattle.qc_path.specs.Arrived.{arrived}
-use Rattle.qc_path.specs.RoundTrips.{estimate}
 use Rattle.qc_recovery.specs.declared.calls.Fired.{Fired}
 use Rattle.qc_recovery.specs.declared.calls.Fired.TheVariants as fired
 use Rattle.qc_state.specs.declared.input.Input.{Input}
@@ -20,16 +17,15 @@ use Rattle.qc_state.specs.declared.trace.Step.{Step}
 use Rattle.qc_state.specs.declared.waiting.Waiting.{Waiting}
 use Rattle.qc_state.specs.Acks.{is_ack}
 use Rattle.qc_state.specs.EndLaws.{EndHolds, Ends, NoTimer}
-use Rattle.qc_state.specs.Keys.{NewKeys}
 use Rattle.qc_state.specs.Life.{connected_reported, data_ready, drained_reported, identifiers_wanted, is_closed, is_drained, is_open, life_closed, life_drained, life_established, life_raised, lost_reported, rank_of, ready_reported, reason_given, token_learned, notice_reported, notices_reported}
-use Rattle.qc_state.specs.Moves.{Accept, Ack, Arm, Ask, Begin, Clock, Come, Confirm, Drain, Enter, Establish, Expect, Fail, Finish, Fire, Fix, Forget, Give, Hear, IsArmed, Learn, Leave, MayMove, Move, Owe, Pace, Raise, Read, Ready, Release, ReportConnected, ReportDrained, ReportLost, ReportReady, ReportNotice, ReportNotices, Say, Seal, Shut, Skip, Take, Tell, Token, Want, Write, keys_move, life_move, move_to, numbers_move, state_move, timers_move, waiting_move}
+use Rattle.qc_state.specs.Moves.{Accept, Ack, Arm, Ask, Begin, Clock, Come, Confirm, PeerClosesToo, Enter, Establish, Expect, Fail, Finish, Fire, Fix, Forget, Give, Hear, IsArmed, Learn, PeerCloses, MayMove, Move, Owe, Pace, Raise, Read, Ready, Release, ReportConnected, ReportDrained, ReportLost, ReportReady, ReportNotice, ReportNotices, Say, Seal, Shut, Skip, Take, Tell, Token, Want, Write, keys_move, life_move, move_to, numbers_move, state_move, timers_move, waiting_move}
 use Rattle.qc_state.specs.Numbers.{next_number}
 use Rattle.qc_state.specs.Offers.{packet_begun}
 use Rattle.qc_state.specs.Recovering.{loss_time, probe_timeout_now}
 use Rattle.qc_state.specs.Run.{IsStep, Run, began, called, input_after, reported, step_after, time_of}
 use Rattle.qc_state.specs.Sending.{packet_size}
 use Rattle.qc_state.specs.Setup.{idle_limit_now}
-use Rattle.qc_state.specs.Timers.{clock_set, timers_accepted, timers_acking, timers_armed, timers_closing, timers_holding, timers_paced, timers_released, timers_sealed, timers_stopped}
+use Rattle.qc_state.specs.Timers.{clock_set, timers_acking, timers_armed, timers_closing, timers_paced, timers_released, timers_sealed, timers_stopped}
 use Rattle.qc_state.specs.Types.{Types, Meaning}
 use Rattle.qc_state.specs.View.{View, At}
 use Rattle.qc_state.specs.Waiting.{ack_released, bundle_next, close_begun, crypto_written, done_asked, fired_in, packet_came, packet_told, packets_acked, frames_again, packets_lost, ping_asked, probe_spent, probes_added, space_left, waiting_without}
@@ -198,12 +194,12 @@ module _ {t : Types} where
     owed = λ e. let shut : is_open a.state.life.state ≡ false = h.owed e in let opened : is_open a.state.life.state ≡ true = low_open a.state.life.state may in absurd cc;
   }
   move_keeps (Tell d) r a may = λ h. h
-  move_keeps Drain r a may = λ h. record {
+  move_keeps PeerClosesToo r a may = λ h. record {
     closing = λ low high. let two : rank_of a.state.life.state ≡ 2 = closed_two a.state.life.state may in h.closing (omega (arith, two)) (omega (arith, two));
     ended = λ d. absurd cc;
     owed = λ e. refl;
   }
-  move_keeps (Leave time) r a may = λ h. record { closing = λ low high. refl; ended = λ d. absurd cc; owed = λ e. refl }
+  move_keeps (PeerCloses time) r a may = λ h. record { closing = λ low high. refl; ended = λ d. absurd cc; owed = λ e. refl }
   move_keeps Owe r a may = λ h. record { closing = h.closing; ended = h.ended; owed = λ e. may }
   move_keeps (Shut time close) r a may = λ h. record { closing = λ low high. refl; ended = λ d. absurd cc; owed = λ e. refl }
   move_keeps (Raise to) r a may = λ h. subst (λ (x : State). EndHolds x (timers_stopped a.state.timers) a.state.waiting.close_owed) (sym r)

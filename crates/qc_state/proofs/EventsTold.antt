@@ -18,7 +18,7 @@ use Rattle.qc_state.specs.declared.trace.Step.{Step}
 use Rattle.qc_state.specs.EventLaws.{EachTells, OnlyDoneWaits, TellsDone, TellsOnce, Untold, all_told, connections_in, endpoint_events_of, ends_in, events_of, losses_in, once, rises_to, untold_of}
 use Rattle.qc_state.specs.Headline.{LifeRises, LosesOnce, RisesFrom, deeds_of, lives_in, reasons_in}
 use Rattle.qc_state.specs.Life.{connected_event, connected_reported, data_ready, drained_event, drained_reported, event_if, identifiers_wanted, is_drained, life_closed, life_drained, life_established, life_raised, lost_event, lost_reported, rank_of, ready_event, ready_reported, reason_given, token_learned, notices_reported}
-use Rattle.qc_state.specs.Moves.{IsTold, MayMove, Move, Accept, Clock, Drain, Enter, Establish, Give, Leave, Raise, Ready, ReportConnected, ReportDrained, ReportLost, ReportReady, ReportNotice, ReportNotices, Say, Seal, Shut, Tell, Token, Want, deeds_move, life_move, move_to, state_move}
+use Rattle.qc_state.specs.Moves.{IsTold, MayMove, Move, Accept, Clock, PeerClosesToo, Enter, Establish, Give, PeerCloses, Raise, Ready, ReportConnected, ReportDrained, ReportLost, ReportReady, ReportNotice, ReportNotices, Say, Seal, Shut, Tell, Token, Want, deeds_move, life_move, move_to, state_move}
 use Rattle.qc_state.specs.Polls.{endpoint_events, waiting_events}
 use Rattle.qc_state.specs.Run.{IsStep, Ran, Run, began, called, input_after, reported, step_after, time_of}
 use Rattle.qc_state.specs.Types.{Types, Meaning}
@@ -174,8 +174,8 @@ module _ {t : Types} where
   life_waits (Want time count) s r h w = record { done = record { lost = w.lost; connected = w.connected; drained = w.drained; notices = one_notice s.life.notices (endpoint.NeedIdentifiers time count) refl w.notices }; lost = sym (append-nil (option_to_list s.life.lost)); connected = omega arith; drained = omega arith }
   life_waits Establish s r h w = established_waits s.life h w
   life_waits (Shut time close) s r h w = passed_waits 2 s.life (life_closed s.life close) refl refl (omega (arith, h)) (omega arith) refl refl refl refl refl w
-  life_waits (Leave time) s r h w = passed_waits 3 s.life (life_drained s.life) refl refl (omega (arith, h)) (omega arith) refl refl refl refl refl w
-  life_waits Drain s r h w = passed_waits 3 s.life (life_drained s.life) refl refl (let low : rank_of s.life.state < 3 = closed_rank s.life.state h in omega (arith, low)) (omega arith) refl refl refl refl refl w
+  life_waits (PeerCloses time) s r h w = passed_waits 3 s.life (life_drained s.life) refl refl (omega (arith, h)) (omega arith) refl refl refl refl refl w
+  life_waits PeerClosesToo s r h w = passed_waits 3 s.life (life_drained s.life) refl refl (let low : rank_of s.life.state < 3 = closed_rank s.life.state h in omega (arith, low)) (omega arith) refl refl refl refl refl w
   life_waits (Raise to) s r h w =
       subst (λ (y : State). Waits (did.Rose (rank_of y) ∷ []) s.life (life_raised s.life y)) (sym r) (ended_waits s.life (subst (λ (y : State). rank_of s.life.state < rank_of y) r h) w)
   life_waits (Give why) s r h w = given_waits s.life why h w

@@ -23,7 +23,7 @@ use Rattle.qc_state.specs.declared.numbers.Numbers.{Numbers}
 use Rattle.qc_state.specs.Keys.{keys_dropped}
 use Rattle.qc_state.specs.Life.{is_established, is_open, data_ready}
 use Rattle.qc_state.specs.Lower.{bytes_came, flight_dropped, packets_settled, ready_bytes, session_read, stream_of}
-use Rattle.qc_state.specs.Moves.{Move, Ack, Arm, Come, Confirm, Establish, Forget, Give, Learn, Leave, Owe, Read, Ready, Shut, Tell, Token, Want, Write, MayMove, armed_after, armed_with, deeds_move, keys_move, life_move, lower_move, move_to, numbers_move, setup_move, state_move}
+use Rattle.qc_state.specs.Moves.{Move, Ack, Arm, Come, Confirm, Establish, Forget, Give, Learn, PeerCloses, Owe, Read, Ready, Shut, Tell, Token, Want, Write, MayMove, armed_after, armed_with, deeds_move, keys_move, life_move, lower_move, move_to, numbers_move, setup_move, state_move}
 use Rattle.qc_state.specs.Numbers.{next_number, number_accepted, number_acked}
 use Rattle.qc_state.specs.Numbers as numbers
 use Rattle.qc_state.specs.PieceLaws.{Goes, Last, Outcome, Reading, Refused, applied_in, applied_with, close_outcome, gift_of, gifts_of, given_in, kind_outcome, outcome_of, pieces_in, read_behind, read_outcome, reading_behind, refused_or, session_gift, unless_refused}
@@ -166,9 +166,9 @@ module _ {t : Types} where
   armed_quiet : (time : ℕ) (a : At t) → Gives [] a (armed_after time a)
   armed_quiet time a = holds_armed_now (Gives []) gives_here quiet_next ending_quiet time a
 
-  left_by : (time : ℕ) (why : ConnectionError) (a : At t) (b : Bool) → Gives [] a (if b then given_after why (move_to (Leave time) a) else a)
+  left_by : (time : ℕ) (why : ConnectionError) (a : At t) (b : Bool) → Gives [] a (if b then given_after why (move_to (PeerCloses time) a) else a)
   unfolding deeds_move
-  left_by time why a true = let b : At t = move_to (Leave time) a in quiet_next a b _ (gives_move [] (Leave time) a refl refl) (given_quiet why b)
+  left_by time why a true = let b : At t = move_to (PeerCloses time) a in quiet_next a b _ (gives_move [] (PeerCloses time) a refl refl) (given_quiet why b)
   left_by time why a false = gives_here a
 
   left_quiet : (time : ℕ) (why : ConnectionError) (a : At t) → Gives [] a (left_after time why a)

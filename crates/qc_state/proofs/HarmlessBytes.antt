@@ -6,7 +6,6 @@ use Rattle.std.proofs.lemmas.List.Folds.{list_all-append}
 use Rattle.std.specs.Prelude.{zero, suc, ◌&&◌, not, nat_le, is_ok, Result, Ok, Err}
 use Rattle.std.specs.List.{All, list_all, list_any}
 use Rattle.std.specs.declared.net.SocketAddr.{SocketAddr}
-use Rattle.qc_base.specs.declared.ecn.EcnCodepoint.{EcnCodepoint}
 use Rattle.qc_base.specs.declared.side.Side.TheVariants.{Server}
 use Rattle.qc_base.specs.declared.side.SpaceId.{SpaceId}
 use Rattle.qc_base.specs.declared.side.SpaceId.TheVariants as space
@@ -40,7 +39,7 @@ use Rattle.qc_state.specs.declared.transmit.TheConstants.{DATAGRAM_SIZE}
 use Rattle.qc_state.specs.Headline.{deeds_of, is_harmless, is_datagram, OnlyCounts, Harmless}
 use Rattle.qc_state.specs.Keys.{fails_too_often, failure_counted}
 use Rattle.qc_state.specs.Life.{is_handshake, is_over, ready_reported, connected_reported, lost_reported, notices_reported, drained_reported}
-use Rattle.qc_state.specs.Moves.{Move, Accept, Clock, Drain, Enter, Expect, Fail, Hear, Owe, Raise, Tell, deeds_move, keys_move, life_move, lower_move, move_to, numbers_move, paths_move, setup_move, state_move, timers_move, waiting_move, armed_after, armed_with}
+use Rattle.qc_state.specs.Moves.{Move, Accept, Clock, PeerClosesToo, Enter, Expect, Fail, Hear, Owe, Raise, Tell, deeds_move, keys_move, life_move, lower_move, move_to, numbers_move, paths_move, setup_move, state_move, timers_move, waiting_move, armed_after, armed_with}
 use Rattle.qc_state.specs.Opening.{opening_of}
 use Rattle.qc_state.specs.Paths.{is_blocked, path_received, same_address}
 use Rattle.qc_state.specs.Receiving.{accepted_after, admitted_after, counted_after, cut_of, datagram_after, failed_after, first_after, first_token, fixed_after, has_first_ids, heard_after, is_close_item, is_eliciting_item, is_initial_with, is_readable, lets_in, opened_token, opening_after, piece_after, piece_told, pieces_after, read_for_close, received_after, signs_of, token_in_first, token_in_items, verdict_after}
@@ -334,8 +333,8 @@ module _ {t : Types} where
       (holds_payload m o Grown grown_here grown_next (λ x d r k. grown_move x d) c))
 
   -- a packet is read for a close
-  closing_grown : (a : At t) (b : Bool) → Grown a (if b then move_to Drain a else move_to Owe a)
-  closing_grown a true = grown_move Drain a
+  closing_grown : (a : At t) (b : Bool) → Grown a (if b then move_to PeerClosesToo a else move_to Owe a)
+  closing_grown a true = grown_move PeerClosesToo a
   closing_grown a false = grown_move Owe a
 
   harmed_closing : (id : SpaceId) (number : ℕ) (payload : List ℕ) (a : At t) → Harmed a (read_for_close id number payload a)

@@ -1,5 +1,5 @@
 -- Over a run no Initial packet is sealed by an end that has left the Initial space.
-use Rattle.std.proofs.Common.{◌≡◌, ℕ, ◌+◌, ◌<◌, List, [], ◌∷◌, ◌++◌, length, take, refl, ap, sym, ◌∙◌, subst, Bool, true, false, Option, Some, None, if◌then◌else◌, append_assoc, append-nil, arith}
+use Rattle.std.proofs.Common.{◌≡◌, ℕ, ◌+◌, ◌<◌, List, [], ◌∷◌, ◌++◌, refl, ap, sym, ◌∙◌, subst, Bool, true, false, Option, Some, None, if◌then◌else◌, append_assoc, append-nil, arith}
 use Rattle.std.specs.Prelude.{◌&&◌, ◌||◌, not, is_some}
 use Rattle.std.specs.List.{list_any}
 use Rattle.qc_base.specs.declared.side.Side.{Side}
@@ -24,11 +24,11 @@ use Rattle.qc_state.specs.Headline.{deeds_of}
 use Rattle.qc_state.specs.InitialLaws.{LeavesInitial, NoneInitial, has_left, leaves_with, seals_initial}
 use Rattle.qc_state.specs.Keys.{NewKeys, NoKeys, HandshakeKeys, DataKeys, count_one, failure_counted, has_keys, key_used, keys_dropped, keys_given}
 use Rattle.qc_state.specs.Life.{is_open, is_over}
-use Rattle.qc_state.specs.Moves.{Accept, Ack, Arm, Ask, Begin, Clock, Come, Confirm, Drain, Enter, Establish, Expect, Fail, Finish, Fire, Fix, Forget, Give, Hear, IsTold, Learn, Leave, MayMove, Move, Owe, Pace, Raise, Read, Ready, Release, ReportConnected, ReportDrained, ReportLost, ReportReady, ReportNotice, ReportNotices, Say, Seal, Shut, Skip, Take, Tell, Token, Want, Write, accepts, armed_with, deeds_move, enters, keys_move, move_to, setup_move, state_move}
+use Rattle.qc_state.specs.Moves.{Accept, Ask, Begin, PeerClosesToo, Enter, Establish, Expect, Fail, Finish, Forget, Give, IsTold, Learn, PeerCloses, MayMove, Move, Owe, Raise, Say, Seal, Shut, Skip, Take, Tell, Write, accepts, armed_with, deeds_move, enters, keys_move, move_to, setup_move, state_move}
 use Rattle.qc_state.specs.Numbers.{is_skipped, next_number}
 use Rattle.qc_state.specs.Paths.{is_blocked}
-use Rattle.qc_state.specs.Receiving.{accepted_after, admitted_after, datagram_after, fixed_after, is_close_item, is_eliciting_item, payload_after, read_for_close, received_after, signs_of, verdict_after}
-use Rattle.qc_state.specs.Run.{IsAllowed, IsStep, Ran, Run, began, called, close_after, input_after, reported, step_after, time_of}
+use Rattle.qc_state.specs.Receiving.{accepted_after, admitted_after, datagram_after, fixed_after, is_close_item, is_eliciting_item, read_for_close, received_after, signs_of, verdict_after}
+use Rattle.qc_state.specs.Run.{IsAllowed, IsStep, Run, began, called, close_after, input_after, reported, step_after, time_of}
 use Rattle.qc_state.specs.Sending.{Choice, Died, Ending, Going, Hushed, MayAll, MayEnd, MayFollow, MayTransmit, Sent, Went, batch_grown, begun_after, drops_initial, ending_after, finished_after, flown_after, going_from, gone_after, handshake_left, initial_left, is_flown, leaves_initial, packet_after, packet_size, packets_after, sealed_in, skipped_after, spared_after, transmit_after}
 use Rattle.qc_state.specs.Setup.{packet_drawn, parameters_known, token_expected, word_drawn}
 use Rattle.qc_state.specs.Spaces.{is_space}
@@ -37,14 +37,13 @@ use Rattle.qc_state.specs.Types.{Types, Meaning}
 use Rattle.qc_state.specs.Verdicts.{verdict_of}
 use Rattle.qc_state.specs.View.{View, At}
 use Rattle.qc_state.proofs.Batches.{packet_made}
-use Rattle.qc_state.proofs.Begun.{begun_keys}
 use Rattle.qc_state.proofs.Expired.{IsTimed, holds_timeout}
 use Rattle.qc_state.proofs.OpenPackets.{holds_fixed, holds_packet, holds_payload, packet_received}
 use Rattle.qc_state.proofs.PacketMoves.{IsInPacket, OpenPacket}
 use Rattle.qc_state.proofs.ReceivedMoves.{IsOutside}
 use Rattle.qc_state.proofs.Receives.{datagram_holds}
 use Rattle.qc_state.proofs.Telling.{told_appends}
-use Rattle.qc_state.proofs.Transmitted.{IsPacketMove, IsSealable, IsSending, holds_ending, holds_packets, holds_spared, owing_keyed}
+use Rattle.qc_state.proofs.Transmitted.{IsSending, holds_ending, holds_packets, holds_spared, owing_keyed}
 
 -- ---- tests
 
@@ -275,8 +274,8 @@ module _ {t : Types} where
   quiet_deeds P (Tell d) s q = told_silent P d q
   quiet_deeds P Establish s q = one_silent P (did.Rose 1) refl refl refl
   quiet_deeds P (Shut time close) s q = one_silent P (did.Rose 2) refl refl refl
-  quiet_deeds P (Leave time) s q = one_silent P (did.Rose 3) refl refl refl
-  quiet_deeds P Drain s q = one_silent P (did.Rose 3) refl refl refl
+  quiet_deeds P (PeerCloses time) s q = one_silent P (did.Rose 3) refl refl refl
+  quiet_deeds P PeerClosesToo s q = one_silent P (did.Rose 3) refl refl refl
   quiet_deeds P (Raise to) s q = one_silent P _ refl refl refl
   quiet_deeds P (Give why) s q = one_silent P (did.Lost why) refl refl refl
   quiet_deeds P (Say quiet) s q = one_silent P (did.Quiet quiet) refl refl refl
@@ -370,8 +369,8 @@ module _ {t : Types} where
       holds_payload m o Keeps (λ d h. h) (λ d e f g k h. k (g h)) (λ x d h may. move_gone x d) c
       (holds_fixed m o Keeps (λ d h. h) (λ d e f g k h. k (g h)) (λ x d h may. move_gone x d) b (accepted_gone o (list_any is_eliciting_item (items_of o.payload)) verdict.Admitted a server shakes))
 
-  closing_leaves : (side : Side) (a : At t) (b : Bool) → Leaves side a (if b then move_to Drain a else move_to Owe a)
-  closing_leaves side a true = move_leaves side Drain tt a
+  closing_leaves : (side : Side) (a : At t) (b : Bool) → Leaves side a (if b then move_to PeerClosesToo a else move_to Owe a)
+  closing_leaves side a true = move_leaves side PeerClosesToo tt a
   closing_leaves side a false = move_leaves side Owe tt a
 
   -- a packet that opened, by its verdict

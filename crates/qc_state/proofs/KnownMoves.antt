@@ -1,5 +1,5 @@
 -- What is known of each move that an input makes, and what holds of each such move holds of the input.
-use Rattle.std.proofs.Common.{◌≡◌, ℕ, List, refl, ap, sym, ◌∙◌, Bool, true, false, Option, if◌then◌else◌}
+use Rattle.std.proofs.Common.{◌≡◌, ℕ, List, refl, ap, sym, ◌∙◌, Bool, true, false, if◌then◌else◌}
 use Rattle.qc_base.specs.declared.side.SpaceId.{SpaceId}
 use Rattle.qc_frame.specs.Frame.{AckValue, FrameValue}
 use Rattle.qc_recovery.specs.Steps.{After, FiredAfter}

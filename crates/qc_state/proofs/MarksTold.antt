@@ -2,7 +2,6 @@
 use Rattle.std.proofs.Common.{◌≡◌, ℕ, ◌+◌, ◌-◌, ◌^◌, List, [], ◌∷◌, ◌++◌, length, take, refl, ap, sym, ◌∙◌, subst, Bool, true, false, Option, Some, None, if◌then◌else◌, append_assoc, append-nil, arith}
 use Rattle.std.specs.Prelude.{min}
 use Rattle.std.specs.List.{list_any}
-use Rattle.std.specs.declared.net.SocketAddr.{SocketAddr}
 use Rattle.qc_base.specs.declared.ecn.EcnCodepoint.{EcnCodepoint}
 use Rattle.qc_base.specs.declared.ecn.EcnCodepoint.TheVariants.{Ect0, Ect1, Ce}
 use Rattle.qc_base.specs.declared.side.SpaceId.{SpaceId}
@@ -29,7 +28,7 @@ use Rattle.qc_state.specs.declared.waiting.Waiting.{Waiting}
 use Rattle.qc_state.specs.Acks.{is_ack, told_counts}
 use Rattle.qc_state.specs.Life.{is_open, is_over}
 use Rattle.qc_state.specs.MarkLaws.{AcksTell, DeedsTell, EachTold, SealsTold, StepsTell, Tally, carried_mark, nothing_tallied, tally_accepted, tally_behind, tally_judged, tally_of, tally_since, tally_told}
-use Rattle.qc_state.specs.Moves.{Move, Clock, Ask, Take, Seal, Forget, Enter, Expect, Fail, Accept, Fix, Hear, Ack, Fire, Arm, Pace, Release, Begin, Skip, Come, Read, Write, Ready, Token, Learn, Want, Confirm, Establish, Tell, Drain, Leave, Owe, Shut, Raise, Give, Say, Finish, ReportReady, ReportConnected, ReportLost, ReportNotice, ReportNotices, ReportDrained, accepts, enters, state_move, move_to, deeds_move, waiting_move, numbers_move, keys_move, life_move, MayMove, IsTold, told}
+use Rattle.qc_state.specs.Moves.{Move, Clock, Ask, Take, Seal, Forget, Enter, Expect, Fail, Accept, Fix, Hear, Ack, Fire, Arm, Pace, Release, Begin, Skip, Come, Read, Write, Ready, Token, Learn, Want, Confirm, Establish, Tell, PeerClosesToo, PeerCloses, Owe, Shut, Raise, Give, Say, Finish, ReportReady, ReportConnected, ReportLost, ReportNotice, ReportNotices, ReportDrained, accepts, enters, state_move, move_to, deeds_move, waiting_move, numbers_move, keys_move, life_move, MayMove, IsTold, told}
 use Rattle.qc_state.specs.Numbers.{next_number}
 use Rattle.qc_state.specs.Offers.{packet_begun}
 use Rattle.qc_state.proofs.Probed.{begun_holds}
@@ -331,8 +330,8 @@ module _ {t : Types} where
   counted_move id mark Confirm a h k = silent_counted id mark Confirm a refl (same_marks id «Data» a.state.waiting _ refl)
   counted_move id mark Establish a h k = plain_counted id mark Establish _ a refl (λ y. tt) (λ y. refl) refl
   counted_move id mark (Tell d) a h k = tell_counted id mark d a h
-  counted_move id mark Drain a h k = plain_counted id mark Drain _ a refl (λ y. tt) (λ y. refl) refl
-  counted_move id mark (Leave time) a h k = plain_counted id mark (Leave time) _ a refl (λ y. tt) (λ y. refl) refl
+  counted_move id mark PeerClosesToo a h k = plain_counted id mark PeerClosesToo _ a refl (λ y. tt) (λ y. refl) refl
+  counted_move id mark (PeerCloses time) a h k = plain_counted id mark (PeerCloses time) _ a refl (λ y. tt) (λ y. refl) refl
   counted_move id mark Owe a h k = silent_counted id mark Owe a refl (begun_marks id a.state.waiting a.state.waiting.close_owed)
   counted_move id mark (Shut time close) a h k = plain_counted id mark (Shut time close) _ a refl (λ y. tt) (λ y. refl) (begun_marks id a.state.waiting a.state.waiting.close_owed)
   counted_move id mark (Raise to) a h k = plain_counted id mark (Raise to) _ a refl (λ y. tt) (λ y. refl) refl

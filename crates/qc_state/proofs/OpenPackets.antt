@@ -27,7 +27,7 @@ use Rattle.qc_state.specs.declared.life.State.TheVariants as state
 use Rattle.qc_state.specs.declared.life.Life.{Life}
 use Rattle.qc_state.specs.Life.{rank_of, is_open, is_closed, is_over, life_drained, reason_given}
 use Rattle.qc_state.specs.Lower.{ready_bytes, session_read, stream_of}
-use Rattle.qc_state.specs.Moves.{Move, Arm, Forget, Enter, Accept, Fix, Give, Ack, Come, Read, Ready, Shut, Tell, Drain, Leave, Owe, move_to, state_move, numbers_move, keys_move, life_move, paths_move, timers_move, waiting_move, setup_move, lower_move, MayMove, accepts, enters, armed_after, armed_with}
+use Rattle.qc_state.specs.Moves.{Move, Arm, Forget, Enter, Accept, Fix, Give, Ack, Come, Read, Ready, Shut, Tell, PeerClosesToo, PeerCloses, Owe, move_to, state_move, numbers_move, keys_move, life_move, paths_move, timers_move, waiting_move, setup_move, lower_move, MayMove, accepts, enters, armed_after, armed_with}
 use Rattle.qc_state.specs.Numbers.{is_new_in, next_number}
 use Rattle.qc_state.specs.Progress.{progress_after}
 use Rattle.qc_state.specs.Receiving.{reason_of, signs_of, stop_in, is_close_item, is_eliciting_item, left_after, rearmed_after, settled_after, acked_after, confirmed_after, applied_after, close_given, closed_in_data, end_after, crypto_stop, items_after, payload_after, fixes_peer, fixed_after, read_for_close, admitted_after, verdict_after, received_after, accepted_after, Behind, Goes, Closes, Ends, Course, Reads, Ended, close_after, ended_by, answered_after, bytes_given, kept_after, frame_after, course_with}
@@ -117,7 +117,7 @@ module _ {t : Types} where
 
   -- where the peer closed, the connection isn't open any more
   left_shut_by : (time : ℕ) (why : ConnectionError) (a : At t) (b c : Bool) → is_open a.state.life.state ≡ b → b ≡ true →
-      let d : At t = move_to (Leave time) a in is_open (if b then (if c then move_to (Give why) d else d) else a).state.life.state ≡ false
+      let d : At t = move_to (PeerCloses time) a in is_open (if b then (if c then move_to (Give why) d else d) else a).state.life.state ≡ false
   unfolding move_to state_move life_move life_drained reason_given
   left_shut_by time why a true true is h = given_shut (is_none a.state.life.reason)
     where
@@ -129,7 +129,7 @@ module _ {t : Types} where
 
   left_shut : (time : ℕ) (why : ConnectionError) (a : At t) → is_open a.state.life.state ≡ true → is_open (left_after time why a).state.life.state ≡ false
   unfolding left_after given_after
-  left_shut time why a h = left_shut_by time why a (is_open a.state.life.state) (is_none (move_to (Leave time) a).state.life.reason) refl h
+  left_shut time why a h = left_shut_by time why a (is_open a.state.life.state) (is_none (move_to (PeerCloses time) a).state.life.reason) refl h
 
   -- what a packet does that opened
   abbrev pub packet_received : Meaning t → OpenPacket → At t → At t
@@ -167,9 +167,9 @@ module _ {t : Types} (m : Meaning t) (o : OpenPacket) (R : At t → At t → Typ
 
   -- ---- closes, and acknowledgements
 
-  left_by : (why : ConnectionError) (a : At t) (b : Bool) → is_open a.state.life.state ≡ b → IsReasonOf o why → R a (if b then given_after why (move_to (Leave o.coming.time) a) else a)
+  left_by : (why : ConnectionError) (a : At t) (b : Bool) → is_open a.state.life.state ≡ b → IsReasonOf o why → R a (if b then given_after why (move_to (PeerCloses o.coming.time) a) else a)
   unfolding MayMove
-  left_by why a true h reason = next a (move_to (Leave o.coming.time) a) _ (move (Leave o.coming.time) a (refl, (why, reason)) (open_low a.state.life.state h)) (given why (move_to (Leave o.coming.time) a) reason)
+  left_by why a true h reason = next a (move_to (PeerCloses o.coming.time) a) _ (move (PeerCloses o.coming.time) a (refl, (why, reason)) (open_low a.state.life.state h)) (given why (move_to (PeerCloses o.coming.time) a) reason)
   left_by why a false h reason = here a
 
   -- the peer closed: the connection drains, if it was open
@@ -343,9 +343,9 @@ module _ {t : Types} (m : Meaning t) (o : OpenPacket) (R : At t → At t → Typ
   unfolding fixed_after
   holds_fixed a = fixed_by a (fixes_peer o.space a.state)
 
-  closing_by : (b : At t) (close : Bool) → list_any is_close_item (items_of o.payload) ≡ close → is_closed b.state.life.state ≡ true → R b (if close then move_to Drain b else move_to Owe b)
+  closing_by : (b : At t) (close : Bool) → list_any is_close_item (items_of o.payload) ≡ close → is_closed b.state.life.state ≡ true → R b (if close then move_to PeerClosesToo b else move_to Owe b)
   unfolding MayMove
-  closing_by b true is h = move Drain b is h
+  closing_by b true is h = move PeerClosesToo b is h
   closing_by b false is h = move Owe b tt (shut_by b.state.life.state h)
 
   holds_closing : (a : At t) → verdict.ReadForClose ≡ verdict_of a.state o.space o.source o.token o.number → is_new_in a.state.numbers o.space o.number ≡ true → is_closed a.state.life.state ≡ true → R a (read_for_close o.space o.number o.payload a)

@@ -1,7 +1,7 @@
 -- The moves that a packet which opened makes. Each says which packet it belongs to: what it tells, settles, reads and writes, why this
 -- end closes with it and for which reason the connection ends, which keys are dropped, and what the loss timer is set to, is that of
 -- the packet and of the view where the move is made.
-use Rattle.std.proofs.Common.{◌≡◌, ℕ, ◌⊎◌, inl, inr, List, [], ◌∷◌, length, sym, subst, Bool, true, false, Option, Some, None}
+use Rattle.std.proofs.Common.{◌≡◌, ℕ, ◌⊎◌, inr, List, [], ◌∷◌, length, sym, subst, Bool, true, false, Option, Some, None}
 use Rattle.std.specs.Prelude.{Ok, Err}
 use Rattle.std.specs.List.{list_any}
 use Rattle.qc_base.specs.declared.side.Side.TheVariants.{Client, Server}
@@ -28,7 +28,7 @@ use Rattle.qc_state.specs.declared.life.ConnectionError.TheVariants as lost
 use Rattle.qc_state.specs.Keys.{NewKeys}
 use Rattle.qc_state.specs.Life.{is_handshake}
 use Rattle.qc_state.specs.Lower.{ready_bytes, stream_of}
-use Rattle.qc_state.specs.Moves.{Move, Give, Forget, Enter, Accept, Fix, Ack, Arm, Come, Read, Write, Ready, Token, Learn, Want, Confirm, Establish, Tell, Drain, Leave, Owe, Shut, accepts, state_move}
+use Rattle.qc_state.specs.Moves.{Move, Give, Forget, Enter, Accept, Fix, Ack, Arm, Come, Read, Write, Ready, Token, Learn, Want, Confirm, Establish, Tell, PeerClosesToo, PeerCloses, Owe, Shut, accepts, state_move}
 use Rattle.qc_state.specs.Numbers.{next_number}
 use Rattle.qc_state.specs.Paths.{is_blocked}
 use Rattle.qc_state.specs.Progress.{ids_fit, is_end, keys_behind, session_behind}
@@ -211,8 +211,8 @@ module _ {t : Types} where
   IsInPacket m o (Read id count session) s = IsReadOf m o id count session s
   IsInPacket m o Ready s = Unit {0}
   IsInPacket m o (Tell d) s = IsToldOf o d s
-  IsInPacket m o Drain s = list_any is_close_item (items_of o.payload) ≡ true
-  IsInPacket m o (Leave time) s = (time ≡ o.coming.time) × ((why : ConnectionError) × IsReasonOf o why)
+  IsInPacket m o PeerClosesToo s = list_any is_close_item (items_of o.payload) ≡ true
+  IsInPacket m o (PeerCloses time) s = (time ≡ o.coming.time) × ((why : ConnectionError) × IsReasonOf o why)
   IsInPacket m o Owe s = Unit {0}
   IsInPacket m o (Shut time close) s = IsShutFor (Stops m o) o.coming.time time close s
   IsInPacket m o (Give why) s = IsGivenFor m o why s
@@ -237,8 +237,8 @@ module _ {t : Types} where
   in_packet_piece m o Confirm s h = tt
   in_packet_piece m o Establish s h = tt
   in_packet_piece m o (Tell d) s h = tt
-  in_packet_piece m o Drain s h = tt
-  in_packet_piece m o (Leave time) s h = tt
+  in_packet_piece m o PeerClosesToo s h = tt
+  in_packet_piece m o (PeerCloses time) s h = tt
   in_packet_piece m o Owe s h = tt
   in_packet_piece m o (Shut time close) s h = tt
   in_packet_piece m o (Give why) s h = tt

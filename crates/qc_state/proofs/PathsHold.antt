@@ -6,7 +6,6 @@ use Rattle.std.proofs.lemmas.List.Folds.{list_any-append}
 use Rattle.std.specs.Prelude.{◌&&◌, ◌||◌, not, nat_le, is_none}
 use Rattle.std.specs.List.{list_any}
 use Rattle.std.specs.declared.net.SocketAddr.{SocketAddr}
-use Rattle.qc_base.specs.declared.ecn.EcnCodepoint.{EcnCodepoint}
 use Rattle.qc_base.specs.declared.side.Side.{Side}
 use Rattle.qc_base.specs.declared.side.Side.TheVariants.{Client}
 use Rattle.qc_base.specs.declared.side.SpaceId.{SpaceId}
@@ -30,7 +29,7 @@ use Rattle.qc_state.specs.declared.paths.Paths.{Paths}
 use Rattle.qc_state.specs.declared.trace.Step.{Step}
 use Rattle.qc_state.specs.declared.transmit.TheConstants.{DATAGRAM_SIZE}
 use Rattle.qc_state.specs.Life.{is_open}
-use Rattle.qc_state.specs.Moves.{Accept, Ack, Arm, Come, Confirm, Drain, Enter, Establish, Expect, Fail, Fire, Fix, Forget, Give, Hear, Learn, Leave, MayMove, Move, Owe, Pace, Raise, Read, Ready, Release, Say, Seal, Shut, Take, Tell, Token, Want, Write, armed_after, armed_with, deeds_move, move_to, paths_move, state_move, told, Begin, Skip}
+use Rattle.qc_state.specs.Moves.{Accept, Ack, Arm, Come, Confirm, PeerClosesToo, Enter, Establish, Expect, Fail, Fire, Fix, Forget, Give, Hear, Learn, PeerCloses, MayMove, Move, Owe, Pace, Raise, Read, Ready, Release, Say, Seal, Shut, Take, Tell, Token, Want, Write, armed_after, armed_with, deeds_move, move_to, paths_move, state_move, told, Begin, Skip}
 use Rattle.qc_state.specs.Numbers.{next_number, received_number}
 use Rattle.qc_state.specs.Headline.{deeds_of}
 use Rattle.qc_state.specs.PathLaws.{PathHolds, all_from, bytes_from, is_handshake_admitted}
@@ -254,8 +253,8 @@ module _ {t : Types} where
   still_move Confirm r a h = silent_at Confirm a refl (still_here a.state.paths) (λ v. inl v)
   still_move Establish r a h = deed_at Establish _ a refl (still_here a.state.paths) (λ v. inl v)
   still_move (Tell d) r a h = deed_at (Tell d) d a refl (still_here a.state.paths) (λ v. inl v)
-  still_move Drain r a h = deed_at Drain _ a refl (still_here a.state.paths) (λ v. inl v)
-  still_move (Leave time) r a h = deed_at (Leave time) _ a refl (still_here a.state.paths) (λ v. inl v)
+  still_move PeerClosesToo r a h = deed_at PeerClosesToo _ a refl (still_here a.state.paths) (λ v. inl v)
+  still_move (PeerCloses time) r a h = deed_at (PeerCloses time) _ a refl (still_here a.state.paths) (λ v. inl v)
   still_move Owe r a h = silent_at Owe a refl (still_here a.state.paths) (λ v. inl v)
   still_move (Shut time close) r a h = deed_at (Shut time close) _ a refl (still_here a.state.paths) (λ v. inl v)
   still_move (Raise to) r a h = deed_at (Raise to) _ a refl (still_here a.state.paths) (λ v. inl v)

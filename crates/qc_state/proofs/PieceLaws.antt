@@ -24,7 +24,7 @@ use Rattle.qc_state.specs.declared.trace.Step.{Step}
 use Rattle.qc_state.specs.Keys.{fails_too_often, keys_dropped}
 use Rattle.qc_state.specs.Life.{is_over}
 use Rattle.qc_state.specs.Lower.{flight_dropped, stream_of}
-use Rattle.qc_state.specs.Moves.{Move, Accept, Drain, Enter, Expect, Fail, Fix, Forget, Owe, Raise, Tell, armed_with, deeds_move, keys_move, life_move, lower_move, move_to, numbers_move, setup_move, state_move}
+use Rattle.qc_state.specs.Moves.{Move, Accept, PeerClosesToo, Enter, Expect, Fail, Fix, Forget, Owe, Raise, Tell, armed_with, deeds_move, keys_move, life_move, lower_move, move_to, numbers_move, setup_move, state_move}
 use Rattle.qc_state.specs.Numbers.{number_accepted}
 use Rattle.qc_state.specs.Opening.{opening_of}
 use Rattle.qc_state.specs.Paths.{is_blocked}
@@ -110,9 +110,9 @@ module _ {t : Types} where
       (quiet_gives gifts b c e (holds_initial (Gives []) gives_here quiet_next ending_quiet Server blocked coming.time id b)
       (quiet_gives gifts c d e (fixed_quiet source c (fixes_peer id c.state)) (payload_gives m coming a.state id r payload d at_d)))
 
-  closing_quiet : (a : At t) (b : Bool) → Gives [] a (if b then move_to Drain a else move_to Owe a)
+  closing_quiet : (a : At t) (b : Bool) → Gives [] a (if b then move_to PeerClosesToo a else move_to Owe a)
   unfolding deeds_move
-  closing_quiet a true = gives_move [] Drain a refl refl
+  closing_quiet a true = gives_move [] PeerClosesToo a refl refl
   closing_quiet a false = gives_move [] Owe a refl refl
 
   closing_tells : (id : SpaceId) (number : ℕ) (payload : List ℕ) (a : At t) → TellsPiece (did.Piece (Some id) (Some number) verdict.ReadForClose) [] a (read_for_close id number payload a)

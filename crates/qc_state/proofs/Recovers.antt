@@ -1,17 +1,16 @@
 -- Over a run recovery's state is the fold of its own steps; so each packet is settled once.
-use Rattle.std.proofs.Common.{◌≡◌, ℕ, ◌+◌, ◌≤◌, inl, inr, List, [], ◌∷◌, ◌++◌, length, take, refl, ap, sym, ◌∙◌, subst, Bool, true, false, if◌then◌else◌, append_assoc, append-nil, arith}
+use Rattle.std.proofs.Common.{◌≡◌, ℕ, ◌+◌, ◌≤◌, inl, inr, List, [], ◌∷◌, ◌++◌, refl, ap, sym, ◌∙◌, subst, Bool, true, false, if◌then◌else◌, append_assoc, append-nil, arith}
 use Rattle.std.specs.Prelude.{◌==◌, IsPermutation}
 use Rattle.std.specs.List.{list_any}
 use Rattle.std.proofs.lemmas.List.Sorted.{IsPermutation-refl}
 use Rattle.qc_base.specs.declared.side.SpaceId.{SpaceId}
 use Rattle.qc_flight.specs.Packets.{Entry}
-use Rattle.qc_flight.specs.declared.sent.SentPacket.{SentPacket}
 use Rattle.qc_frame.specs.Frame.{FrameValue}
 use Rattle.qc_path.specs.declared.controller.Controller.{Ghosts as Control}
 use Rattle.qc_recovery.specs.Losses.{rank}
 use Rattle.qc_recovery.specs.Runs.{AreSettledOnce, Acknowledge, Discard, Fates, Send, call_after, fates_after, fired_lost, in_space}
 use Rattle.qc_recovery.specs.Runs as runs
-use Rattle.qc_recovery.specs.Steps.{After, FiredAfter, ack_after, timeout_after}
+use Rattle.qc_recovery.specs.Steps.{After, FiredAfter}
 use Rattle.qc_recovery.specs.Steps as recovery
 use Rattle.qc_recovery.specs.declared.recovery.Recovery.{Recovery}
 use Rattle.qc_recovery.proofs.RunsSettle.{calls_settle}
@@ -27,11 +26,11 @@ use Rattle.qc_state.specs.Flight.{flown_packet}
 use Rattle.qc_state.specs.Headline.{deeds_of}
 use Rattle.qc_state.specs.Life.{is_open, rank_of}
 use Rattle.qc_state.specs.Lower.{bytes_came, flight_dropped, packet_flown, packets_settled, session_read, session_wrote, timer_fired}
-use Rattle.qc_state.specs.Moves.{Accept, Ack, Arm, Ask, Begin, Clock, Come, Confirm, Drain, Enter, Establish, Expect, Fail, Finish, Fire, Fix, Forget, Give, Hear, IsTold, Learn, Leave, MayMove, Move, Owe, Pace, Raise, Read, Ready, Release, ReportConnected, ReportDrained, ReportLost, ReportReady, ReportNotice, ReportNotices, Say, Seal, Shut, Skip, Take, Tell, Token, Want, Write, deeds_move, is_close, keys_move, life_move, lower_move, move_to, numbers_move, state_move, waiting_move}
+use Rattle.qc_state.specs.Moves.{Accept, Ack, Arm, Ask, Begin, Clock, Come, Confirm, PeerClosesToo, Enter, Establish, Expect, Fail, Finish, Fire, Fix, Forget, Give, Hear, IsTold, Learn, PeerCloses, MayMove, Move, Owe, Pace, Raise, Read, Ready, Release, Say, Seal, Shut, Skip, Take, Tell, Token, Want, Write, deeds_move, is_close, lower_move, move_to, state_move, waiting_move}
 use Rattle.qc_state.specs.Numbers.{next_number}
 use Rattle.qc_state.specs.Recovering.{fired_by, settled_by}
-use Rattle.qc_state.specs.RecoveryLaws.{AllMay, AreFlown, Dropped, EachSettlesOnce, Fired, IsFlown, IsSettling, Kept, MayStep, RecoveryStep, Recovers, Sent, Settled, SettlesOnce, kept, sent_in, step_after, steps_after, steps_of}
-use Rattle.qc_state.specs.Run.{IsStep, Ran, Run, began, called, input_after, reported, time_of}
+use Rattle.qc_state.specs.RecoveryLaws.{AllMay, AreFlown, Dropped, EachSettlesOnce, Fired, Kept, MayStep, RecoveryStep, Recovers, Sent, Settled, kept, sent_in, step_after, steps_after, steps_of}
+use Rattle.qc_state.specs.Run.{IsStep, Run, began, called, input_after, reported, time_of}
 use Rattle.qc_state.specs.Run as run
 use Rattle.qc_state.specs.Sending.{packet_size}
 use Rattle.qc_state.specs.Types.{Types, Meaning}
@@ -177,8 +176,8 @@ module _ {t : Types} where
   move_parts m Confirm s k may = (tt, refl, (λ id. refl))
   move_parts m Establish s k may = (tt, refl, (λ id. refl))
   move_parts m (Tell d) s k may = (tt, refl, (λ id. told_flown id d may))
-  move_parts m Drain s k may = (tt, refl, (λ id. refl))
-  move_parts m (Leave time) s k may = (tt, refl, (λ id. refl))
+  move_parts m PeerClosesToo s k may = (tt, refl, (λ id. refl))
+  move_parts m (PeerCloses time) s k may = (tt, refl, (λ id. refl))
   move_parts m Owe s k may = (tt, refl, (λ id. refl))
   move_parts m (Shut time close) s k may = (tt, refl, (λ id. refl))
   move_parts m (Raise to) s k may = (tt, refl, (λ id. refl))

@@ -14,7 +14,7 @@ use Rattle.qc_path.specs.Arrived.{Window, is_new, arrived}
 use Rattle.qc_state.specs.declared.deeds.Verdict.{Verdict}
 use Rattle.qc_state.specs.Headline.{sealed_in, reasons_in, lives_in, entered_number, entered_in, EachNew, came_with, CloseFrom, RisesFrom, Kernel, kernel_of, kernel_after, IsBehind, IsRight, Tells}
 use Rattle.qc_state.specs.Life.{rank_of, is_open, is_closed, is_drained, reason_given, life_raised, life_closed, life_drained, life_established, data_ready, token_learned, identifiers_wanted, ready_reported, connected_reported, lost_reported, notice_reported, notices_reported, drained_reported}
-use Rattle.qc_state.specs.Moves.{Move, ClosesOnly, Clock, Ask, Take, Seal, Forget, Enter, Expect, Fail, Accept, Fix, Hear, Ack, Fire, Arm, Pace, Release, Begin, Skip, Come, Read, Write, Ready, Token, Learn, Want, Confirm, Establish, Tell, Drain, Leave, Owe, IsTold, enters, Shut, Raise, Give, Say, ReportReady, ReportConnected, ReportLost, ReportNotice, ReportNotices, ReportDrained, state_move, move_to, deeds_move, MayMove, told, arrival_of, numbers_move, life_move, timers_move, Finish}
+use Rattle.qc_state.specs.Moves.{Move, ClosesOnly, Clock, Ask, Take, Seal, Forget, Enter, Expect, Fail, Accept, Fix, Hear, Ack, Fire, Arm, Pace, Release, Begin, Skip, Come, Read, Write, Ready, Token, Learn, Want, Confirm, Establish, Tell, PeerClosesToo, PeerCloses, Owe, IsTold, enters, Shut, Raise, Give, Say, ReportReady, ReportConnected, ReportLost, ReportNotice, ReportNotices, ReportDrained, state_move, move_to, deeds_move, MayMove, told, arrival_of, numbers_move, life_move, timers_move, Finish}
 use Rattle.qc_state.specs.Numbers.{next_number, came_in, is_new_in, number_used, number_skipped, used_in, number_entered, number_accepted, number_acked}
 use Rattle.qc_state.specs.Numbers as numbers
 use Rattle.qc_state.specs.Recovering.{probe_timeout_now}
@@ -307,8 +307,8 @@ module _ {t : Types} where
   move_tells id Confirm s h = behind_here _
   move_tells id Establish s h = (h, behind_here _)
   move_tells id (Tell d) s h = told_tells id d s h
-  move_tells id Drain s h = (closed_rank s.life.state h, behind_here _)
-  move_tells id (Leave time) s h = (h, behind_here _)
+  move_tells id PeerClosesToo s h = (closed_rank s.life.state h, behind_here _)
+  move_tells id (PeerCloses time) s h = (h, behind_here _)
   move_tells id Owe s h = behind_here _
   move_tells id (Seal time space n size fs) s h = seal_tells id space s n 0 false fs h.0 h.1
   move_tells id (Shut time close) s h = (h, behind_here _)
@@ -354,8 +354,8 @@ module _ {t : Types} where
   clock_kept Confirm s h = refl
   clock_kept Establish s h = refl
   clock_kept (Tell d) s h = refl
-  clock_kept Drain s h = refl
-  clock_kept (Leave time) s h = refl
+  clock_kept PeerClosesToo s h = refl
+  clock_kept (PeerCloses time) s h = refl
   clock_kept Owe s h = refl
   clock_kept (Seal time space n size fs) s h =
       let b : Bool = list_any elicits fs in

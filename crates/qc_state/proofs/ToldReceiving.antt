@@ -1,7 +1,5 @@
 -- The deeds of a datagram come where they may.
-use Rattle.std.proofs.Common.{ℕ, List, Option}
-use Rattle.std.specs.declared.net.SocketAddr.{SocketAddr}
-use Rattle.qc_base.specs.declared.ecn.EcnCodepoint.{EcnCodepoint}
+use Rattle.std.proofs.Common.{ℕ, List}
 use Rattle.qc_base.specs.declared.side.SpaceId.{SpaceId}
 use Rattle.qc_state.specs.declared.coming.Coming.{Coming}
 use Rattle.qc_state.specs.Receiving.{datagram_after}

@@ -5,7 +5,6 @@ use Rattle.std.specs.Prelude.{◌&&◌, ◌==◌, nat_le, nat_lt, is_ok}
 use Rattle.std.specs.declared.net.SocketAddr.{SocketAddr}
 use Rattle.qc_base.specs.Mask.{first_byte}
 use Rattle.qc_base.specs.Reading.{read_on}
-use Rattle.qc_base.specs.declared.ecn.EcnCodepoint.{EcnCodepoint}
 use Rattle.qc_base.specs.declared.side.SpaceId.{SpaceId}
 use Rattle.qc_base.specs.declared.side.SpaceId.TheVariants as space
 use Rattle.qc_crypto.specs.Mates.{Opening as OpeningFunction}

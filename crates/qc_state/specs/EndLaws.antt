@@ -1,5 +1,5 @@
 -- Laws over whole runs, said of how a connection ends (RFC 9000, section 10).
-use Rattle.std.specs.Prelude.{◌≡◌, ℕ, ◌≤◌, ◌<◌, Bool, true, false, None, is_some}
+use Rattle.std.specs.Prelude.{◌≡◌, ◌≤◌, ◌<◌, Bool, true, false, None, is_some}
 use Rattle.qc_state.specs.declared.life.State.{State}
 use Rattle.qc_state.specs.declared.timers.Timers.{Timers}
 use Rattle.qc_state.specs.Life.{is_drained, is_open, rank_of}

@@ -133,8 +133,8 @@ pub data Move (t : Types) : Type 0 where
   Confirm : Move t  -- a server has confirmed the handshake
   Establish : Move t  -- the handshake is over
   Tell : (did : Did) → Move t  -- a packet that enters no number is told of, or a frame is given to a layer
-  Drain : Move t  -- the peer closed as well
-  Leave : (time : ℕ) → Move t  -- the peer closed
+  PeerClosesToo : Move t  -- the peer closed as well
+  PeerCloses : (time : ℕ) → Move t  -- the peer closed
   Owe : Move t  -- a close is owed again
   Shut : (time : ℕ) → (close : Close) → Move t  -- this end closes
   Raise : (to : State) → Move t  -- the life rises
@@ -166,8 +166,8 @@ module _ {t : Types} where
 
   unfoldable pub life_move : Move t → View t → Life
   life_move (Shut time close) s = life_closed s.life close
-  life_move (Leave time) s = life_drained s.life
-  life_move Drain s = life_drained s.life
+  life_move (PeerCloses time) s = life_drained s.life
+  life_move PeerClosesToo s = life_drained s.life
   life_move Ready s = data_ready s.life
   life_move Establish s = life_established s.life
   life_move (Token token) s = token_learned s.life s.paths.current.remote token
@@ -201,7 +201,7 @@ module _ {t : Types} where
   timers_move Release s = timers_released s.timers
   timers_move (Arm at) s = timers_armed s.timers at
   timers_move (Shut time close) s = timers_closing s.timers (probe_timeout_now s s.keys.highest) time
-  timers_move (Leave time) s = timers_closing s.timers (probe_timeout_now s s.keys.highest) time
+  timers_move (PeerCloses time) s = timers_closing s.timers (probe_timeout_now s s.keys.highest) time
   timers_move (Raise to) s = timers_stopped s.timers
   timers_move _ s = s.timers
 
@@ -246,8 +246,8 @@ module _ {t : Types} where
   deeds_move Establish s = did.Rose 1 ∷ []
   deeds_move (Tell d) s = d ∷ []
   deeds_move (Shut time close) s = did.Rose 2 ∷ []
-  deeds_move (Leave time) s = did.Rose 3 ∷ []
-  deeds_move Drain s = did.Rose 3 ∷ []
+  deeds_move (PeerCloses time) s = did.Rose 3 ∷ []
+  deeds_move PeerClosesToo s = did.Rose 3 ∷ []
   deeds_move (Raise to) s = did.Rose (rank_of to) ∷ []
   deeds_move (Give why) s = did.Lost why ∷ []
   deeds_move (Say q) s = did.Quiet q ∷ []
@@ -283,8 +283,8 @@ module _ {t : Types} where
   MayMove Establish s = rank_of s.life.state < 1
   MayMove (Tell d) s = IsTold d
   MayMove (Shut time close) s = rank_of s.life.state < 2
-  MayMove (Leave time) s = rank_of s.life.state < 3
-  MayMove Drain s = is_closed s.life.state ≡ true
+  MayMove (PeerCloses time) s = rank_of s.life.state < 3
+  MayMove PeerClosesToo s = is_closed s.life.state ≡ true
   MayMove Owe s = is_open s.life.state ≡ false
   MayMove (Raise to) s = rank_of s.life.state < rank_of to
   MayMove (Give why) s = s.life.reason ≡ None

@@ -36,7 +36,7 @@ use Rattle.qc_state.specs.Acks.{acknowledges_any}
 use Rattle.qc_state.specs.Keys.{fails_too_often}
 use Rattle.qc_state.specs.Life.{is_open, is_over, is_handshake, is_established}
 use Rattle.qc_state.specs.Lower.{ready_bytes, stream_of}
-use Rattle.qc_state.specs.Moves.{is_close, Forget, Expect, Enter, Fail, Accept, Fix, Hear, Ack, Come, Read, Ready, Tell, Drain, Leave, Owe, move_to, armed_after}
+use Rattle.qc_state.specs.Moves.{is_close, Forget, Expect, Enter, Fail, Accept, Fix, Hear, Ack, Come, Read, Ready, Tell, PeerClosesToo, PeerCloses, Owe, move_to, armed_after}
 use Rattle.qc_state.specs.Numbers.{next_number}
 use Rattle.qc_state.specs.Opening.{opening_of}
 use Rattle.qc_recovery.specs.Steps.{After}
@@ -163,7 +163,7 @@ pub data Course (t : Types) : Type 0 where
 module _ {t : Types} where
   -- the peer closed, for this reason: the connection drains, if it was open
   unfoldable pub left_after : (time : ℕ) → ConnectionError → At t → At t
-  left_after time why a = if is_open a.state.life.state then given_after why (move_to (Leave time) a) else a
+  left_after time why a = if is_open a.state.life.state then given_after why (move_to (PeerCloses time) a) else a
 
   -- where packets were newly acknowledged, the loss timer is set anew
   abbrev pub rearmed_after : (time : ℕ) → (acked : List Entry) → At t → At t
@@ -295,7 +295,7 @@ module _ {t : Types} where
   unfoldable pub read_for_close : SpaceId → (number : ℕ) → (payload : List ℕ) → At t → At t
   read_for_close id number payload a =
       let b = move_to (Enter id number verdict.ReadForClose) a in
-      if list_any is_close_item (items_of payload) then move_to Drain b else move_to Owe b
+      if list_any is_close_item (items_of payload) then move_to PeerClosesToo b else move_to Owe b
 
   -- a packet is accepted: its number counts, it is to be acknowledged, a Handshake packet that is admitted validates the path (RFC
   -- 9000, section 8.1), and with a Handshake packet a server leaves the Initial space

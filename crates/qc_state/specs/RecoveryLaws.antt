@@ -1,5 +1,5 @@
 -- Loss recovery as the fold of its own steps: over moves, and over whole runs (RFC 9002).
-use Rattle.std.specs.Prelude.{◌≡◌, ◌⊎◌, ℕ, Bool, true, false, if◌then◌else◌, List, [], ◌∷◌, ◌++◌, IsPermutation}
+use Rattle.std.specs.Prelude.{◌≡◌, ◌⊎◌, ℕ, true, if◌then◌else◌, List, [], ◌∷◌, ◌++◌, IsPermutation}
 use Rattle.std.specs.List.{list_any}
 use Rattle.qc_base.specs.declared.range_set.NumberRange.{NumberRange}
 use Rattle.qc_base.specs.declared.side.SpaceId.{SpaceId}
@@ -18,10 +18,8 @@ use Rattle.qc_recovery.specs.declared.path.PathData.{PathData}
 use Rattle.qc_recovery.specs.declared.recovery.Recovery.{Recovery}
 use Rattle.qc_state.specs.declared.deeds.Did.{Did}
 use Rattle.qc_state.specs.declared.deeds.Did.TheVariants as did
-use Rattle.qc_state.specs.declared.lower.Lower.{Lower}
 use Rattle.qc_state.specs.Flight.{counts_in_flight, flown_packet, kept_frames}
 use Rattle.qc_state.specs.Moves.{Move, Ack, Fire, Forget, Seal, is_close}
-use Rattle.qc_state.specs.Spaces.{is_space}
 use Rattle.qc_state.specs.Types.{Types, Meaning}
 use Rattle.qc_state.specs.View.{View}
 

@@ -231,7 +231,9 @@ module _ {t : Types} where
     number = number_of (next_number s.numbers Initial) (acked_number s.numbers Initial);
     version = s.setup.fixed.version;
   })
-  header_in s Handshake = header.Long long.Handshake s.paths.current.remote_cid s.setup.fixed.local_cid (number_of (next_number s.numbers Handshake) (acked_number s.numbers Handshake)) s.setup.fixed.version
+  header_in s Handshake =
+      header.Long long.Handshake s.paths.current.remote_cid s.setup.fixed.local_cid (number_of (next_number s.numbers Handshake) (acked_number s.numbers Handshake))
+      s.setup.fixed.version
   header_in s Data = header.Short (spin_now s) (phase_now s.keys) s.paths.current.remote_cid (number_of (next_number s.numbers Data) (acked_number s.numbers Data))
 
   -- what the builder is given of the next packet in a space: its number and how far its key is used, where the space has keys

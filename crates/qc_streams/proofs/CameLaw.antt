@@ -31,7 +31,7 @@ use Rattle.qc_streams.specs.Writable.{awaits, passed, watched}
 use Rattle.qc_streams.proofs.Beside.{acked_beside, all_filed_beside, lost_beside, met_beside, part_beside, refused_beside, sealed_beside, settled_beside, told_telling}
 use Rattle.qc_streams.proofs.CameSide.{IsOther, SideLine, asked_greatest, came_keeps, fresh_line, kept_line, raised_here, raised_other, raised_sum, read_greatest, reset_line, reset_still, stop_greatest, stream_line, stream_still}
 use Rattle.qc_streams.proofs.CarriedWritten.{absent}
-use Rattle.qc_streams.proofs.StaysOpened.{More, opened_then, settled_more, stays_opened}
+use Rattle.qc_streams.proofs.StaysOpened.{opened_then, settled_more, stays_opened}
 use Rattle.qc_streams.proofs.StaysOpened as stays
 use Rattle.qc_streams.proofs.StepAt.{ComesFrom, SteppedAt, Gone, There, Stood, OwnOpened, PeerOpened, came_to}
 use Rattle.qc_streams.proofs.SteppedAt.{Later, Left, Kept, settled_follows}

@@ -1,7 +1,5 @@
 -- What taking marks off leaves: what each stream owes, and what is owed besides
-use Rattle.std.proofs.Common.{◌≡◌, ◌∙◌, ℕ, ℤ, ◌+◌, ◌-◌, ◌^◌, ◌<◌, min, Bool, true, false, List, [], ◌∷◌, Option, None, Some, ap, sym, arith, refl}
-use Rattle.qc_streams.specs.declared.counts.ByDir.{ByDir}
-use Rattle.qc_streams.specs.declared.counts.PeerStreams.{PeerStreams}
+use Rattle.std.proofs.Common.{◌≡◌, ◌∙◌, ℕ, ℤ, ◌+◌, ◌-◌, ◌^◌, ◌<◌, min, Bool, true, false, List, [], ◌∷◌, Option, None, Some, arith, refl}
 use Rattle.qc_streams.specs.declared.state.StreamsState.{StreamsState}
 use Rattle.qc_streams.specs.declared.stream.Stream.{Stream}
 use Rattle.qc_streams.specs.declared.waiting.Dues.{Dues}

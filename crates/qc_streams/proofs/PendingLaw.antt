@@ -7,7 +7,6 @@ use Rattle.std.specs.Ordering.{nat_cmp}
 use Rattle.std.proofs.lemmas.Bool.{false≢true, or_left, or_right}
 use Rattle.std.proofs.lemmas.Bool.Decides.{nat_tests}
 use Rattle.std.proofs.lemmas.Map.Entries.{lookup_head}
-use Rattle.qc_base.specs.declared.side.Dir.{Dir}
 use Rattle.qc_base.specs.declared.side.Dir.TheVariants.{Bi, Uni}
 use Rattle.qc_base.specs.declared.side.Side.{Side}
 use Rattle.qc_base.specs.declared.varint.VarInt.{VarInt}
@@ -15,7 +14,7 @@ use Rattle.qc_recv.specs.declared.recv.Recv.{Recv}
 use Rattle.qc_recv.specs.Owed.{credit_value}
 use Rattle.qc_send_stream.specs.declared.send.Part.{Part}
 use Rattle.qc_send_stream.specs.declared.send.SendPart.{SendPart}
-use Rattle.qc_send_stream.specs.Buffer.{IsNext, has_bytes, waiting}
+use Rattle.qc_send_stream.specs.Buffer.{has_bytes, waiting}
 use Rattle.qc_send_stream.specs.Sending.{IsOffer, end_waits, has_more, part_of, reset_owed}
 use Rattle.qc_turns.specs.Ids.{first_id}
 use Rattle.qc_turns.specs.Ready.{next_turn, place_cmp}
@@ -38,14 +37,14 @@ use Rattle.qc_streams.specs.Steps.{IsOwed, OwesData, OwesGoneStop, OwesReset, Ow
 use Rattle.qc_streams.specs.Stops.{StopCodes, first_stop}
 use Rattle.qc_streams.specs.StreamBytes.{IsDrawn, IsOfferAt, IsOfferOf, IsTurn, part_on}
 use Rattle.qc_streams.specs.Streams.{new_streams}
-use Rattle.qc_streams.specs.Waits.{ArePossible, Step, MarksFiled, after, after_step}
+use Rattle.qc_streams.specs.Waits.{ArePossible, Step, after, after_step}
 use Rattle.qc_streams.proofs.FiledLaw.{filed_is_exact, owed_is_filed}
 use Rattle.qc_streams.proofs.FiledPlaces.{place_tied}
 use Rattle.qc_streams.proofs.FiledTurns.{InTurn, filed_turns}
 use Rattle.qc_streams.proofs.KeepLaw.{always, always_filed}
 use Rattle.qc_streams.proofs.Keyed.{at_is, own_key}
 use Rattle.qc_streams.proofs.PendingFiled.{OwesAlike, all_filed_alike}
-use Rattle.qc_streams.proofs.PendingStops.{KnownIf, StopKnown, StopsKnown, stops_known, stops_known_filed}
+use Rattle.qc_streams.proofs.PendingStops.{KnownIf, StopsKnown, stops_known, stops_known_filed}
 use Rattle.qc_streams.proofs.StepsLaw.{next_owes}
 
 -- ---- lists
