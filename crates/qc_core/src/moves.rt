@@ -137,7 +137,7 @@ impl<U: Suite> Core<U> {
         requires { number < 2 ^ 62 }
         ensures { OnOk result ((ideal U.Random.stream self.new) ≡ (sealed_drawn now space number size frames.now (at (ideal U.Random.stream self.old) [])).state) }
     {
-        let next = next_bundled_ack_time(now, self.lower.path.rtt.get(), self.setup.peer_delay());
+        let next = next_bundled_ack_time(now, self.paths.current.data.rtt.get(), self.setup.peer_delay());
         self.time_packet(now, space, frames);
         self.fly(alloc, now, space, number, size, frames)?;
         let last = is_space(space, self.keys.highest);
@@ -182,7 +182,8 @@ impl<U: Suite> Core<U> {
     {
         self.keys.forget(space);
         self.waiting.forget(space);
-        self.lower.drop_flight(space);
+        self.lower
+            .drop_flight(space, &mut self.paths.current.data);
     }
 
     /// A server's first packet came, with this token.
@@ -274,9 +275,10 @@ impl<U: Suite> Core<U> {
         let around = self.around(blocked, shows_validated(space));
         let next = self.numbers.next(space);
         let began = self.numbers.began(space);
+        let path = &mut self.paths.current.data;
         let settled = self
             .lower
-            .settle(alloc, now, space, next, began, ack, &around)?;
+            .settle(alloc, now, space, next, began, ack, &around, path)?;
         let newly = !settled.acked.is_empty();
         self.numbers.acked(space, ack.largest);
         self.waiting.settle(space, settled)?;
@@ -289,7 +291,9 @@ impl<U: Suite> Core<U> {
     {
         let blocked = self.is_blocked();
         let around = self.around(blocked, false);
-        let fired = self.lower.fire(now, &around)?;
+        let fired = self
+            .lower
+            .fire(now, &around, &mut self.paths.current.data)?;
         self.waiting.fire(fired)
     }
 

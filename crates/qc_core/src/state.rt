@@ -17,7 +17,7 @@ pub struct Core<U: Suite> {
     /// How far the connection has come, and why it ended.
     pub life: Life,
     /// The path that packets go by.
-    pub paths: Paths,
+    pub paths: Paths<<U::Control as ControllerFactory>::Controller>,
     /// The timers, and the greatest time that was told.
     pub timers: Timers,
     /// What waits to be sent.
@@ -25,7 +25,7 @@ pub struct Core<U: Suite> {
     /// What the connection was made of.
     pub setup: Setup<U::Random>,
     /// The session, and loss recovery.
-    pub lower: Lower<SoundSession<U::Session>, <U::Control as ControllerFactory>::Controller>,
+    pub lower: Lower<SoundSession<U::Session>>,
 }
 
 impl<U: Suite> Model for Core<U> {

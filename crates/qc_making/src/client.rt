@@ -10,7 +10,7 @@ use bytes::Bytes;
 use qc_base::{ConnectionId, Duration, Instant, Side};
 use qc_core::Core;
 use qc_path::ControllerFactory;
-use qc_recovery::{TransportConfig, first_mtu};
+use qc_recovery::{PathData, TransportConfig, first_mtu};
 use qc_state::{Means, Path, Paths, SoundSession, SpaceKeys, Suite};
 use std::alloc::{AllocError, Global};
 use std::net::{IpAddr, SocketAddr};
@@ -75,7 +75,8 @@ pub fn new_client<U: Suite>(
         grease_quic_bit: setup.grease_quic_bit,
     };
     let congestion = setup.control.build(now, first_mtu(&setup.transport, None));
-    let path = Path::new(setup.remote, setup.first_cid, true);
+    let data = PathData::new(now, &setup.transport, congestion, false, None);
+    let path = Path::new(setup.remote, setup.first_cid, true, data);
     let paths = Paths::new(path, None);
     made(
         alloc,
@@ -87,7 +88,6 @@ pub fn new_client<U: Suite>(
         given,
         paths,
         &setup.transport,
-        congestion,
         now,
     )
 }

@@ -4,7 +4,7 @@ ghost use Rattle.std.specs.Prelude.{◌≡◌, ◌<◌, ◌^◌, ◌%◌, ◌&&�
 ghost use Rattle.qc_path.specs.Acks.{no_marks};
 ghost use Rattle.qc_send_stream.specs.Buffer.{bytes_written, nothing};
 ghost use Rattle.qc_state.specs.Draws.{behind, filter_words, key_phase_of, word};
-ghost use Rattle.qc_state.specs.First.{first_path, fixed_of, just_made, nothing_waits};
+ghost use Rattle.qc_state.specs.First.{fixed_of, just_made, nothing_waits};
 ghost use Rattle.qc_state.specs.Setup.{idle_limit_of};
 ghost use Rattle.qc_state.specs.View.{ideal};
 ghost use Rattle.qc_state.specs.declared.spaces.Spaces.{Spaces};
@@ -15,7 +15,7 @@ use qc_base::{ConnectionId, Duration, Instant, Side, VarInt};
 use qc_core::Core;
 use qc_crypto::Session;
 use qc_path::{ControllerFactory, PacketNumberFilter, PendingAcks};
-use qc_recovery::{IdleTimeout, PathData, Recovery, TransportConfig};
+use qc_recovery::{IdleTimeout, Recovery, TransportConfig};
 use qc_state::setup::limit_of_millis;
 use qc_state::{
     CryptoQueue, EndpointEvents, Fixed, KeyGroup, Life, Lower, Numbers, Paths, Setup, SoundSession,
@@ -161,7 +161,7 @@ fn life(alloc: Global) -> Life
 }
 
 /// A connection that was just made at `now`: it has these keys of the Initial space, nothing waits but what its session wrote,
-/// its Initial packets carry this token, and its path has this congestion controller. It draws what doesn't change of it, and then
+/// its Initial packets carry this token, and these are its paths. It draws what doesn't change of it, and then
 /// which number of 1-RTT packets it skips first. Want of memory is the only refusal.
 #[tactic(auto, unfolding(qc_state::specs::Setup::ideal_setup))]
 pub(crate) fn made<U: Suite>(
@@ -172,13 +172,12 @@ pub(crate) fn made<U: Suite>(
     token: Bytes,
     random: U::Random,
     given: Given,
-    paths: Paths,
+    paths: Paths<<U::Control as ControllerFactory>::Controller>,
     transport: &TransportConfig,
-    congestion: <U::Control as ControllerFactory>::Controller,
     now: Instant,
 ) -> Result<Core<U>, AllocError>
     requires { length hello.items < 2 ^ 62 }
-    ensures { IfOk result (λ core. (ideal U.Random.stream core) ≡ just_made keys session hello.items token (U.Random.stream random) (fixed_of given.side given.version given.local_cid given.first_cid given.local_ip transport.now given.grease_quic_bit (U.Random.stream random)) paths transport.now (first_path U.Control.Controller.Controller transport.now congestion now) now) }
+    ensures { IfOk result (λ core. (ideal U.Random.stream core) ≡ just_made keys session hello.items token (U.Random.stream random) (fixed_of given.side given.version given.local_cid given.first_cid given.local_ip transport.now given.grease_quic_bit (U.Random.stream random)) paths transport.now now) }
 {
     let waiting = waiting(alloc, hello)?;
     let mut random = random;
@@ -213,7 +212,6 @@ pub(crate) fn made<U: Suite>(
                 application: Assembler::new(alloc),
             },
             recovery: Recovery::new(alloc, transport),
-            path: PathData::new(now, transport, congestion, false, None),
         },
     })
 }

@@ -54,8 +54,8 @@ first_path m transport congestion time = begun_path m time transport congestion 
 module _ {t : Types} where
   -- a connection that was just made at this time: it has the keys of the Initial space, nothing waits but what its session wrote, from
   -- the start of that space's CRYPTO stream, and it has drawn of these random words
-  abbrev pub just_made : SpaceKeys t.H t.P → t.S → (hello token : List ℕ) → (words : Stream) → Fixed → Paths → TransportValues → PathData t.C → ℕ → View t
-  just_made keys session hello token words fixed paths transport path time = record {
+  abbrev pub just_made : SpaceKeys t.H t.P → t.S → (hello token : List ℕ) → (words : Stream) → Fixed → Paths t.C → TransportValues → ℕ → View t
+  just_made keys session hello token words fixed paths transport time = record {
     numbers = record {
       spaces = record { initial = no_numbers time; handshake = no_numbers time; application = no_numbers time };
       filter = first_skips (word (filter_words transport.allow_spin words));
@@ -74,7 +74,7 @@ module _ {t : Types} where
       bundled = None;
     };
     setup = record { fixed = fixed; peer = None; token = None; initial_token = token; random = words_left transport.allow_spin words };
-    lower = record { session = session; streams = record { initial = nothing; handshake = nothing; application = nothing }; recovery = begun_recovery transport; path = path };
+    lower = record { session = session; streams = record { initial = nothing; handshake = nothing; application = nothing }; recovery = begun_recovery transport };
   }
 
   -- a client that was just made: its keys are those of the destination id of its first packets, which packets to the server carry
@@ -82,11 +82,11 @@ module _ {t : Types} where
   unfoldable pub first_view : Meaning t → t.S → (words : Stream) → Fixed → SocketAddr → (first_cid token : List ℕ) → TransportValues → t.C → ℕ → View t
   first_view m session words fixed remote first_cid token transport congestion time =
       just_made (new_keys m.seal_limit m.failure_limit (m.initial session first_cid Client)) (m.after_write session) (m.writes session) token words fixed
-      (only_path (new_path remote first_cid true) None) transport (first_path m.control transport congestion time) time
+      (only_path (new_path remote first_cid true (first_path m.control transport congestion time)) None) transport time
 
   -- a server that was just made: its keys are those of the destination id of the client's first packets, it knows the client's
   -- id, and it waits for the first packet
   unfoldable pub server_view : Meaning t → t.S → (words : Stream) → Fixed → SocketAddr → (remote_cid : List ℕ) → (validated : Bool) → TransportValues → t.C → ℕ → View t
   server_view m session words fixed remote remote_cid validated transport congestion time =
       just_made (new_keys m.seal_limit m.failure_limit (m.initial session fixed.first_cid Server)) session [] [] words fixed
-      (only_path (new_path remote remote_cid validated) (Some remote_cid)) transport (first_path m.control transport congestion time) time
+      (only_path (new_path remote remote_cid validated (first_path m.control transport congestion time)) (Some remote_cid)) transport time

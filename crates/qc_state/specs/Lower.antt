@@ -1,12 +1,12 @@
 -- The layers below: the session, the bytes of the three CRYPTO streams that came and weren't given to it (RFC 9000, section 19.6;
--- RFC 9001, section 4), and loss recovery with what it keeps of the path (RFC 9002). Each changes by its own steps alone.
+-- RFC 9001, section 4), and what loss recovery keeps of the packets (RFC 9002; of the path it is Paths'). Each changes by its own steps alone.
 use Rattle.std.specs.Prelude.{ℕ, suc, ◌==◌, if◌then◌else◌, List, [], ◌∷◌}
 use Rattle.qc_assembler.specs.Assembly.{Assembly, advanced, inserted}
 use Rattle.qc_base.specs.declared.side.SpaceId.{SpaceId}
 use Rattle.qc_state.specs.declared.lower.Lower.{Lower}
 use Rattle.qc_flight.specs.declared.sent.SentPacket.{SentPacket}
 use Rattle.qc_recovery.specs.Calls.{dropped_after}
-use Rattle.qc_recovery.specs.Steps.{After, FiredAfter, path_dropped, sent_after}
+use Rattle.qc_recovery.specs.Steps.{After, FiredAfter, sent_after}
 use Rattle.qc_state.specs.Spaces.{space_of, with_space}
 
 -- the bytes at the front of those that came, up to the first that is missing; the first one is wanted at o
@@ -18,35 +18,35 @@ front_run o (x ∷ xs) = if x.0 == o then x.1 ∷ front_run (suc o) xs else []
 unfoldable pub ready_bytes : Assembly → List ℕ
 ready_bytes a = front_run a.read a.came
 
-module _ {S C : Type 0} where
+module _ {S : Type 0} where
   -- what came of the space's CRYPTO stream
-  unfoldable pub stream_of : Lower S C → SpaceId → Assembly
+  unfoldable pub stream_of : Lower S → SpaceId → Assembly
   stream_of l id = space_of l.streams id
 
   -- bytes of the space's CRYPTO stream came
-  unfoldable pub bytes_came : Lower S C → SpaceId → (offset : ℕ) → List ℕ → Lower S C
+  unfoldable pub bytes_came : Lower S → SpaceId → (offset : ℕ) → List ℕ → Lower S
   bytes_came l id offset bytes = record l { streams = with_space l.streams id (inserted offset bytes (space_of l.streams id)) }
 
   -- so many of them were given to the session, which is this one afterwards
-  unfoldable pub session_read : Lower S C → SpaceId → (count : ℕ) → S → Lower S C
+  unfoldable pub session_read : Lower S → SpaceId → (count : ℕ) → S → Lower S
   session_read l id count session = record l { session = session; streams = with_space l.streams id (advanced count (space_of l.streams id)) }
 
   -- the session wrote, and is this one afterwards
-  unfoldable pub session_wrote : Lower S C → S → Lower S C
+  unfoldable pub session_wrote : Lower S → S → Lower S
   session_wrote l session = record l { session = session }
 
   -- a packet of the space is in flight from now on
-  unfoldable pub packet_flown : Lower S C → SpaceId → (number : ℕ) → SentPacket → Lower S C
+  unfoldable pub packet_flown : Lower S → SpaceId → (number : ℕ) → SentPacket → Lower S
   packet_flown l id number packet = record l { recovery = sent_after id number packet l.recovery }
 
-  -- what an acknowledgement leaves of loss recovery
-  unfoldable pub packets_settled : Lower S C → After C → Lower S C
-  packets_settled l after = record l { recovery = after.recovery; path = after.path }
+  -- what an acknowledgement leaves of the packets
+  unfoldable pub packets_settled : {C : Type 0} → Lower S → After C → Lower S
+  packets_settled l after = record l { recovery = after.recovery }
 
-  -- what the loss timer leaves of it
-  unfoldable pub timer_fired : Lower S C → FiredAfter C → Lower S C
-  timer_fired l after = record l { recovery = after.recovery; path = after.path }
+  -- what the loss timer leaves of them
+  unfoldable pub timer_fired : {C : Type 0} → Lower S → FiredAfter C → Lower S
+  timer_fired l after = record l { recovery = after.recovery }
 
   -- the keys of the space were dropped: none of its packets is in flight (RFC 9002, section 6.4)
-  unfoldable pub flight_dropped : Lower S C → SpaceId → Lower S C
-  flight_dropped l id = record l { recovery = dropped_after id l.recovery; path = path_dropped id l.path }
+  unfoldable pub flight_dropped : Lower S → SpaceId → Lower S
+  flight_dropped l id = record l { recovery = dropped_after id l.recovery }

@@ -32,7 +32,7 @@ use Rattle.qc_state.specs.declared.deeds.Did.TheVariants as did
 use Rattle.qc_state.specs.declared.deeds.Quiet.{Quiet}
 use Rattle.qc_state.specs.declared.deeds.Verdict.{Verdict}
 use Rattle.qc_state.specs.declared.deeds.Verdict.TheVariants as verdict
-use Rattle.qc_recovery.specs.Steps.{After, FiredAfter}
+use Rattle.qc_recovery.specs.Steps.{After, FiredAfter, path_dropped}
 use Rattle.qc_state.specs.Acks.{is_ack}
 use Rattle.qc_state.specs.Draws.{word}
 use Rattle.qc_state.specs.Life.{rank_of, is_open, is_closed, is_drained, reason_given, life_raised, life_closed, life_drained, life_established, data_ready, token_learned, identifiers_wanted, ready_reported, connected_reported, lost_reported, notice_reported, notices_reported, drained_reported}
@@ -41,7 +41,7 @@ use Rattle.qc_state.specs.Keys.{NewKeys, NoKeys, HandshakeKeys, DataKeys, has_ke
 use Rattle.qc_state.specs.Flight.{flown_packet}
 use Rattle.qc_state.specs.Lower.{bytes_came, session_read, session_wrote, flight_dropped, packet_flown, packets_settled, timer_fired}
 use Rattle.qc_state.specs.Offers.{packet_begun}
-use Rattle.qc_state.specs.Paths.{is_blocked, path_idle, path_sent, path_received, path_accepted, path_spun, peer_fixed}
+use Rattle.qc_state.specs.Paths.{is_blocked, path_idle, path_sent, path_received, path_accepted, path_kept, path_spun, peer_fixed}
 use Rattle.qc_state.specs.Recovering.{loss_time, probe_timeout_now}
 use Rattle.qc_state.specs.Setup.{idle_limit_now, packet_drawn, parameters_known, peer_delay, token_expected, word_drawn}
 use Rattle.qc_state.specs.Spaces.{is_space}
@@ -182,11 +182,14 @@ module _ {t : Types} where
   life_move ReportDrained s = drained_reported s.life
   life_move _ s = s.life
 
-  unfoldable pub paths_move : Move t → View t → Paths
+  unfoldable pub paths_move : Move t → View t → Paths t.C
   paths_move (Finish bytes) s = path_sent s.paths bytes
   paths_move (Fix cid) s = peer_fixed s.paths cid
   paths_move (Accept time id n e g v) s = path_spun (path_accepted s.paths id v) s.setup.fixed.side (nat_le (received_number s.numbers id) n) g.spin
   paths_move (Hear bytes) s = path_received s.paths bytes
+  paths_move (Forget id) s = path_kept s.paths (path_dropped id s.paths.current.data)
+  paths_move (Ack id n r) s = path_kept s.paths r.path
+  paths_move (Fire r) s = path_kept s.paths r.path
   paths_move (Say q) s = path_idle s.paths
   paths_move _ s = s.paths
 
@@ -210,7 +213,7 @@ module _ {t : Types} where
   waiting_move (Take id fs) s = waiting_without s.waiting id fs
   waiting_move (Begin id opens) s = (packet_begun id opens s).waiting
   waiting_move (Seal time id n size fs) s =
-      bundle_next (packet_told s.waiting id (is_space id s.keys.highest)) fs (next_bundle time (estimate s.lower.path.rtt) (peer_delay s.setup.peer))
+      bundle_next (packet_told s.waiting id (is_space id s.keys.highest)) fs (next_bundle time (estimate s.paths.current.data.rtt) (peer_delay s.setup.peer))
   waiting_move (Forget id) s = space_left s.waiting id
   waiting_move (Accept time id n e g v) s = packet_came s.waiting id (arrived n (came_in s.numbers id)) (arrival_of time n e g) g.mark
   waiting_move (Write bytes keys session) s = crypto_written s.waiting s.keys.highest bytes
@@ -229,7 +232,7 @@ module _ {t : Types} where
   setup_move (Seal time id n size fs) s = packet_drawn s.setup id
   setup_move _ s = s.setup
 
-  unfoldable pub lower_move : Move t → View t → Lower t.S t.C
+  unfoldable pub lower_move : Move t → View t → Lower t.S
   lower_move (Seal time id n size fs) s = if s.waiting.close_owed then s.lower else packet_flown s.lower id n (flown_packet time size fs)
   lower_move (Forget id) s = flight_dropped s.lower id
   lower_move (Ack id n r) s = packets_settled s.lower r

@@ -26,7 +26,7 @@ all_from remote [] = 0
 all_from remote (i ∷ is) = bytes_from remote i + all_from remote is
 
 -- what was sent to an address that isn't validated is less than three times what came from it, and one datagram
-abbrev pub IsLimited : Path → Type 0
+abbrev pub IsLimited : {C : Type 0} → Path C → Type 0
 IsLimited p = p.validated ≡ false → p.sent < 3 * p.received + DATAGRAM_SIZE
 
 -- a deed that tells of a Handshake packet which was admitted
@@ -37,7 +37,7 @@ is_handshake_admitted _ = false
 -- From one path to another, between which so many bytes came from its address, and these deeds were done: the address is the same
 -- one; it is validated only where it was before, or a Handshake packet was admitted; no more bytes count as received from it than
 -- came; and what is sent stays limited, where the count of bytes has the range of its type.
-pub record PathHolds (came : ℕ) (ds : List Did) (p p' : Path) : Type 0 where
+pub record PathHolds {C : Type 0} (came : ℕ) (ds : List Did) (p p' : Path C) : Type 0 where
   pub same : p'.remote ≡ p.remote
   pub validated : p'.validated ≡ true → (p.validated ≡ true) ⊎ (list_any is_handshake_admitted ds ≡ true)
   pub received : p'.received ≤ p.received + came

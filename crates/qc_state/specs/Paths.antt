@@ -10,33 +10,34 @@ use Rattle.qc_base.specs.declared.side.Side.{Side}
 use Rattle.qc_base.specs.declared.side.Side.TheVariants.{Client, Server}
 use Rattle.qc_base.specs.declared.side.SpaceId.{SpaceId}
 use Rattle.qc_base.specs.declared.side.SpaceId.TheVariants.{Handshake}
+use Rattle.qc_recovery.specs.declared.path.PathData.{PathData}
 use Rattle.qc_state.specs.declared.deeds.Verdict.{Verdict}
 use Rattle.qc_state.specs.declared.deeds.Verdict.TheVariants.{Admitted}
 use Rattle.qc_state.specs.declared.paths.Path.{Path}
 use Rattle.qc_state.specs.declared.paths.Paths.{Paths}
 
--- a path on which nothing was sent or received so far, whose packets carry this id
-unfoldable pub new_path : (remote : SocketAddr) → (remote_cid : List ℕ) → (validated : Bool) → Path
-new_path remote remote_cid validated = record { remote = remote; remote_cid = remote_cid; validated = validated; sent = 0; received = 0 }
+-- a path on which nothing was sent or received so far, whose packets carry this id, and of which loss recovery keeps this
+unfoldable pub new_path : {C : Type 0} → (remote : SocketAddr) → (remote_cid : List ℕ) → (validated : Bool) → (data : PathData C) → Path C
+new_path remote remote_cid validated data = record { remote = remote; remote_cid = remote_cid; validated = validated; sent = 0; received = 0; data = data }
 
 -- a connection's first path, with the id that the peer chose, where it did
-unfoldable pub only_path : Path → (peer_cid : Option (List ℕ)) → Paths
+unfoldable pub only_path : {C : Type 0} → Path C → (peer_cid : Option (List ℕ)) → Paths C
 only_path path peer_cid = record { current = path; previous = None; peer_cid = peer_cid; spin = false; app_limited = false }
 
 -- so many bytes were sent to the path's address
-unfoldable pub path_sent : Paths → ℕ → Paths
+unfoldable pub path_sent : {C : Type 0} → Paths C → ℕ → Paths C
 path_sent v bytes = record v { current = record v.current { sent = plus v.current.sent bytes }; app_limited = false }
 
 -- a transmit sent nothing: what there is to send holds sending back, not the window of the congestion controller
-unfoldable pub path_idle : Paths → Paths
+unfoldable pub path_idle : {C : Type 0} → Paths C → Paths C
 path_idle v = record v { app_limited = true }
 
 -- so many bytes came from the path's address
-unfoldable pub path_received : Paths → ℕ → Paths
+unfoldable pub path_received : {C : Type 0} → Paths C → ℕ → Paths C
 path_received v bytes = record v { current = record v.current { received = plus v.current.received bytes } }
 
 -- the peer has chosen its id, which packets to it carry from then on (RFC 9000, section 7.2)
-unfoldable pub peer_fixed : Paths → List ℕ → Paths
+unfoldable pub peer_fixed : {C : Type 0} → Paths C → List ℕ → Paths C
 peer_fixed v cid = record v { current = record v.current { remote_cid = cid }; peer_cid = Some cid }
 
 -- the id that the peer chose, and until then the one that packets to it carry
@@ -45,7 +46,7 @@ chosen_or used None = used
 chosen_or used (Some cid) = cid
 
 -- the id by which the peer is known
-abbrev pub peer_id : Paths → List ℕ
+abbrev pub peer_id : {C : Type 0} → Paths C → List ℕ
 peer_id v = chosen_or v.current.remote_cid v.peer_cid
 
 -- a packet's source id is another one than the peer chose, where it did
@@ -54,7 +55,7 @@ is_other_source None source = false
 is_other_source (Some cid) source = not (pointwise nat_eq source cid)
 
 -- a packet of this space was accepted: a Handshake packet that was admitted shows that the peer gets what is sent to its address
-unfoldable pub path_accepted : Paths → SpaceId → Verdict → Paths
+unfoldable pub path_accepted : {C : Type 0} → Paths C → SpaceId → Verdict → Paths C
 path_accepted v Handshake Admitted = record v { current = record v.current { validated = true } }
 path_accepted v _ _ = v
 
@@ -64,12 +65,16 @@ spun_by Client bit = not bit
 spun_by Server bit = bit
 
 -- a packet with this spin bit was accepted by an end of this side; the greatest one of its space so far sets the bit that is sent
-unfoldable pub path_spun : Paths → Side → (greatest : Bool) → (bit : Bool) → Paths
+unfoldable pub path_spun : {C : Type 0} → Paths C → Side → (greatest : Bool) → (bit : Bool) → Paths C
 path_spun v side greatest bit = if greatest then record v { spin = spun_by side bit } else v
+
+-- loss recovery keeps this of the path in use from then on (RFC 9002)
+unfoldable pub path_kept : {C : Type 0} → Paths C → PathData C → Paths C
+path_kept v data = record v { current = record v.current { data = data } }
 
 -- no datagram may be begun: the peer's address isn't validated, and three times the bytes that came from it were sent (RFC
 -- 9000, section 8.1); the last datagram may go past that
-unfoldable pub is_blocked : Paths → Bool
+unfoldable pub is_blocked : {C : Type 0} → Paths C → Bool
 is_blocked v = not v.current.validated && nat_le (3 * v.current.received) v.current.sent
 
 -- whether two addresses are one, flow label and scope included

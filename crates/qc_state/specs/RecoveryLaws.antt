@@ -99,9 +99,9 @@ module _ {C : Type 0} where
 -- ---- which steps a move is
 
 module _ {t : Types} where
-  -- what recovery keeps of a connection
+  -- what recovery keeps of a connection: of the packets, and of the path in use
   abbrev pub kept : View t → Kept t.C
-  kept s = record { recovery = s.lower.recovery; path = s.lower.path }
+  kept s = record { recovery = s.lower.recovery; path = s.paths.current.data }
 
   -- which of recovery's steps a move is
   unfoldable pub steps_of : Move t → View t → List (RecoveryStep t.C)

@@ -18,11 +18,11 @@ pub record Held (t : Types) (R : Type 0) : Type 0 where
   pub numbers : Numbers
   pub keys : KeyGroup t.H t.P
   pub life : Life
-  pub paths : Paths
+  pub paths : Paths t.C
   pub timers : Timers
   pub waiting : Waiting
   pub setup : Setup R
-  pub lower : Lower t.S t.C
+  pub lower : Lower t.S
 
 -- the view: the source of random words is known by its stream alone
 abbrev pub View : Types → Type 0

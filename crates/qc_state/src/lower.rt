@@ -6,7 +6,7 @@ ghost use Rattle.qc_frame.specs.Frame.{ack_map};
 ghost use Rattle.qc_frame.specs.FrameFits.{Fits};
 ghost use Rattle.qc_frame.specs.declared.frames.FrameOf.TheVariants as frames;
 ghost use Rattle.qc_recovery.specs.Frames.{ranges_up_of, values_of};
-ghost use Rattle.qc_recovery.specs.Steps.{ack_after, after_with, fired_with, timeout_after};
+ghost use Rattle.qc_recovery.specs.Steps.{ack_after, after_with, fired_with, path_dropped, timeout_after};
 ghost use Rattle.qc_state.specs.Lower.{bytes_came, flight_dropped, packet_flown, packets_settled, ready_bytes, session_read, stream_of, timer_fired};
 
 use crate::spaces::Spaces;
@@ -21,19 +21,17 @@ use std::alloc::{AllocError, Global};
 
 /// The states of the layers below the connection.
 #[derive(Drop)]
-pub struct Lower<S, C: Controller> {
+pub struct Lower<S> {
     /// The cryptographic handshake (RFC 9001).
     pub session: S,
     /// The bytes of each space's CRYPTO stream that came, and how many were given to the session (RFC 9000, 19.6).
     pub streams: Spaces<Assembler>,
-    /// The packets in flight, and what was acknowledged (RFC 9002).
+    /// The packets in flight, and what was acknowledged (RFC 9002). What loss recovery keeps of a path stands with the path.
     pub recovery: Recovery,
-    /// What loss recovery keeps of the path: round trip times, and the congestion controller.
-    pub path: PathData<C>,
 }
 
 #[tactic(auto, unfolding(crate::specs::Lower::stream_of, crate::specs::Lower::bytes_came, crate::specs::Lower::session_read, crate::specs::Lower::packet_flown, crate::specs::Lower::packets_settled, crate::specs::Lower::timer_fired, crate::specs::Lower::flight_dropped))]
-impl<S, C: Controller> Lower<S, C> {
+impl<S> Lower<S> {
     /// What came of the space's CRYPTO stream.
     pub fn stream(&self, space: SpaceId) -> &Assembler
         ensures { result.now ≡ stream_of self.now space }
@@ -85,8 +83,9 @@ impl<S, C: Controller> Lower<S, C> {
     }
 
     /// An ACK of the space came. `next` is the number that the space seals next, and `began` the moment at which it began. Answers
-    /// which packets it newly acknowledges, and which are lost by it. Want of memory is the only refusal.
-    pub fn settle(
+    /// which packets it newly acknowledges, and which are lost by it. `path` is what loss recovery keeps of the path in use. Want of
+    /// memory is the only refusal.
+    pub fn settle<C: Controller>(
         &mut self,
         alloc: Global,
         now: Instant,
@@ -95,27 +94,36 @@ impl<S, C: Controller> Lower<S, C> {
         began: Instant,
         ack: &Ack<'_>,
         around: &Around,
+        path: &mut PathData<C>,
     ) -> Result<Settled, AllocError>
         requires { Fits (frames.Ack (ack_map (λ bytes. bytes.now) ack.now)) }
-        ensures after { IfOk result (λ s. after_with self.new.recovery self.new.path s.acked s.lost ≡ ack_after C.Controller now space next began (values_of (ack_map (λ bytes. bytes.now) ack.now)) (ranges_up_of (ack_map (λ bytes. bytes.now) ack.now)) around.now self.old.recovery self.old.path) }
-        ensures lower { IfOk result (λ s. self.new ≡ packets_settled self.old (after_with self.new.recovery self.new.path s.acked s.lost)) }
+        ensures after { IfOk result (λ s. after_with self.new.recovery path.new s.acked s.lost ≡ ack_after C.Controller now space next began (values_of (ack_map (λ bytes. bytes.now) ack.now)) (ranges_up_of (ack_map (λ bytes. bytes.now) ack.now)) around.now self.old.recovery path.old) }
+        ensures lower { IfOk result (λ s. self.new ≡ packets_settled self.old (after_with self.new.recovery path.new s.acked s.lost)) }
     {
-        self.recovery.on_ack(alloc, now, space, next, began, ack, around, &mut self.path)
+        self.recovery.on_ack(alloc, now, space, next, began, ack, around, path)
     }
 
-    /// The loss timer fired. Answers what it does: packets are lost, probes are due, or nothing. Want of memory is the only refusal.
-    pub fn fire(&mut self, now: Instant, around: &Around) -> Result<Fired, AllocError>
-        ensures after { IfOk result (λ f. fired_with self.new.recovery self.new.path f ≡ timeout_after C.Controller now around.now self.old.recovery self.old.path) }
-        ensures lower { IfOk result (λ f. self.new ≡ timer_fired self.old (fired_with self.new.recovery self.new.path f)) }
+    /// The loss timer fired. Answers what it does: packets are lost, probes are due, or nothing. `path` is what loss recovery keeps of
+    /// the path in use. Want of memory is the only refusal.
+    pub fn fire<C: Controller>(
+        &mut self,
+        now: Instant,
+        around: &Around,
+        path: &mut PathData<C>,
+    ) -> Result<Fired, AllocError>
+        ensures after { IfOk result (λ f. fired_with self.new.recovery path.new f ≡ timeout_after C.Controller now around.now self.old.recovery path.old) }
+        ensures lower { IfOk result (λ f. self.new ≡ timer_fired self.old (fired_with self.new.recovery path.new f)) }
     {
-        self.recovery.on_timeout(now, around, &mut self.path)
+        self.recovery.on_timeout(now, around, path)
     }
 
-    /// The keys of the space were dropped: none of its packets is in flight any more (RFC 9002, 6.4).
-    pub fn drop_flight(&mut self, space: SpaceId)
-        ensures { self.new ≡ flight_dropped self.old space }
+    /// The keys of the space were dropped: none of its packets is in flight any more (RFC 9002, 6.4). `path` is what loss recovery keeps
+    /// of the path in use.
+    pub fn drop_flight<C: Controller>(&mut self, space: SpaceId, path: &mut PathData<C>)
+        ensures lower { self.new ≡ flight_dropped self.old space }
+        ensures path { path.new ≡ path_dropped space path.old }
     {
-        let _ = self.recovery.discard(space, &mut self.path);
+        let _ = self.recovery.discard(space, path);
     }
 }
 

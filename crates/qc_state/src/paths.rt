@@ -6,11 +6,13 @@ ghost use Rattle.std.specs.Net.Addr.{ipv4_octets, ipv6_segments};
 
 use crate::deeds::Verdict;
 use qc_base::{ConnectionId, Side, SpaceId};
+use qc_path::Controller;
+use qc_recovery::PathData;
 use std::net::SocketAddr;
 
 /// A path to the peer (RFC 9000, 9).
 #[derive(Drop)]
-pub struct Path {
+pub struct Path<C: Controller> {
     /// The peer's address.
     pub remote: SocketAddr,
     /// The id that packets on this path carry as their destination (RFC 9000, 5.1).
@@ -21,15 +23,17 @@ pub struct Path {
     pub sent: u64,
     /// Bytes received from the peer's address, as far as they count (RFC 9000, 8.1). They stand still at 2^64 - 1.
     pub received: u64,
+    /// What loss recovery keeps of the path: round trip times, and the congestion controller (RFC 9002).
+    pub data: PathData<C>,
 }
 
 /// The paths to the peer (RFC 9000, 9), and what is kept beside them.
 #[derive(Drop)]
-pub struct Paths {
+pub struct Paths<C: Controller> {
     /// The path in use.
-    pub current: Path,
+    pub current: Path<C>,
     /// The path that was in use before the peer's address changed. None so far, since the address doesn't change.
-    pub previous: Option<Path>,
+    pub previous: Option<Path<C>>,
     /// The id that the peer chose, once it is known (RFC 9000, 7.2).
     pub peer_cid: Option<ConnectionId>,
     /// The spin bit of 1-RTT packets to the peer (RFC 9000, 17.4).
@@ -50,10 +54,15 @@ fn spun_by(side: Side, bit: bool) -> bool
 }
 
 #[tactic(auto, unfolding(crate::specs::Paths::new_path))]
-impl Path {
-    /// A path on which nothing was sent or received so far, whose packets carry this id.
-    pub fn new(remote: SocketAddr, remote_cid: ConnectionId, validated: bool) -> Path
-        ensures { result ≡ new_path remote remote_cid validated }
+impl<C: Controller> Path<C> {
+    /// A path on which nothing was sent or received so far, whose packets carry this id, and of which loss recovery keeps this.
+    pub fn new(
+        remote: SocketAddr,
+        remote_cid: ConnectionId,
+        validated: bool,
+        data: PathData<C>,
+    ) -> Path<C>
+        ensures { result ≡ new_path remote remote_cid validated data }
     {
         Path {
             remote,
@@ -61,14 +70,15 @@ impl Path {
             validated,
             sent: 0,
             received: 0,
+            data,
         }
     }
 }
 
 #[tactic(auto, unfolding(crate::specs::Paths::only_path, crate::specs::Paths::path_sent, crate::specs::Paths::path_idle, crate::specs::Paths::path_received, crate::specs::Paths::peer_fixed, crate::specs::Paths::path_accepted, crate::specs::Paths::path_spun, crate::specs::Paths::is_blocked))]
-impl Paths {
+impl<C: Controller> Paths<C> {
     /// A connection's first path, with the id that the peer chose, where it did.
-    pub fn new(path: Path, peer_cid: Option<ConnectionId>) -> Paths
+    pub fn new(path: Path<C>, peer_cid: Option<ConnectionId>) -> Paths<C>
         ensures { result ≡ only_path path peer_cid }
     {
         Paths {

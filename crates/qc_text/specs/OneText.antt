@@ -148,7 +148,7 @@ abbrev pub IsBelowLimit : Waiting → Type 0
 IsBelowLimit waiting = IsSpaceBelowLimit waiting.spaces.initial × IsSpaceBelowLimit waiting.spaces.handshake × IsSpaceBelowLimit waiting.spaces.application
 
 -- a state whose traces leave nothing out of their text, where what waits to be reported to the endpoint leaves nothing out
-pub record IsPlainStart (waiting : Waiting) (paths : Paths) (life : Life) : Type 0 where
+pub record IsPlainStart {C : Type 0} (waiting : Waiting) (paths : Paths C) (life : Life) : Type 0 where
   pub crypto : IsBelowLimit waiting
   pub address : IsPlainAddress paths.current.remote
   pub notices : All IsEndpointPlain life.notices
