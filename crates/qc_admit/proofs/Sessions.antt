@@ -62,31 +62,31 @@ either [] None e = cc e
 either [] (Some k) e = inr refl
 either (b ∷ bytes) keys e = inl (omega arith)
 
-module _ {S C : Type 0} where
+module _ {S : Type 0} where
   -- reading no bytes changes nothing
-  nothing_by : (l : Lower S C) (id : SpaceId) (bytes : List ℕ) → bytes ≡ [] → session_read l id (length bytes) l.session ≡ l
+  nothing_by : (l : Lower S) (id : SpaceId) (bytes : List ℕ) → bytes ≡ [] → session_read l id (length bytes) l.session ≡ l
   unfolding session_read
   nothing_by l Initial bytes e = ap (λ (a : Assembly). record l { streams = record l.streams { initial = a } }) (sym (first_none l.streams.initial bytes e))
   nothing_by l Handshake bytes e = ap (λ (a : Assembly). record l { streams = record l.streams { handshake = a } }) (sym (first_none l.streams.handshake bytes e))
   nothing_by l Data bytes e = ap (λ (a : Assembly). record l { streams = record l.streams { application = a } }) (sym (first_none l.streams.application bytes e))
 
   -- the session behind a read
-  session_by : (l l' : Lower S C) (id : SpaceId) (count : ℕ) (session : S) → l' ≡ session_read l id count session → l'.session ≡ session
+  session_by : (l l' : Lower S) (id : SpaceId) (count : ℕ) (session : S) → l' ≡ session_read l id count session → l'.session ≡ session
   unfolding session_read
-  session_by l l' id count session e = ap (λ (x : Lower S C). x.session) e
+  session_by l l' id count session e = ap (λ (x : Lower S). x.session) e
 
 module _ {t : Types} {R : Type 0} (m : Meaning t) (stream : R → Stream) where
   -- there was nothing to read
-  pub nothing_read : (v w : Held t R) (id : SpaceId) (bytes slice : List ℕ) (l : Lower t.S t.C) (ds : List Did) (empty : Bool) → w ≡ v → bytes ≡ ready_bytes (stream_of w.lower id) →
+  pub nothing_read : (v w : Held t R) (id : SpaceId) (bytes slice : List ℕ) (l : Lower t.S) (ds : List Did) (empty : Bool) → w ≡ v → bytes ≡ ready_bytes (stream_of w.lower id) →
       l ≡ session_read w.lower id (length bytes) w.lower.session → slice ≡ bytes → empty ≡ (length slice == 0) → empty ≡ true →
       HasRead m id (ready_bytes (stream_of v.lower id)) None (held stream v ds) (held stream (record w { lower = l }) ds)
   nothing_read v w id bytes slice l ds empty same is is_l is_slice is_empty e =
       let none : bytes ≡ [] = sym is_slice ∙ no_bytes slice (sym is_empty ∙ e) in
       subst (λ (x : Held t R). HasRead m id (ready_bytes (stream_of x.lower id)) None (held stream x ds) (held stream (record w { lower = l }) ds)) same
-      ((sym is ∙ none), ap (λ (x : Lower t.S t.C). held stream (record w { lower = x }) ds) (is_l ∙ nothing_by w.lower id bytes none))
+      ((sym is ∙ none), ap (λ (x : Lower t.S). held stream (record w { lower = x }) ds) (is_l ∙ nothing_by w.lower id bytes none))
 
   -- the session read
-  pub something_read : (v w : Held t R) (id : SpaceId) (bytes slice slice' body : List ℕ) (l : Lower t.S t.C) (session : t.S) (answer : Result Bool TransportError) (ds ds' : List Did) (empty : Bool) → w ≡ v →
+  pub something_read : (v w : Held t R) (id : SpaceId) (bytes slice slice' body : List ℕ) (l : Lower t.S) (session : t.S) (answer : Result Bool TransportError) (ds ds' : List Did) (empty : Bool) → w ≡ v →
       bytes ≡ ready_bytes (stream_of w.lower id) → l ≡ session_read w.lower id (length bytes) w.lower.session → slice ≡ bytes → empty ≡ (length slice == 0) → empty ≡ false →
       slice' ≡ bytes → answer ≡ m.reads l.session slice' → session ≡ m.after_read l.session slice' → body ≡ bytes → ds' ≡ ds ++ did.Gave layer.Session body ∷ [] →
       HasRead m id (ready_bytes (stream_of v.lower id)) (Some answer) (held stream v ds) (held stream (record w { lower = record l { session = session } }) ds')
@@ -98,7 +98,7 @@ module _ {t : Types} {R : Type 0} (m : Meaning t) (stream : R → Stream) where
       let answers : answer ≡ m.reads w.lower.session ready = is_answer ∙ ap (λ (x : t.S). m.reads x slice') first ∙ ap (m.reads w.lower.session) (is_slice' ∙ is) in
       let after : session ≡ m.after_read w.lower.session ready = is_session ∙ ap (λ (x : t.S). m.after_read x slice') first ∙ ap (m.after_read w.lower.session) (is_slice' ∙ is) in
       let lower : record l { session = session } ≡ session_read w.lower id (length ready) (m.after_read w.lower.session ready) =
-      ap (λ (x : Lower t.S t.C). record x { session = session }) (is_l ∙ ap (λ (x : List ℕ). session_read w.lower id (length x) w.lower.session) is) ∙ ap (λ (x : t.S). session_read w.lower id (length ready) x) after in
+      ap (λ (x : Lower t.S). record x { session = session }) (is_l ∙ ap (λ (x : List ℕ). session_read w.lower id (length x) w.lower.session) is) ∙ ap (λ (x : t.S). session_read w.lower id (length ready) x) after in
       let deeds : ds' ≡ ds ++ did.Gave layer.Session ready ∷ [] = is_ds' ∙ ap (λ (x : List ℕ). ds ++ did.Gave layer.Session x ∷ []) (is_body ∙ is) in
       subst (λ (x : Held t R). HasRead m id (ready_bytes (stream_of x.lower id)) (Some answer) (held stream x ds) (held stream (record w { lower = record l { session = session } }) ds')) same (
         some,

@@ -45,7 +45,7 @@ use Rattle.qc_state.specs.declared.waiting.Waiting.{Waiting}
 use Rattle.qc_state.specs.Life.{is_closed, is_open, data_ready, drained_event, identifiers_wanted, life_closed, life_drained, life_established, life_raised, reason_given, token_learned, notices_reported, drained_reported, lost_reported, connected_reported, ready_reported}
 use Rattle.qc_state.specs.Moves.{Move, Take, Seal, Forget, Raise, Say, Give, Enter, Fail, Accept, Fix, Hear, Ack, Fire, Arm, Pace, Release, Begin, Skip, Come, Read, Write, Ready, Learn, Establish, Tell, PeerClosesToo, PeerCloses, Owe, Shut, IsTold, MayMove, state_move, move_to, deeds_move, life_move, paths_move, waiting_move, keys_move, Expect, Confirm, Token, Want, Finish}
 use Rattle.qc_state.specs.Numbers.{next_number, received_number}
-use Rattle.qc_state.specs.Paths.{path_idle, path_sent, path_received, peer_fixed, path_accepted, path_spun, new_path, only_path}
+use Rattle.qc_state.specs.Paths.{path_idle, path_kept, path_sent, path_received, peer_fixed, path_accepted, path_spun, new_path, only_path}
 use Rattle.qc_state.specs.Receiving.{datagram_after, is_taken}
 use Rattle.qc_state.specs.Run.{time_of, began, close_after, input_after, called, reported, step_after, IsAllowed, out_of, answer_of, IsStep, Run, Ran}
 use Rattle.qc_state.specs.Sending.{told_code, told_type, told_application_code, told_close, close_frame, closing_frame, IsKeptReason, Closes, padded, padding_of, packet_size, Carries, transmit_after, MayTransmit, transmit_bytes, transmit_of, transmit_with, Choice, Ending, Went, Hushed, Died, sent_out, gone_after}
@@ -317,13 +317,13 @@ done_plain true = tt
 done_plain false = tt
 
 -- accepting a packet leaves the address
-accepted_remote : (p : Paths) (id : SpaceId) (v : Verdict) → (path_accepted p id v).current.remote ≡ p.current.remote
+accepted_remote : {C : Type 0} → (p : Paths C) (id : SpaceId) (v : Verdict) → (path_accepted p id v).current.remote ≡ p.current.remote
 unfolding path_accepted
 accepted_remote p Handshake verdict.Admitted = refl
 accepted_remote p _ _ = refl
 
 -- so does its spin bit
-spun_remote : (p : Paths) (side : Side) (greatest bit : Bool) → (path_spun p side greatest bit).current.remote ≡ p.current.remote
+spun_remote : {C : Type 0} → (p : Paths C) (side : Side) (greatest bit : Bool) → (path_spun p side greatest bit).current.remote ≡ p.current.remote
 unfolding path_spun
 spun_remote p side true bit = refl
 spun_remote p side false bit = refl
@@ -391,7 +391,7 @@ module _ {t : Types} where
   keeps_next a b c g h = record { deeds = λ b p. h.deeds (g.crypto b) (g.deeds b p); crypto = λ p. h.crypto (g.crypto p); path = h.path ∙ g.path; notices = λ p k. h.notices (subst IsPlainAddress (sym g.path) p) (g.notices p k) }
 
   keeps_move : (x : Move t) → IsReceived x → (a : At t) → MayMove x a.state → Keeps a (move_to x a)
-  unfolding MayMove move_to state_move deeds_move waiting_move close_begun space_left packet_came came_in crypto_written done_asked paths_move path_received path_accepted peer_fixed life_move data_ready life_established life_drained life_closed life_raised token_learned identifiers_wanted
+  unfolding MayMove move_to state_move deeds_move waiting_move close_begun space_left packet_came came_in crypto_written done_asked paths_move path_kept path_received path_accepted peer_fixed life_move data_ready life_established life_drained life_closed life_raised token_learned identifiers_wanted
   keeps_move (Forget id) r a h = record { deeds = λ b p. p; crypto = set_below a.state.waiting id _ (nothing_below (space_of a.state.waiting.spaces id)); path = refl; notices = λ p k. k }
   keeps_move (Enter id n v) r a h = record { deeds = λ b. one_more a.did _ tt; crypto = λ p. p; path = refl; notices = λ p k. k }
   keeps_move (Expect token) r a h = record { deeds = λ b p. p; crypto = λ p. p; path = refl; notices = λ p k. k }
@@ -429,7 +429,7 @@ module _ {t : Types} where
 
   -- what a timer does keeps the same
   keeps_timed : (x : Move t) → IsTimed x → (a : At t) → MayMove x a.state → Keeps a (move_to x a)
-  unfolding MayMove move_to state_move deeds_move waiting_move ack_released paths_move life_move life_raised
+  unfolding MayMove move_to state_move deeds_move waiting_move ack_released paths_move path_kept life_move life_raised
   keeps_timed (Fire after) r a h = record { deeds = λ b p. p; crypto = fired_below a.state.waiting after.fired; path = refl; notices = λ p k. k }
   keeps_timed (Arm time) r a h = record { deeds = λ b p. p; crypto = λ p. p; path = refl; notices = λ p k. k }
   keeps_timed Pace r a h = record { deeds = λ b p. p; crypto = λ p. p; path = refl; notices = λ p k. k }
@@ -443,7 +443,7 @@ module _ {t : Types} where
 
   -- what a transmit does keeps the same: each of its moves but those that take and seal
   keeps_sending : (x : Move t) → IsSending x → (a : At t) → MayMove x a.state → Keeps a (move_to x a)
-  unfolding MayMove move_to state_move deeds_move waiting_move close_begun space_left paths_move path_idle path_sent life_move life_closed life_raised
+  unfolding MayMove move_to state_move deeds_move waiting_move close_begun space_left paths_move path_idle path_kept path_sent life_move life_closed life_raised
   keeps_sending (Begin id opens) r a h = record { deeds = λ b p. p; crypto = packet_below a.state id opens; path = refl; notices = λ p k. k }
   keeps_sending Skip r a h = record { deeds = λ b p. p; crypto = λ p. p; path = refl; notices = λ p k. k }
   keeps_sending (Arm time) r a h = record { deeds = λ b p. p; crypto = λ p. p; path = refl; notices = λ p k. k }
@@ -514,7 +514,7 @@ module _ {t : Types} where
   step_answer : (m : Meaning t) (k : ℕ) (s : View t) (i : Input) (x : Step) (s' : View t) → IsStep m k s i x s' → IsPlainAddress s.paths.current.remote → IsAnswerPlain x.answer × IsPlainAddress s'.paths.current.remote
   unfolding began step_after reported state_move paths_move
   step_answer m k s i x s' e h =
-      let same : s'.paths.current.remote ≡ s.paths.current.remote = ap (λ (p : Paths). p.current.remote) e.paths ∙ (keeps_step m k s i x s' e).path in
+      let same : s'.paths.current.remote ≡ s.paths.current.remote = ap (λ (p : Paths t.C). p.current.remote) e.paths ∙ (keeps_step m k s i x s' e).path in
       (subst IsAnswerPlain (sym e.answer) (answer_plain m i e.choice (began s (time_of i)) h), subst IsPlainAddress (sym same) h)
 
   -- what it tells the endpoint

@@ -33,7 +33,7 @@ accepted_window v Data n = refl
 
 module _ {t : Types} {R : Type 0} (stream : R → Stream) where
   -- the groups that change are those of the move
-  pub accepted_by : (r : Result (Unit {0}) AllocError) (v w : Held t R) (time : ℕ) (id : SpaceId) (n : ℕ) (eliciting : Bool) (signs : Signs) (verdict : Verdict) (numbers : Numbers) (seen : Window) (ce : Bool) (waiting : Waiting) (holds : Bool) (middle paths : Paths) (clocks timers : Timers) (limit : Option ℕ) (probe rx : ℕ) (greatest : Bool) (ds ds' : List Did) →
+  pub accepted_by : (r : Result (Unit {0}) AllocError) (v w : Held t R) (time : ℕ) (id : SpaceId) (n : ℕ) (eliciting : Bool) (signs : Signs) (verdict : Verdict) (numbers : Numbers) (seen : Window) (ce : Bool) (waiting : Waiting) (holds : Bool) (middle paths : Paths t.C) (clocks timers : Timers) (limit : Option ℕ) (probe rx : ℕ) (greatest : Bool) (ds ds' : List Did) →
       w ≡ v → numbers ≡ number_accepted w.numbers id n → seen ≡ came_in numbers id → ce ≡ tells_congestion signs.mark → waiting ≡ packet_came w.waiting id seen (record { number = n; at = time; ack_eliciting = eliciting; ce = ce }) signs.mark →
       holds ≡ holds_back w.waiting id seen (record { number = n; at = time; ack_eliciting = eliciting; ce = ce }) →
       middle ≡ path_accepted w.paths id verdict → rx ≡ received_number w.numbers id → greatest ≡ nat_le rx n → paths ≡ path_spun middle w.setup.fixed.side greatest signs.spin → limit ≡ idle_limit_now w.setup → probe ≡ probe_timeout_now (ideal stream v) id → clocks ≡ timers_accepted w.timers limit probe time → timers ≡ timers_holding clocks holds time → OnOk r (ds' ≡ ds ++ did.Piece (Some id) (Some n) verdict ∷ []) →
@@ -45,7 +45,7 @@ module _ {t : Types} {R : Type 0} (stream : R → Stream) where
       ∙ ap (λ (x : Bool). packet_came w.waiting id (arrived n (came_in w.numbers id)) (record { number = n; at = time; ack_eliciting = eliciting; ce = x }) signs.mark) is_ce in
       let held_back = is_holds ∙ ap (λ (x : Window). holds_back w.waiting id x (record { number = n; at = time; ack_eliciting = eliciting; ce = ce })) window
       ∙ ap (λ (x : Bool). holds_back w.waiting id (arrived n (came_in w.numbers id)) (record { number = n; at = time; ack_eliciting = eliciting; ce = x })) is_ce in
-      let spun = is_paths ∙ ap (λ (x : Paths). path_spun x w.setup.fixed.side greatest signs.spin) is_middle ∙ ap (λ (b : Bool). path_spun (path_accepted w.paths id verdict) w.setup.fixed.side b signs.spin) (is_greatest ∙ ap (λ (k : ℕ). nat_le k n) is_rx) in
+      let spun = is_paths ∙ ap (λ (x : Paths t.C). path_spun x w.setup.fixed.side greatest signs.spin) is_middle ∙ ap (λ (b : Bool). path_spun (path_accepted w.paths id verdict) w.setup.fixed.side b signs.spin) (is_greatest ∙ ap (λ (k : ℕ). nat_le k n) is_rx) in
       let accepted = is_clocks ∙ ap (λ (x : Option ℕ). timers_accepted w.timers x probe time) is_limit ∙ ap (λ (k : ℕ). timers_accepted w.timers (idle_limit_now w.setup) k time) (is_probe ∙ ap (λ (x : Held t R). probe_timeout_now (ideal stream x) id) (sym same)) in
       let times = is_timers ∙ ap (λ (x : Timers). timers_holding x holds time) accepted ∙ ap (λ (b : Bool). timers_holding (timers_accepted w.timers (idle_limit_now w.setup) (probe_timeout_now (ideal stream w) id) time) b time) held_back in
       subst (λ (x : Held t R). held stream (record w { numbers = numbers; paths = paths; timers = timers; waiting = waiting }) ds' ≡ move_to (Accept time id n eliciting signs verdict) (held stream x ds)) same

@@ -12,6 +12,7 @@ use Rattle.qc_frame.specs.declared.frames.FrameOf.TheVariants as frames
 use Rattle.qc_recovery.specs.Frames.{ranges_up_of, values_of}
 use Rattle.qc_recovery.specs.Steps.{After, FiredAfter, ack_after, timeout_after}
 use Rattle.qc_recovery.specs.declared.calls.Around.{Around}
+use Rattle.qc_recovery.specs.declared.path.PathData.{PathData}
 use Rattle.qc_state.specs.declared.deeds.Did.{Did}
 use Rattle.qc_state.specs.declared.deeds.Did.TheVariants as did
 use Rattle.qc_state.specs.declared.deeds.Layer.TheVariants as layer
@@ -21,7 +22,7 @@ use Rattle.qc_state.specs.declared.waiting.Waiting.{Waiting}
 use Rattle.qc_state.specs.Lower.{packets_settled, timer_fired}
 use Rattle.qc_state.specs.Moves.{Ack, Fire, Tell, move_to, armed_after, state_move, numbers_move, keys_move, life_move, paths_move, timers_move, waiting_move, setup_move, lower_move, deeds_move}
 use Rattle.qc_state.specs.Numbers.{began_at, next_number, number_acked}
-use Rattle.qc_state.specs.Paths.{is_blocked}
+use Rattle.qc_state.specs.Paths.{is_blocked, path_kept}
 use Rattle.qc_state.specs.Receiving.{acked_after, rearmed_after, settled_after}
 use Rattle.qc_state.specs.Recovering.{around_of, fired_by, settled_by, shows_validated}
 use Rattle.qc_state.specs.Setup.{ideal_setup}
@@ -32,46 +33,46 @@ use Rattle.qc_state.specs.Waiting.{fired_in, packets_acked, packets_lost}
 module _ {t : Types} (m : Meaning t) where
   -- what loss recovery makes of an ACK, which is told of the connection as it stands
   pub settled_is : (s : View t) (time : ℕ) (id : SpaceId) (ack : AckValue) (blocked shows : Bool) (around : Around) (next began : ℕ) (after : After t.C) → blocked ≡ is_blocked s.paths → shows ≡ shows_validated id → around ≡ around_of s blocked shows →
-      next ≡ next_number s.numbers id → began ≡ began_at s.numbers id → after ≡ ack_after m.control time id next began (values_of ack) (ranges_up_of ack) around s.lower.recovery s.lower.path → after ≡ settled_by m time id ack s
+      next ≡ next_number s.numbers id → began ≡ began_at s.numbers id → after ≡ ack_after m.control time id next began (values_of ack) (ranges_up_of ack) around s.lower.recovery s.paths.current.kept → after ≡ settled_by m time id ack s
   unfolding settled_by
   settled_is s time id ack blocked shows around next began after as_stands is_shows is_around is_next is_began is =
       let told : around ≡ around_of s (is_blocked s.paths) (shows_validated id) = is_around ∙ ap (λ (x : Bool). around_of s x shows) as_stands ∙ ap (λ (x : Bool). around_of s (is_blocked s.paths) x) is_shows in
-      is ∙ ap (λ (x : ℕ). ack_after m.control time id x began (values_of ack) (ranges_up_of ack) around s.lower.recovery s.lower.path) is_next
-      ∙ ap (λ (x : ℕ). ack_after m.control time id (next_number s.numbers id) x (values_of ack) (ranges_up_of ack) around s.lower.recovery s.lower.path) is_began
-      ∙ ap (λ (x : Around). ack_after m.control time id (next_number s.numbers id) (began_at s.numbers id) (values_of ack) (ranges_up_of ack) x s.lower.recovery s.lower.path) told
+      is ∙ ap (λ (x : ℕ). ack_after m.control time id x began (values_of ack) (ranges_up_of ack) around s.lower.recovery s.paths.current.kept) is_next
+      ∙ ap (λ (x : ℕ). ack_after m.control time id (next_number s.numbers id) x (values_of ack) (ranges_up_of ack) around s.lower.recovery s.paths.current.kept) is_began
+      ∙ ap (λ (x : Around). ack_after m.control time id (next_number s.numbers id) (began_at s.numbers id) (values_of ack) (ranges_up_of ack) x s.lower.recovery s.paths.current.kept) told
 
   -- and of the loss timer
   pub fired_is : (s : View t) (time : ℕ) (blocked : Bool) (around : Around) (after : FiredAfter t.C) → blocked ≡ is_blocked s.paths → around ≡ around_of s blocked false →
-      after ≡ timeout_after m.control time around s.lower.recovery s.lower.path → after ≡ fired_by m time s
+      after ≡ timeout_after m.control time around s.lower.recovery s.paths.current.kept → after ≡ fired_by m time s
   unfolding fired_by
   fired_is s time blocked around after as_stands is_around is =
-      is ∙ ap (λ (x : Around). timeout_after m.control time x s.lower.recovery s.lower.path) (is_around ∙ ap (λ (x : Bool). around_of s x false) as_stands)
+      is ∙ ap (λ (x : Around). timeout_after m.control time x s.lower.recovery s.paths.current.kept) (is_around ∙ ap (λ (x : Bool). around_of s x false) as_stands)
 
 module _ {t : Types} {R : Type 0} (m : Meaning t) (stream : R → Stream) where
   -- the same of the state that is held
   pub settled_held : (v w : Held t R) (time : ℕ) (id : SpaceId) (ack : AckValue) (blocked shows : Bool) (around : Around) (next began : ℕ) (after : After t.C) → w ≡ v → blocked ≡ is_blocked v.paths → shows ≡ shows_validated id → around ≡ around_of (ideal stream v) blocked shows →
-      next ≡ next_number w.numbers id → began ≡ began_at w.numbers id → after ≡ ack_after m.control time id next began (values_of ack) (ranges_up_of ack) around w.lower.recovery w.lower.path → after ≡ settled_by m time id ack (ideal stream v)
+      next ≡ next_number w.numbers id → began ≡ began_at w.numbers id → after ≡ ack_after m.control time id next began (values_of ack) (ranges_up_of ack) around w.lower.recovery w.paths.current.kept → after ≡ settled_by m time id ack (ideal stream v)
   settled_held v w time id ack blocked shows around next began after same as_stands is_shows is_around is_next is_began is =
       settled_is m (ideal stream v) time id ack blocked shows around next began after as_stands is_shows is_around (is_next ∙ ap (λ (x : Held t R). next_number x.numbers id) same) (is_began ∙ ap (λ (x : Held t R). began_at x.numbers id) same)
-      (is ∙ ap (λ (x : Held t R). ack_after m.control time id next began (values_of ack) (ranges_up_of ack) around x.lower.recovery x.lower.path) same)
+      (is ∙ ap (λ (x : Held t R). ack_after m.control time id next began (values_of ack) (ranges_up_of ack) around x.lower.recovery x.paths.current.kept) same)
 
   pub fired_held : (v w : Held t R) (time : ℕ) (blocked : Bool) (around : Around) (after : FiredAfter t.C) → w ≡ v → blocked ≡ is_blocked v.paths → around ≡ around_of (ideal stream v) blocked false →
-      after ≡ timeout_after m.control time around w.lower.recovery w.lower.path → after ≡ fired_by m time (ideal stream v)
+      after ≡ timeout_after m.control time around w.lower.recovery w.paths.current.kept → after ≡ fired_by m time (ideal stream v)
   fired_held v w time blocked around after same as_stands is_around is =
-      fired_is m (ideal stream v) time blocked around after as_stands is_around (is ∙ ap (λ (x : Held t R). timeout_after m.control time around x.lower.recovery x.lower.path) same)
+      fired_is m (ideal stream v) time blocked around after as_stands is_around (is ∙ ap (λ (x : Held t R). timeout_after m.control time around x.lower.recovery x.paths.current.kept) same)
 
   -- the groups that change are those of the move
-  pub settled_parts : (v w : Held t R) (time : ℕ) (id : SpaceId) (ack : AckValue) (after : After t.C) (numbers : Numbers) (waiting : Waiting) (lower : Lower t.S t.C) → w ≡ v →
-      after ≡ settled_by m time id ack (ideal stream v) → lower ≡ packets_settled w.lower after → numbers ≡ number_acked w.numbers id ack.largest → waiting ≡ packets_lost (packets_acked w.waiting id after.acked) id after.lost →
-      ideal stream (record w { numbers = numbers; waiting = waiting; lower = lower }) ≡ state_move (Ack id ack.largest (settled_by m time id ack (ideal stream v))) (ideal stream v)
-  unfolding state_move numbers_move keys_move life_move paths_move timers_move waiting_move setup_move lower_move ideal_setup
-  settled_parts v w time id ack after numbers waiting lower same is is_lower is_numbers is_waiting =
-      subst (λ (x : Held t R). ideal stream (record w { numbers = numbers; waiting = waiting; lower = lower }) ≡ state_move (Ack id ack.largest after) (ideal stream x)) same
+  pub settled_parts : (v w : Held t R) (time : ℕ) (id : SpaceId) (ack : AckValue) (after : After t.C) (numbers : Numbers) (waiting : Waiting) (lower : Lower t.S) (kept : PathData t.C) → w ≡ v →
+      after ≡ settled_by m time id ack (ideal stream v) → kept ≡ after.path → lower ≡ packets_settled w.lower after → numbers ≡ number_acked w.numbers id ack.largest → waiting ≡ packets_lost (packets_acked w.waiting id after.acked) id after.lost →
+      ideal stream (record w { numbers = numbers; paths = record w.paths { current = record w.paths.current { kept = kept } }; waiting = waiting; lower = lower }) ≡ state_move (Ack id ack.largest (settled_by m time id ack (ideal stream v))) (ideal stream v)
+  unfolding state_move numbers_move keys_move life_move paths_move timers_move waiting_move setup_move lower_move path_kept ideal_setup
+  settled_parts v w time id ack after numbers waiting lower kept same is is_kept is_lower is_numbers is_waiting =
+      subst (λ (x : Held t R). ideal stream (record w { numbers = numbers; paths = record w.paths { current = record w.paths.current { kept = kept } }; waiting = waiting; lower = lower }) ≡ state_move (Ack id ack.largest after) (ideal stream x)) same
       (λ i. record {
         numbers = is_numbers i;
         keys = w.keys;
         life = w.life;
-        paths = w.paths;
+        paths = record w.paths { current = record w.paths.current { kept = is_kept i } };
         timers = w.timers;
         waiting = is_waiting i;
         setup = ideal_setup stream w.setup;
@@ -79,24 +80,24 @@ module _ {t : Types} {R : Type 0} (m : Meaning t) (stream : R → Stream) where
       })
       ∙ ap (λ (x : After t.C). state_move (Ack id ack.largest x) (ideal stream v)) is
 
-  pub fired_parts : (r : Result (Unit {0}) AllocError) (v w : Held t R) (time : ℕ) (after : FiredAfter t.C) (waiting : Waiting) (lower : Lower t.S t.C) → w ≡ v →
-      after ≡ fired_by m time (ideal stream v) → lower ≡ timer_fired w.lower after → OnOk r (waiting ≡ fired_in w.waiting after.fired) →
-      OnOk r (ideal stream (record w { waiting = waiting; lower = lower }) ≡ state_move (Fire (fired_by m time (ideal stream v))) (ideal stream v))
-  unfolding state_move numbers_move keys_move life_move paths_move timers_move waiting_move setup_move lower_move ideal_setup
-  fired_parts (Ok done) v w time after waiting lower same is is_lower is_waiting =
-      subst (λ (x : Held t R). ideal stream (record w { waiting = waiting; lower = lower }) ≡ state_move (Fire after) (ideal stream x)) same
+  pub fired_parts : (r : Result (Unit {0}) AllocError) (v w : Held t R) (time : ℕ) (after : FiredAfter t.C) (waiting : Waiting) (lower : Lower t.S) (kept : PathData t.C) → w ≡ v →
+      after ≡ fired_by m time (ideal stream v) → kept ≡ after.path → lower ≡ timer_fired w.lower after → OnOk r (waiting ≡ fired_in w.waiting after.fired) →
+      OnOk r (ideal stream (record w { paths = record w.paths { current = record w.paths.current { kept = kept } }; waiting = waiting; lower = lower }) ≡ state_move (Fire (fired_by m time (ideal stream v))) (ideal stream v))
+  unfolding state_move numbers_move keys_move life_move paths_move timers_move waiting_move setup_move lower_move path_kept ideal_setup
+  fired_parts (Ok done) v w time after waiting lower kept same is is_kept is_lower is_waiting =
+      subst (λ (x : Held t R). ideal stream (record w { paths = record w.paths { current = record w.paths.current { kept = kept } }; waiting = waiting; lower = lower }) ≡ state_move (Fire after) (ideal stream x)) same
       (λ i. record {
         numbers = w.numbers;
         keys = w.keys;
         life = w.life;
-        paths = w.paths;
+        paths = record w.paths { current = record w.paths.current { kept = is_kept i } };
         timers = w.timers;
         waiting = is_waiting i;
         setup = ideal_setup stream w.setup;
         lower = is_lower i;
       })
       ∙ ap (λ (x : FiredAfter t.C). state_move (Fire x) (ideal stream v)) is
-  fired_parts (Err x) v w time after waiting lower same is is_lower is_waiting = tt
+  fired_parts (Err x) v w time after waiting lower kept same is is_kept is_lower is_waiting = tt
 
 -- of entries of which there are none, none is newly acknowledged
 some_entries : (x : Entry) (acked : List Entry) → not (length (x ∷ acked) == 0) ≡ true

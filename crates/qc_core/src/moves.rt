@@ -49,7 +49,7 @@ fn tells_congestion(mark: Option<EcnCodepoint>) -> bool
     }
 }
 
-#[tactic(auto, unfolding(qc_state::specs::Moves::move_to, qc_state::specs::Moves::state_move, qc_state::specs::Moves::numbers_move, qc_state::specs::Moves::keys_move, qc_state::specs::Moves::life_move, qc_state::specs::Moves::paths_move, qc_state::specs::Moves::timers_move, qc_state::specs::Moves::waiting_move, qc_state::specs::Moves::setup_move, qc_state::specs::Moves::lower_move, qc_state::specs::Moves::deeds_move, qc_state::specs::Setup::ideal_setup, qc_state::specs::Setup::idle_limit_now, qc_state::specs::Setup::parameters_known, qc_state::specs::Setup::token_expected, qc_state::specs::Lower::session_wrote, crate::specs::Sealing::sealed_drawn), using(qc_state::proofs::Arrivals::came_accepted))]
+#[tactic(auto, unfolding(qc_state::specs::Moves::move_to, qc_state::specs::Moves::state_move, qc_state::specs::Moves::numbers_move, qc_state::specs::Moves::keys_move, qc_state::specs::Moves::life_move, qc_state::specs::Moves::paths_move, qc_state::specs::Moves::timers_move, qc_state::specs::Moves::waiting_move, qc_state::specs::Moves::setup_move, qc_state::specs::Moves::lower_move, qc_state::specs::Moves::deeds_move, qc_state::specs::Setup::ideal_setup, qc_state::specs::Setup::idle_limit_now, qc_state::specs::Setup::parameters_known, qc_state::specs::Setup::token_expected, qc_state::specs::Lower::session_wrote, qc_state::specs::Paths::path_kept, crate::specs::Sealing::sealed_drawn), using(qc_state::proofs::Arrivals::came_accepted))]
 impl<U: Suite> Core<U> {
     /// The connection is told a time.
     pub fn do_clock(&mut self, now: Instant)
@@ -137,7 +137,7 @@ impl<U: Suite> Core<U> {
         requires { number < 2 ^ 62 }
         ensures { OnOk result ((ideal U.Random.stream self.new) ≡ (sealed_drawn now space number size frames.now (at (ideal U.Random.stream self.old) [])).state) }
     {
-        let next = next_bundled_ack_time(now, self.paths.current.data.rtt.get(), self.setup.peer_delay());
+        let next = next_bundled_ack_time(now, self.paths.current.kept.rtt.get(), self.setup.peer_delay());
         self.time_packet(now, space, frames);
         self.fly(alloc, now, space, number, size, frames)?;
         let last = is_space(space, self.keys.highest);
@@ -183,7 +183,7 @@ impl<U: Suite> Core<U> {
         self.keys.forget(space);
         self.waiting.forget(space);
         self.lower
-            .drop_flight(space, &mut self.paths.current.data);
+            .drop_flight(space, &mut self.paths.current.kept);
     }
 
     /// A server's first packet came, with this token.
@@ -275,7 +275,7 @@ impl<U: Suite> Core<U> {
         let around = self.around(blocked, shows_validated(space));
         let next = self.numbers.next(space);
         let began = self.numbers.began(space);
-        let path = &mut self.paths.current.data;
+        let path = &mut self.paths.current.kept;
         let settled = self
             .lower
             .settle(alloc, now, space, next, began, ack, &around, path)?;
@@ -293,7 +293,7 @@ impl<U: Suite> Core<U> {
         let around = self.around(blocked, false);
         let fired = self
             .lower
-            .fire(now, &around, &mut self.paths.current.data)?;
+            .fire(now, &around, &mut self.paths.current.kept)?;
         self.waiting.fire(fired)
     }
 

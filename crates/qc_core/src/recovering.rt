@@ -87,7 +87,7 @@ impl<U: Suite> Core<U> {
         let around = self.around(false, false);
         self.lower
             .recovery
-            .pto(space, &around, &self.paths.current.data.rtt)
+            .pto(space, &around, &self.paths.current.kept.rtt)
     }
 
     /// The time of the loss timer. None where it is stopped, as it is once the connection has closed. `blocked` says that no
@@ -102,7 +102,7 @@ impl<U: Suite> Core<U> {
         let around = self.around(blocked, false);
         self.lower
             .recovery
-            .arm(now, &around, &self.paths.current.data)
+            .arm(now, &around, &self.paths.current.kept)
     }
 
     /// The loss timer is set anew. `blocked` says that no datagram may be begun.

@@ -75,8 +75,8 @@ pub fn new_client<U: Suite>(
         grease_quic_bit: setup.grease_quic_bit,
     };
     let congestion = setup.control.build(now, first_mtu(&setup.transport, None));
-    let data = PathData::new(now, &setup.transport, congestion, false, None);
-    let path = Path::new(setup.remote, setup.first_cid, true, data);
+    let kept = PathData::new(now, &setup.transport, congestion, false, None);
+    let path = Path::new(setup.remote, setup.first_cid, true, kept);
     let paths = Paths::new(path, None);
     made(
         alloc,

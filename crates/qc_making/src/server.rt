@@ -75,8 +75,8 @@ pub fn new_server<U: Suite>(
         grease_quic_bit: setup.grease_quic_bit,
     };
     let congestion = setup.control.build(now, first_mtu(&setup.transport, None));
-    let data = PathData::new(now, &setup.transport, congestion, false, None);
-    let path = Path::new(setup.remote, setup.remote_cid, setup.validated, data);
+    let kept = PathData::new(now, &setup.transport, congestion, false, None);
+    let path = Path::new(setup.remote, setup.remote_cid, setup.validated, kept);
     let paths = Paths::new(path, Some(setup.remote_cid));
     made(
         alloc,

@@ -255,9 +255,9 @@ fn spare<U: Suite>(
 
 /// The mark of ECN that datagrams go with: ECT(0) while the path is taken to pass it on (RFC 9000, section 13.4.2).
 fn mark<U: Suite>(core: &Core<U>) -> Option<EcnCodepoint>
-    ensures { result ≡ (if core.now.paths.current.data.sending_ecn then Some EcnCodepoint.Ect0 else None) }
+    ensures { result ≡ (if core.now.paths.current.kept.sending_ecn then Some EcnCodepoint.Ect0 else None) }
 {
-    if core.paths.current.data.sending_ecn {
+    if core.paths.current.kept.sending_ecn {
         return Some(EcnCodepoint::Ect0);
     }
     None

@@ -217,7 +217,7 @@ module _ {t : Types} where
   knows_move id (Take space fs) a h k = silent_knows id (Take space fs) a refl (same_kept id space a.state.waiting _ (without_all_keeps (space_of a.state.waiting.spaces space) fs))
   knows_move id (Seal time space n size fs) a h k =
       deed_knows id (Seal time space n size fs) (did.Sealed space n 0 false fs) a refl (said_there id space a.state.waiting fs k)
-      (sealed_kept id space a.state.waiting (is_space space a.state.keys.highest) fs (next_bundle time (estimate a.state.lower.path.rtt) (peer_delay a.state.setup.peer)))
+      (sealed_kept id space a.state.waiting (is_space space a.state.keys.highest) fs (next_bundle time (estimate a.state.paths.current.kept.rtt) (peer_delay a.state.setup.peer)))
   knows_move id (Forget space) a h k = silent_knows id (Forget space) a refl (same_kept id space a.state.waiting _ refl)
   knows_move id (Enter space n v) a h k = deed_knows id (Enter space n v) _ a refl tt (λ n m. inr m)
   knows_move id (Expect token) a h k = silent_knows id (Expect token) a refl (λ n m. m)

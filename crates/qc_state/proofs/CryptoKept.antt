@@ -36,7 +36,7 @@ use Rattle.qc_state.specs.Headline.{deeds_of}
 use Rattle.qc_state.specs.Keys.{NewKeys, failure_counted, has_keys, keys_given}
 use Rattle.qc_state.specs.Life.{connected_reported, data_ready, drained_reported, identifiers_wanted, is_open, life_closed, life_drained, life_established, life_raised, lost_reported, ready_reported, reason_given, token_learned, notice_reported, notices_reported}
 use Rattle.qc_state.specs.Lower.{bytes_came, flight_dropped, packet_flown, packets_settled, session_read, session_wrote, timer_fired}
-use Rattle.qc_state.specs.Moves.{Accept, Ack, AreNext, Ask, Begin, Clock, Confirm, PeerClosesToo, Establish, Fail, Fire, Forget, Give, PeerCloses, MayMove, Move, Owe, Raise, Release, ReportConnected, ReportDrained, ReportLost, ReportReady, ReportNotice, ReportNotices, Seal, Shut, Take, Write, arrival_of, deeds_move, keys_move, life_move, lower_move, move_to, state_move, waiting_move}
+use Rattle.qc_state.specs.Moves.{Accept, Ack, AreNext, Ask, Begin, Clock, Confirm, PeerClosesToo, Establish, Fail, Fire, Forget, Give, PeerCloses, MayMove, Move, Owe, Raise, Release, ReportConnected, ReportDrained, ReportLost, ReportReady, ReportNotice, ReportNotices, Seal, Shut, Take, Write, arrival_of, deeds_move, keys_move, life_move, lower_move, move_to, paths_move, state_move, waiting_move}
 use Rattle.qc_state.specs.Numbers.{next_number}
 use Rattle.qc_state.specs.Numbers as numbers
 use Rattle.qc_state.specs.Offers.{packet_begun}
@@ -52,7 +52,7 @@ use Rattle.qc_state.specs.View.{View, At}
 use Rattle.qc_state.proofs.EndsHold.{began_ends, ends_seal, known_keeps, low_open, step_ends}
 use Rattle.qc_state.proofs.KnownMoves.{IsFiredBy, IsKnownMove, IsSettledBy, known_input}
 use Rattle.qc_state.proofs.Probed.{begun_holds}
-use Rattle.qc_state.proofs.Recovers.{move_parts, recovers_next, seal_folds, shut_rank}
+use Rattle.qc_state.proofs.Recovers.{kept_same, move_parts, recovers_next, seal_folds, shut_rank}
 use Rattle.qc_state.proofs.Telling.{told_appends}
 use Rattle.qc_state.proofs.Transmitted.{IsSealable}
 use Rattle.qc_state.proofs.CryptoBuffers.{More, crypto_more_holds, crypto_more_sent, lost_in_more, more_here, more_next, more_same}
@@ -209,7 +209,7 @@ module _ {t : Types} where
       let as_was : w.crypto ≡ crypto_of id s = acked_crypto (space_of s.waiting.spaces id) after.acked in
       let more : More (crypto_of id s) (lost_in w after.lost).crypto = subst (λ (b : Buffer). More b (lost_in w after.lost).crypto) as_was (lost_in_more w after.lost) in
       let once : IsPermutation (flight_of id s) (after.acked ++ (after.lost ++ (recovery.space_of id after.recovery).flight)) =
-      subst (λ (a : After t.C). IsPermutation (flight_of id s) (a.acked ++ (a.lost ++ (recovery.space_of id a.recovery).flight))) (sym settled.is) (ack_flight m.control _ id _ _ _ _ _ s.lower.recovery s.lower.path) in
+      subst (λ (a : After t.C). IsPermutation (flight_of id s) (a.acked ++ (a.lost ++ (recovery.space_of id a.recovery).flight))) (sym settled.is) (ack_flight m.control _ id _ _ _ _ _ s.lower.recovery s.paths.current.kept) in
       subst (λ (b : Buffer). CryptoHolds id (before ++ after.acked) s.keys.highest (is_open s.life.state) (has_keys s.keys id) b (recovery.space_of id after.recovery).flight)
       (sym (settled_stream id s.waiting.spaces after.acked after.lost))
       (record {
@@ -223,7 +223,7 @@ module _ {t : Types} where
   unfolding state_move waiting_move lower_move keys_move life_move packets_lost packets_acked packets_settled settled_by
   ack_apart m space n after s id before settled other h = same_holds id before s (state_move (Ack space n after) s) (record {
     more = more_same (crypto_of id s) _ (settled_other id space s.waiting.spaces after.acked after.lost other);
-    flight = ap (λ (a : After t.C). (recovery.space_of id a.recovery).flight) settled.is ∙ ack_other m.control _ id space _ _ _ _ _ s.lower.recovery s.lower.path other;
+    flight = ap (λ (a : After t.C). (recovery.space_of id a.recovery).flight) settled.is ∙ ack_other m.control _ id space _ _ _ _ _ s.lower.recovery s.paths.current.kept other;
     highest = refl;
     keys = λ k. k;
     opened = λ o. o;
@@ -242,7 +242,7 @@ module _ {t : Types} where
   unfolding state_move waiting_move lower_move keys_move life_move timer_fired fired_by
   fire_holds m after s id before fires h =
       fire_kept after.fired s.waiting s.lower.recovery after.recovery s.keys.highest (is_open s.life.state) (has_keys s.keys id) id before
-      (subst (λ (a : FiredAfter t.C). FiresIn id s.lower.recovery a.recovery a.fired) (sym fires.is) (fired_flight m.control id _ _ s.lower.recovery s.lower.path)) h
+      (subst (λ (a : FiredAfter t.C). FiresIn id s.lower.recovery a.recovery a.fired) (sym fires.is) (fired_flight m.control id _ _ s.lower.recovery s.paths.current.kept)) h
 
   -- ---- what is written
 
@@ -372,7 +372,7 @@ module _ {t : Types} where
 
   keeping_packet : (m : Meaning t) (time : ℕ) (space : SpaceId) (fs : List FrameValue) (a : At t) → IsSealable time a.state space fs → Ends a.state →
       Keeping m a (move_to (Seal time space (next_number a.state.numbers space) (packet_size a.state space fs) fs) (move_to (Take space fs) a))
-  unfolding steps_of state_move lower_move deeds_move move_to waiting_move waiting_without
+  unfolding steps_of state_move lower_move paths_move deeds_move move_to waiting_move waiting_without
   keeping_packet m time space fs a may ends =
       let n : ℕ = next_number a.state.numbers space in
       let size : ℕ = packet_size a.state space fs in
@@ -400,7 +400,7 @@ module _ {t : Types} where
   Keeps m a b = Ends a.state → Ends b.state × Keeping m a b
 
   step_keeps : (m : Meaning t) (k : ℕ) (s : View t) (i : Input) (x : Step) (s' : View t) → IsStep m k s i x s' → Ends s → KeepsBytes m x.did s s'
-  unfolding called began run.step_after reported state_move lower_move keys_move life_move waiting_move ready_reported connected_reported lost_reported notice_reported notices_reported drained_reported
+  unfolding called began run.step_after reported state_move lower_move paths_move keys_move life_move waiting_move ready_reported connected_reported lost_reported notice_reported notices_reported drained_reported
   step_keeps m k s i x s' h ends =
       let a : At t = began s (time_of i) in
       let b : At t = input_after m i h.choice a in
@@ -411,9 +411,9 @@ module _ {t : Types} where
       let deeds : x.did ≡ kept.since = h.deeds ∙ kept.appended in
       let r = kept.over.recovers in
       subst (λ (ds : List Did). KeepsBytes m ds s s') (sym deeds) (record {
-        recovers = record { steps = r.steps; may = r.may; leads = ap (λ (l : Lower t.S t.C). record { recovery = l.recovery; path = l.path }) h.lower ∙ r.leads; sent = r.sent };
+        recovers = record { steps = r.steps; may = r.may; leads = kept_same s' (run.step_after m s i h.choice) h.lower h.paths ∙ r.leads; sent = r.sent };
         bytes = λ id before p. same_view id (before ++ laws.acked_in id r.steps) b.state s' (ap (λ (v : KeyGroup t.H t.P). v.highest) h.keys) (ap (λ (v : KeyGroup t.H t.P). has_keys v id) h.keys) (ap (λ (v : Life). is_open v.state) h.life)
-            (ap (λ (v : Waiting). (space_of v.spaces id).crypto) h.waiting) (ap (λ (v : Lower t.S t.C). (recovery.space_of id v.recovery).flight) h.lower)
+            (ap (λ (v : Waiting). (space_of v.spaces id).crypto) h.waiting) (ap (λ (v : Lower t.S). (recovery.space_of id v.recovery).flight) h.lower)
             (kept.over.bytes id before (record { sent = p.sent; above = p.above; holds = p.holds }));
       })
 

@@ -419,13 +419,13 @@ module _ {H P : Type 0} where
   used_highest v Handshake n = refl
   used_highest v Data n = refl
 
-module _ {S C : Type 0} where
-  pub flown_lower : (owed : Bool) (l : Lower S C) (space : SpaceId) (n : ℕ) (packet : SentPacket) (id : SpaceId) → (owed ≡ false → id ≡ space → (recovery.space_of id (if owed then l else packet_flown l space n packet).recovery).flight ≡ (recovery.space_of id l.recovery).flight ++ (n, packet) ∷ [])
+module _ {S : Type 0} where
+  pub flown_lower : (owed : Bool) (l : Lower S) (space : SpaceId) (n : ℕ) (packet : SentPacket) (id : SpaceId) → (owed ≡ false → id ≡ space → (recovery.space_of id (if owed then l else packet_flown l space n packet).recovery).flight ≡ (recovery.space_of id l.recovery).flight ++ (n, packet) ∷ [])
   unfolding packet_flown
   flown_lower true l space n packet id = λ no is. absurd cc
   flown_lower false l space n packet id = λ no is. subst (λ (x : SpaceId). (recovery.space_of id (sent_after x n packet l.recovery)).flight ≡ (recovery.space_of id l.recovery).flight ++ (n, packet) ∷ []) is (flown_here id n packet l.recovery)
 
-  pub apart_lower : (owed : Bool) (l : Lower S C) (space : SpaceId) (n : ℕ) (packet : SentPacket) (id : SpaceId) → is_space id space ≡ false → (recovery.space_of id (if owed then l else packet_flown l space n packet).recovery).flight ≡ (recovery.space_of id l.recovery).flight
+  pub apart_lower : (owed : Bool) (l : Lower S) (space : SpaceId) (n : ℕ) (packet : SentPacket) (id : SpaceId) → is_space id space ≡ false → (recovery.space_of id (if owed then l else packet_flown l space n packet).recovery).flight ≡ (recovery.space_of id l.recovery).flight
   unfolding packet_flown
   apart_lower true l space n packet id other = refl
   apart_lower false l space n packet id other = flown_apart id space n packet l.recovery other

@@ -80,23 +80,23 @@ dropped_highest Initial v = refl
 dropped_highest Handshake v = refl
 dropped_highest Data v = refl
 
-came_stream : {S C : Type 0} (id : SpaceId) (l : Lower S C) (offset : ℕ) (body : List ℕ) → stream_of (bytes_came l id offset body) id ≡ inserted offset body (stream_of l id)
+came_stream : {S : Type 0} (id : SpaceId) (l : Lower S) (offset : ℕ) (body : List ℕ) → stream_of (bytes_came l id offset body) id ≡ inserted offset body (stream_of l id)
 unfolding stream_of bytes_came
 came_stream Initial l offset body = refl
 came_stream Handshake l offset body = refl
 came_stream Data l offset body = refl
 
-read_stream : {S C : Type 0} (id : SpaceId) (l : Lower S C) (count : ℕ) (session : S) → stream_of (session_read l id count session) id ≡ advanced count (stream_of l id)
+read_stream : {S : Type 0} (id : SpaceId) (l : Lower S) (count : ℕ) (session : S) → stream_of (session_read l id count session) id ≡ advanced count (stream_of l id)
 unfolding stream_of session_read
 read_stream Initial l count session = refl
 read_stream Handshake l count session = refl
 read_stream Data l count session = refl
 
-came_session : {S C : Type 0} (id : SpaceId) (l : Lower S C) (offset : ℕ) (body : List ℕ) → (bytes_came l id offset body).session ≡ l.session
+came_session : {S : Type 0} (id : SpaceId) (l : Lower S) (offset : ℕ) (body : List ℕ) → (bytes_came l id offset body).session ≡ l.session
 unfolding bytes_came
 came_session id l offset body = refl
 
-session_now : {S C : Type 0} (id : SpaceId) (l : Lower S C) (count : ℕ) (session : S) → (session_read l id count session).session ≡ session
+session_now : {S : Type 0} (id : SpaceId) (l : Lower S) (count : ℕ) (session : S) → (session_read l id count session).session ≡ session
 unfolding session_read
 session_now id l count session = refl
 

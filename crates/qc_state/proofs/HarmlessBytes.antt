@@ -156,10 +156,10 @@ freed_by false false c sent less more up is_b is_c f =
     let few : sent < 3 * less = grind (arith, nat_tests) in
     grind (arith, nat_tests)
 
-stays_free : (p q : Paths) → q ≡ record p { current = record p.current { received = q.current.received } } → p.current.received ≤ q.current.received → is_blocked p ≡ false → is_blocked q ≡ false
+stays_free : {C : Type 0} → (p q : Paths C) → q ≡ record p { current = record p.current { received = q.current.received } } → p.current.received ≤ q.current.received → is_blocked p ≡ false → is_blocked q ≡ false
 unfolding is_blocked
 stays_free p q is more free =
-    ap (λ (x : Paths). not x.current.validated && nat_le (3 * x.current.received) x.current.sent) is
+    ap (λ x. not x.current.validated && nat_le (3 * x.current.received) x.current.sent) is
     ∙ freed_by p.current.validated (nat_le (3 * p.current.received) p.current.sent) (nat_le (3 * q.current.received) p.current.sent) p.current.sent p.current.received q.current.received more refl refl free
 
 module _ {t : Types} where
@@ -185,7 +185,7 @@ module _ {t : Types} where
     numbers = h.numbers ∙ g.numbers;
     keys = h.keys ∙ ap (λ (k : KeyGroup t.H t.P). record k { failures = u.keys.failures }) g.keys;
     life = h.life ∙ g.life;
-    paths = h.paths ∙ ap (λ (p : Paths). record p { current = record p.current { received = u.paths.current.received } }) g.paths;
+    paths = h.paths ∙ ap (λ (p : Paths t.C). record p { current = record p.current { received = u.paths.current.received } }) g.paths;
     ranged = λ k. h.ranged (g.ranged k);
     more = λ k. let first : r.paths.current.received ≤ s.paths.current.received = g.more k in let second : s.paths.current.received ≤ u.paths.current.received = h.more (g.ranged k) in omega (arith, first, second);
     timers = h.timers ∙ ap (λ (x : Timers). record x { greatest = u.timers.greatest; loss_detection = u.timers.loss_detection }) g.timers;
@@ -208,7 +208,7 @@ module _ {t : Types} where
     numbers = h.numbers ∙ g.numbers;
     keys = h.keys ∙ ap (λ (k : KeyGroup t.H t.P). record k { failures = u.keys.failures }) g.keys;
     life = h.life ∙ g.life;
-    paths = h.paths ∙ ap (λ (p : Paths). record p { current = record p.current { received = u.paths.current.received } }) g.paths;
+    paths = h.paths ∙ ap (λ (p : Paths t.C). record p { current = record p.current { received = u.paths.current.received } }) g.paths;
     ranged = λ k. h.ranged (g.ranged k);
     more = λ k. let first : r.paths.current.received ≤ s.paths.current.received = g.more k in let second : s.paths.current.received ≤ u.paths.current.received = h.more (g.ranged k) in omega (arith, first, second);
     timers = h.timers ∙ ap (λ (x : Timers). record x { greatest = u.timers.greatest; loss_detection = u.timers.loss_detection }) g.timers;
@@ -584,9 +584,9 @@ module _ {t : Types} where
         numbers = h.numbers ∙ same.numbers;
         keys = h.keys ∙ same.keys ∙ ap (λ (y : KeyGroup t.H t.P). record s.keys { failures = y.failures }) (sym h.keys);
         life = ap life_reported h.life ∙ reported_again b.state.life ∙ ap life_reported same.life;
-        paths = h.paths ∙ same.paths ∙ ap (λ (y : Paths). record s.paths { current = record s.paths.current { received = y.current.received } }) (sym h.paths);
-        ranged = λ r. subst (λ (p : Paths). p.current.received ≤ 18446744073709551615) (sym h.paths) (same.ranged r);
-        more = λ r. subst (λ (p : Paths). s.paths.current.received ≤ p.current.received) (sym h.paths) (same.more r);
+        paths = h.paths ∙ same.paths ∙ ap (λ (y : Paths t.C). record s.paths { current = record s.paths.current { received = y.current.received } }) (sym h.paths);
+        ranged = λ r. subst (λ (p : Paths t.C). p.current.received ≤ 18446744073709551615) (sym h.paths) (same.ranged r);
+        more = λ r. subst (λ (p : Paths t.C). s.paths.current.received ≤ p.current.received) (sym h.paths) (same.more r);
         timers = h.timers ∙ same.timers ∙ ap (λ (y : Timers). record s.timers { greatest = y.greatest; loss_detection = y.loss_detection }) (sym h.timers);
         still = λ r free. ap (λ (y : Timers). y.loss_detection) h.timers ∙ same.still r free;
         waiting = h.waiting ∙ same.waiting;

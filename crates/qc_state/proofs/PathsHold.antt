@@ -12,6 +12,8 @@ use Rattle.qc_base.specs.declared.side.SpaceId.{SpaceId}
 use Rattle.qc_base.specs.declared.side.SpaceId.TheVariants.{Initial, Handshake}
 use Rattle.qc_frame.specs.Frame.{FrameValue}
 use Rattle.qc_header.specs.HeaderGrammar.{DatagramItem}
+use Rattle.qc_recovery.specs.Steps.{path_dropped}
+use Rattle.qc_recovery.specs.declared.path.PathData.{PathData}
 use Rattle.qc_state.specs.declared.coming.Coming.{Coming}
 use Rattle.qc_state.specs.declared.deeds.Did.{Did}
 use Rattle.qc_state.specs.declared.deeds.Did.TheVariants as did
@@ -33,7 +35,7 @@ use Rattle.qc_state.specs.Moves.{Accept, Ack, Arm, Come, Confirm, PeerClosesToo,
 use Rattle.qc_state.specs.Numbers.{next_number, received_number}
 use Rattle.qc_state.specs.Headline.{deeds_of}
 use Rattle.qc_state.specs.PathLaws.{PathHolds, all_from, bytes_from, is_handshake_admitted}
-use Rattle.qc_state.specs.Paths.{is_blocked, path_accepted, path_idle, path_received, path_sent, path_spun, peer_fixed, same_address, spun_by}
+use Rattle.qc_state.specs.Paths.{is_blocked, path_accepted, path_idle, path_kept, path_received, path_sent, path_spun, peer_fixed, same_address, spun_by}
 use Rattle.qc_state.specs.Receiving.{counted_after, cut_of, datagram_after, first_after, first_token, heard_after, is_readable, lets_in, pieces_after}
 use Rattle.qc_state.specs.Run.{IsAllowed, IsStep, Run, began, called, close_after, input_after, reported, step_after, time_of}
 use Rattle.qc_state.specs.Sending.{MayTransmit, drops_initial, initial_left, packet_size, spared_after, transmit_after, Choice, Sent, Ending, Went, Hushed, Died, ending_after, packets_after, Going, going_from, MayAll, MayEnd, handshake_left, finished_after, gone_after}
@@ -51,24 +53,24 @@ use Rattle.qc_state.proofs.Transmitted.{IsPacketMove, IsSealable, holds_packets}
 use Rattle.qc_state.proofs.Batches.{packet_made, packet_total}
 
 -- the path in use holds, from some paths to others
-abbrev KeepsPath : (came : ℕ) → List Did → Paths → Paths → Type 0
+abbrev KeepsPath : {C : Type 0} → (came : ℕ) → List Did → Paths C → Paths C → Type 0
 KeepsPath came ds p p' = PathHolds came ds p.current p'.current
 
 -- nothing changes of the counts of a path, nor of its address, and an address that is validated stays so
-record Still (p p' : Paths) : Type 0 where
+record Still {C : Type 0} (p p' : Paths C) : Type 0 where
   pub same : p'.current.remote ≡ p.current.remote
   pub received : p'.current.received ≡ p.current.received
   pub sent : p'.current.sent ≡ p.current.sent
   pub kept : p.current.validated ≡ true → p'.current.validated ≡ true
 
-still_here : (p : Paths) → Still p p
+still_here : {C : Type 0} → (p : Paths C) → Still p p
 still_here p = record { same = refl; received = refl; sent = refl; kept = λ h. h }
 
-still_next : (p q r : Paths) → Still p q → Still q r → Still p r
+still_next : {C : Type 0} → (p q r : Paths C) → Still p q → Still q r → Still p r
 still_next p q r g h = record { same = h.same ∙ g.same; received = h.received ∙ g.received; sent = h.sent ∙ g.sent; kept = λ v. h.kept (g.kept v) }
 
 -- by these deeds an address is validated only where it was before, or a Handshake packet was admitted
-abbrev Shown : List Did → Paths → Paths → Type 0
+abbrev Shown : {C : Type 0} → List Did → Paths C → Paths C → Type 0
 Shown ds p p' = p'.current.validated ≡ true → (p.current.validated ≡ true) ⊎ (list_any is_handshake_admitted ds ≡ true)
 
 -- of two tests one holds
@@ -80,7 +82,7 @@ any_right : (a b : Bool) → b ≡ true → (a || b) ≡ true
 any_right true b h = refl
 any_right false b h = h
 
-shown_next : (ds es : List Did) (p q r : Paths) → Shown ds p q → Shown es q r → Shown (ds ++ es) p r
+shown_next : {C : Type 0} → (ds es : List Did) (p q r : Paths C) → Shown ds p q → Shown es q r → Shown (ds ++ es) p r
 shown_next ds es p q r g h v = elim (h v) [
   | inl before ↦ elim (g before) [
     | inl first ↦ inl first
@@ -95,7 +97,7 @@ was_not true b h e = cc (h refl, e)
 was_not false b h e = refl
 
 -- such a path holds, whatever came
-still_holds : (came : ℕ) (ds : List Did) (p p' : Paths) → Still p p' → Shown ds p p' → KeepsPath came ds p p'
+still_holds : {C : Type 0} → (came : ℕ) (ds : List Did) (p p' : Paths C) → Still p p' → Shown ds p p' → KeepsPath came ds p p'
 still_holds came ds p p' h shown = record {
   same = h.same;
   validated = shown;
@@ -105,10 +107,10 @@ still_holds came ds p p' h shown = record {
 }
 
 -- a path that didn't change
-unchanged : (came : ℕ) (ds : List Did) (p : Paths) → KeepsPath came ds p p
+unchanged : {C : Type 0} → (came : ℕ) (ds : List Did) (p : Paths C) → KeepsPath came ds p p
 unchanged came ds p = still_holds came ds p p (still_here p) (λ v. inl v)
 
-holds_next : (m n : ℕ) (ds es : List Did) (p q r : Paths) → KeepsPath m ds p q → KeepsPath n es q r → KeepsPath (m + n) (ds ++ es) p r
+holds_next : {C : Type 0} → (m n : ℕ) (ds es : List Did) (p q r : Paths C) → KeepsPath m ds p q → KeepsPath n es q r → KeepsPath (m + n) (ds ++ es) p r
 holds_next m n ds es p q r g h = record {
   same = h.same ∙ g.same;
   validated = shown_next ds es p q r g.validated h.validated;
@@ -118,46 +120,51 @@ holds_next m n ds es p q r g h = record {
 }
 
 -- a packet was accepted
-accepted_still : (p : Paths) (id : SpaceId) (v : Verdict) → Still p (path_accepted p id v)
+accepted_still : {C : Type 0} → (p : Paths C) (id : SpaceId) (v : Verdict) → Still p (path_accepted p id v)
 unfolding path_accepted
 accepted_still p Handshake verdict.Admitted = record { same = refl; received = refl; sent = refl; kept = λ v. refl }
 accepted_still p _ _ = still_here p
 
-accepted_shown : (p : Paths) (id : SpaceId) (n : ℕ) (v : Verdict) → Shown (did.Piece (Some id) (Some n) v ∷ []) p (path_accepted p id v)
+accepted_shown : {C : Type 0} → (p : Paths C) (id : SpaceId) (n : ℕ) (v : Verdict) → Shown (did.Piece (Some id) (Some n) v ∷ []) p (path_accepted p id v)
 unfolding path_accepted
 accepted_shown p Handshake n verdict.Admitted h = inr refl
 accepted_shown p _ n _ h = inl h
 
 -- the spin bit leaves the counts, the address and whether it is validated
-spun_by_greatest : (p : Paths) (side : Side) (bit b : Bool) → Still p (if b then record p { spin = spun_by side bit } else p)
+spun_by_greatest : {C : Type 0} → (p : Paths C) (side : Side) (bit b : Bool) → Still p (if b then record p { spin = spun_by side bit } else p)
 spun_by_greatest p side bit true = record { same = refl; received = refl; sent = refl; kept = λ v. v }
 spun_by_greatest p side bit false = still_here p
 
-spun_still : (p : Paths) (side : Side) (greatest bit : Bool) → Still p (path_spun p side greatest bit)
+spun_still : {C : Type 0} → (p : Paths C) (side : Side) (greatest bit : Bool) → Still p (path_spun p side greatest bit)
 unfolding path_spun
 spun_still p side greatest bit = spun_by_greatest p side bit greatest
 
-spun_same_by : (p : Paths) (side : Side) (bit b : Bool) → (if b then record p { spin = spun_by side bit } else p).current.validated ≡ p.current.validated
+spun_same_by : {C : Type 0} → (p : Paths C) (side : Side) (bit b : Bool) → (if b then record p { spin = spun_by side bit } else p).current.validated ≡ p.current.validated
 spun_same_by p side bit true = refl
 spun_same_by p side bit false = refl
 
-spun_shown : (p : Paths) (side : Side) (greatest bit : Bool) → Shown [] p (path_spun p side greatest bit)
+spun_shown : {C : Type 0} → (p : Paths C) (side : Side) (greatest bit : Bool) → Shown [] p (path_spun p side greatest bit)
 unfolding path_spun
 spun_shown p side greatest bit v = inl (sym (spun_same_by p side bit greatest) ∙ v)
 
 -- a packet with this spin bit was accepted
-accepted_spun : (p : Paths) (id : SpaceId) (v : Verdict) (side : Side) (greatest bit : Bool) → Still p (path_spun (path_accepted p id v) side greatest bit)
+accepted_spun : {C : Type 0} → (p : Paths C) (id : SpaceId) (v : Verdict) (side : Side) (greatest bit : Bool) → Still p (path_spun (path_accepted p id v) side greatest bit)
 accepted_spun p id v side greatest bit =
-    let q : Paths = path_accepted p id v in
+    let q = path_accepted p id v in
     still_next p q (path_spun q side greatest bit) (accepted_still p id v) (spun_still q side greatest bit)
 
-spun_after : (p : Paths) (id : SpaceId) (n : ℕ) (v : Verdict) (side : Side) (greatest bit : Bool) → Shown (did.Piece (Some id) (Some n) v ∷ []) p (path_spun (path_accepted p id v) side greatest bit)
+spun_after : {C : Type 0} → (p : Paths C) (id : SpaceId) (n : ℕ) (v : Verdict) (side : Side) (greatest bit : Bool) → Shown (did.Piece (Some id) (Some n) v ∷ []) p (path_spun (path_accepted p id v) side greatest bit)
 spun_after p id n v side greatest bit =
-    let q : Paths = path_accepted p id v in
+    let q = path_accepted p id v in
     shown_next (did.Piece (Some id) (Some n) v ∷ []) [] p q (path_spun q side greatest bit) (accepted_shown p id n v) (spun_shown q side greatest bit)
 
+-- what recovery keeps of the path is nothing of that
+kept_still : {C : Type 0} → (p : Paths C) (kept : PathData C) → Still p (path_kept p kept)
+unfolding path_kept
+kept_still p kept = record { same = refl; received = refl; sent = refl; kept = λ v. v }
+
 -- so many bytes were heard from the path's address
-heard_path : (came : ℕ) (ds : List Did) (p q : Paths) → Still p q → Shown ds p q → KeepsPath came ds p (path_received q came)
+heard_path : {C : Type 0} → (came : ℕ) (ds : List Did) (p q : Paths C) → Still p q → Shown ds p q → KeepsPath came ds p (path_received q came)
 unfolding path_received
 heard_path came ds p q h shown = record {
   same = h.same;
@@ -168,7 +175,7 @@ heard_path came ds p q h shown = record {
 }
 
 -- what there is to send holds sending back
-idle_path : (came : ℕ) (ds : List Did) (p : Paths) → KeepsPath came ds p (path_idle p)
+idle_path : {C : Type 0} → (came : ℕ) (ds : List Did) (p : Paths C) → KeepsPath came ds p (path_idle p)
 unfolding path_idle
 idle_path came ds p = still_holds came ds p (path_idle p) (record { same = refl; received = refl; sent = refl; kept = λ v. v }) (λ v. inl v)
 
@@ -182,7 +189,7 @@ came_length : (remote from : SocketAddr) (bytes : List ℕ) → same_address rem
 came_length remote from bytes h = ap (λ (b : Bool). if b then length bytes else 0) h
 
 -- a datagram is sent on a path that isn't blocked
-sent_path : (came : ℕ) (ds : List Did) (p : Paths) (size : ℕ) → size ≤ DATAGRAM_SIZE → is_blocked p ≡ false → KeepsPath came ds p (path_sent p size)
+sent_path : {C : Type 0} → (came : ℕ) (ds : List Did) (p : Paths C) (size : ℕ) → size ≤ DATAGRAM_SIZE → is_blocked p ≡ false → KeepsPath came ds p (path_sent p size)
 unfolding is_blocked path_sent
 sent_path came ds p size small free = record {
   same = refl;
@@ -198,7 +205,7 @@ sent_path came ds p size small free = record {
     unblocked false false e f g = grind (arith, nat_tests)
 
 -- what is known of the datagrams of a transmit: they are one at most, which was begun on a path that wasn't blocked
-record IsWithin (p : Paths) (b : Batch) : Type 0 where
+record IsWithin {C : Type 0} (p : Paths C) (b : Batch) : Type 0 where
   pub few : b.total ≤ DATAGRAM_SIZE
   pub free : 0 < b.made → is_blocked p ≡ false
 
@@ -232,8 +239,8 @@ module _ {t : Types} where
 
   -- the moves of a packet that came
   still_move : (x : Move t) → IsOfPiece x → (a : At t) → MayMove x a.state → StillAt a (move_to x a)
-  unfolding paths_move deeds_move peer_fixed
-  still_move (Forget id) r a h = silent_at (Forget id) a refl (still_here a.state.paths) (λ v. inl v)
+  unfolding paths_move deeds_move path_kept peer_fixed
+  still_move (Forget id) r a h = silent_at (Forget id) a refl (kept_still a.state.paths (path_dropped id a.state.paths.current.kept)) (λ v. inl v)
   still_move (Enter id n v) r a h = deed_at (Enter id n v) _ a refl (still_here a.state.paths) (λ v. inl v)
   still_move Fail r a h = silent_at Fail a refl (still_here a.state.paths) (λ v. inl v)
   still_move (Accept time id n e g v) r a h =
@@ -241,7 +248,7 @@ module _ {t : Types} where
       let side : Side = a.state.setup.fixed.side in
       deed_at (Accept time id n e g v) (did.Piece (Some id) (Some n) v) a refl (accepted_spun a.state.paths id v side greatest g.spin) (spun_after a.state.paths id n v side greatest g.spin)
   still_move (Fix cid) r a h = silent_at (Fix cid) a refl (record { same = refl; received = refl; sent = refl; kept = λ v. v }) (λ v. inl v)
-  still_move (Ack id n after) r a h = silent_at (Ack id n after) a refl (still_here a.state.paths) (λ v. inl v)
+  still_move (Ack id n after) r a h = silent_at (Ack id n after) a refl (kept_still a.state.paths after.path) (λ v. inl v)
   still_move (Arm at) r a h = silent_at (Arm at) a refl (still_here a.state.paths) (λ v. inl v)
   still_move (Come id offset bytes) r a h = silent_at (Come id offset bytes) a refl (still_here a.state.paths) (λ v. inl v)
   still_move (Read id count session) r a h = silent_at (Read id count session) a refl (still_here a.state.paths) (λ v. inl v)
@@ -294,7 +301,7 @@ module _ {t : Types} where
       let pieces = still_pieces m coming items (at s []) in
       subst (λ (n : ℕ). KeepsPath n r.did s.paths r.state.paths) (sym (h refl))
       (subst (λ (ds : List Did). KeepsPath (length bytes) ds s.paths r.state.paths) (sym (counted_did coming.time blocked (length bytes) q ∙ pieces.appended))
-      (subst (λ (p : Paths). KeepsPath (length bytes) pieces.since s.paths p) (sym (counted_paths coming.time blocked (length bytes) q)) (heard_path (length bytes) pieces.since s.paths q.state.paths pieces.still pieces.shown)))
+      (subst (λ (p : Paths t.C). KeepsPath (length bytes) pieces.since s.paths p) (sym (counted_paths coming.time blocked (length bytes) q)) (heard_path (length bytes) pieces.since s.paths q.state.paths pieces.still pieces.shown)))
   heard_by m coming blocked came bytes items s false h = unchanged came [] s.paths
 
   lets_same : (s : View t) (from : SocketAddr) → lets_in s from ≡ true → same_address s.paths.current.remote from ≡ true
@@ -347,7 +354,7 @@ module _ {t : Types} where
 
   -- leaving the Initial space
   left_paths : (time : ℕ) (a : At t) (x : Bool) → (if x then armed_with false time (move_to (Forget Initial) a) else a).state.paths ≡ a.state.paths
-  unfolding armed_with move_to state_move paths_move
+  unfolding armed_with move_to state_move paths_move path_dropped path_kept
   left_paths time a true = refl
   left_paths time a false = refl
 
@@ -398,21 +405,21 @@ module _ {t : Types} where
   unfolding finished_after move_to state_move paths_move
   path_finished time b a =
       let c : At t = handshake_left time b.shook a in
-      ap (λ (p : Paths). path_sent p b.total) (path_spared time b.worn c ∙ path_left time b.shook a)
+      ap (λ (p : Paths t.C). path_sent p b.total) (path_spared time b.worn c ∙ path_left time b.shook a)
 
   path_ending : (time : ℕ) (e : Ending) (b : Batch) (ds : List Did) (a : At t) → IsWithin a.state.paths b → MayEnd e a.state b → KeepsPath 0 ds a.state.paths (ending_after time e b a).state.paths
   unfolding ending_after
-  path_ending time Went b ds a h may = subst (λ (p : Paths). KeepsPath 0 ds a.state.paths p) (sym (path_finished time b a)) (sent_path 0 ds a.state.paths b.total h.few (h.free may))
+  path_ending time Went b ds a h may = subst (λ (p : Paths t.C). KeepsPath 0 ds a.state.paths p) (sym (path_finished time b a)) (sent_path 0 ds a.state.paths b.total h.few (h.free may))
   path_ending time (Hushed quiet) b ds a h may = path_quiet quiet ds a
-  path_ending time (Died why) b ds a h may = subst (λ (p : Paths). KeepsPath 0 ds a.state.paths p) (sym (path_killed why a)) (idle_path 0 ds a.state.paths)
+  path_ending time (Died why) b ds a h may = subst (λ (p : Paths t.C). KeepsPath 0 ds a.state.paths p) (sym (path_killed why a)) (idle_path 0 ds a.state.paths)
 
   path_transmit : (m : Meaning t) (time : ℕ) (choice : Choice) (ds : List Did) (a : At t) → MayTransmit m time choice a → KeepsPath 0 ds a.state.paths (transmit_after m time choice a).state.paths
   unfolding MayTransmit transmit_after gone_after
   path_transmit m time choice ds a may =
       let g : Going t = packets_after m time choice.packets (going_from a) in
       let same : g.now.state.paths ≡ a.state.paths = path_packets m time choice.packets (going_from a) may.0 in
-      let known : IsWithin g.now.state.paths g.batch = subst (λ (p : Paths). IsWithin p g.batch) (sym same) (within m time choice.packets (going_from a) refl refl refl may.0) in
-      subst (λ (p : Paths). KeepsPath 0 ds p (transmit_after m time choice a).state.paths) same (path_ending time choice.ending g.batch ds g.now known may.1)
+      let known : IsWithin g.now.state.paths g.batch = subst (λ (p : Paths t.C). IsWithin p g.batch) (sym same) (within m time choice.packets (going_from a) refl refl refl may.0) in
+      subst (λ (p : Paths t.C). KeepsPath 0 ds p (transmit_after m time choice a).state.paths) same (path_ending time choice.ending g.batch ds g.now known may.1)
 
   -- the application closes, or has closed before
   path_close : (time : ℕ) (close : Close) (ds : List Did) (a : At t) (b : Bool) → KeepsPath 0 ds a.state.paths (if b then move_to (Shut time close) a else a).state.paths
@@ -420,21 +427,26 @@ module _ {t : Types} where
   path_close time close ds a true = unchanged 0 ds a.state.paths
   path_close time close ds a false = unchanged 0 ds a.state.paths
 
-  -- what a timer does leaves the path
-  timed_paths : (x : Move t) → IsTimed x → (a : At t) → MayMove x a.state → (move_to x a).state.paths ≡ a.state.paths
-  unfolding move_to state_move paths_move
-  timed_paths (Fire after) r a h = refl
-  timed_paths (Arm at) r a h = refl
-  timed_paths Pace r a h = refl
-  timed_paths Release r a h = refl
-  timed_paths (Raise to) r a h = refl
-  timed_paths (Give why) r a h = refl
+  -- of what a timer does, the address and the counts of the path stand still, and whether it is validated
+  abbrev Rests : At t → At t → Type 0
+  Rests a b = Still a.state.paths b.state.paths × (b.state.paths.current.validated ≡ a.state.paths.current.validated)
+
+  timed_paths : (x : Move t) → IsTimed x → (a : At t) → MayMove x a.state → Rests a (move_to x a)
+  unfolding move_to state_move paths_move path_kept
+  timed_paths (Fire after) r a h = (kept_still a.state.paths after.path, refl)
+  timed_paths (Arm at) r a h = (still_here a.state.paths, refl)
+  timed_paths Pace r a h = (still_here a.state.paths, refl)
+  timed_paths Release r a h = (still_here a.state.paths, refl)
+  timed_paths (Raise to) r a h = (still_here a.state.paths, refl)
+  timed_paths (Give why) r a h = (still_here a.state.paths, refl)
   timed_paths _ r a h = absurd r
 
-  -- and so does a timeout
+  -- and so they do over a timeout
   path_timeout : (m : Meaning t) (time : ℕ) (ds : List Did) (a : At t) → KeepsPath 0 ds a.state.paths (timeout_after m time a).state.paths
   path_timeout m time ds a =
-      subst (λ (p : Paths). KeepsPath 0 ds a.state.paths p) (sym (holds_timeout (λ (b c : At t). c.state.paths ≡ b.state.paths) (λ b. refl) (λ b c d g h. h ∙ g) timed_paths m time a)) (unchanged 0 ds a.state.paths)
+      let rests : Rests a (timeout_after m time a) =
+      holds_timeout Rests (λ b. (still_here b.state.paths, refl)) (λ b c d g h. (still_next b.state.paths c.state.paths d.state.paths g.0 h.0, h.1 ∙ g.1)) timed_paths m time a in
+      still_holds 0 ds a.state.paths (timeout_after m time a).state.paths rests.0 (λ v. inl (sym rests.1 ∙ v))
 
   -- each input
   path_input : (m : Meaning t) (i : Input) (choice : Choice) (s : View t) → IsAllowed m i choice (at s []) → let r : At t = input_after m i choice (at s []) in KeepsPath (bytes_from s.paths.current.remote i) r.did s.paths r.state.paths
@@ -451,7 +463,7 @@ module _ {t : Types} where
   path_step m k s i x s' h =
       let r : At t = input_after m i h.choice (began s (time_of i)) in
       subst (λ (ds : List Did). KeepsPath (bytes_from s.paths.current.remote i) ds s.paths s'.paths) (sym h.deeds)
-      (subst (λ (p : Paths). KeepsPath (bytes_from s.paths.current.remote i) r.did s.paths p) (sym h.paths) (path_input m i h.choice (began s (time_of i)).state h.allowed))
+      (subst (λ (p : Paths t.C). KeepsPath (bytes_from s.paths.current.remote i) r.did s.paths p) (sym h.paths) (path_input m i h.choice (began s (time_of i)).state h.allowed))
 
   -- a run
   pub path_run : (m : Meaning t) (k : ℕ) (s : View t) (is : List Input) (xs : List Step) (s' : View t) → Run m k s is xs s' → PathHolds (all_from s.paths.current.remote is) (deeds_of xs) s.paths.current s'.paths.current

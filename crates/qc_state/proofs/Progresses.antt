@@ -169,7 +169,7 @@ module _ {t : Types} (m : Meaning t) (time : ℕ) (space : SpaceId) (R : At t �
   holds_parameters (Ok (Some p)) others a known h =
       let b : At t = token_after a.state.setup.fixed.side p.stateless_reset_token a in
       let known_now : m.parameters b.state.lower.session ≡ Ok (Some p) =
-      subst (λ (l : Lower t.S t.C). m.parameters l.session ≡ Ok (Some p)) (sym (token_lower a.state.setup.fixed.side p.stateless_reset_token a)) known in
+      subst (λ (l : Lower t.S). m.parameters l.session ≡ Ok (Some p)) (sym (token_lower a.state.setup.fixed.side p.stateless_reset_token a)) known in
       next a b _ (holds_token a.state.setup.fixed.side p p.stateless_reset_token a known refl) (fit_by p others b (ids_fit a.state p) known_now (token_fits a.state.setup.fixed.side p.stateless_reset_token p a) (h p))
 
   -- a server reads the client's, or not
@@ -192,7 +192,7 @@ module _ {t : Types} (m : Meaning t) (time : ℕ) (space : SpaceId) (R : At t �
       (λ p. let b : At t = token_after a.state.setup.fixed.side p.stateless_reset_token a in
       let c : At t = learned_with time p b in
       let life : c.state.life.state ≡ a.state.life.state = known_state time p b ∙ token_state a.state.setup.fixed.side p.stateless_reset_token a in
-      let session : c.state.lower.session ≡ a.state.lower.session = ap (λ (l : Lower t.S t.C). l.session) (known_lower time p b ∙ token_lower a.state.setup.fixed.side p.stateless_reset_token a) in
+      let session : c.state.lower.session ≡ a.state.lower.session = ap (λ (l : Lower t.S). l.session) (known_lower time p b ∙ token_lower a.state.setup.fixed.side p.stateless_reset_token a) in
       move Establish c (over_then a c life session over) (subst (λ (s : State). rank_of s < 1) (sym life) (handshake_rank a.state.life.state over.0)))
   holds_over Server a is over =
       let b : At t = move_to Confirm a in

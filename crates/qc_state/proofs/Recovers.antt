@@ -1,9 +1,11 @@
 -- Over a run recovery's state is the fold of its own steps; so each packet is settled once.
 use Rattle.std.proofs.Common.{◌≡◌, ℕ, ◌+◌, ◌≤◌, inl, inr, List, [], ◌∷◌, ◌++◌, refl, ap, sym, ◌∙◌, subst, Bool, true, false, if◌then◌else◌, append_assoc, append-nil, arith}
-use Rattle.std.specs.Prelude.{◌==◌, IsPermutation}
+use Rattle.std.specs.Prelude.{◌==◌, nat_le, IsPermutation}
 use Rattle.std.specs.List.{list_any}
 use Rattle.std.proofs.lemmas.List.Sorted.{IsPermutation-refl}
+use Rattle.qc_base.specs.declared.side.Side.{Side}
 use Rattle.qc_base.specs.declared.side.SpaceId.{SpaceId}
+use Rattle.qc_base.specs.declared.side.SpaceId.TheVariants.{Handshake}
 use Rattle.qc_flight.specs.Packets.{Entry}
 use Rattle.qc_frame.specs.Frame.{FrameValue}
 use Rattle.qc_path.specs.declared.controller.Controller.{Ghosts as Control}
@@ -12,22 +14,27 @@ use Rattle.qc_recovery.specs.Runs.{AreSettledOnce, Acknowledge, Discard, Fates, 
 use Rattle.qc_recovery.specs.Runs as runs
 use Rattle.qc_recovery.specs.Steps.{After, FiredAfter}
 use Rattle.qc_recovery.specs.Steps as recovery
+use Rattle.qc_recovery.specs.declared.path.PathData.{PathData}
 use Rattle.qc_recovery.specs.declared.recovery.Recovery.{Recovery}
 use Rattle.qc_recovery.proofs.RunsSettle.{calls_settle}
 use Rattle.qc_state.specs.declared.deeds.Did.{Did}
 use Rattle.qc_state.specs.declared.deeds.Did.TheVariants as did
+use Rattle.qc_state.specs.declared.deeds.Verdict.{Verdict}
+use Rattle.qc_state.specs.declared.deeds.Verdict.TheVariants as verdict
 use Rattle.qc_state.specs.declared.input.Input.{Input}
 use Rattle.qc_state.specs.declared.life.State.{State}
 use Rattle.qc_state.specs.declared.life.State.TheVariants as state
 use Rattle.qc_state.specs.declared.lower.Lower.{Lower}
+use Rattle.qc_state.specs.declared.paths.Paths.{Paths}
 use Rattle.qc_state.specs.declared.trace.Step.{Step}
 use Rattle.qc_state.specs.EndLaws.{Ends}
 use Rattle.qc_state.specs.Flight.{flown_packet}
 use Rattle.qc_state.specs.Headline.{deeds_of}
 use Rattle.qc_state.specs.Life.{is_open, rank_of}
 use Rattle.qc_state.specs.Lower.{bytes_came, flight_dropped, packet_flown, packets_settled, session_read, session_wrote, timer_fired}
-use Rattle.qc_state.specs.Moves.{Accept, Ack, Arm, Ask, Begin, Clock, Come, Confirm, PeerClosesToo, Enter, Establish, Expect, Fail, Finish, Fire, Fix, Forget, Give, Hear, IsTold, Learn, PeerCloses, MayMove, Move, Owe, Pace, Raise, Read, Ready, Release, Say, Seal, Shut, Skip, Take, Tell, Token, Want, Write, deeds_move, is_close, lower_move, move_to, state_move, waiting_move}
-use Rattle.qc_state.specs.Numbers.{next_number}
+use Rattle.qc_state.specs.Moves.{Accept, Ack, Arm, Ask, Begin, Clock, Come, Confirm, PeerClosesToo, Enter, Establish, Expect, Fail, Finish, Fire, Fix, Forget, Give, Hear, IsTold, Learn, PeerCloses, MayMove, Move, Owe, Pace, Raise, Read, Ready, Release, Say, Seal, Shut, Skip, Take, Tell, Token, Want, Write, deeds_move, is_close, lower_move, move_to, paths_move, state_move, waiting_move}
+use Rattle.qc_state.specs.Numbers.{next_number, received_number}
+use Rattle.qc_state.specs.Paths.{path_accepted, path_idle, path_kept, path_received, path_sent, path_spun, peer_fixed, spun_by}
 use Rattle.qc_state.specs.Recovering.{fired_by, settled_by}
 use Rattle.qc_state.specs.RecoveryLaws.{AllMay, AreFlown, Dropped, EachSettlesOnce, Fired, Kept, MayStep, RecoveryStep, Recovers, Sent, Settled, kept, sent_in, step_after, steps_after, steps_of}
 use Rattle.qc_state.specs.Run.{IsStep, Run, began, called, input_after, reported, time_of}
@@ -87,6 +94,20 @@ shut_rank state.Closed h = omega arith
 shut_rank state.Draining h = omega arith
 shut_rank state.Drained h = omega arith
 
+-- of a path on which a packet was accepted recovery keeps what it kept
+verdict_kept : {C : Type 0} → (p : Paths C) (id : SpaceId) (v : Verdict) → (path_accepted p id v).current.kept ≡ p.current.kept
+unfolding path_accepted
+verdict_kept p Handshake verdict.Admitted = refl
+verdict_kept p _ _ = refl
+
+spun_kept : {C : Type 0} → (p : Paths C) (side : Side) (bit b : Bool) → (if b then record p { spin = spun_by side bit } else p).current.kept ≡ p.current.kept
+spun_kept p side bit true = refl
+spun_kept p side bit false = refl
+
+accepted_kept : {C : Type 0} → (p : Paths C) (id : SpaceId) (v : Verdict) (side : Side) (greatest bit : Bool) → (path_spun (path_accepted p id v) side greatest bit).current.kept ≡ p.current.kept
+unfolding path_spun
+accepted_kept p id v side greatest bit = spun_kept (path_accepted p id v) side bit greatest ∙ verdict_kept p id v
+
 -- what is told seals nothing
 told_flown : (id : SpaceId) (d : Did) → IsTold d → AreFlown id (d ∷ []) []
 told_flown id (did.Piece space number v) h = refl
@@ -133,11 +154,16 @@ module _ {t : Types} where
   unfolding fired_by
   fired_may m after s h = record { now = h.time; around = _; is = h.is }
 
+  -- what recovery keeps stands in two groups
+  pub kept_same : (s s' : View t) → s.lower ≡ s'.lower → s.paths ≡ s'.paths → kept s ≡ kept s'
+  kept_same s s' lower paths =
+      ap (λ (l : Lower t.S). record { recovery = l.recovery; path = s.paths.current.kept }) lower ∙ ap (λ (p : Paths t.C). record { recovery = s'.lower.recovery; path = p.current.kept }) paths
+
   -- a packet is sealed, while a close is owed or not
   pub seal_folds : (m : Meaning t) (time n size : ℕ) (id : SpaceId) (fs : List FrameValue) (s : View t) (owed : Bool) → (owed ≡ true → list_any is_close fs ≡ true) →
       let steps : List (RecoveryStep t.C) = if owed then [] else Sent id n (flown_packet time size fs) ∷ [] in
-      let lower : Lower t.S t.C = if owed then s.lower else packet_flown s.lower id n (flown_packet time size fs) in
-      let k : Kept t.C = record { recovery = lower.recovery; path = lower.path } in
+      let lower : Lower t.S = if owed then s.lower else packet_flown s.lower id n (flown_packet time size fs) in
+      let k : Kept t.C = record { recovery = lower.recovery; path = s.paths.current.kept } in
       AllMay m.control steps (kept s) × (k ≡ steps_after steps (kept s)) × ((space : SpaceId) → AreFlown space (did.Sealed id n 0 false fs ∷ []) (sent_in space steps))
   unfolding step_after packet_flown flown_packet
   seal_folds m time n size id fs s true closes = (tt, refl, λ space. ([], [], ap (λ (es : List Entry). es ++ []) (sym (none_in space id)), inr (refl, closes refl), refl))
@@ -147,7 +173,7 @@ module _ {t : Types} where
   -- each move beside those with which a packet is taken and sealed
   pub move_parts : (m : Meaning t) (x : Move t) (s : View t) → IsKnownMove m x s → MayMove x s →
       AllMay m.control (steps_of x s) (kept s) × (kept (state_move x s) ≡ steps_after (steps_of x s) (kept s)) × ((id : SpaceId) → AreFlown id (deeds_move x s) (sent_in id (steps_of x s)))
-  unfolding steps_of step_after state_move lower_move deeds_move flight_dropped packets_settled timer_fired bytes_came session_read session_wrote MayMove
+  unfolding steps_of step_after state_move lower_move paths_move deeds_move flight_dropped packets_settled timer_fired bytes_came session_read session_wrote path_idle path_kept path_received path_sent peer_fixed MayMove
   move_parts m (Clock time) s k may = absurd k
   move_parts m (Ask id) s k may = (tt, refl, (λ id. refl))
   move_parts m (Take id fs) s k may = absurd k
@@ -156,7 +182,8 @@ module _ {t : Types} where
   move_parts m (Expect token) s k may = (tt, refl, (λ id. refl))
   move_parts m (Enter id n v) s k may = (tt, refl, (λ id. refl))
   move_parts m Fail s k may = (tt, refl, (λ id. refl))
-  move_parts m (Accept time id n e g v) s k may = (tt, refl, (λ id. refl))
+  move_parts m (Accept time id n e g v) s k may =
+      (tt, ap (λ (p : PathData t.C). record { recovery = s.lower.recovery; path = p }) (accepted_kept s.paths id v s.setup.fixed.side (nat_le (received_number s.numbers id) n) g.spin), (λ id. refl))
   move_parts m (Fix cid) s k may = (tt, refl, (λ id. refl))
   move_parts m (Hear bytes) s k may = (tt, refl, (λ id. refl))
   move_parts m (Ack id n after) s k may = ((settled_may m id after s k, tt), refl, (λ id. refl))
@@ -192,7 +219,7 @@ module _ {t : Types} where
   -- a packet is taken and sealed
   packet_folds : (m : Meaning t) (time : ℕ) (id : SpaceId) (fs : List FrameValue) (a : At t) → IsSealable time a.state id fs → Ends a.state →
       Folds m a (move_to (Seal time id (next_number a.state.numbers id) (packet_size a.state id fs) fs) (move_to (Take id fs) a))
-  unfolding steps_of step_after state_move lower_move waiting_move waiting_without deeds_move move_to
+  unfolding steps_of step_after state_move lower_move paths_move waiting_move waiting_without deeds_move move_to
   packet_folds m time id fs a may ends =
       let b : At t = move_to (Take id fs) a in
       let owed : Bool = b.state.waiting.close_owed in
@@ -213,7 +240,7 @@ module _ {t : Types} where
   keeps_next m a b c g k = λ h. let first = g h in let second = k first.0 in (second.0, folds_next m a b c first.1 second.1)
 
   step_recovers : (m : Meaning t) (k : ℕ) (s : View t) (i : Input) (x : Step) (s' : View t) → IsStep m k s i x s' → Ends s → Recovers m x.did s s'
-  unfolding called began run.step_after reported state_move lower_move
+  unfolding called began run.step_after reported state_move lower_move paths_move
   step_recovers m k s i x s' h ends =
       let a : At t = began s (time_of i) in
       let both = known_input m (Keeps m) (keeps_here m) (keeps_next m) (λ y b known may. λ e. (known_keeps m y b known may e, move_folds m y b known may))
@@ -222,7 +249,7 @@ module _ {t : Types} where
       let deeds : x.did ≡ folds.since = h.deeds ∙ folds.appended in
       let over : Recovers m folds.since s (input_after m i h.choice a).state = record { steps = folds.over.steps; may = folds.over.may; leads = folds.over.leads; sent = folds.over.sent } in
       subst (λ (ds : List Did). Recovers m ds s s') (sym deeds)
-      (record { steps = over.steps; may = over.may; leads = ap (λ (l : Lower t.S t.C). record { recovery = l.recovery; path = l.path }) h.lower ∙ over.leads; sent = over.sent })
+      (record { steps = over.steps; may = over.may; leads = kept_same s' (run.step_after m s i h.choice) h.lower h.paths ∙ over.leads; sent = over.sent })
 
   -- over a run recovery is the fold of its steps
   pub run_recovers : (m : Meaning t) (k : ℕ) (s : View t) (is : List Input) (xs : List Step) (s' : View t) → Run m k s is xs s' → Ends s → Recovers m (deeds_of xs) s s'

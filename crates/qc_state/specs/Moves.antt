@@ -187,7 +187,7 @@ module _ {t : Types} where
   paths_move (Fix cid) s = peer_fixed s.paths cid
   paths_move (Accept time id n e g v) s = path_spun (path_accepted s.paths id v) s.setup.fixed.side (nat_le (received_number s.numbers id) n) g.spin
   paths_move (Hear bytes) s = path_received s.paths bytes
-  paths_move (Forget id) s = path_kept s.paths (path_dropped id s.paths.current.data)
+  paths_move (Forget id) s = path_kept s.paths (path_dropped id s.paths.current.kept)
   paths_move (Ack id n r) s = path_kept s.paths r.path
   paths_move (Fire r) s = path_kept s.paths r.path
   paths_move (Say q) s = path_idle s.paths
@@ -213,7 +213,7 @@ module _ {t : Types} where
   waiting_move (Take id fs) s = waiting_without s.waiting id fs
   waiting_move (Begin id opens) s = (packet_begun id opens s).waiting
   waiting_move (Seal time id n size fs) s =
-      bundle_next (packet_told s.waiting id (is_space id s.keys.highest)) fs (next_bundle time (estimate s.paths.current.data.rtt) (peer_delay s.setup.peer))
+      bundle_next (packet_told s.waiting id (is_space id s.keys.highest)) fs (next_bundle time (estimate s.paths.current.kept.rtt) (peer_delay s.setup.peer))
   waiting_move (Forget id) s = space_left s.waiting id
   waiting_move (Accept time id n e g v) s = packet_came s.waiting id (arrived n (came_in s.numbers id)) (arrival_of time n e g) g.mark
   waiting_move (Write bytes keys session) s = crypto_written s.waiting s.keys.highest bytes

@@ -17,8 +17,8 @@ use Rattle.qc_state.specs.declared.paths.Path.{Path}
 use Rattle.qc_state.specs.declared.paths.Paths.{Paths}
 
 -- a path on which nothing was sent or received so far, whose packets carry this id, and of which loss recovery keeps this
-unfoldable pub new_path : {C : Type 0} → (remote : SocketAddr) → (remote_cid : List ℕ) → (validated : Bool) → (data : PathData C) → Path C
-new_path remote remote_cid validated data = record { remote = remote; remote_cid = remote_cid; validated = validated; sent = 0; received = 0; data = data }
+unfoldable pub new_path : {C : Type 0} → (remote : SocketAddr) → (remote_cid : List ℕ) → (validated : Bool) → (kept : PathData C) → Path C
+new_path remote remote_cid validated kept = record { remote = remote; remote_cid = remote_cid; validated = validated; sent = 0; received = 0; kept = kept }
 
 -- a connection's first path, with the id that the peer chose, where it did
 unfoldable pub only_path : {C : Type 0} → Path C → (peer_cid : Option (List ℕ)) → Paths C
@@ -70,7 +70,7 @@ path_spun v side greatest bit = if greatest then record v { spin = spun_by side 
 
 -- loss recovery keeps this of the path in use from then on (RFC 9002)
 unfoldable pub path_kept : {C : Type 0} → Paths C → PathData C → Paths C
-path_kept v data = record v { current = record v.current { data = data } }
+path_kept v kept = record v { current = record v.current { kept = kept } }
 
 -- no datagram may be begun: the peer's address isn't validated, and three times the bytes that came from it were sent (RFC
 -- 9000, section 8.1); the last datagram may go past that

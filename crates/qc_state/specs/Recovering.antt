@@ -52,18 +52,18 @@ module _ {t : Types} where
 
   -- the probe timeout of a space, by the round trip time so far
   unfoldable pub probe_timeout_now : View t → SpaceId → ℕ
-  probe_timeout_now s id = probe_timeout id (around_of s false false) s.paths.current.data.rtt
+  probe_timeout_now s id = probe_timeout id (around_of s false false) s.paths.current.kept.rtt
 
   -- the time of the loss timer; none once the connection has closed
   unfoldable pub loss_time : View t → (blocked : Bool) → (time : ℕ) → Option ℕ
-  loss_time s blocked time = if is_open s.life.state then armed_at time (around_of s blocked false) s.paths.current.data.rtt s.lower.recovery else None
+  loss_time s blocked time = if is_open s.life.state then armed_at time (around_of s blocked false) s.paths.current.kept.rtt s.lower.recovery else None
 
   -- what an ACK of this space leaves of loss recovery
   unfoldable pub settled_by : Meaning t → (time : ℕ) → SpaceId → AckValue → View t → After t.C
   settled_by m time id ack s =
       ack_after m.control time id (next_number s.numbers id) (began_at s.numbers id) (values_of ack) (ranges_up_of ack)
-      (around_of s (is_blocked s.paths) (shows_validated id)) s.lower.recovery s.paths.current.data
+      (around_of s (is_blocked s.paths) (shows_validated id)) s.lower.recovery s.paths.current.kept
 
   -- what the loss timer leaves of it, as it fires
   unfoldable pub fired_by : Meaning t → (time : ℕ) → View t → FiredAfter t.C
-  fired_by m time s = timeout_after m.control time (around_of s (is_blocked s.paths) false) s.lower.recovery s.paths.current.data
+  fired_by m time s = timeout_after m.control time (around_of s (is_blocked s.paths) false) s.lower.recovery s.paths.current.kept

@@ -101,7 +101,7 @@ module _ {C : Type 0} where
 module _ {t : Types} where
   -- what recovery keeps of a connection: of the packets, and of the path in use
   abbrev pub kept : View t → Kept t.C
-  kept s = record { recovery = s.lower.recovery; path = s.paths.current.data }
+  kept s = record { recovery = s.lower.recovery; path = s.paths.current.kept }
 
   -- which of recovery's steps a move is
   unfoldable pub steps_of : Move t → View t → List (RecoveryStep t.C)

@@ -454,7 +454,7 @@ module _ {t : Types} where
   unfoldable pub transmit_with : View t → ℕ → Transmit
   transmit_with s size = record {
     destination = s.paths.current.remote;
-    ecn = if s.paths.current.data.sending_ecn then Some Ect0 else None;
+    ecn = if s.paths.current.kept.sending_ecn then Some Ect0 else None;
     size = size;
     segment_size = None;
     src_ip = s.setup.fixed.local_ip;

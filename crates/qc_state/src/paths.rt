@@ -24,7 +24,7 @@ pub struct Path<C: Controller> {
     /// Bytes received from the peer's address, as far as they count (RFC 9000, 8.1). They stand still at 2^64 - 1.
     pub received: u64,
     /// What loss recovery keeps of the path: round trip times, and the congestion controller (RFC 9002).
-    pub data: PathData<C>,
+    pub kept: PathData<C>,
 }
 
 /// The paths to the peer (RFC 9000, 9), and what is kept beside them.
@@ -60,9 +60,9 @@ impl<C: Controller> Path<C> {
         remote: SocketAddr,
         remote_cid: ConnectionId,
         validated: bool,
-        data: PathData<C>,
+        kept: PathData<C>,
     ) -> Path<C>
-        ensures { result ≡ new_path remote remote_cid validated data }
+        ensures { result ≡ new_path remote remote_cid validated kept }
     {
         Path {
             remote,
@@ -70,7 +70,7 @@ impl<C: Controller> Path<C> {
             validated,
             sent: 0,
             received: 0,
-            data,
+            kept,
         }
     }
 }

@@ -1,4 +1,4 @@
-use Rattle.std.proofs.Common.{◌==◌, ap, ◌∙◌, length, not}
+use Rattle.std.proofs.Common.{◌==◌, refl, ap, ◌∙◌, length, not}
 use Rattle.qc_frame.specs.Frame.{ack_map}
 use Rattle.qc_recovery.specs.Steps.{After}
 use Rattle.qc_core.proofs.Acknowledges.{settled_held, settled_parts}
@@ -17,5 +17,5 @@ pub returns-clause-leads : goal.returns-clause-leads
 returns-clause-leads g c =
     let settled = settled_held (meaning g.U.Session.Session g.U.Session.HeaderKey.HeaderMask g.U.Session.PacketKey.PacketKey g.U.Control.Controller.Controller) g.U.Random.Rng.stream c.args.self.now _ c.args.now c.args.space (ack_map (λ bytes. bytes.now) c.args.ack.now) _ _ _ _ _ _
     c.self.view_is c.is_blocked-blocked.ensures c.shows_validated.ensures c.around-around.ensures c.next-next.ensures c.began-began.ensures c.in_ok-settled.ensures.after in
-    settled_parts (meaning g.U.Session.Session g.U.Session.HeaderKey.HeaderMask g.U.Session.PacketKey.PacketKey g.U.Control.Controller.Controller) g.U.Random.Rng.stream c.args.self.now _ c.args.now c.args.space (ack_map (λ bytes. bytes.now) c.args.ack.now) _ _ _ _
-    c.self.view_is settled c.in_ok-settled.ensures.lower c.acked.ensures c.in_ok-settle.ensures
+    settled_parts (meaning g.U.Session.Session g.U.Session.HeaderKey.HeaderMask g.U.Session.PacketKey.PacketKey g.U.Control.Controller.Controller) g.U.Random.Rng.stream c.args.self.now _ c.args.now c.args.space (ack_map (λ bytes. bytes.now) c.args.ack.now) _ _ _ _ _
+    c.self.view_is settled refl c.in_ok-settled.ensures.lower c.acked.ensures c.in_ok-settle.ensures
