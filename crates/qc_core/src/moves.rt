@@ -34,8 +34,8 @@ use qc_state::flight::flown_packet;
 use qc_state::spaces::is_space;
 use qc_state::waiting::holds_ack;
 use qc_state::{
-    Body, Close, ConnectionError, Did, Dids, EndpointEvent, EndpointEvents, Event, Layer, Means,
-    Quiet, Signs, State, Suite, Verdict,
+    Body, Close, ConnectionError, Did, Dids, EndpointEvent, EndpointEvents, Event, Form, Layer,
+    Means, Quiet, Signs, State, Suite, Verdict,
 };
 use std::alloc::{AllocError, Global};
 
@@ -129,20 +129,21 @@ impl<U: Suite> Core<U> {
         &mut self,
         alloc: Global,
         now: Instant,
-        space: SpaceId,
+        form: Form,
         number: u64,
         size: u64,
         frames: &FrameList,
     ) -> Result<(), AllocError>
         requires { number < 2 ^ 62 }
-        ensures { OnOk result ((ideal U.Random.stream self.new) ≡ (sealed_drawn now space number size frames.now (at (ideal U.Random.stream self.old) [])).state) }
+        ensures { OnOk result ((ideal U.Random.stream self.new) ≡ (sealed_drawn now form number size frames.now (at (ideal U.Random.stream self.old) [])).state) }
     {
+        let space = form.space();
         let next = next_bundled_ack_time(now, self.paths.current.kept.rtt.get(), self.setup.peer_delay());
         self.time_packet(now, space, frames);
         self.fly(alloc, now, space, number, size, frames)?;
         let last = is_space(space, self.keys.highest);
         self.numbers.used(space, number);
-        self.keys.used(space, number);
+        self.keys.used(form, number);
         self.waiting.tell(space, last);
         self.waiting.bundle_next(frames, next);
         Ok(())
@@ -154,16 +155,17 @@ impl<U: Suite> Core<U> {
         alloc: Global,
         did: &mut Dids,
         now: Instant,
-        space: SpaceId,
+        form: Form,
         number: u64,
         size: u64,
         frames: FrameList,
     ) -> Result<(), AllocError>
         requires { number < 2 ^ 62 }
-        ensures { OnOk result ((held U.Random.stream self.new did.new) ≡ sealed_drawn now space number size frames (held U.Random.stream self.old did.old)) }
+        ensures { OnOk result ((held U.Random.stream self.new did.new) ≡ sealed_drawn now form number size frames (held U.Random.stream self.old did.old)) }
     {
-        match self.count_sealed(alloc, now, space, number, size, &frames) {
-            Ok(()) => did.push_sealed(space, number, frames),
+        let epoch = self.keys.epoch(form);
+        match self.count_sealed(alloc, now, form, number, size, &frames) {
+            Ok(()) => did.push_sealed(form.space(), number, epoch, form.is_early(), frames),
             Err(refused) => Err(refused),
         }
     }

@@ -13,7 +13,7 @@ use qc_base::{Duration, Instant, Side, SpaceId};
 use qc_frame::FrameList;
 use qc_recovery::Around;
 use qc_state::flight::counts_in_flight;
-use qc_state::{Dids, Suite};
+use qc_state::{Dids, Form, Suite};
 
 /// Whether the peer of an end of this side has validated that end's address: a client always has; a server has once it
 /// acknowledged a Handshake or 1-RTT packet, or the handshake is confirmed (RFC 9002, section 6.2.2.1).
@@ -52,7 +52,7 @@ impl<U: Suite> Core<U> {
         let recovery = &self.lower.recovery;
         let handshake = recovery.was_acknowledged(SpaceId::Handshake);
         let data = recovery.was_acknowledged(SpaceId::Data);
-        let confirmed = self.keys.has(SpaceId::Data) && !self.keys.has(SpaceId::Handshake);
+        let confirmed = self.keys.has_for(Form::OneRtt) && !self.keys.has_for(Form::Handshake);
         validates(
             self.setup.fixed.side,
             handled || (handshake || data),
@@ -71,8 +71,8 @@ impl<U: Suite> Core<U> {
             peer_validated: self.is_validated_by_peer(handled),
             handshake_over: !self.life.is_handshake(),
             highest: self.keys.highest,
-            initial_keys: self.keys.has(SpaceId::Initial),
-            handshake_keys: self.keys.has(SpaceId::Handshake),
+            initial_keys: self.keys.has_for(Form::Initial),
+            handshake_keys: self.keys.has_for(Form::Handshake),
             max_ack_delay: self.setup.peer_delay(),
             ack_delay_exponent: self.setup.peer_exponent(),
             app_limited: self.paths.app_limited,

@@ -25,11 +25,11 @@ use Rattle.qc_rings.specs.declared.which.Which.{Which}
 use Rattle.qc_receive.specs.Told.{opening_told}
 use Rattle.qc_state.specs.declared.opening.Opening.{Opening}
 use Rattle.qc_state.specs.declared.opening.Opening.TheVariants.{Unreadable, Reserved, Opened}
-use Rattle.qc_state.specs.Opening.{judged, names_next, opened_space, opened_under, source_of, spin_of, token_of, whole_number}
+use Rattle.qc_state.specs.Opening.{judged, names_next, opened_form, opened_under, source_of, spin_of, token_of, whole_number}
 use Rattle.qc_state.specs.Opening as state
 
 -- a packet of a form that is taken is protected
-protected_form : (h : ProtectedHeader) → IsSome (opened_space h) → is_protected h ≡ true
+protected_form : (h : ProtectedHeader) → IsSome (opened_form h) → is_protected h ≡ true
 protected_form (protected.Initial dst_cid src_cid token_start token_len version) some = refl
 protected_form (protected.Long long.Handshake dst_cid src_cid version) some = refl
 protected_form (protected.Long long.ZeroRtt dst_cid src_cid version) some = refl
@@ -123,7 +123,7 @@ module _ {H P : Type 0} (mask : H → List ℕ → List ℕ) (opening : P → Op
   unfolding opened_under
   cut_is h = rw h refl
 
-  whole_is : nat_lt (length p.bytes) (p.pn_offset + 20) ≡ false → (packet : Packet) → IsSome (opened_space p.header) → IsUnprotected (mask key) p packet →
+  whole_is : nat_lt (length p.bytes) (p.pn_offset + 20) ≡ false → (packet : Packet) → IsSome (opened_form p.header) → IsUnprotected (mask key) p packet →
       opened_under mask opening key plain ring rx p ≡ state.opened_by opening plain ring rx packet.header packet.header_data packet.payload.items
   unfolding opened_under
   whole_is h packet some u =
@@ -134,19 +134,19 @@ module _ {H P : Type 0} (mask : H → List ℕ → List ℕ) (opening : P → Op
       ∙ ap (λ (x : List ℕ). state.opened_by opening plain ring rx packet.header packet.header_data x) (sym u.payload))
 
   -- what becomes of a packet by what taking its mask off told: nothing, that it is too short, or the packet
-  pub none_is : (r : Option UnprotectHeaderResult) (o : Opening) → IsSome (opened_space p.header) → told_in r ≡ told_as (is_key_missing p true) (is_cut p) false → r ≡ None → o ≡ Unreadable → o ≡ opened_under mask opening key plain ring rx p
+  pub none_is : (r : Option UnprotectHeaderResult) (o : Opening) → IsSome (opened_form p.header) → told_in r ≡ told_as (is_key_missing p true) (is_cut p) false → r ≡ None → o ≡ Unreadable → o ≡ opened_under mask opening key plain ring rx p
   none_is r o some told e is = is ∙ sym (cut_is (told_cut (is_protected p.header) false (nat_lt (length p.bytes) (p.pn_offset + 20)) (told_in r) (protected_form p.header some) told (ap told_in e)))
 
-  pub reset_is : (r : Option UnprotectHeaderResult) (t : UnprotectHeaderResult) (o : Opening) → IsSome (opened_space p.header) → told_in r ≡ told_as (is_key_missing p true) (is_cut p) false → r ≡ Some t → t.packet ≡ None → o ≡ opened_under mask opening key plain ring rx p
+  pub reset_is : (r : Option UnprotectHeaderResult) (t : UnprotectHeaderResult) (o : Opening) → IsSome (opened_form p.header) → told_in r ≡ told_as (is_key_missing p true) (is_cut p) false → r ≡ Some t → t.packet ≡ None → o ≡ opened_under mask opening key plain ring rx p
   reset_is r t o some told e none = let no : ⊥ = cc (told_never (is_protected p.header) (nat_lt (length p.bytes) (p.pn_offset + 20)) (told_in r) t.stateless_reset (protected_form p.header some) told (ap told_in e ∙ ap (λ (x : Option Packet). Some (is_some x, t.stateless_reset)) none)) in absurd no
 
-  pub under_is : (r : Option UnprotectHeaderResult) (t : UnprotectHeaderResult) (packet : Packet) (o : Opening) → IsSome (opened_space p.header) → told_in r ≡ told_as (is_key_missing p true) (is_cut p) false → r ≡ Some t → t.packet ≡ Some packet →
+  pub under_is : (r : Option UnprotectHeaderResult) (t : UnprotectHeaderResult) (packet : Packet) (o : Opening) → IsSome (opened_form p.header) → told_in r ≡ told_as (is_key_missing p true) (is_cut p) false → r ≡ Some t → t.packet ≡ Some packet →
       IsUnprotected (mask key) p packet → o ≡ state.opened_by opening plain ring rx packet.header packet.header_data packet.payload.items → o ≡ opened_under mask opening key plain ring rx p
   under_is r t packet o some told e has u is =
       is ∙ sym (whole_is (told_whole (is_protected p.header) (nat_lt (length p.bytes) (p.pn_offset + 20)) (told_in r) t.stateless_reset (protected_form p.header some) told (ap told_in e ∙ ap (λ (x : Option Packet). Some (is_some x, t.stateless_reset)) has)) packet some u)
 
   -- the same of an answer that may be want of memory
-  pub under_done : (r : Option UnprotectHeaderResult) (t : UnprotectHeaderResult) (packet : Packet) (answer : Result Opening AllocError) → IsSome (opened_space p.header) → told_in r ≡ told_as (is_key_missing p true) (is_cut p) false → r ≡ Some t → t.packet ≡ Some packet →
+  pub under_done : (r : Option UnprotectHeaderResult) (t : UnprotectHeaderResult) (packet : Packet) (answer : Result Opening AllocError) → IsSome (opened_form p.header) → told_in r ≡ told_as (is_key_missing p true) (is_cut p) false → r ≡ Some t → t.packet ≡ Some packet →
       IfSome r (λ told. IfSome told.packet (λ q. IsUnprotected (mask key) p q)) → IfOk answer (λ o. o ≡ state.opened_by opening plain ring rx packet.header packet.header_data packet.payload.items) → IfOk answer (λ o. o ≡ opened_under mask opening key plain ring rx p)
   under_done r t packet (Ok o) some told e has u is =
       let told_one : IfSome t.packet (λ q. IsUnprotected (mask key) p q) = subst (λ (x : Option UnprotectHeaderResult). IfSome x (λ told. IfSome told.packet (λ q. IsUnprotected (mask key) p q))) e u in
@@ -154,7 +154,7 @@ module _ {H P : Type 0} (mask : H → List ℕ → List ℕ) (opening : P → Op
   under_done r t packet (Err x) some told e has u is = tt
 
   -- the packet as it was handed on
-  pub under_told : (r : Option UnprotectHeaderResult) (t : UnprotectHeaderResult) (packet given : Packet) (answer : Result Opening AllocError) → IsSome (opened_space p.header) → told_in r ≡ told_as (is_key_missing p true) (is_cut p) false → r ≡ Some t → t.packet ≡ Some packet →
+  pub under_told : (r : Option UnprotectHeaderResult) (t : UnprotectHeaderResult) (packet given : Packet) (answer : Result Opening AllocError) → IsSome (opened_form p.header) → told_in r ≡ told_as (is_key_missing p true) (is_cut p) false → r ≡ Some t → t.packet ≡ Some packet →
       IfSome r (λ told. IfSome told.packet (λ q. IsUnprotected (mask key) p q)) → given ≡ packet → IfOk answer (λ o. o ≡ state.opened_by opening plain ring rx given.header given.header_data given.payload.items) → IfOk answer (λ o. o ≡ opened_under mask opening key plain ring rx p)
   under_told r t packet given answer some told e has u same is =
       under_done r t packet answer some told e has u (subst (λ (q : Packet). IfOk answer (λ o. o ≡ state.opened_by opening plain ring rx q.header q.header_data q.payload.items)) same is)

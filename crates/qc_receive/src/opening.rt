@@ -5,31 +5,31 @@ ghost use Rattle.std.specs.Option.{option_copied};
 ghost use Rattle.qc_receive.specs.Told.{opening_told};
 ghost use Rattle.qc_header.specs.HeaderSpelling.{header_number};
 ghost use Rattle.qc_packet.specs.OpenedPacket.{IsNumberOf};
-ghost use Rattle.qc_state.specs.Opening.{names_next, opened_space, source_of, spin_of, token_of, whole_number, opened_by, opened_under, opening_of};
+ghost use Rattle.qc_state.specs.Opening.{names_next, opened_form, source_of, spin_of, token_of, whole_number, opened_by, opened_under, opening_of};
 ghost use Rattle.qc_state.specs.View.{ideal};
 
 use bytes::Bytes;
-use qc_base::{ConnectionId, HeaderMask, LongType, SpaceId};
+use qc_base::{ConnectionId, HeaderMask, LongType};
 use qc_core::Core;
 use qc_crypto::PacketKey;
 use qc_header::{Header, Packet, PartialDecode, ProtectedHeader};
 use qc_packet::{
     DecryptPacketResult, KeyRing, OpenError, OpenKeys, Which, decrypt_packet_body, unprotect_header,
 };
-use qc_state::{Means, Opening, Suite};
+use qc_state::{Form, Means, Opening, Suite};
 use std::alloc::AllocError;
 
-/// The space whose keys open packets of this form. None where the form isn't taken so far.
-fn opened_space(header: &ProtectedHeader) -> Option<SpaceId>
-    ensures { result ≡ opened_space header.now }
+/// The form of a packet with this header. None where it isn't taken so far.
+fn opened_form(header: &ProtectedHeader) -> Option<Form>
+    ensures { result ≡ opened_form header.now }
 {
     match header {
-        ProtectedHeader::Initial { .. } => Some(SpaceId::Initial),
+        ProtectedHeader::Initial { .. } => Some(Form::Initial),
         ProtectedHeader::Long { ty, .. } => match *ty {
-            LongType::Handshake => Some(SpaceId::Handshake),
+            LongType::Handshake => Some(Form::Handshake),
             LongType::ZeroRtt => None,
         },
-        ProtectedHeader::Short { .. } => Some(SpaceId::Data),
+        ProtectedHeader::Short { .. } => Some(Form::OneRtt),
         ProtectedHeader::Retry { .. } | ProtectedHeader::VersionNegotiate { .. } => None,
     }
 }
@@ -162,7 +162,7 @@ fn open_under<H: HeaderMask, P: PacketKey>(
     rx: u64,
     partial: PartialDecode,
 ) -> Result<Opening, AllocError>
-    requires form { IsSome (opened_space partial.header) }
+    requires form { IsSome (opened_form partial.header) }
     ensures { IfOk result (λ o. o ≡ opened_under H.mask_of P.opening key.now (option_copied plain.entry) (option_copied ring.entry) rx partial) }
 {
     match unprotect_header(partial, Some(key), None)? {
@@ -182,13 +182,13 @@ pub(crate) fn open_piece<U: Suite>(
 ) -> Result<Opening, AllocError>
     ensures { IfOk result (λ o. o ≡ opening_of ⟦<U as Means>⟧.meaning (ideal U.Random.stream core.now) partial) }
 {
-    let space = match opened_space(partial.header()) {
+    let form = match opened_form(partial.header()) {
         None => return Ok(Opening::Unreadable),
-        Some(space) => space,
+        Some(form) => form,
     };
-    let rx = core.numbers.received(space);
-    match core.keys.unmasking(space) {
+    let rx = core.numbers.received(form.space());
+    match core.keys.unmasking(form) {
         None => Ok(Opening::Unreadable),
-        Some(key) => open_under(key, core.keys.opening(space), core.keys.ring(), rx, partial),
+        Some(key) => open_under(key, core.keys.opening(form), core.keys.ring(), rx, partial),
     }
 }

@@ -20,7 +20,7 @@ use qc_core::Core;
 use qc_crypto::{KeyPair, PacketKey};
 use qc_header::{ShortHeader, finish_short, leading_byte};
 use qc_packet::{KeyRing, Which};
-use qc_state::{Coming, Dids, Means, Suite, Verdict};
+use qc_state::{Coming, Dids, Form, Means, Suite, Verdict};
 use std::alloc::{AllocError, Global};
 
 /// How many bytes a short header has at most: the first one, 20 of an id and 4 of a number.
@@ -168,7 +168,7 @@ fn open_short<U: Suite>(core: &Core<U>, pn_offset: usize, bytes: &mut BytesMut) 
         → short_told result bytes.new.items ≡ opening_of ⟦<U as Means>⟧.meaning (ideal U.Random.stream core.now) (short_packet dst pn_offset bytes.old.items) }
 {
     let rx = core.numbers.received(SpaceId::Data);
-    match core.keys.unmasking(SpaceId::Data) {
+    match core.keys.unmasking(Form::OneRtt) {
         None => Told::Unreadable,
         Some(key) => open_short_with(key, core.keys.ring(), rx, pn_offset, bytes),
     }

@@ -1,13 +1,14 @@
 -- What is drawn for a packet, before it is sealed; and its header by what was drawn.
 use Rattle.std.specs.Prelude.{ℕ, ◌+◌, ◌-◌, Bool, List, [], length}
 use Rattle.qc_base.specs.declared.side.LongType.TheVariants as long
-use Rattle.qc_base.specs.declared.side.SpaceId.{SpaceId}
 use Rattle.qc_base.specs.declared.side.SpaceId.TheVariants.{Initial, Handshake, «Data»}
 use Rattle.qc_base.specs.PacketNumber.{number_of}
 use Rattle.qc_base.specs.Varint.{varint}
 use Rattle.qc_header.specs.declared.header.Header.{Header}
 use Rattle.qc_header.specs.declared.header.Header.TheVariants as header
 use Rattle.qc_packet.specs.declared.slot.Slot.{Slot}
+use Rattle.qc_state.specs.declared.form.Form.{Form}
+use Rattle.qc_state.specs.declared.form.Form.TheVariants as form
 use Rattle.qc_state.specs.declared.keys.KeyUse.{KeyUse}
 use Rattle.qc_state.specs.Keys.{phase_now}
 use Rattle.qc_state.specs.Numbers.{next_number, acked_number}
@@ -16,34 +17,36 @@ use Rattle.qc_state.specs.Setup.{packet_drawn}
 use Rattle.qc_state.specs.Types.{Types}
 use Rattle.qc_state.specs.View.{View}
 
--- how many bytes a token adds to the header of a packet of this space: its own, and those of its length beyond the one that an empty
+-- how many bytes a token adds to the header of a packet of this form: its own, and those of its length beyond the one that an empty
 -- token has
-abbrev pub token_bytes : SpaceId → (token : List ℕ) → ℕ
-token_bytes Initial token = length (varint (length token)) - 1 + length token
+abbrev pub token_bytes : Form → (token : List ℕ) → ℕ
+token_bytes form.Initial token = length (varint (length token)) - 1 + length token
 token_bytes _ token = 0
 
--- the token that a packet of this space carries: none but an Initial one has any
-abbrev pub token_in : SpaceId → (token : List ℕ) → List ℕ
-token_in Initial token = token
+-- the token that a packet of this form carries: none but an Initial one has any
+abbrev pub token_in : Form → (token : List ℕ) → List ℕ
+token_in form.Initial token = token
 token_in _ token = []
 
 module _ {t : Types} where
-  -- the header of the next packet in a space, with this spin bit where it is a 1-RTT packet, and this token where it is an Initial one
-  abbrev pub header_with : View t → SpaceId → (spin : Bool) → (token : List ℕ) → Header
-  header_with s Initial spin token = header.Initial (record {
+  -- the header of the next packet, of this form, with this spin bit where it is a 1-RTT packet, and this token where it is an Initial one
+  abbrev pub header_with : View t → Form → (spin : Bool) → (token : List ℕ) → Header
+  header_with s form.Initial spin token = header.Initial (record {
     dst_cid = s.paths.current.remote_cid;
     src_cid = s.setup.fixed.local_cid;
     token = token;
     number = number_of (next_number s.numbers Initial) (acked_number s.numbers Initial);
     version = s.setup.fixed.version;
   })
-  header_with s Handshake spin token = header.Long long.Handshake s.paths.current.remote_cid s.setup.fixed.local_cid (number_of (next_number s.numbers Handshake) (acked_number s.numbers Handshake)) s.setup.fixed.version
-  header_with s Data spin token = header.Short spin (phase_now s.keys) s.paths.current.remote_cid (number_of (next_number s.numbers Data) (acked_number s.numbers Data))
+  header_with s form.Handshake spin token = header.Long long.Handshake s.paths.current.remote_cid s.setup.fixed.local_cid (number_of (next_number s.numbers Handshake) (acked_number s.numbers Handshake)) s.setup.fixed.version
+  header_with s form.Early spin token =
+      header.Long long.ZeroRtt s.paths.current.remote_cid s.setup.fixed.local_cid (number_of (next_number s.numbers Data) (acked_number s.numbers Data)) s.setup.fixed.version
+  header_with s form.OneRtt spin token = header.Short spin (phase_now s.keys) s.paths.current.remote_cid (number_of (next_number s.numbers Data) (acked_number s.numbers Data))
 
-  -- what the builder is given of the next packet in a space, where all was drawn for it: its fixed bit is flipped so
-  abbrev pub slot_drawn : View t → SpaceId → (flip : Bool) → KeyUse → Slot
-  slot_drawn s id flip usage = record (slot_with s id usage) { flip = flip }
+  -- what the builder is given of the next packet, of this form, where all was drawn for it: its fixed bit is flipped so
+  abbrev pub slot_drawn : View t → Form → (flip : Bool) → KeyUse → Slot
+  slot_drawn s form flip usage = record (slot_with s form usage) { flip = flip }
 
-  -- the view once all was drawn for a packet of this space
-  unfoldable pub drawn_for : SpaceId → View t → View t
-  drawn_for id s = record s { setup = packet_drawn s.setup id }
+  -- the view once all was drawn for a packet of this form
+  unfoldable pub drawn_for : Form → View t → View t
+  drawn_for form s = record s { setup = packet_drawn s.setup form }

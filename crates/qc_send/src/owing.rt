@@ -2,6 +2,7 @@
 
 ghost use Rattle.std.specs.Prelude.{◌≡◌, ◌+◌, ◌-◌, ◌<◌, ◌≤◌, ◌^◌, ◌++◌, ◌||◌, [], ◌∷◌, ◌==◌, not, true, false, nat_lt, None, if◌then◌else◌};
 ghost use Rattle.qc_base.specs.declared.side.SpaceId.TheVariants.{Initial};
+ghost use Rattle.qc_state.specs.Forms.{number_space};
 ghost use Rattle.qc_state.specs.Numbers.{acked_number, next_number};
 ghost use Rattle.qc_state.specs.Sending.{is_silent, owes_in, is_used_up, is_key_used_up, is_key_nearly_used_up, is_token_too_long, kill_in, room_of};
 ghost use Rattle.qc_state.specs.Spaces.{space_of};
@@ -14,7 +15,7 @@ use qc_base::{SpaceId, TransportError, TransportErrorCode};
 use qc_core::Core;
 use qc_core::stopping::key_limit_error;
 use qc_packet::NUMBER_LIMIT;
-use qc_state::{ConnectionError, DATAGRAM_SIZE, Quiet, Suite};
+use qc_state::{ConnectionError, DATAGRAM_SIZE, Form, Quiet, Suite};
 
 /// What a transmit begins with.
 #[derive(Clone, Copy)]
@@ -101,20 +102,20 @@ fn is_used_up<U: Suite>(core: &Core<U>, space: SpaceId) -> bool
     GREATEST_NUMBER <= number || NUMBER_LIMIT <= number - acked
 }
 
-/// Whether the key of the space's next packet has sealed as many packets as it may (RFC 9001, 6.6).
+/// Whether the key for packets of this form has sealed as many as it may (RFC 9001, 6.6).
 #[tactic(auto, unfolding(qc_state::specs::Sending::is_key_used_up))]
-fn is_key_used_up<U: Suite>(core: &Core<U>, space: SpaceId) -> bool
-    ensures { result ≡ is_key_used_up (ideal U.Random.stream core.now) space }
+fn is_key_used_up<U: Suite>(core: &Core<U>, form: Form) -> bool
+    ensures { result ≡ is_key_used_up (ideal U.Random.stream core.now) form }
 {
-    core.keys.reaches_limit(space, 0)
+    core.keys.reaches_limit(form, 0)
 }
 
 /// Whether it will have with two packets more: only one may be sealed behind the next one.
 #[tactic(auto, unfolding(qc_state::specs::Sending::is_key_nearly_used_up))]
-pub(crate) fn is_key_nearly_used_up<U: Suite>(core: &Core<U>, space: SpaceId) -> bool
-    ensures { result ≡ is_key_nearly_used_up (ideal U.Random.stream core.now) space }
+pub(crate) fn is_key_nearly_used_up<U: Suite>(core: &Core<U>, form: Form) -> bool
+    ensures { result ≡ is_key_nearly_used_up (ideal U.Random.stream core.now) form }
 {
-    core.keys.reaches_limit(space, 2)
+    core.keys.reaches_limit(form, 2)
 }
 
 /// Whether a probe is due in the space.
@@ -127,20 +128,20 @@ pub(crate) fn is_probe_due<U: Suite>(core: &Core<U>, space: SpaceId) -> bool
 /// Whether the token of the next Initial packet leaves no room for the greatest close without a reason.
 fn lacks_room<U: Suite>(core: &Core<U>) -> bool
     requires { next_number core.now.numbers Initial - acked_number core.now.numbers Initial < 2 ^ 31 }
-    ensures { result ≡ nat_lt (room_of DATAGRAM_SIZE (ideal U.Random.stream core.now) Initial) 25 }
+    ensures { result ≡ nat_lt (room_of DATAGRAM_SIZE (ideal U.Random.stream core.now) Form.Initial) 25 }
 {
-    frame_room(core, DATAGRAM_SIZE as usize, SpaceId::Initial) < GREATEST_CLOSE
+    frame_room(core, DATAGRAM_SIZE as usize, Form::Initial) < GREATEST_CLOSE
 }
 
-/// Whether the token of the space's next packet, an Initial one, leaves no room for the greatest close without a reason.
+/// Whether the token of the next packet, an Initial one, leaves no room for the greatest close without a reason.
 #[tactic(auto, unfolding(qc_state::specs::Sending::is_token_too_long))]
-fn is_token_too_long<U: Suite>(core: &Core<U>, space: SpaceId) -> bool
-    requires { is_used_up (ideal U.Random.stream core.now) space ≡ false }
-    ensures { result ≡ is_token_too_long (ideal U.Random.stream core.now) space }
+fn is_token_too_long<U: Suite>(core: &Core<U>, form: Form) -> bool
+    requires { is_used_up (ideal U.Random.stream core.now) (number_space form) ≡ false }
+    ensures { result ≡ is_token_too_long (ideal U.Random.stream core.now) form }
 {
-    match space {
-        SpaceId::Initial => lacks_room(core),
-        SpaceId::Handshake | SpaceId::Data => false,
+    match form {
+        Form::Initial => lacks_room(core),
+        Form::Handshake | Form::Early | Form::OneRtt => false,
     }
 }
 
@@ -151,19 +152,19 @@ fn ended_with(code: TransportErrorCode) -> ConnectionError
     ConnectionError::TransportError(TransportError { code, frame: None })
 }
 
-/// Why the connection ends as a packet of the space is about to begin: its key has sealed as many packets as it may, or the
+/// Why the connection ends as a packet of this form is about to begin: its key has sealed as many packets as it may, or the
 /// packet numbers are used up, or its token leaves no room for frames. None where it may begin.
 #[tactic(auto, unfolding(qc_state::specs::Sending::kill_in))]
-pub(crate) fn kill<U: Suite>(core: &Core<U>, space: SpaceId) -> Option<ConnectionError>
-    ensures { result ≡ kill_in (ideal U.Random.stream core.now) space }
+pub(crate) fn kill<U: Suite>(core: &Core<U>, form: Form) -> Option<ConnectionError>
+    ensures { result ≡ kill_in (ideal U.Random.stream core.now) form }
 {
-    if is_key_used_up(core, space) {
+    if is_key_used_up(core, form) {
         return Some(ConnectionError::TransportError(key_limit_error()));
     }
-    if is_used_up(core, space) {
+    if is_used_up(core, form.space()) {
         return Some(ended_with(TransportErrorCode::INTERNAL_ERROR));
     }
-    if is_token_too_long(core, space) {
+    if is_token_too_long(core, form) {
         return Some(ended_with(TransportErrorCode::PROTOCOL_VIOLATION));
     }
     None

@@ -9,7 +9,8 @@ ghost use Rattle.qc_frame.specs.declared.frames.FrameOf.TheVariants.{Padding};
 ghost use Rattle.qc_packet.specs.Building.{kill_of, min_size_of, padded_size};
 ghost use Rattle.qc_packet.specs.PacketSpelling.{padding_len};
 ghost use Rattle.qc_header.specs.HeaderSpelling.{header_spelling, header_number};
-ghost use Rattle.qc_state.specs.Keys.{has_keys, header_key, packet_key, reaches_limit, usage_of};
+ghost use Rattle.qc_state.specs.Forms.{number_space};
+ghost use Rattle.qc_state.specs.Keys.{has_keys_for, header_key, packet_key, reaches_limit, usage_of};
 ghost use Rattle.qc_state.specs.Moves.{Take, Seal, move_to, state_move};
 ghost use Rattle.qc_state.specs.Numbers.{next_number, acked_number};
 ghost use Rattle.qc_state.specs.Sending.{is_key_nearly_used_up, flips_now, header_in, room_of, finished_after, spared_after, begun_after, skipped_after, fills, packet_size, least_size, padded, packet_bytes, is_flown, sealed_with, transmit_with};
@@ -25,7 +26,7 @@ use qc_core::stopping::key_limit_error;
 use qc_frame::FrameList;
 use qc_header::{Header, InitialHeader};
 use qc_packet::{Slot, seal_padded};
-use qc_state::{Batch, DATAGRAM_SIZE, Dids, Means, Suite, Transmit};
+use qc_state::{Batch, DATAGRAM_SIZE, Dids, Form, Means, Suite, Transmit};
 use std::alloc::{AllocError, Global};
 
 /// The size of a packet's tag, in bytes (RFC 9001, 5.3).
@@ -54,44 +55,52 @@ fn room_left(alloc: Global, room: usize, frames: &FrameList) -> Result<usize, Al
     Ok(room.saturating_sub(bytes.len()))
 }
 
-/// How many bytes a token adds to the header of a packet of this space: its own, and those of its length beyond the
+/// How many bytes a token adds to the header of a packet of this form: its own, and those of its length beyond the
 /// one that an empty token has.
-fn token_bytes(space: SpaceId, token: &[u8]) -> usize
-    ensures { result ≡ token_bytes space token.now }
+fn token_bytes(form: Form, token: &[u8]) -> usize
+    ensures { result ≡ token_bytes form token.now }
 {
-    match space {
-        SpaceId::Initial => varint_size(token.len() as u64) - 1 + token.len(),
-        SpaceId::Handshake | SpaceId::Data => 0,
+    match form {
+        Form::Initial => varint_size(token.len() as u64) - 1 + token.len(),
+        Form::Handshake | Form::Early | Form::OneRtt => 0,
     }
 }
 
-/// The header of the space's next packet, with this spin bit where it is a 1-RTT packet, and this token where it is an Initial
+/// The header of the next packet, of this form, with this spin bit where it is a 1-RTT packet, and this token where it is an Initial
 /// one.
 #[tactic(auto, unfolding(qc_state::specs::Setup::ideal_setup))]
-fn header_with<U: Suite>(core: &Core<U>, space: SpaceId, spin: bool, token: Bytes) -> Header
-    requires { next_number core.now.numbers space - acked_number core.now.numbers space < 2 ^ 31 }
-    ensures { result ≡ header_with (ideal U.Random.stream core.now) space spin token }
+fn header_with<U: Suite>(core: &Core<U>, form: Form, spin: bool, token: Bytes) -> Header
+    requires { next_number core.now.numbers (number_space form) - acked_number core.now.numbers (number_space form) < 2 ^ 31 }
+    ensures { result ≡ header_with (ideal U.Random.stream core.now) form spin token }
 {
+    let space = form.space();
     let number = PacketNumber::new(core.numbers.next(space), core.numbers.acked_number(space));
     let dst_cid = core.paths.current.remote_cid;
     let src_cid = core.setup.fixed.local_cid;
     let version = core.setup.fixed.version;
-    match space {
-        SpaceId::Initial => Header::Initial(InitialHeader {
+    match form {
+        Form::Initial => Header::Initial(InitialHeader {
             dst_cid,
             src_cid,
             token,
             number,
             version,
         }),
-        SpaceId::Handshake => Header::Long {
+        Form::Handshake => Header::Long {
             ty: LongType::Handshake,
             dst_cid,
             src_cid,
             number,
             version,
         },
-        SpaceId::Data => Header::Short {
+        Form::Early => Header::Long {
+            ty: LongType::ZeroRtt,
+            dst_cid,
+            src_cid,
+            number,
+            version,
+        },
+        Form::OneRtt => Header::Short {
             spin,
             key_phase: core.keys.phase(),
             dst_cid,
@@ -100,44 +109,41 @@ fn header_with<U: Suite>(core: &Core<U>, space: SpaceId, spin: bool, token: Byte
     }
 }
 
-/// How much room for frames the space's next packet has where so many bytes are left in its datagram: behind its header, and before
+/// How much room for frames the next packet, of this form, has where so many bytes are left in its datagram: behind its header, and before
 /// its tag.
 #[tactic(auto, unfolding(qc_state::specs::Setup::ideal_setup))]
-pub(crate) fn frame_room<U: Suite>(core: &Core<U>, left: usize, space: SpaceId) -> usize
+pub(crate) fn frame_room<U: Suite>(core: &Core<U>, left: usize, form: Form) -> usize
     requires large { DATAGRAM_SIZE ≤ left }
-    requires near { next_number core.now.numbers space - acked_number core.now.numbers space < 2 ^ 31 }
-    ensures value { result ≡ room_of left (ideal U.Random.stream core.now) space }
-    ensures wide { is_space space Initial ≡ false → 25 ≤ result }
+    requires near { next_number core.now.numbers (number_space form) - acked_number core.now.numbers (number_space form) < 2 ^ 31 }
+    ensures value { result ≡ room_of left (ideal U.Random.stream core.now) form }
+    ensures wide { is_space (number_space form) Initial ≡ false → 25 ≤ result }
 {
-    let bare = header_with(core, space, false, Bytes::new()).encoded_len();
+    let bare = header_with(core, form, false, Bytes::new()).encoded_len();
     let room = (left - TAG).saturating_sub(bare);
-    room.saturating_sub(token_bytes(space, core.setup.initial_token.as_slice()))
+    room.saturating_sub(token_bytes(form, core.setup.initial_token.as_slice()))
 }
 
-/// The token that the space's next packet carries: none but an Initial one has any. Want of memory is the only refusal.
-fn token<U: Suite>(core: &Core<U>, space: SpaceId) -> Result<Bytes, AllocError>
-    ensures { IfOk result (λ token. token ≡ token_in space core.now.setup.initial_token) }
+/// The token that a packet of this form carries: none but an Initial one has any. Want of memory is the only refusal.
+fn token<U: Suite>(core: &Core<U>, form: Form) -> Result<Bytes, AllocError>
+    ensures { IfOk result (λ token. token ≡ token_in form core.now.setup.initial_token) }
 {
-    match space {
-        SpaceId::Initial => core.setup.initial_token.clone(),
-        SpaceId::Handshake | SpaceId::Data => Ok(Bytes::new()),
+    match form {
+        Form::Initial => core.setup.initial_token.clone(),
+        Form::Handshake | Form::Early | Form::OneRtt => Ok(Bytes::new()),
     }
 }
 
-/// The header of the space's next packet, and whether its fixed bit is flipped; what is drawn for it is drawn. Want of memory is
+/// The header of the next packet, of this form, and whether its fixed bit is flipped; what is drawn for it is drawn. Want of memory is
 /// the only refusal.
-fn header_and_flip<U: Suite>(
-    core: &mut Core<U>,
-    space: SpaceId,
-) -> Result<(Header, bool), AllocError>
-    requires { next_number core.old.numbers space - acked_number core.old.numbers space < 2 ^ 31 }
-    ensures header { IfOk result (λ r. r.0 ≡ header_in (ideal U.Random.stream core.old) space) }
-    ensures flip { IfOk result (λ r. r.1 ≡ flips_now (ideal U.Random.stream core.old) space) }
-    ensures leads { OnOk result ((ideal U.Random.stream core.new) ≡ drawn_for space (ideal U.Random.stream core.old)) }
+fn header_and_flip<U: Suite>(core: &mut Core<U>, form: Form) -> Result<(Header, bool), AllocError>
+    requires { next_number core.old.numbers (number_space form) - acked_number core.old.numbers (number_space form) < 2 ^ 31 }
+    ensures header { IfOk result (λ r. r.0 ≡ header_in (ideal U.Random.stream core.old) form) }
+    ensures flip { IfOk result (λ r. r.1 ≡ flips_now (ideal U.Random.stream core.old) form) }
+    ensures leads { OnOk result ((ideal U.Random.stream core.new) ≡ drawn_for form (ideal U.Random.stream core.old)) }
 {
-    let token = token(core, space)?;
-    let drawn = core.setup.draw_packet(space, core.paths.spin);
-    Ok((header_with(core, space, drawn.spin, token), drawn.flip))
+    let token = token(core, form)?;
+    let drawn = core.setup.draw_packet(form, core.paths.spin);
+    Ok((header_with(core, form, drawn.spin, token), drawn.flip))
 }
 
 /// Takes the ACK, where there is something to acknowledge and it leaves room for the greatest close without a reason, and the
@@ -162,7 +168,7 @@ fn take_close<U: Suite>(
     Ok(frames)
 }
 
-/// Takes frames at a time for a packet of the space, with what room for them there is beside its header: in a transmit that began
+/// Takes frames at a time for a packet of this form, with what room for them there is beside its header: in a transmit that began
 /// with a close owed, the close, with an ACK in front; else frames that wait.
 #[tactic(auto, using(crate::proofs::Takes::takes_waiting))]
 pub(crate) fn take<U: Suite>(
@@ -171,28 +177,28 @@ pub(crate) fn take<U: Suite>(
     now: Instant,
     closing: bool,
     capacity: usize,
-    space: SpaceId,
+    form: Form,
 ) -> Result<FrameList, AllocError>
     requires large { DATAGRAM_SIZE ≤ capacity }
-    requires near { next_number core.old.numbers space - acked_number core.old.numbers space < 2 ^ 31 }
-    ensures wide { OnOk result (is_space space Initial ≡ false → 25 ≤ room_of capacity (ideal U.Random.stream core.old) space) }
-    ensures frames { IfOk result (λ frames. TakenNow closing now (ideal U.Random.stream core.old) space (room_of capacity (ideal U.Random.stream core.old) space) frames) }
-    ensures leads { IfOk result (λ frames. (ideal U.Random.stream core.new) ≡ state_move (Take space frames) (ideal U.Random.stream core.old)) }
+    requires near { next_number core.old.numbers (number_space form) - acked_number core.old.numbers (number_space form) < 2 ^ 31 }
+    ensures wide { OnOk result (is_space (number_space form) Initial ≡ false → 25 ≤ room_of capacity (ideal U.Random.stream core.old) form) }
+    ensures frames { IfOk result (λ frames. TakenNow closing now (ideal U.Random.stream core.old) (number_space form) (room_of capacity (ideal U.Random.stream core.old) form) frames) }
+    ensures leads { IfOk result (λ frames. (ideal U.Random.stream core.new) ≡ state_move (Take (number_space form) frames) (ideal U.Random.stream core.old)) }
 {
-    let room = frame_room(core, capacity, space);
+    let room = frame_room(core, capacity, form);
     if closing {
-        return take_close(core, alloc, now, closing, space, room);
+        return take_close(core, alloc, now, closing, form.space(), room);
     }
-    core.do_take(alloc, now, space, room)
+    core.do_take(alloc, now, form.space(), room)
 }
 
-/// How many bytes a packet of this space with these frames is to have at least: a datagram's size where it fills one.
+/// How many bytes a packet of this form with these frames is to have at least: a datagram's size where it fills one.
 #[tactic(auto, unfolding(qc_state::specs::Sending::least_size, qc_state::specs::Setup::ideal_setup))]
-fn least_size<U: Suite>(core: &Core<U>, space: SpaceId, frames: &FrameList) -> usize
-    ensures value { result ≡ least_size (ideal U.Random.stream core.now) space frames.now }
+fn least_size<U: Suite>(core: &Core<U>, form: Form, frames: &FrameList) -> usize
+    ensures value { result ≡ least_size (ideal U.Random.stream core.now) form frames.now }
     ensures most { result ≤ DATAGRAM_SIZE }
 {
-    if fills(core.setup.fixed.side, space, frames.elicits()) {
+    if fills(core.setup.fixed.side, form.space(), frames.elicits()) {
         return DATAGRAM_SIZE as usize;
     }
     0
@@ -277,17 +283,17 @@ pub(crate) fn transmit_to<U: Suite>(core: &Core<U>, size: usize) -> Transmit
     }
 }
 
-/// What the builder is given of the space's next packet, whose fixed bit is flipped or not. None exactly where the space has
+/// What the builder is given of the next packet, of this form, whose fixed bit is flipped or not. None exactly where there are
 /// no keys.
-fn slot<U: Suite>(core: &Core<U>, space: SpaceId, flip: bool) -> Option<Slot>
-    ensures { result ≡ option_map (slot_drawn (ideal U.Random.stream core.now) space flip) (usage_of core.now.keys space) }
+fn slot<U: Suite>(core: &Core<U>, form: Form, flip: bool) -> Option<Slot>
+    ensures { result ≡ option_map (slot_drawn (ideal U.Random.stream core.now) form flip) (usage_of core.now.keys form) }
 {
-    match core.keys.usage(space) {
+    match core.keys.usage(form) {
         None => None,
         Some(usage) => Some(Slot {
-            space,
-            number: core.numbers.next(space),
-            largest_acked: core.numbers.acked_number(space),
+            space: form.space(),
+            number: core.numbers.next(form.space()),
+            largest_acked: core.numbers.acked_number(form.space()),
             sealed: usage.sealed,
             limit: usage.limit,
             flip,
@@ -295,12 +301,12 @@ fn slot<U: Suite>(core: &Core<U>, space: SpaceId, flip: bool) -> Option<Slot>
     }
 }
 
-/// Seals the space's next packet with this header and these frames into an empty buffer, its fixed bit flipped or not, filled up
+/// Seals the next packet, of this form, with this header and these frames into an empty buffer, its fixed bit flipped or not, filled up
 /// with PADDING to `least` bytes at least, and to what each packet has to have. The PADDING frames are added to the list. Want of
 /// memory is the only refusal.
 fn seal_with<U: Suite>(
     core: &Core<U>,
-    space: SpaceId,
+    form: Form,
     flip: bool,
     header: &Header,
     frames: &mut FrameList,
@@ -309,26 +315,26 @@ fn seal_with<U: Suite>(
     buf: &mut Vec<u8>,
 ) -> Result<(), AllocError>
     requires empty { buf.old.items ≡ [] }
-    requires keyed { has_keys core.now.keys space ≡ true }
+    requires keyed { has_keys_for core.now.keys form ≡ true }
     requires numbered { IsSome (header_number header.now) }
-    requires begins { IfSome (usage_of core.now.keys space) (λ usage. kill_of (slot_drawn (ideal U.Random.stream core.now) space flip usage) header.now 0 capacity ≡ None) }
+    requires begins { IfSome (usage_of core.now.keys form) (λ usage. kill_of (slot_drawn (ideal U.Random.stream core.now) form flip usage) header.now 0 capacity ≡ None) }
     requires sized { min_size_of 0 header.now + 16 ≤ capacity }
     requires room { length (header_spelling header.now 0) + length (frames_spelling frames.old) + 16 ≤ capacity }
     requires small { least ≤ capacity }
     requires most { capacity ≤ 16383 }
     ensures frames { OnOk result (frames.new ≡ frames.old ++ replicate (padding_len header.now frames.old (padded_size header.now frames.old least)) Padding) }
-    ensures bytes { OnOk result (buf.new.items ≡ sealed_with ⟦<U as Means>⟧.meaning (header_key core.now.keys space) (packet_key core.now.keys space) flip header.now (next_number core.now.numbers space) (frames_spelling frames.new)) }
+    ensures bytes { OnOk result (buf.new.items ≡ sealed_with ⟦<U as Means>⟧.meaning (header_key core.now.keys form) (packet_key core.now.keys form) flip header.now (next_number core.now.numbers (number_space form)) (frames_spelling frames.new)) }
     ensures full { OnOk result (length buf.new.items ≡ padded_size header.now frames.old least) }
 {
-    let header_key = match core.keys.header_key(space) {
+    let header_key = match core.keys.header_key(form) {
         Some(key) => key,
         None => unreachable!(),
     };
-    let packet_key = match core.keys.packet_key(space) {
+    let packet_key = match core.keys.packet_key(form) {
         Some(key) => key,
         None => unreachable!(),
     };
-    let slot = match slot(core, space, flip) {
+    let slot = match slot(core, form, flip) {
         Some(slot) => slot,
         None => unreachable!(),
     };
@@ -340,14 +346,14 @@ fn seal_with<U: Suite>(
     }
 }
 
-/// Seals the space's next packet with these frames into an empty buffer, filled up with PADDING to what it has to have, and counts
+/// Seals the next packet, of this form, with these frames into an empty buffer, filled up with PADDING to what it has to have, and counts
 /// it. What is drawn for it is drawn. Answers whether it counts as in flight. Want of memory is the only refusal.
 pub(crate) fn seal<U: Suite>(
     core: &mut Core<U>,
     alloc: Global,
     did: &mut Dids,
     now: Instant,
-    space: SpaceId,
+    form: Form,
     capacity: usize,
     frames: FrameList,
     buf: &mut Vec<u8>,
@@ -355,32 +361,23 @@ pub(crate) fn seal<U: Suite>(
     requires large { DATAGRAM_SIZE ≤ capacity }
     requires most { capacity ≤ 16383 }
     requires empty { buf.old.items ≡ [] }
-    requires low { next_number core.old.numbers space < 2 ^ 62 - 1 }
-    requires near { next_number core.old.numbers space - acked_number core.old.numbers space < 2 ^ 31 }
-    requires keyed { has_keys core.old.keys space ≡ true }
-    requires fresh { reaches_limit 0 (usage_of core.old.keys space) ≡ false }
-    requires wide { 25 ≤ room_of capacity (ideal U.Random.stream core.old) space }
-    requires room { length (header_spelling (header_in (ideal U.Random.stream core.old) space) 0) + length (frames_spelling frames) + 16 ≤ capacity }
-    ensures leads { OnOk result ((held U.Random.stream core.new did.new) ≡ move_to (Seal now space (next_number core.old.numbers space) (length buf.new.items) (padded (ideal U.Random.stream core.old) space frames)) (held U.Random.stream core.old did.old)) }
-    ensures bytes { OnOk result (buf.new.items ≡ packet_bytes ⟦<U as Means>⟧.meaning (ideal U.Random.stream core.old) space (padded (ideal U.Random.stream core.old) space frames)) }
-    ensures size { OnOk result (length buf.new.items ≡ packet_size (ideal U.Random.stream core.old) space (padded (ideal U.Random.stream core.old) space frames)) }
-    ensures counts { IfOk result (λ counts. counts ≡ is_flown (ideal U.Random.stream core.old) (padded (ideal U.Random.stream core.old) space frames)) }
+    requires low { next_number core.old.numbers (number_space form) < 2 ^ 62 - 1 }
+    requires near { next_number core.old.numbers (number_space form) - acked_number core.old.numbers (number_space form) < 2 ^ 31 }
+    requires keyed { has_keys_for core.old.keys form ≡ true }
+    requires fresh { reaches_limit 0 (usage_of core.old.keys form) ≡ false }
+    requires wide { 25 ≤ room_of capacity (ideal U.Random.stream core.old) form }
+    requires room { length (header_spelling (header_in (ideal U.Random.stream core.old) form) 0) + length (frames_spelling frames) + 16 ≤ capacity }
+    ensures leads { OnOk result ((held U.Random.stream core.new did.new) ≡ move_to (Seal now form (next_number core.old.numbers (number_space form)) (length buf.new.items) (padded (ideal U.Random.stream core.old) form frames)) (held U.Random.stream core.old did.old)) }
+    ensures bytes { OnOk result (buf.new.items ≡ packet_bytes ⟦<U as Means>⟧.meaning (ideal U.Random.stream core.old) form (padded (ideal U.Random.stream core.old) form frames)) }
+    ensures size { OnOk result (length buf.new.items ≡ packet_size (ideal U.Random.stream core.old) form (padded (ideal U.Random.stream core.old) form frames)) }
+    ensures counts { IfOk result (λ counts. counts ≡ is_flown (ideal U.Random.stream core.old) (padded (ideal U.Random.stream core.old) form frames)) }
 {
     let mut frames = frames;
-    let number = next_number(core, space);
-    let least = least_size(core, space, &frames);
-    let (header, flip) = header_and_flip(core, space)?;
-    seal_with(
-        core,
-        space,
-        flip,
-        &header,
-        &mut frames,
-        capacity,
-        least,
-        buf,
-    )?;
+    let number = next_number(core, form.space());
+    let least = least_size(core, form, &frames);
+    let (header, flip) = header_and_flip(core, form)?;
+    seal_with(core, form, flip, &header, &mut frames, capacity, least, buf)?;
     let counts = core.is_flown(&frames);
-    core.do_seal(alloc, did, now, space, number, buf.len() as u64, frames)?;
+    core.do_seal(alloc, did, now, form, number, buf.len() as u64, frames)?;
     Ok(counts)
 }

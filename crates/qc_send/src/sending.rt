@@ -7,10 +7,10 @@ ghost use Rattle.qc_state.specs.View.{ideal, held};
 
 use crate::owing::{Turn, is_key_nearly_used_up, is_probe_due, kill, turn_now};
 use crate::sealing::{begin_packet, finish, seal, take, transmit_to};
-use qc_base::{Instant, SpaceId};
+use qc_base::Instant;
 use qc_core::Core;
 use qc_state::spaces::Spaces;
-use qc_state::{Batch, DATAGRAM_SIZE, Dids, Means, Quiet, Suite, Transmit};
+use qc_state::{Batch, DATAGRAM_SIZE, Dids, Form, Means, Quiet, Suite, Transmit};
 use std::alloc::{AllocError, Global};
 
 /// What is known of the datagrams of a transmit that begins.
@@ -27,10 +27,10 @@ fn seal_packet<U: Suite>(
     alloc: Global,
     now: Instant,
     batch: &mut Batch,
-    space: SpaceId,
+    form: Form,
     buf: &mut Vec<u8>,
 ) -> Result<(), AllocError>
-    requires begins { MayBegin batch.old.closing (ideal U.Random.stream core.old) space }
+    requires begins { MayBegin batch.old.closing (ideal U.Random.stream core.old) form }
     requires alone { batch.old.made ≡ 0 }
     requires large { DATAGRAM_SIZE ≤ batch.old.segment }
     requires most { batch.old.segment ≤ 16383 }
@@ -39,14 +39,15 @@ fn seal_packet<U: Suite>(
     ensures sends { OnOk result (SendsOne ⟦<U as Means>⟧.meaning now (going (held U.Random.stream core.old did.old) batch.old buf.old.items) (going (held U.Random.stream core.new did.new) batch.new buf.new.items)) }
     ensures size { OnOk result (length buf.new.items ≡ batch.new.total) }
 {
-    let nearly = is_key_nearly_used_up(core, space);
+    let space = form.space();
+    let nearly = is_key_nearly_used_up(core, form);
     let probes = is_probe_due(core, space);
     let closing = batch.closing;
     begin_packet(core, space, true, did)?;
     batch.open(true, probes);
     let capacity = batch.capacity as usize;
-    let frames = take(core, alloc, now, closing, capacity, space)?;
-    let counts = seal(core, alloc, did, now, space, capacity, frames, buf)?;
+    let frames = take(core, alloc, now, closing, capacity, form)?;
+    let counts = seal(core, alloc, did, now, form, capacity, frames, buf)?;
     core.fly_after(did, now, counts);
     batch.grow(space, buf.len() as u64, nearly);
     Ok(())
@@ -92,7 +93,8 @@ fn seal_due<U: Suite>(
         }
         Turn::Begins(space) => space,
     };
-    match kill(core, space) {
+    let form = core.keys.form_in(space);
+    match kill(core, form) {
         Some(why) => {
             core.kill(did, why)?;
             core.do_say(did, Quiet::Killed)?;
@@ -102,7 +104,7 @@ fn seal_due<U: Suite>(
     }
     let mut to = transmit_to(core, 0);
     let mut batch = new_batch(core);
-    seal_packet(core, did, alloc, now, &mut batch, space, buf)?;
+    seal_packet(core, did, alloc, now, &mut batch, form, buf)?;
     finish(core, did, now, batch)?;
     to.size = buf.len();
     Ok(Some(to))

@@ -1,6 +1,6 @@
 -- Laws over whole runs, said of the keys (RFC 9001, section 6.6).
 use Rattle.std.specs.Prelude.{◌≤◌, Option, IfSome}
-use Rattle.qc_base.specs.declared.side.SpaceId.{SpaceId}
+use Rattle.qc_state.specs.declared.form.Form.{Form}
 use Rattle.qc_state.specs.declared.keys.KeyGroup.{KeyGroup}
 use Rattle.qc_state.specs.declared.keys.KeyUse.{KeyUse}
 use Rattle.qc_state.specs.Keys.{usage_of}
@@ -10,6 +10,6 @@ abbrev pub IsWithinLimit : Option KeyUse → Type 0
 IsWithinLimit usage = IfSome usage (λ (u : KeyUse). u.sealed ≤ u.limit)
 
 module _ {H P : Type 0} where
-  -- so it is with the keys of each space; of 1-RTT keys with those of their epoch
+  -- so it is with the keys of each form; of 1-RTT keys with those of their epoch
   abbrev pub KeysHold : KeyGroup H P → Type 0
-  KeysHold v = (id : SpaceId) → IsWithinLimit (usage_of v id)
+  KeysHold v = (form : Form) → IsWithinLimit (usage_of v form)

@@ -8,6 +8,8 @@ use Rattle.qc_crypto.specs.declared.keys.Keys.{Keys}
 use Rattle.qc_base.specs.Time.{plus}
 use Rattle.qc_rings.specs.Keyed.{Keyed, first_keyed, keyed_sealed}
 use Rattle.qc_rings.specs.Ring.{phase_of}
+use Rattle.qc_state.specs.declared.form.Form.{Form}
+use Rattle.qc_state.specs.declared.form.Form.TheVariants as form
 use Rattle.qc_state.specs.declared.keys.KeyGroup.{KeyGroup}
 use Rattle.qc_state.specs.declared.keys.KeyUse.{KeyUse}
 use Rattle.qc_state.specs.declared.keys.OneRttKeys.{OneRttKeys}
@@ -44,49 +46,78 @@ module _ {H P : Type 0} where
   ring_used n None = None
   ring_used n (Some k) = Some (record k { ring = keyed_sealed k.ring n })
 
-  -- a packet of this number was sealed in the space
-  unfoldable pub key_used : KeyGroup H P → SpaceId → ℕ → KeyGroup H P
-  key_used v Initial n = record v { initial = count_one v.initial }
-  key_used v Handshake n = record v { handshake = count_one v.handshake }
-  key_used v «Data» n = record v { «data» = ring_used n v.«data» }
+  -- a packet of this form and number was sealed; no key for 0-RTT is there so far
+  unfoldable pub key_used : KeyGroup H P → Form → ℕ → KeyGroup H P
+  key_used v form.Initial n = record v { initial = count_one v.initial }
+  key_used v form.Handshake n = record v { handshake = count_one v.handshake }
+  key_used v form.Early n = v
+  key_used v form.OneRtt n = record v { «data» = ring_used n v.«data» }
 
   -- a packet didn't open
   unfoldable pub failure_counted : KeyGroup H P → KeyGroup H P
   failure_counted v = record v { failures = plus v.failures 1 }
 
-  -- the keys of the Initial or the Handshake space; 1-RTT keys stand in their ring
-  unfoldable pub plain_keys : KeyGroup H P → SpaceId → Option (SpaceKeys H P)
-  plain_keys v Initial = v.initial
-  plain_keys v Handshake = v.handshake
-  plain_keys v «Data» = None
+  -- the form in which packets of a space are sealed now. Early keys will have a row of their own behind that of Handshake: in the space
+  -- that 0-RTT and 1-RTT share, packets are 0-RTT while there are early keys and no 1-RTT keys (RFC 9001, section 4.9.3).
+  unfoldable pub form_in : KeyGroup H P → SpaceId → Form
+  form_in v Initial = form.Initial
+  form_in v Handshake = form.Handshake
+  form_in v «Data» = form.OneRtt
 
-  -- the space has keys
+  -- the keys of the Initial or the Handshake form; 1-RTT keys stand in their ring, and none for 0-RTT are there so far
+  unfoldable pub plain_keys : KeyGroup H P → Form → Option (SpaceKeys H P)
+  plain_keys v form.Initial = v.initial
+  plain_keys v form.Handshake = v.handshake
+  plain_keys v form.Early = None
+  plain_keys v form.OneRtt = None
+
+  -- there are keys for packets of this form; so far never for 0-RTT
+  unfoldable pub has_keys_for : KeyGroup H P → Form → Bool
+  has_keys_for v form.Initial = is_some v.initial
+  has_keys_for v form.Handshake = is_some v.handshake
+  has_keys_for v form.Early = false
+  has_keys_for v form.OneRtt = is_some v.«data»
+
+  -- the space has keys: those for the form in which its packets are sealed now
   unfoldable pub has_keys : KeyGroup H P → SpaceId → Bool
-  has_keys v Initial = is_some v.initial
-  has_keys v Handshake = is_some v.handshake
-  has_keys v «Data» = is_some v.«data»
+  has_keys v id = has_keys_for v (form_in v id)
 
-  -- the key that masks this end's packets of the space
-  unfoldable pub header_key : KeyGroup H P → SpaceId → Option H
-  header_key v Initial = option_map (λ (k : SpaceKeys H P). k.keys.header.local) v.initial
-  header_key v Handshake = option_map (λ (k : SpaceKeys H P). k.keys.header.local) v.handshake
-  header_key v «Data» = option_map (λ (k : OneRttKeys H P). k.header.local) v.«data»
+  -- the key that masks this end's packets of this form
+  unfoldable pub header_key : KeyGroup H P → Form → Option H
+  header_key v form.Initial = option_map (λ (k : SpaceKeys H P). k.keys.header.local) v.initial
+  header_key v form.Handshake = option_map (λ (k : SpaceKeys H P). k.keys.header.local) v.handshake
+  header_key v form.Early = None
+  header_key v form.OneRtt = option_map (λ (k : OneRttKeys H P). k.header.local) v.«data»
 
   -- the key that seals them: of 1-RTT keys that of their epoch
-  unfoldable pub packet_key : KeyGroup H P → SpaceId → Option P
-  packet_key v Initial = option_map (λ (k : SpaceKeys H P). k.keys.packet.local) v.initial
-  packet_key v Handshake = option_map (λ (k : SpaceKeys H P). k.keys.packet.local) v.handshake
-  packet_key v «Data» = option_map (λ (k : OneRttKeys H P). k.ring.current.local) v.«data»
+  unfoldable pub packet_key : KeyGroup H P → Form → Option P
+  packet_key v form.Initial = option_map (λ (k : SpaceKeys H P). k.keys.packet.local) v.initial
+  packet_key v form.Handshake = option_map (λ (k : SpaceKeys H P). k.keys.packet.local) v.handshake
+  packet_key v form.Early = None
+  packet_key v form.OneRtt = option_map (λ (k : OneRttKeys H P). k.ring.current.local) v.«data»
 
-  -- the key that takes the mask off the peer's packets of the space
-  unfoldable pub unmasking_key : KeyGroup H P → SpaceId → Option H
-  unmasking_key v Initial = option_map (λ (k : SpaceKeys H P). k.keys.header.remote) v.initial
-  unmasking_key v Handshake = option_map (λ (k : SpaceKeys H P). k.keys.header.remote) v.handshake
-  unmasking_key v «Data» = option_map (λ (k : OneRttKeys H P). k.header.remote) v.«data»
+  -- the epoch of the key that seals 1-RTT packets
+  abbrev pub epoch_with : Option (OneRttKeys H P) → ℕ
+  epoch_with None = 0
+  epoch_with (Some k) = k.ring.ring.epoch
 
-  -- the key that opens the peer's packets of the Initial or the Handshake space
-  unfoldable pub opening_key : KeyGroup H P → SpaceId → Option P
-  opening_key v id = option_map (λ (k : SpaceKeys H P). k.keys.packet.remote) (plain_keys v id)
+  -- the epoch of the key that seals packets of this form: 0 outside of 1-RTT
+  unfoldable pub epoch_in : KeyGroup H P → Form → ℕ
+  epoch_in v form.Initial = 0
+  epoch_in v form.Handshake = 0
+  epoch_in v form.Early = 0
+  epoch_in v form.OneRtt = epoch_with v.«data»
+
+  -- the key that takes the mask off the peer's packets of this form
+  unfoldable pub unmasking_key : KeyGroup H P → Form → Option H
+  unmasking_key v form.Initial = option_map (λ (k : SpaceKeys H P). k.keys.header.remote) v.initial
+  unmasking_key v form.Handshake = option_map (λ (k : SpaceKeys H P). k.keys.header.remote) v.handshake
+  unmasking_key v form.Early = None
+  unmasking_key v form.OneRtt = option_map (λ (k : OneRttKeys H P). k.header.remote) v.«data»
+
+  -- the key that opens the peer's packets of this form, but for 1-RTT, whose keys stand in their ring
+  unfoldable pub opening_key : KeyGroup H P → Form → Option P
+  opening_key v form = option_map (λ (k : SpaceKeys H P). k.keys.packet.remote) (plain_keys v form)
 
   -- the ring of the 1-RTT keys
   unfoldable pub ring_of : KeyGroup H P → Option (Keyed P)
@@ -105,14 +136,19 @@ module _ {H P : Type 0} where
   abbrev pub new_keys : (seals failures : P → ℕ) → Keys H P → SpaceKeys H P
   new_keys seals failures keys = record { keys = keys; sealed = 0; confidentiality_limit = seals keys.packet.local; integrity_limit = failures keys.packet.local }
 
+  -- 1-RTT keys with this ring, with the limits of the key that seals in its epoch: so they are made, and so they will be made anew with
+  -- each key update
+  abbrev pub epoch_keys : (seals failures : P → ℕ) → (header : KeyPair H) → (ring : Keyed P) → OneRttKeys H P
+  epoch_keys seals failures header ring = record {
+    header = header;
+    ring = ring;
+    confidentiality_limit = seals ring.current.local;
+    integrity_limit = failures ring.current.local;
+  }
+
   -- 1-RTT keys of the first epoch with those of the next, under which nothing was sealed yet, with the limits of the sealing key
   abbrev pub new_ring : (seals failures : P → ℕ) → Keys H P → (next : KeyPair P) → OneRttKeys H P
-  new_ring seals failures keys next = record {
-    header = keys.header;
-    ring = first_keyed keys.packet next;
-    confidentiality_limit = seals keys.packet.local;
-    integrity_limit = failures keys.packet.local;
-  }
+  new_ring seals failures keys next = epoch_keys seals failures keys.header (first_keyed keys.packet next)
 
   -- how many packets a sealing key has sealed, and how many it may (RFC 9001, section 6.6)
   abbrev pub plain_usage : SpaceKeys H P → KeyUse
@@ -122,11 +158,12 @@ module _ {H P : Type 0} where
   abbrev pub ring_usage : OneRttKeys H P → KeyUse
   ring_usage k = record { sealed = k.ring.count; limit = k.confidentiality_limit }
 
-  -- the same of the sealing key of a space
-  unfoldable pub usage_of : KeyGroup H P → SpaceId → Option KeyUse
-  usage_of v Initial = option_map plain_usage v.initial
-  usage_of v Handshake = option_map plain_usage v.handshake
-  usage_of v «Data» = option_map ring_usage v.«data»
+  -- the same of the key that seals packets of this form
+  unfoldable pub usage_of : KeyGroup H P → Form → Option KeyUse
+  usage_of v form.Initial = option_map plain_usage v.initial
+  usage_of v form.Handshake = option_map plain_usage v.handshake
+  usage_of v form.Early = None
+  usage_of v form.OneRtt = option_map ring_usage v.«data»
 
   -- how many packets of the peer may fail to open, by a sealing key
   abbrev pub plain_integrity : SpaceKeys H P → ℕ

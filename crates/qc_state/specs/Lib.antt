@@ -8,6 +8,7 @@ pub mod EventLaws
 pub mod Expansion
 pub mod First
 pub mod Flight
+pub mod Forms
 pub mod Headline
 pub mod InitialLaws
 pub mod KeyLaws

@@ -10,6 +10,7 @@ use Rattle.qc_base.specs.declared.side.SpaceId.TheVariants.{Initial, Handshake, 
 use Rattle.qc_frame.specs.Frame.{FrameValue}
 use Rattle.qc_frame.specs.FrameSpelling.{elicits}
 use Rattle.qc_frame.specs.declared.frames.FrameOf.TheVariants as frames
+use Rattle.qc_state.specs.declared.form.Form.{Form}
 use Rattle.qc_state.specs.declared.numbers.Numbers.{Numbers}
 use Rattle.qc_state.specs.declared.keys.KeyGroup.{KeyGroup}
 use Rattle.qc_state.specs.declared.life.Close.{Close}
@@ -37,7 +38,8 @@ use Rattle.qc_state.specs.Acks.{is_ack}
 use Rattle.qc_state.specs.Draws.{word}
 use Rattle.qc_state.specs.Life.{rank_of, is_open, is_closed, is_drained, reason_given, life_raised, life_closed, life_drained, life_established, data_ready, token_learned, identifiers_wanted, ready_reported, connected_reported, lost_reported, notice_reported, notices_reported, drained_reported}
 use Rattle.qc_state.specs.Numbers.{next_number, received_number, number_used, number_skipped, is_skipped, is_new_in, came_in, number_entered, number_accepted, number_acked}
-use Rattle.qc_state.specs.Keys.{NewKeys, NoKeys, HandshakeKeys, DataKeys, has_keys, key_used, failure_counted, keys_given, keys_dropped}
+use Rattle.qc_state.specs.Forms.{is_early, number_space}
+use Rattle.qc_state.specs.Keys.{NewKeys, NoKeys, HandshakeKeys, DataKeys, epoch_in, has_keys_for, key_used, failure_counted, keys_given, keys_dropped}
 use Rattle.qc_state.specs.Flight.{flown_packet}
 use Rattle.qc_state.specs.Lower.{bytes_came, session_read, session_wrote, flight_dropped, packet_flown, packets_settled, timer_fired}
 use Rattle.qc_state.specs.Offers.{packet_begun}
@@ -108,7 +110,7 @@ pub data Move (t : Types) : Type 0 where
   Clock : (time : ℕ) → Move t  -- the connection is told a time
   Ask : (id : SpaceId) → Move t  -- a PING is asked for
   Take : (id : SpaceId) → (frames : List FrameValue) → Move t  -- frames leave what waits, to be sealed
-  Seal : (time : ℕ) → (id : SpaceId) → (number size : ℕ) → (frames : List FrameValue) → Move t  -- a packet is sealed
+  Seal : (time : ℕ) → (form : Form) → (number size : ℕ) → (frames : List FrameValue) → Move t  -- a packet is sealed
   Forget : (id : SpaceId) → Move t  -- the keys of a space are dropped
   Expect : (token : List ℕ) → Move t  -- a server's first packet came
   Enter : (id : SpaceId) → (number : ℕ) → (verdict : Verdict) → Move t  -- a packet came whose number counts, and whose frames don't
@@ -150,7 +152,7 @@ pub data Move (t : Types) : Type 0 where
 
 module _ {t : Types} where
   unfoldable pub numbers_move : Move t → View t → Numbers
-  numbers_move (Seal time id n size fs) s = number_used s.numbers id n
+  numbers_move (Seal time form n size fs) s = number_used s.numbers (number_space form) n
   numbers_move Skip s = number_skipped s.numbers (word s.setup.random)
   numbers_move (Enter id n v) s = number_entered s.numbers id n
   numbers_move (Accept time id n e g v) s = number_accepted s.numbers id n
@@ -158,7 +160,7 @@ module _ {t : Types} where
   numbers_move _ s = s.numbers
 
   unfoldable pub keys_move : Move t → View t → KeyGroup t.H t.P
-  keys_move (Seal time id n size fs) s = key_used s.keys id n
+  keys_move (Seal time form n size fs) s = key_used s.keys form n
   keys_move (Forget id) s = keys_dropped s.keys id
   keys_move Fail s = failure_counted s.keys
   keys_move (Write bytes keys session) s = keys_given s.keys keys
@@ -195,8 +197,8 @@ module _ {t : Types} where
 
   unfoldable pub timers_move : Move t → View t → Timers
   timers_move (Clock time) s = clock_set s.timers time
-  timers_move (Seal time id n size fs) s =
-      timers_acking (if list_any elicits fs then timers_sealed s.timers (idle_limit_now s.setup) (probe_timeout_now s id) time else s.timers) (list_any is_ack fs)
+  timers_move (Seal time form n size fs) s =
+      timers_acking (if list_any elicits fs then timers_sealed s.timers (idle_limit_now s.setup) (probe_timeout_now s (number_space form)) time else s.timers) (list_any is_ack fs)
   timers_move (Accept time id n e g v) s =
       timers_holding (timers_accepted s.timers (idle_limit_now s.setup) (probe_timeout_now s id) time)
       (holds_back s.waiting id (arrived n (came_in s.numbers id)) (arrival_of time n e g)) time
@@ -212,8 +214,8 @@ module _ {t : Types} where
   waiting_move (Ask id) s = ping_asked s.waiting id
   waiting_move (Take id fs) s = waiting_without s.waiting id fs
   waiting_move (Begin id opens) s = (packet_begun id opens s).waiting
-  waiting_move (Seal time id n size fs) s =
-      bundle_next (packet_told s.waiting id (is_space id s.keys.highest)) fs (next_bundle time (estimate s.paths.current.kept.rtt) (peer_delay s.setup.peer))
+  waiting_move (Seal time form n size fs) s =
+      bundle_next (packet_told s.waiting (number_space form) (is_space (number_space form) s.keys.highest)) fs (next_bundle time (estimate s.paths.current.kept.rtt) (peer_delay s.setup.peer))
   waiting_move (Forget id) s = space_left s.waiting id
   waiting_move (Accept time id n e g v) s = packet_came s.waiting id (arrived n (came_in s.numbers id)) (arrival_of time n e g) g.mark
   waiting_move (Write bytes keys session) s = crypto_written s.waiting s.keys.highest bytes
@@ -229,11 +231,11 @@ module _ {t : Types} where
   setup_move (Expect token) s = token_expected s.setup token
   setup_move (Learn parameters) s = parameters_known s.setup parameters
   setup_move Skip s = word_drawn s.setup
-  setup_move (Seal time id n size fs) s = packet_drawn s.setup id
+  setup_move (Seal time form n size fs) s = packet_drawn s.setup form
   setup_move _ s = s.setup
 
   unfoldable pub lower_move : Move t → View t → Lower t.S
-  lower_move (Seal time id n size fs) s = if s.waiting.close_owed then s.lower else packet_flown s.lower id n (flown_packet time size fs)
+  lower_move (Seal time form n size fs) s = if s.waiting.close_owed then s.lower else packet_flown s.lower (number_space form) n (flown_packet time size fs)
   lower_move (Forget id) s = flight_dropped s.lower id
   lower_move (Ack id n r) s = packets_settled s.lower r
   lower_move (Fire r) s = timer_fired s.lower r
@@ -243,7 +245,7 @@ module _ {t : Types} where
   lower_move _ s = s.lower
 
   unfoldable pub deeds_move : Move t → View t → List Did
-  deeds_move (Seal time id n size fs) s = did.Sealed id n 0 false fs ∷ []
+  deeds_move (Seal time form n size fs) s = did.Sealed (number_space form) n (epoch_in s.keys form) (is_early form) fs ∷ []
   deeds_move (Enter id n v) s = did.Piece (Some id) (Some n) v ∷ []
   deeds_move (Accept time id n e g v) s = did.Piece (Some id) (Some n) v ∷ []
   deeds_move Establish s = did.Rose 1 ∷ []
@@ -277,7 +279,7 @@ module _ {t : Types} where
   -- where a move may be made once a call has begun, for which the time was told
   unfoldable pub MayMove : Move t → View t → Type 0
   MayMove (Clock time) s = ⊥
-  MayMove (Seal time id n size fs) s = (n ≡ next_number s.numbers id) × ClosesOnly (rank_of s.life.state) fs × (is_drained s.life.state ≡ false) × (has_keys s.keys id ≡ true)
+  MayMove (Seal time form n size fs) s = (n ≡ next_number s.numbers (number_space form)) × ClosesOnly (rank_of s.life.state) fs × (is_drained s.life.state ≡ false) × (has_keys_for s.keys form ≡ true)
   MayMove Skip s = is_skipped s.numbers «Data» ≡ true
   MayMove (Accept time id n e g v) s = (is_new_in s.numbers id n ≡ true) × (enters v ≡ true) × (is_open s.life.state ≡ true)
   MayMove (Enter id n v) s = (is_new_in s.numbers id n ≡ true) × (enters v ≡ true)

@@ -5,8 +5,6 @@ use Rattle.qc_base.specs.Mask.{first_byte}
 use Rattle.qc_base.specs.Time.{plus}
 use Rattle.qc_base.specs.declared.packet_number.PacketNumber.{PacketNumber}
 use Rattle.qc_base.specs.declared.side.LongType.TheVariants as long
-use Rattle.qc_base.specs.declared.side.SpaceId.{SpaceId}
-use Rattle.qc_base.specs.declared.side.SpaceId.TheVariants as space
 use Rattle.qc_header.specs.declared.header.Header.{Header}
 use Rattle.qc_header.specs.declared.header.Header.TheVariants as header
 use Rattle.qc_header.specs.declared.protected.ProtectedHeader.{ProtectedHeader}
@@ -17,22 +15,25 @@ use Rattle.qc_header.specs.Unprotected.{unprotected, header_end, header_from}
 use Rattle.qc_packet.specs.OpenedPacket.{are_next, key_named, opened_by as opened_under_key, reserved_bits, which_in}
 use Rattle.qc_crypto.specs.Mates.{Opening as OpeningFunction}
 use Rattle.qc_rings.specs.Keyed.{Keyed}
+use Rattle.qc_state.specs.declared.form.Form.{Form}
+use Rattle.qc_state.specs.declared.form.Form.TheVariants as form
 use Rattle.qc_state.specs.declared.opening.Opening.{Opening}
 use Rattle.qc_state.specs.declared.opening.Opening.TheVariants.{Unreadable, Unopened, Reserved, Opened}
 use Rattle.qc_state.specs.Expansion.{expanded}
+use Rattle.qc_state.specs.Forms.{number_space}
 use Rattle.qc_state.specs.Keys.{opening_key, ring_of, unmasking_key}
 use Rattle.qc_state.specs.Numbers.{received_number}
 use Rattle.qc_state.specs.Types.{Types, Meaning}
 use Rattle.qc_state.specs.View.{View}
 
--- the space whose keys open packets of this form, if it is one that is taken so far
-abbrev pub opened_space : ProtectedHeader → Option SpaceId
-opened_space (Initial dst_cid src_cid token_start token_len version) = Some space.Initial
-opened_space (Long long.Handshake dst_cid src_cid version) = Some space.Handshake
-opened_space (Long long.ZeroRtt dst_cid src_cid version) = None
-opened_space (Retry dst_cid src_cid version) = None
-opened_space (Short spin dst_cid) = Some space.Data
-opened_space (VersionNegotiate random src_cid dst_cid) = None
+-- the form of a packet with this header, if it is one that is taken so far
+abbrev pub opened_form : ProtectedHeader → Option Form
+opened_form (Initial dst_cid src_cid token_start token_len version) = Some form.Initial
+opened_form (Long long.Handshake dst_cid src_cid version) = Some form.Handshake
+opened_form (Long long.ZeroRtt dst_cid src_cid version) = None
+opened_form (Retry dst_cid src_cid version) = None
+opened_form (Short spin dst_cid) = Some form.OneRtt
+opened_form (VersionNegotiate random src_cid dst_cid) = None
 
 -- the source id of a long header
 abbrev pub source_of : Header → List ℕ
@@ -75,7 +76,7 @@ module _ {P : Type 0} where
   abbrev pub names_next : Header → Option (Keyed P) → ℕ → Bool
   names_next header ring number = are_next (which_in header ring number)
 
-  -- an unmasked packet under the keys of the peer that it may name, its space's own one or one of the ring: its header, the header's
+  -- an unmasked packet under the keys of the peer that it may name, its form's own one or one of the ring: its header, the header's
   -- bytes, and the bytes behind it
   unfoldable pub opened_by : (opening : P → OpeningFunction) → (plain : Option P) → (ring : Option (Keyed P)) → (rx : ℕ) → Header → (header_data sealed : List ℕ) → Opening
   opened_by opening plain ring rx header header_data sealed =
@@ -94,17 +95,17 @@ module _ {H P : Type 0} where
   opened_under mask opening key plain ring rx p =
       if nat_lt (length p.bytes) (p.pn_offset + 20) then Unreadable else unmasked_under opening plain ring rx p (unprotected (mask key) p)
 
-  -- a packet under the keys of its space, if there are any
+  -- a packet under the keys of its form, if there are any
   abbrev pub opened_in : (mask : H → List ℕ → List ℕ) → (opening : P → OpeningFunction) → Option H → Option P → Option (Keyed P) → (rx : ℕ) → Piece → Opening
   opened_in mask opening None plain ring rx p = Unreadable
   opened_in mask opening (Some key) plain ring rx p = opened_under mask opening key plain ring rx p
 
 module _ {t : Types} where
-  -- a packet in this space
-  abbrev pub opened_at : Meaning t → View t → Option SpaceId → Piece → Opening
+  -- a packet of this form
+  abbrev pub opened_at : Meaning t → View t → Option Form → Piece → Opening
   opened_at m s None p = Unreadable
-  opened_at m s (Some id) p = opened_in m.mask m.opening (unmasking_key s.keys id) (opening_key s.keys id) (ring_of s.keys) (received_number s.numbers id) p
+  opened_at m s (Some f) p = opened_in m.mask m.opening (unmasking_key s.keys f) (opening_key s.keys f) (ring_of s.keys) (received_number s.numbers (number_space f)) p
 
-  -- what comes of taking the protection off a packet: the keys are those of its form's space
+  -- what comes of taking the protection off a packet: the keys are those of its form
   unfoldable pub opening_of : Meaning t → View t → Piece → Opening
-  opening_of m s p = opened_at m s (opened_space p.header) p
+  opening_of m s p = opened_at m s (opened_form p.header) p

@@ -9,7 +9,8 @@ use Rattle.qc_frame.specs.Frame.{AckValue}
 use Rattle.qc_recovery.specs.Frames.{ranges_up_of, values_of}
 use Rattle.qc_recovery.specs.Steps.{After, FiredAfter, ack_after, armed_at, probe_timeout, timeout_after, was_acknowledged}
 use Rattle.qc_recovery.specs.declared.calls.Around.{Around}
-use Rattle.qc_state.specs.Keys.{has_keys}
+use Rattle.qc_state.specs.declared.form.Form.TheVariants as form
+use Rattle.qc_state.specs.Keys.{has_keys_for}
 use Rattle.qc_state.specs.Life.{is_handshake, is_open}
 use Rattle.qc_state.specs.Numbers.{began_at, next_number}
 use Rattle.qc_state.specs.Paths.{is_blocked}
@@ -34,7 +35,7 @@ module _ {t : Types} where
   unfoldable pub is_validated_by_peer : View t → (handled : Bool) → Bool
   is_validated_by_peer s handled =
       validates s.setup.fixed.side (handled || was_acknowledged Handshake s.lower.recovery || was_acknowledged «Data» s.lower.recovery)
-      (has_keys s.keys «Data» && not (has_keys s.keys Handshake))
+      (has_keys_for s.keys form.OneRtt && not (has_keys_for s.keys form.Handshake))
 
   -- what loss recovery is told of a connection
   unfoldable pub around_of : View t → (blocked handled : Bool) → Around
@@ -43,8 +44,8 @@ module _ {t : Types} where
     peer_validated = is_validated_by_peer s handled;
     handshake_over = not (is_handshake s.life.state);
     highest = s.keys.highest;
-    initial_keys = has_keys s.keys Initial;
-    handshake_keys = has_keys s.keys Handshake;
+    initial_keys = has_keys_for s.keys form.Initial;
+    handshake_keys = has_keys_for s.keys form.Handshake;
     max_ack_delay = peer_delay s.setup.peer;
     ack_delay_exponent = peer_exponent s.setup.peer;
     app_limited = s.paths.app_limited;

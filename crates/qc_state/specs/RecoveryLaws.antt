@@ -19,6 +19,7 @@ use Rattle.qc_recovery.specs.declared.recovery.Recovery.{Recovery}
 use Rattle.qc_state.specs.declared.deeds.Did.{Did}
 use Rattle.qc_state.specs.declared.deeds.Did.TheVariants as did
 use Rattle.qc_state.specs.Flight.{counts_in_flight, flown_packet, kept_frames}
+use Rattle.qc_state.specs.Forms.{number_space}
 use Rattle.qc_state.specs.Moves.{Move, Ack, Fire, Forget, Seal, is_close}
 use Rattle.qc_state.specs.Types.{Types, Meaning}
 use Rattle.qc_state.specs.View.{View}
@@ -105,7 +106,7 @@ module _ {t : Types} where
 
   -- which of recovery's steps a move is
   unfoldable pub steps_of : Move t → View t → List (RecoveryStep t.C)
-  steps_of (Seal time id n size fs) s = if s.waiting.close_owed then [] else Sent id n (flown_packet time size fs) ∷ []
+  steps_of (Seal time form n size fs) s = if s.waiting.close_owed then [] else Sent (number_space form) n (flown_packet time size fs) ∷ []
   steps_of (Forget id) s = Dropped id ∷ []
   steps_of (Ack id n after) s = Settled id after ∷ []
   steps_of (Fire after) s = Fired after ∷ []

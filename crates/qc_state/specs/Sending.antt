@@ -23,6 +23,8 @@ use Rattle.qc_packet.specs.Building.{padded_size}
 use Rattle.qc_packet.specs.PacketSpelling.{sealed_packet, padding_len}
 use Rattle.qc_state.specs.declared.deeds.Quiet.{Quiet}
 use Rattle.qc_state.specs.declared.deeds.Quiet.TheVariants.{NothingOwed, Silent, Amplification, Killed}
+use Rattle.qc_state.specs.declared.form.Form.{Form}
+use Rattle.qc_state.specs.declared.form.Form.TheVariants as form
 use Rattle.qc_state.specs.declared.keys.KeyUse.{KeyUse}
 use Rattle.qc_state.specs.declared.life.Close.{Close}
 use Rattle.qc_state.specs.declared.life.Close.TheVariants.{Connection, Application}
@@ -32,7 +34,8 @@ use Rattle.qc_state.specs.declared.life.Life.{Life}
 use Rattle.qc_state.specs.declared.transmit.Batch.{Batch}
 use Rattle.qc_state.specs.declared.transmit.Transmit.{Transmit}
 use Rattle.qc_state.specs.declared.transmit.TheConstants.{DATAGRAM_SIZE}
-use Rattle.qc_state.specs.Keys.{has_keys, header_key, packet_key, phase_now, reaches_limit, usage_of}
+use Rattle.qc_state.specs.Forms.{number_space}
+use Rattle.qc_state.specs.Keys.{form_in, has_keys, header_key, packet_key, phase_now, reaches_limit, usage_of}
 use Rattle.qc_state.specs.Life.{is_open, is_closed, is_drained}
 use Rattle.qc_state.specs.Acks.{AckPart, SaysAck, is_ack_owed, may_acknowledge}
 use Rattle.qc_state.specs.Allowed.{WaitAll}
@@ -91,9 +94,9 @@ abbrev pub IsKeptReason : ℕ → (kept : List ℕ) → Option Close → Type 0
 IsKeptReason room kept (Some (Application c)) = IsLongestReason (frames.ApplicationClose (told_application_code c.error_code)) c.reason room kept
 IsKeptReason room kept _ = kept ≡ []
 
--- a packet of a transmit: its space, whether a datagram begins with it, and its frames
+-- a packet of a transmit: its form, whether a datagram begins with it, and its frames
 pub record Sent : Type 0 where
-  pub space : SpaceId
+  pub form : Form
   pub opens : Bool
   pub frames : List FrameValue
 
@@ -205,93 +208,102 @@ module _ {t : Types} where
   unfoldable pub is_used_up : View t → SpaceId → Bool
   is_used_up s id = is_past_limit (coming_number s.numbers id) (acked_number s.numbers id)
 
-  -- its key has sealed as many packets as it may (RFC 9001, section 6.6)
-  unfoldable pub is_key_used_up : View t → SpaceId → Bool
-  is_key_used_up s id = reaches_limit 0 (usage_of s.keys id)
+  -- the key for packets of this form has sealed as many as it may (RFC 9001, section 6.6)
+  unfoldable pub is_key_used_up : View t → Form → Bool
+  is_key_used_up s form = reaches_limit 0 (usage_of s.keys form)
 
   -- so it will have with two packets more
-  unfoldable pub is_key_nearly_used_up : View t → SpaceId → Bool
-  is_key_nearly_used_up s id = reaches_limit 2 (usage_of s.keys id)
+  unfoldable pub is_key_nearly_used_up : View t → Form → Bool
+  is_key_nearly_used_up s form = reaches_limit 2 (usage_of s.keys form)
 
   -- the spin bit of the next 1-RTT packet: the path's where this connection spins, else it is drawn (RFC 9000, section 17.4)
   unfoldable pub spin_now : View t → Bool
   spin_now s = if s.setup.fixed.spins then s.paths.spin else bit s.setup.random
 
-  -- whether the fixed bit of the next packet of a space is flipped, which is drawn where the peer takes such packets (RFC 9287)
-  unfoldable pub flips_now : View t → SpaceId → Bool
-  flips_now s id = takes_grease s.setup.peer && bit (behind_spin s.setup id)
+  -- whether the fixed bit of the next packet, of this form, is flipped, which is drawn where the peer takes such packets (RFC 9287)
+  unfoldable pub flips_now : View t → Form → Bool
+  flips_now s form = takes_grease s.setup.peer && bit (behind_spin s.setup form)
 
-  -- the header of the next packet in a space (RFC 9000, sections 17.2.2, 17.2.4 and 17.3.1); a 1-RTT packet has the
+  -- the header of the next packet, of this form (RFC 9000, sections 17.2.2 to 17.2.4 and 17.3.1); a 1-RTT packet has the
   -- key phase of its keys' epoch
-  abbrev pub header_in : View t → SpaceId → Header
-  header_in s Initial = header.Initial (record {
+  abbrev pub header_in : View t → Form → Header
+  header_in s form.Initial = header.Initial (record {
     dst_cid = s.paths.current.remote_cid;
     src_cid = s.setup.fixed.local_cid;
     token = s.setup.initial_token;
     number = number_of (next_number s.numbers Initial) (acked_number s.numbers Initial);
     version = s.setup.fixed.version;
   })
-  header_in s Handshake =
+  header_in s form.Handshake =
       header.Long long.Handshake s.paths.current.remote_cid s.setup.fixed.local_cid (number_of (next_number s.numbers Handshake) (acked_number s.numbers Handshake))
       s.setup.fixed.version
-  header_in s Data = header.Short (spin_now s) (phase_now s.keys) s.paths.current.remote_cid (number_of (next_number s.numbers Data) (acked_number s.numbers Data))
+  header_in s form.Early =
+      header.Long long.ZeroRtt s.paths.current.remote_cid s.setup.fixed.local_cid (number_of (next_number s.numbers Data) (acked_number s.numbers Data)) s.setup.fixed.version
+  header_in s form.OneRtt = header.Short (spin_now s) (phase_now s.keys) s.paths.current.remote_cid (number_of (next_number s.numbers Data) (acked_number s.numbers Data))
 
-  -- what the builder is given of the next packet in a space: its number and how far its key is used, where the space has keys
-  abbrev pub slot_with : View t → SpaceId → KeyUse → Slot
-  slot_with s id usage = record { space = id; number = next_number s.numbers id; largest_acked = acked_number s.numbers id; sealed = usage.sealed; limit = usage.limit; flip = flips_now s id }
+  -- what the builder is given of the next packet, of this form: its number and how far its key is used, where there are keys
+  abbrev pub slot_with : View t → Form → KeyUse → Slot
+  slot_with s form usage = record {
+    space = number_space form;
+    number = next_number s.numbers (number_space form);
+    largest_acked = acked_number s.numbers (number_space form);
+    sealed = usage.sealed;
+    limit = usage.limit;
+    flip = flips_now s form;
+  }
 
-  -- how much room for frames a packet of this space has where so many bytes are left in its datagram: behind its header, and before
+  -- how much room for frames a packet of this form has where so many bytes are left in its datagram: behind its header, and before
   -- its tag of 16 bytes
-  unfoldable pub room_of : (left : ℕ) → View t → SpaceId → ℕ
-  room_of left s id = left - 16 - length (header_spelling (header_in s id) 0)
+  unfoldable pub room_of : (left : ℕ) → View t → Form → ℕ
+  room_of left s form = left - 16 - length (header_spelling (header_in s form) 0)
 
   -- how much it has in the open datagram of a batch
-  unfoldable pub room_in : Batch → View t → SpaceId → ℕ
-  room_in b s id = room_of (b.capacity - b.filled) s id
+  unfoldable pub room_in : Batch → View t → Form → ℕ
+  room_in b s form = room_of (b.capacity - b.filled) s form
 
   -- the token of an Initial packet leaves no room for the greatest close without a reason, which has 25 bytes, in a datagram of the
   -- size that it fills
-  unfoldable pub is_token_too_long : View t → SpaceId → Bool
-  is_token_too_long s id = is_space id Initial && nat_lt (room_of DATAGRAM_SIZE s Initial) 25
+  unfoldable pub is_token_too_long : View t → Form → Bool
+  is_token_too_long s f = is_space (number_space f) Initial && nat_lt (room_of DATAGRAM_SIZE s form.Initial) 25
 
-  -- why the connection ends as a packet of this space is about to begin: its key has sealed as many packets as it may, or the packet
+  -- why the connection ends as a packet of this form is about to begin: its key has sealed as many packets as it may, or the packet
   -- numbers are used up, or its token leaves no room for frames; none, where it may begin
-  unfoldable pub kill_in : View t → SpaceId → Option ConnectionError
-  kill_in s id =
-      if is_key_used_up s id then Some (lost.TransportError key_limit_error)
-      else if is_used_up s id then Some internal_error
-      else if is_token_too_long s id then Some (lost.TransportError (violation_at None))
+  unfoldable pub kill_in : View t → Form → Option ConnectionError
+  kill_in s form =
+      if is_key_used_up s form then Some (lost.TransportError key_limit_error)
+      else if is_used_up s (number_space form) then Some internal_error
+      else if is_token_too_long s form then Some (lost.TransportError (violation_at None))
       else None
 
   -- why a transmit seals nothing with this view, where the connection goes on
   unfoldable pub quiet_of : (closing : Bool) → View t → Option Quiet
   quiet_of closing s = quiet_by (is_silent s) (owes closing s) (is_blocked s.paths)
 
-  -- how many bytes a packet of this space with these frames has
-  unfoldable pub packet_size : View t → SpaceId → List FrameValue → ℕ
-  packet_size s id fs = length (header_spelling (header_in s id) 0) + length (frames_spelling fs) + 16
+  -- how many bytes a packet of this form with these frames has
+  unfoldable pub packet_size : View t → Form → List FrameValue → ℕ
+  packet_size s form fs = length (header_spelling (header_in s form) 0) + length (frames_spelling fs) + 16
 
   -- how many bytes such a packet is to have at least
-  unfoldable pub least_size : View t → SpaceId → List FrameValue → ℕ
-  least_size s id fs = if fills s.setup.fixed.side id (list_any elicits fs) then DATAGRAM_SIZE else 0
+  unfoldable pub least_size : View t → Form → List FrameValue → ℕ
+  least_size s form fs = if fills s.setup.fixed.side (number_space form) (list_any elicits fs) then DATAGRAM_SIZE else 0
 
   -- how much PADDING such a packet needs: up to a datagram's size where it fills one, and up to what each packet has to have
   -- (RFC 9001, section 5.4.2; RFC 9000, section 10.3)
-  unfoldable pub padding_of : View t → SpaceId → List FrameValue → ℕ
-  padding_of s id fs = padding_len (header_in s id) fs (padded_size (header_in s id) fs (least_size s id fs))
+  unfoldable pub padding_of : View t → Form → List FrameValue → ℕ
+  padding_of s form fs = padding_len (header_in s form) fs (padded_size (header_in s form) fs (least_size s form fs))
 
   -- the frames with that PADDING behind them
-  unfoldable pub padded : View t → SpaceId → List FrameValue → List FrameValue
-  padded s id fs = fs ++ replicate (padding_of s id fs) frames.Padding
+  unfoldable pub padded : View t → Form → List FrameValue → List FrameValue
+  padded s form fs = fs ++ replicate (padding_of s form fs) frames.Padding
 
   -- a packet under the local keys, its fixed bit flipped or not; none without keys
   abbrev pub sealed_with : Meaning t → Option t.H → Option t.P → (flip : Bool) → Header → ℕ → List ℕ → List ℕ
   sealed_with m (Some h) (Some p) flip header number plain = sealed_packet (m.mask h) (m.seal p) flip header number plain
   sealed_with m h p flip header number plain = []
 
-  -- the bytes of the next packet of a space, with these frames
-  unfoldable pub packet_bytes : Meaning t → View t → SpaceId → List FrameValue → List ℕ
-  packet_bytes m s id fs = sealed_with m (header_key s.keys id) (packet_key s.keys id) (flips_now s id) (header_in s id) (next_number s.numbers id) (frames_spelling fs)
+  -- the bytes of the next packet, of this form, with these frames
+  unfoldable pub packet_bytes : Meaning t → View t → Form → List FrameValue → List ℕ
+  packet_bytes m s form fs = sealed_with m (header_key s.keys form) (packet_key s.keys form) (flips_now s form) (header_in s form) (next_number s.numbers (number_space form)) (frames_spelling fs)
 
   -- an ACK, if there is something to acknowledge and it leaves 25 bytes, and the close with the reason that fits behind it
   pub data Closes (time : ℕ) (s : View t) (id : SpaceId) (room : ℕ) (fs : List FrameValue) : Type 0 where
@@ -306,12 +318,12 @@ module _ {t : Types} where
     pub says : SaysAck time (space_of s.waiting.spaces id) ack
     pub long : room < length (frames_spelling (frames.Ack ack ∷ []))
 
-  -- the frames of a packet of this space with so much room at a time, and the PADDING that it needs and no more: in a transmit that began with a close
+  -- the frames of a packet of this form with so much room at a time, and the PADDING that it needs and no more: in a transmit that began with a close
   -- owed, the close alone; else each waits as its turn comes, and there is one, unless only an ACK is owed that has no room
-  pub data Carries (closing : Bool) (time : ℕ) (s : View t) (id : SpaceId) (room : ℕ) (fs : List FrameValue) : Type 0 where
-    a_close : closing ≡ true → (gs : List FrameValue) → Closes time s id room gs → fs ≡ padded s id gs → Carries closing time s id room fs
-    what_waits : closing ≡ false → (gs : List FrameValue) → WaitAll time s id gs →
-        (0 < length gs) ⊎ LacksAckRoom time s id room → fs ≡ padded s id gs → Carries closing time s id room fs
+  pub data Carries (closing : Bool) (time : ℕ) (s : View t) (form : Form) (room : ℕ) (fs : List FrameValue) : Type 0 where
+    a_close : closing ≡ true → (gs : List FrameValue) → Closes time s (number_space form) room gs → fs ≡ padded s form gs → Carries closing time s form room fs
+    what_waits : closing ≡ false → (gs : List FrameValue) → WaitAll time s (number_space form) gs →
+        (0 < length gs) ⊎ LacksAckRoom time s (number_space form) room → fs ≡ padded s form gs → Carries closing time s form room fs
 
   -- the number that would be next in a space is skipped, where it is to be
   unfoldable pub skipped_after : SpaceId → At t → At t
@@ -337,18 +349,20 @@ module _ {t : Types} where
     pub owed : owes_in closing s id ≡ true
     pub first : is_first_in_turn closing s id ≡ true
 
-  -- a packet of this space may be begun: it is the turn of the space, the path isn't blocked, and no limit stands
-  pub record MayBegin (closing : Bool) (s : View t) (id : SpaceId) : Type 0 where
-    pub turn : HasTurn closing s id
+  -- a packet of this form may be begun: it is the turn of its space, whose packets have this form now, the path isn't blocked, and no
+  -- limit stands
+  pub record MayBegin (closing : Bool) (s : View t) (form : Form) : Type 0 where
+    pub turn : HasTurn closing s (number_space form)
+    pub now : form ≡ form_in s.keys (number_space form)
     pub free : is_blocked s.paths ≡ false
-    pub fresh : kill_in s id ≡ None
+    pub fresh : kill_in s form ≡ None
 
   -- the connection ends for this reason: it is the turn of a space on a path that isn't blocked, and its packet can't be begun
   pub record Dies (closing : Bool) (s : View t) (why : ConnectionError) : Type 0 where
     pub space : SpaceId
     pub turn : HasTurn closing s space
     pub free : is_blocked s.paths ≡ false
-    pub kill : kill_in s space ≡ Some why
+    pub kill : kill_in s (form_in s.keys space) ≡ Some why
 
   -- such an end drops the keys of its Initial space, if it has them still
   unfoldable pub drops_initial : Side → View t → SpaceId → Bool
@@ -367,17 +381,17 @@ module _ {t : Types} where
   abbrev pub flown_after : (time : ℕ) → Bool → At t → At t
   flown_after time counts a = if counts then armed_with false time a else a
 
-  -- a packet of this space is taken and sealed: its frames wait no longer, and its number is used
-  unfoldable pub sealed_in : ℕ → SpaceId → List FrameValue → At t → At t
-  sealed_in time id fs a = flown_after time (is_flown a.state fs) (move_to (Seal time id (next_number a.state.numbers id) (packet_size a.state id fs) fs) (move_to (Take id fs) a))
+  -- a packet of this form is taken and sealed: its frames wait no longer, and its number is used
+  unfoldable pub sealed_in : ℕ → Form → List FrameValue → At t → At t
+  sealed_in time form fs a = flown_after time (is_flown a.state fs) (move_to (Seal time form (next_number a.state.numbers (number_space form)) (packet_size a.state form fs) fs) (move_to (Take (number_space form) fs) a))
 
   -- a packet is begun, taken and sealed: the steps in their order
   unfoldable pub packet_after : Meaning t → ℕ → Sent → Going t → Going t
   packet_after m time p g =
-      let begun : At t = begun_after p.space p.opens g.now in
-      going (sealed_in time p.space p.frames begun)
-      (batch_grown p.space (packet_size begun.state p.space p.frames) (is_key_nearly_used_up g.now.state p.space) (begun_batch g.now.state p.space p.opens g.batch))
-      (g.out ++ packet_bytes m begun.state p.space p.frames)
+      let begun : At t = begun_after (number_space p.form) p.opens g.now in
+      going (sealed_in time p.form p.frames begun)
+      (batch_grown (number_space p.form) (packet_size begun.state p.form p.frames) (is_key_nearly_used_up g.now.state p.form) (begun_batch g.now.state (number_space p.form) p.opens g.batch))
+      (g.out ++ packet_bytes m begun.state p.form p.frames)
 
   -- packets, one behind the other
   abbrev pub packets_after : Meaning t → ℕ → List Sent → Going t → Going t
@@ -389,10 +403,10 @@ module _ {t : Types} where
   pub record MayFollow (time : ℕ) (s : View t) (b : Batch) (p : Sent) : Type 0 where
     pub alone : b.made ≡ 0
     pub opens : p.opens ≡ true
-    pub begins : MayBegin b.closing s p.space
-    pub sized : (begun_batch s p.space p.opens b).capacity ≤ 65527
-    pub carries : Carries b.closing time (begun_view s p.space p.opens) p.space (room_in (begun_batch s p.space p.opens b) (begun_view s p.space p.opens) p.space) p.frames
-    pub fits : (begun_batch s p.space p.opens b).filled + packet_size (begun_view s p.space p.opens) p.space p.frames ≤ (begun_batch s p.space p.opens b).capacity
+    pub begins : MayBegin b.closing s p.form
+    pub sized : (begun_batch s (number_space p.form) p.opens b).capacity ≤ 65527
+    pub carries : Carries b.closing time (begun_view s (number_space p.form) p.opens) p.form (room_in (begun_batch s (number_space p.form) p.opens b) (begun_view s (number_space p.form) p.opens) p.form) p.frames
+    pub fits : (begun_batch s (number_space p.form) p.opens b).filled + packet_size (begun_view s (number_space p.form) p.opens) p.form p.frames ≤ (begun_batch s (number_space p.form) p.opens b).capacity
 
   -- each of these packets may follow those before it
   abbrev pub MayAll : Meaning t → ℕ → Going t → List Sent → Type 0

@@ -2,15 +2,14 @@
 use Rattle.std.specs.Prelude.{ℕ, min, ◌==◌, ◌&&◌, not, Bool, false, if◌then◌else◌, List, Option, Some, None, is_none}
 use Rattle.rand_core.specs.Stream.{Stream}
 use Rattle.qc_base.specs.Time.{times}
-use Rattle.qc_base.specs.declared.side.SpaceId.{SpaceId}
-use Rattle.qc_base.specs.declared.side.SpaceId.TheVariants.{«Data»}
 use Rattle.qc_base.specs.declared.side.Side.{Side}
 use Rattle.qc_base.specs.declared.side.Side.TheVariants.{Client, Server}
 use Rattle.qc_params.specs.declared.params.TransportParameters.{TransportParameters}
+use Rattle.qc_state.specs.declared.form.Form.{Form}
 use Rattle.qc_state.specs.declared.setup.Fixed.{Fixed}
 use Rattle.qc_state.specs.declared.setup.Setup.{Setup}
 use Rattle.qc_state.specs.Draws.{behind, behind_bit}
-use Rattle.qc_state.specs.Spaces.{is_space}
+use Rattle.qc_state.specs.Forms.{is_one_rtt}
 use Rattle.qc_state.specs.Timers.{least}
 
 -- the same with the source of random words as its stream
@@ -48,13 +47,13 @@ takes_grease (Some peer) = peer.grease_quic_bit
 unfoldable pub word_drawn : Setup Stream → Setup Stream
 word_drawn s = record s { random = behind s.random }
 
--- the words behind the spin bit of a packet of this space: it is drawn for a 1-RTT packet where the connection doesn't spin
-unfoldable pub behind_spin : Setup Stream → SpaceId → Stream
-behind_spin s id = if is_space id «Data» && not s.fixed.spins then behind_bit s.random else s.random
+-- the words behind the spin bit of a packet of this form: it is drawn for a 1-RTT packet where the connection doesn't spin
+unfoldable pub behind_spin : Setup Stream → Form → Stream
+behind_spin s form = if is_one_rtt form && not s.fixed.spins then behind_bit s.random else s.random
 
--- what is drawn for a packet of this space was drawn: the spin bit, and whether the fixed bit is flipped, where the peer takes that
-unfoldable pub packet_drawn : Setup Stream → SpaceId → Setup Stream
-packet_drawn s id = record s { random = if takes_grease s.peer then behind_bit (behind_spin s id) else behind_spin s id }
+-- what is drawn for a packet of this form was drawn: the spin bit, and whether the fixed bit is flipped, where the peer takes that
+unfoldable pub packet_drawn : Setup Stream → Form → Setup Stream
+packet_drawn s form = record s { random = if takes_grease s.peer then behind_bit (behind_spin s form) else behind_spin s form }
 
 -- an end of this side, with this token of a first packet, waits for its first packet: a server does
 abbrev pub awaits_first : Side → Option (List ℕ) → Bool

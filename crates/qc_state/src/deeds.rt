@@ -1,6 +1,6 @@
 //! The deeds of a call: what a connection did, in order.
 
-ghost use Rattle.std.specs.Prelude.{◌≡◌, [], ◌∷◌, ◌++◌, false, OnOk, OnErr};
+ghost use Rattle.std.specs.Prelude.{◌≡◌, [], ◌∷◌, ◌++◌, OnOk, OnErr};
 
 use crate::body::Body;
 use crate::life::ConnectionError;
@@ -128,16 +128,18 @@ impl Dids {
         &mut self,
         space: SpaceId,
         number: u64,
+        epoch: u64,
+        early: bool,
         frames: FrameList,
     ) -> Result<(), AllocError>
-        ensures ok { OnOk result (self.new ≡ self.old ++ Did.Sealed space number 0 false frames ∷ []) }
+        ensures ok { OnOk result (self.new ≡ self.old ++ Did.Sealed space number epoch early frames ∷ []) }
         ensures err { OnErr result (self.new ≡ self.old) }
     {
         self.deeds.push(Did::Sealed {
             space,
             number,
-            epoch: 0,
-            early: false,
+            epoch,
+            early,
             frames,
         })?;
         Ok(())

@@ -2,8 +2,9 @@
 
 ghost use Rattle.std.specs.Prelude.{◌≡◌};
 ghost use Rattle.std.specs.Option.{option_copied, option_map};
-ghost use Rattle.qc_state.specs.Keys.{HandshakeKeys, DataKeys, count_one, ring_used, key_used, failure_counted, first_keys, has_keys, header_key, packet_key, unmasking_key, opening_key, ring_of, phase_with, phase_now, new_keys, new_ring, plain_usage, ring_usage, usage_of, plain_integrity, ring_integrity, reaches_limit, integrity_limit_of, exceeds_limit, fails_too_often, keys_given, keys_dropped};
+ghost use Rattle.qc_state.specs.Keys.{HandshakeKeys, DataKeys, count_one, ring_used, key_used, failure_counted, first_keys, has_keys, header_key, packet_key, unmasking_key, opening_key, ring_of, phase_with, phase_now, new_keys, new_ring, plain_usage, ring_usage, usage_of, plain_integrity, ring_integrity, reaches_limit, integrity_limit_of, exceeds_limit, fails_too_often, keys_given, keys_dropped, form_in, has_keys_for, epoch_with, epoch_in, epoch_keys};
 
+use crate::form::Form;
 use qc_base::SpaceId;
 use qc_crypto::{KeyPair, Keys, PacketKey};
 use qc_packet::{KeyRing, Which};
@@ -37,14 +38,14 @@ impl<H, P: PacketKey> SpaceKeys<H, P> {
     }
 }
 
-/// The 1-RTT keys: the packet keys change with each epoch, and the header keys stay (RFC 9001, 6).
+/// The 1-RTT keys: the packet keys and their limits change with each epoch, and the header keys stay (RFC 9001, 6).
 #[derive(Drop)]
 pub struct OneRttKeys<H, P> {
     /// Both sides' header keys.
     pub header: KeyPair<H>,
     /// Both sides' packet keys, with the packets that were sealed in their epoch.
     pub ring: KeyRing<P>,
-    /// How many packets the local packet key of an epoch may seal.
+    /// How many packets the local packet key of the ring's epoch may seal.
     pub confidentiality_limit: u64,
     /// How many packets of the peer may fail to open, while these keys are the highest.
     pub integrity_limit: u64,
@@ -177,6 +178,16 @@ fn ring_integrity<H, P: Drop>(keys: &Option<OneRttKeys<H, P>>) -> Option<u64>
     }
 }
 
+/// The epoch of these keys; 0 where there are none.
+fn epoch_with<H, P: Drop>(keys: &Option<OneRttKeys<H, P>>) -> u64
+    ensures { result ≡ epoch_with keys.now }
+{
+    match keys {
+        None => 0,
+        Some(keys) => keys.ring.epoch(),
+    }
+}
+
 /// The key phase bit of packets under these keys.
 fn phase_with<H, P: Drop>(keys: &Option<OneRttKeys<H, P>>) -> bool
     ensures { result ≡ phase_with keys.now }
@@ -187,7 +198,7 @@ fn phase_with<H, P: Drop>(keys: &Option<OneRttKeys<H, P>>) -> bool
     }
 }
 
-#[tactic(auto, unfolding(crate::specs::Keys::key_used, crate::specs::Keys::failure_counted, crate::specs::Keys::has_keys, crate::specs::Keys::header_key, crate::specs::Keys::packet_key, crate::specs::Keys::unmasking_key, crate::specs::Keys::opening_key, crate::specs::Keys::plain_keys, crate::specs::Keys::ring_of, crate::specs::Keys::phase_now, crate::specs::Keys::usage_of, crate::specs::Keys::integrity_limit_of, crate::specs::Keys::keys_given, crate::specs::Keys::keys_dropped, crate::specs::Keys::fails_too_often))]
+#[tactic(auto, unfolding(crate::specs::Keys::key_used, crate::specs::Keys::failure_counted, crate::specs::Keys::has_keys, crate::specs::Keys::header_key, crate::specs::Keys::packet_key, crate::specs::Keys::unmasking_key, crate::specs::Keys::opening_key, crate::specs::Keys::plain_keys, crate::specs::Keys::ring_of, crate::specs::Keys::phase_now, crate::specs::Keys::usage_of, crate::specs::Keys::integrity_limit_of, crate::specs::Keys::keys_given, crate::specs::Keys::keys_dropped, crate::specs::Keys::fails_too_often, crate::specs::Keys::form_in, crate::specs::Keys::has_keys_for, crate::specs::Keys::epoch_in))]
 impl<H: Drop, P: Drop> KeyGroup<H, P> {
     /// The group of a connection that was just made, with the keys of its Initial space.
     pub fn new(initial: SpaceKeys<H, P>) -> KeyGroup<H, P>
@@ -202,51 +213,72 @@ impl<H: Drop, P: Drop> KeyGroup<H, P> {
         }
     }
 
-    /// Whether the space has keys.
-    pub fn has(&self, space: SpaceId) -> bool
-        ensures { result ≡ has_keys self.now space }
+    /// The form in which packets of the space are sealed now.
+    pub fn form_in(&self, space: SpaceId) -> Form
+        ensures { result ≡ form_in self.now space }
     {
         match space {
-            SpaceId::Initial => self.initial.is_some(),
-            SpaceId::Handshake => self.handshake.is_some(),
-            SpaceId::Data => self.data.is_some(),
+            SpaceId::Initial => Form::Initial,
+            SpaceId::Handshake => Form::Handshake,
+            SpaceId::Data => Form::OneRtt,
         }
     }
 
-    /// The key that masks this end's packets of the space. None exactly where it has no keys.
-    pub fn header_key(&self, space: SpaceId) -> Option<&H>
-        ensures { option_copied result ≡ header_key self.now space }
+    /// Whether there are keys for packets of this form; so far never for 0-RTT.
+    pub fn has_for(&self, form: Form) -> bool
+        ensures { result ≡ has_keys_for self.now form }
     {
-        match space {
-            SpaceId::Initial => match &self.initial {
+        match form {
+            Form::Initial => self.initial.is_some(),
+            Form::Handshake => self.handshake.is_some(),
+            Form::Early => false,
+            Form::OneRtt => self.data.is_some(),
+        }
+    }
+
+    /// Whether the space has keys: those for the form in which its packets are sealed now.
+    pub fn has(&self, space: SpaceId) -> bool
+        ensures { result ≡ has_keys self.now space }
+    {
+        self.has_for(self.form_in(space))
+    }
+
+    /// The key that masks this end's packets of this form. None exactly where there are no keys.
+    pub fn header_key(&self, form: Form) -> Option<&H>
+        ensures { option_copied result ≡ header_key self.now form }
+    {
+        match form {
+            Form::Initial => match &self.initial {
                 None => None,
                 Some(keys) => Some(&keys.keys.header.local),
             },
-            SpaceId::Handshake => match &self.handshake {
+            Form::Handshake => match &self.handshake {
                 None => None,
                 Some(keys) => Some(&keys.keys.header.local),
             },
-            SpaceId::Data => match &self.data {
+            Form::Early => None,
+            Form::OneRtt => match &self.data {
                 None => None,
                 Some(keys) => Some(&keys.header.local),
             },
         }
     }
 
-    /// The key that seals this end's packets of the space: of 1-RTT keys that of their epoch. None exactly where it has no keys.
-    pub fn packet_key(&self, space: SpaceId) -> Option<&P>
-        ensures { option_copied result ≡ packet_key self.now space }
+    /// The key that seals this end's packets of this form: of 1-RTT keys that of their epoch. None exactly where there are no keys.
+    pub fn packet_key(&self, form: Form) -> Option<&P>
+        ensures { option_copied result ≡ packet_key self.now form }
     {
-        match space {
-            SpaceId::Initial => match &self.initial {
+        match form {
+            Form::Initial => match &self.initial {
                 None => None,
                 Some(keys) => Some(&keys.keys.packet.local),
             },
-            SpaceId::Handshake => match &self.handshake {
+            Form::Handshake => match &self.handshake {
                 None => None,
                 Some(keys) => Some(&keys.keys.packet.local),
             },
-            SpaceId::Data => match &self.data {
+            Form::Early => None,
+            Form::OneRtt => match &self.data {
                 None => None,
                 Some(keys) => match keys.ring.key(Which::Current) {
                     None => None,
@@ -256,40 +288,51 @@ impl<H: Drop, P: Drop> KeyGroup<H, P> {
         }
     }
 
-    /// The key that takes the mask off the peer's packets of the space. None exactly where it has no keys.
-    pub fn unmasking(&self, space: SpaceId) -> Option<&H>
-        ensures { option_copied result ≡ unmasking_key self.now space }
+    /// The epoch of the key that seals packets of this form: 0 outside of 1-RTT.
+    pub fn epoch(&self, form: Form) -> u64
+        ensures { result ≡ epoch_in self.now form }
     {
-        match space {
-            SpaceId::Initial => match &self.initial {
+        match form {
+            Form::Initial | Form::Handshake | Form::Early => 0,
+            Form::OneRtt => epoch_with(&self.data),
+        }
+    }
+
+    /// The key that takes the mask off the peer's packets of this form. None exactly where there are no keys.
+    pub fn unmasking(&self, form: Form) -> Option<&H>
+        ensures { option_copied result ≡ unmasking_key self.now form }
+    {
+        match form {
+            Form::Initial => match &self.initial {
                 None => None,
                 Some(keys) => Some(&keys.keys.header.remote),
             },
-            SpaceId::Handshake => match &self.handshake {
+            Form::Handshake => match &self.handshake {
                 None => None,
                 Some(keys) => Some(&keys.keys.header.remote),
             },
-            SpaceId::Data => match &self.data {
+            Form::Early => None,
+            Form::OneRtt => match &self.data {
                 None => None,
                 Some(keys) => Some(&keys.header.remote),
             },
         }
     }
 
-    /// The key that opens the peer's packets of the Initial or the Handshake space, where it has any.
-    pub fn opening(&self, space: SpaceId) -> Option<&P>
-        ensures { option_copied result ≡ opening_key self.now space }
+    /// The key that opens the peer's packets of this form, where there is one; 1-RTT keys stand in their ring.
+    pub fn opening(&self, form: Form) -> Option<&P>
+        ensures { option_copied result ≡ opening_key self.now form }
     {
-        match space {
-            SpaceId::Initial => match &self.initial {
+        match form {
+            Form::Initial => match &self.initial {
                 None => None,
                 Some(keys) => Some(&keys.keys.packet.remote),
             },
-            SpaceId::Handshake => match &self.handshake {
+            Form::Handshake => match &self.handshake {
                 None => None,
                 Some(keys) => Some(&keys.keys.packet.remote),
             },
-            SpaceId::Data => None,
+            Form::Early | Form::OneRtt => None,
         }
     }
 
@@ -310,22 +353,23 @@ impl<H: Drop, P: Drop> KeyGroup<H, P> {
         phase_with(&self.data)
     }
 
-    /// How far the sealing key of the space is used. None exactly where it has none.
-    pub fn usage(&self, space: SpaceId) -> Option<KeyUse>
-        ensures { result ≡ usage_of self.now space }
+    /// How far the key is used that seals packets of this form. None exactly where there is none.
+    pub fn usage(&self, form: Form) -> Option<KeyUse>
+        ensures { result ≡ usage_of self.now form }
     {
-        match space {
-            SpaceId::Initial => plain_usage(&self.initial),
-            SpaceId::Handshake => plain_usage(&self.handshake),
-            SpaceId::Data => ring_usage(&self.data),
+        match form {
+            Form::Initial => plain_usage(&self.initial),
+            Form::Handshake => plain_usage(&self.handshake),
+            Form::Early => None,
+            Form::OneRtt => ring_usage(&self.data),
         }
     }
 
-    /// Whether the sealing key of a space has sealed as many packets as it may, with so many more. False where it has none.
-    pub fn reaches_limit(&self, space: SpaceId, more: u64) -> bool
-        ensures { result ≡ reaches_limit more (usage_of self.now space) }
+    /// Whether the key that seals packets of this form has sealed as many as it may, with so many more. False where there is none.
+    pub fn reaches_limit(&self, form: Form, more: u64) -> bool
+        ensures { result ≡ reaches_limit more (usage_of self.now form) }
     {
-        reaches_limit(self.usage(space), more)
+        reaches_limit(self.usage(form), more)
     }
 
     /// How many packets of the peer may fail to open, by the sealing key of the space. None exactly where it has none.
@@ -380,14 +424,15 @@ impl<H: Drop, P: Drop> KeyGroup<H, P> {
         }
     }
 
-    /// A packet of this number was sealed in the space: it counts under its key.
-    pub fn used(&mut self, space: SpaceId, number: u64)
-        ensures { self.new ≡ key_used self.old space number }
+    /// A packet of this form and number was sealed: it counts under its key.
+    pub fn used(&mut self, form: Form, number: u64)
+        ensures { self.new ≡ key_used self.old form number }
     {
-        match space {
-            SpaceId::Initial => count(&mut self.initial),
-            SpaceId::Handshake => count(&mut self.handshake),
-            SpaceId::Data => count_in_ring(&mut self.data, number),
+        match form {
+            Form::Initial => count(&mut self.initial),
+            Form::Handshake => count(&mut self.handshake),
+            Form::Early => {}
+            Form::OneRtt => count_in_ring(&mut self.data, number),
         }
     }
 }

@@ -9,6 +9,7 @@ pub mod crypto_queue;
 pub mod deeds;
 pub mod events;
 pub mod flight;
+pub mod form;
 pub mod input;
 pub mod keys;
 mod laws;
@@ -34,6 +35,7 @@ pub use coming::Coming;
 pub use crypto_queue::CryptoQueue;
 pub use deeds::{Did, Dids, Layer, Quiet, Verdict};
 pub use events::{EndpointEvent, EndpointEvents, Event, Events};
+pub use form::Form;
 pub use input::{Input, Word};
 pub use keys::{KeyGroup, KeyUse, OneRttKeys, SpaceKeys};
 pub use laws::{

@@ -1,15 +1,14 @@
 //! What a connection was made with, and its source of random words.
 
 ghost use Rattle.std.specs.Prelude.{◌≡◌, ◌&&◌, not, if◌then◌else◌, Some};
-ghost use Rattle.qc_base.specs.declared.side.SpaceId.TheVariants.{«Data»};
 ghost use Rattle.qc_state.specs.Draws.{bit, behind_bit};
 ghost use Rattle.qc_state.specs.Setup.{ideal_setup, idle_limit_of, idle_limit_now, peer_delay, peer_exponent, takes_grease, behind_spin, packet_drawn, parameters_known, token_expected, is_first_awaited, awaits_first};
-ghost use Rattle.qc_state.specs.Spaces.{is_space};
+ghost use Rattle.qc_state.specs.Forms.{is_one_rtt};
 ghost use Rattle.qc_state.specs.Timers.{least};
 
-use crate::spaces::is_space;
+use crate::form::Form;
 use bytes::Bytes;
-use qc_base::{ConnectionId, Duration, Side, SpaceId, VarInt};
+use qc_base::{ConnectionId, Duration, Side, VarInt};
 use qc_params::TransportParameters;
 use rand_core::Rng;
 use std::net::IpAddr;
@@ -203,12 +202,12 @@ impl<R> Setup<R> {
 
 #[tactic(auto, unfolding(crate::specs::Setup::ideal_setup, crate::specs::Setup::behind_spin, crate::specs::Setup::packet_drawn))]
 impl<R: Rng> Setup<R> {
-    /// Draws the spin bit of a packet of this space: of a 1-RTT packet, where the connection doesn't spin; else it is `spin`.
-    fn draw_spin(&mut self, space: SpaceId, spin: bool) -> bool
-        ensures value { result ≡ (if is_space space Data && not self.old.fixed.spins then bit (R.stream self.old.random) else spin) }
-        ensures left { ideal_setup R.stream self.new ≡ record (ideal_setup R.stream self.old) { random = behind_spin (ideal_setup R.stream self.old) space } }
+    /// Draws the spin bit of a packet of this form: of a 1-RTT packet, where the connection doesn't spin; else it is `spin`.
+    fn draw_spin(&mut self, form: Form, spin: bool) -> bool
+        ensures value { result ≡ (if is_one_rtt form && not self.old.fixed.spins then bit (R.stream self.old.random) else spin) }
+        ensures left { ideal_setup R.stream self.new ≡ record (ideal_setup R.stream self.old) { random = behind_spin (ideal_setup R.stream self.old) form } }
     {
-        if is_space(space, SpaceId::Data) && !self.fixed.spins {
+        if form.is_one_rtt() && !self.fixed.spins {
             return draw_bit(&mut self.random);
         }
         spin
@@ -225,14 +224,14 @@ impl<R: Rng> Setup<R> {
         false
     }
 
-    /// Draws what is drawn for a packet of this space, where `spin` is the spin bit of the path: the packet's own spin bit, and
+    /// Draws what is drawn for a packet of this form, where `spin` is the spin bit of the path: the packet's own spin bit, and
     /// whether its fixed bit is flipped.
-    pub fn draw_packet(&mut self, space: SpaceId, spin: bool) -> Drawn
-        ensures spin { result.spin ≡ (if is_space space Data && not self.old.fixed.spins then bit (R.stream self.old.random) else spin) }
-        ensures flip { result.flip ≡ (takes_grease self.old.peer && bit (behind_spin (ideal_setup R.stream self.old) space)) }
-        ensures left { ideal_setup R.stream self.new ≡ packet_drawn (ideal_setup R.stream self.old) space }
+    pub fn draw_packet(&mut self, form: Form, spin: bool) -> Drawn
+        ensures spin { result.spin ≡ (if is_one_rtt form && not self.old.fixed.spins then bit (R.stream self.old.random) else spin) }
+        ensures flip { result.flip ≡ (takes_grease self.old.peer && bit (behind_spin (ideal_setup R.stream self.old) form)) }
+        ensures left { ideal_setup R.stream self.new ≡ packet_drawn (ideal_setup R.stream self.old) form }
     {
-        let spin = self.draw_spin(space, spin);
+        let spin = self.draw_spin(form, spin);
         let flip = self.draw_flip();
         Drawn { spin, flip }
     }

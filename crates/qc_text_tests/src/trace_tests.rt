@@ -338,7 +338,7 @@ fn sealed(
     frames: FrameList,
 ) -> Result<Dids, AllocError> {
     let mut did = Dids::new(alloc);
-    did.push_sealed(space, number, frames)?;
+    did.push_sealed(space, number, 0, false, frames)?;
     Ok(did)
 }
 
