@@ -138,7 +138,11 @@ impl<U: Suite> Core<U> {
         ensures { OnOk result ((ideal U.Random.stream self.new) ≡ (sealed_drawn now form number size frames.now (at (ideal U.Random.stream self.old) [])).state) }
     {
         let space = form.space();
-        let next = next_bundled_ack_time(now, self.paths.current.kept.rtt.get(), self.setup.peer_delay());
+        let next = next_bundled_ack_time(
+            now,
+            self.paths.current.kept.rtt.get(),
+            self.setup.peer_delay(),
+        );
         self.time_packet(now, space, frames);
         self.fly(alloc, now, space, number, size, frames)?;
         let last = is_space(space, self.keys.highest);
@@ -184,8 +188,7 @@ impl<U: Suite> Core<U> {
     {
         self.keys.forget(space);
         self.waiting.forget(space);
-        self.lower
-            .drop_flight(space, &mut self.paths.current.kept);
+        self.lower.drop_flight(space, &mut self.paths.current.kept);
     }
 
     /// A server's first packet came, with this token.
@@ -293,9 +296,7 @@ impl<U: Suite> Core<U> {
     {
         let blocked = self.is_blocked();
         let around = self.around(blocked, false);
-        let fired = self
-            .lower
-            .fire(now, &around, &mut self.paths.current.kept)?;
+        let fired = self.lower.fire(now, &around, &mut self.paths.current.kept)?;
         self.waiting.fire(fired)
     }
 

@@ -31,7 +31,7 @@ use Rattle.qc_state.specs.Moves.{Move, Arm, Forget, Enter, Accept, Fix, Give, Ac
 use Rattle.qc_state.specs.Numbers.{is_new_in, next_number}
 use Rattle.qc_state.specs.Progress.{progress_after}
 use Rattle.qc_state.specs.Receiving.{reason_of, signs_of, stop_in, is_close_item, is_eliciting_item, left_after, rearmed_after, settled_after, acked_after, confirmed_after, applied_after, close_given, closed_in_data, end_after, crypto_stop, items_after, payload_after, fixes_peer, fixed_after, read_for_close, admitted_after, verdict_after, received_after, accepted_after, Behind, Goes, Closes, Ends, Course, Reads, Ended, close_after, ended_by, answered_after, bytes_given, kept_after, frame_after, course_with}
-use Rattle.qc_state.specs.Paths.{is_blocked}
+use Rattle.qc_state.specs.Paths.{is_blocked, path_kept}
 use Rattle.qc_state.specs.Recovering.{loss_time, settled_by}
 use Rattle.qc_state.specs.Sending.{drops_initial, initial_left}
 use Rattle.qc_state.specs.Stopping.{encoding_error_at, given_after, stopped_after}
@@ -357,7 +357,7 @@ module _ {t : Types} (m : Meaning t) (o : OpenPacket) (R : At t → At t → Typ
 
   -- a server leaves the Initial space with a Handshake packet, or not
   initial_by : (a : At t) (b : Bool) → drops_initial Server a.state o.space ≡ b → R a (if b then armed_with (is_blocked a.state.paths) o.coming.time (move_to (Forget Initial) a) else a)
-  unfolding armed_with MayMove move_to state_move paths_move
+  unfolding armed_with MayMove move_to state_move paths_move path_kept is_blocked
   initial_by a true drops =
       let b : At t = move_to (Forget Initial) a in
       next a b _ (move (Forget Initial) a drops tt) (move (Arm (loss_time b.state (is_blocked a.state.paths) o.coming.time)) b refl (record { blocked = is_blocked a.state.paths; time = o.coming.time; set = refl }))

@@ -100,7 +100,8 @@ impl<S> Lower<S> {
         ensures after { IfOk result (λ s. after_with self.new.recovery path.new s.acked s.lost ≡ ack_after C.Controller now space next began (values_of (ack_map (λ bytes. bytes.now) ack.now)) (ranges_up_of (ack_map (λ bytes. bytes.now) ack.now)) around.now self.old.recovery path.old) }
         ensures lower { IfOk result (λ s. self.new ≡ packets_settled self.old (after_with self.new.recovery path.new s.acked s.lost)) }
     {
-        self.recovery.on_ack(alloc, now, space, next, began, ack, around, path)
+        self.recovery
+            .on_ack(alloc, now, space, next, began, ack, around, path)
     }
 
     /// The loss timer fired. Answers what it does: packets are lost, probes are due, or nothing. `path` is what loss recovery keeps of
