@@ -17,6 +17,7 @@ pub mod Expired
 pub mod FirstTaken
 mod Gifts
 pub mod HarmlessBytes
+pub mod IdsHold
 pub mod Inputs
 pub mod Joins
 pub mod KeysHold

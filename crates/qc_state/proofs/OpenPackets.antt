@@ -103,6 +103,10 @@ record Within (items others : List Item) : Type 0 where
   reads : (read : TypedValue) → IsAmong read items → IsAmong read others
   fault : (fault : InvalidFrame) → EndsWith fault items → EndsWith fault others
 
+none_chosen : (chosen : Option (List ℕ)) → is_none chosen ≡ true → chosen ≡ None
+none_chosen None h = refl
+none_chosen (Some cid) h = cc h
+
 module _ {t : Types} where
   -- behind a frame that ended the packet none does anything
   pub ended_stays : (m : Meaning t) (coming : Coming) (id : SpaceId) (items : List Item) (a : At t) → items_after m coming id items (Ended a) ≡ Ended a
@@ -130,6 +134,12 @@ module _ {t : Types} where
   left_shut : (time : ℕ) (why : ConnectionError) (a : At t) → is_open a.state.life.state ≡ true → is_open (left_after time why a).state.life.state ≡ false
   unfolding left_after given_after
   left_shut time why a h = left_shut_by time why a (is_open a.state.life.state) (is_none (move_to (PeerCloses time) a).state.life.reason) refl h
+
+  -- where a packet fixes the peer's id, it wasn't known
+  unknown_peer : (id : SpaceId) (s : View t) → fixes_peer id s ≡ true → s.paths.peer_cid ≡ None
+  unknown_peer Initial s h = none_chosen s.paths.peer_cid h
+  unknown_peer Handshake s h = cc h
+  unknown_peer Data s h = cc h
 
   -- what a packet does that opened
   abbrev pub packet_received : Meaning t → OpenPacket → At t → At t
@@ -334,14 +344,14 @@ module _ {t : Types} (m : Meaning t) (o : OpenPacket) (R : At t → At t → Typ
 
   -- ---- the packet, by its verdict
 
-  fixed_by : (a : At t) (b : Bool) → R a (if b then move_to (Fix o.source) a else a)
+  fixed_by : (a : At t) (b : Bool) → fixes_peer o.space a.state ≡ b → R a (if b then move_to (Fix o.source) a else a)
   unfolding MayMove
-  fixed_by a true = move (Fix o.source) a refl tt
-  fixed_by a false = here a
+  fixed_by a true h = move (Fix o.source) a refl (unknown_peer o.space a.state h)
+  fixed_by a false h = here a
 
   pub holds_fixed : (a : At t) → R a (fixed_after o.space o.source a)
   unfolding fixed_after
-  holds_fixed a = fixed_by a (fixes_peer o.space a.state)
+  holds_fixed a = fixed_by a (fixes_peer o.space a.state) refl
 
   closing_by : (b : At t) (close : Bool) → list_any is_close_item (items_of o.payload) ≡ close → is_closed b.state.life.state ≡ true → R b (if close then move_to PeerClosesToo b else move_to Owe b)
   unfolding MayMove

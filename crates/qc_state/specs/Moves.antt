@@ -283,6 +283,7 @@ module _ {t : Types} where
   MayMove Skip s = is_skipped s.numbers «Data» ≡ true
   MayMove (Accept time id n e g v) s = (is_new_in s.numbers id n ≡ true) × (enters v ≡ true) × (is_open s.life.state ≡ true)
   MayMove (Enter id n v) s = (is_new_in s.numbers id n ≡ true) × (enters v ≡ true)
+  MayMove (Fix cid) s = s.paths.peer_cid ≡ None
   MayMove (Arm due) s = IsArmed due s
   MayMove (Write bytes keys session) s = AreNext keys s.keys.highest
   MayMove Establish s = rank_of s.life.state < 1

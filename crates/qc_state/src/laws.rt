@@ -15,7 +15,7 @@ ghost use Rattle.qc_state.specs.InitialLaws.{LeavesInitial};
 ghost use Rattle.qc_state.specs.KeyLaws.{KeysHold};
 ghost use Rattle.qc_state.specs.MarkLaws.{EachTold};
 ghost use Rattle.qc_state.specs.Opening.{opening_of};
-ghost use Rattle.qc_state.specs.PathLaws.{PathHolds, all_from};
+ghost use Rattle.qc_state.specs.PathLaws.{IdsHold, PathHolds, all_from};
 ghost use Rattle.qc_state.specs.Paths.{same_address};
 ghost use Rattle.qc_state.specs.PieceLaws.{TellsDatagram, TellsPiece, given_in, piece_deed, piece_gifts, pieces_in};
 ghost use Rattle.qc_state.specs.Receiving.{datagram_after, event_after, first_packet_after, first_token, piece_after};
@@ -59,6 +59,12 @@ pub fn acks_were_accepted<U: Suite>()
 /// it, and one datagram (RFC 9000, 8.1).
 pub fn paths_hold<U: Suite>()
     ensures { (s last : View ⟦<U as Means>⟧.types) (k : ℕ) (is : List Input) (xs : List Step) → Run ⟦<U as Means>⟧.meaning k s is xs last → PathHolds (all_from s.paths.current.remote is) (deeds_of xs) s.paths.current last.paths.current }
+{}
+
+/// A law, which runs no code. Over a run the id that the peer chose stays, once it is known; until it is, packets carry the id that they
+/// carried; and from then on they carry the chosen one (RFC 9000, 7.2).
+pub fn ids_hold<U: Suite>()
+    ensures { (s last : View ⟦<U as Means>⟧.types) (k : ℕ) (is : List Input) (xs : List Step) → Run ⟦<U as Means>⟧.meaning k s is xs last → IdsHold s.paths last.paths }
 {}
 
 /// A law, which runs no code. Over a run no key seals more packets than it may (RFC 9001, 6.6): each packet that is sealed under
