@@ -37,6 +37,9 @@ use Rattle.qc_state.specs.declared.life.State.TheVariants.{Drained}
 use Rattle.qc_state.specs.declared.deeds.Verdict.{Verdict}
 use Rattle.qc_state.specs.declared.deeds.Verdict.TheVariants as verdict
 use Rattle.qc_state.specs.declared.events.EndpointEvent.{EndpointEvent}
+use Rattle.qc_state.specs.declared.form.Form.{Form}
+use Rattle.qc_state.specs.declared.form.Form.TheVariants as form
+use Rattle.qc_state.specs.declared.keys.KeyGroup.{KeyGroup}
 use Rattle.qc_state.specs.declared.paths.Paths.{Paths}
 use Rattle.qc_state.specs.declared.trace.Step.{Step}
 use Rattle.qc_state.specs.declared.trace.Answer.TheVariants as answer
@@ -44,6 +47,8 @@ use Rattle.qc_state.specs.declared.waiting.SpaceWaiting.{SpaceWaiting}
 use Rattle.qc_state.specs.declared.waiting.Waiting.{Waiting}
 use Rattle.qc_state.specs.Life.{is_closed, is_open, data_ready, drained_event, identifiers_wanted, life_closed, life_drained, life_established, life_raised, reason_given, token_learned, notices_reported, drained_reported, lost_reported, connected_reported, ready_reported}
 use Rattle.qc_state.specs.Moves.{Move, Take, Seal, Forget, Raise, Say, Give, Enter, Fail, Accept, Fix, Hear, Ack, Fire, Arm, Pace, Release, Begin, Skip, Come, Read, Write, Ready, Learn, Establish, Tell, PeerClosesToo, PeerCloses, Owe, Shut, IsTold, MayMove, state_move, move_to, deeds_move, life_move, paths_move, waiting_move, keys_move, Expect, Confirm, Token, Want, Finish}
+use Rattle.qc_state.specs.Forms.{is_early, number_space}
+use Rattle.qc_state.specs.Keys.{epoch_in}
 use Rattle.qc_state.specs.Numbers.{next_number, received_number}
 use Rattle.qc_state.specs.Paths.{path_idle, path_kept, path_sent, path_received, peer_fixed, path_accepted, path_spun, new_path, only_path}
 use Rattle.qc_state.specs.Receiving.{datagram_after, is_taken}
@@ -357,6 +362,14 @@ endpoint_plain : {t : Types} (s : View t) → AreNoticesPlain s.life → All IsE
 unfolding endpoint_events drained_event
 endpoint_plain s h = All-append IsEndpointPlain s.life.notices (option_to_list (if s.life.drained then Some endpoint.Drained else None)) h (drained_plain s.life.drained)
 
+-- the epoch of a 0-RTT packet is told as 0
+early_plain : {H P : Type 0} (v : KeyGroup H P) (form : Form) → is_early form ≡ true → epoch_in v form ≡ 0
+unfolding epoch_in
+early_plain v form.Initial e = refl
+early_plain v form.Handshake e = refl
+early_plain v form.Early e = refl
+early_plain v form.OneRtt e = cc
+
 -- the room of a datagram is below 2^62 bytes
 room_below : (room : ℕ) (acks : List FrameValue) → room ≤ 65527 → room - length (frames_spelling acks) < 2 ^ 62
 room_below room acks small = omega (arith, small)
@@ -367,14 +380,15 @@ module _ {t : Types} where
       let w : SpaceWaiting = space_of s.waiting.spaces id in
       subst (ArePlain w) (sym is) (close_plain time w (room - 25) acks (may_acknowledge w.acks) id (room - length (frames_spelling acks)) kept s.life part (room_below room acks small) is_kept h)
 
-  carried_plain : (closing : Bool) (time : ℕ) (s : View t) (id : SpaceId) (room : ℕ) (fs : List FrameValue) → room ≤ 65527 → Carries closing time s id room fs → IsSpaceBelowLimit (space_of s.waiting.spaces id) → ArePlain (space_of s.waiting.spaces id) fs
+  carried_plain : (closing : Bool) (time : ℕ) (s : View t) (form : Form) (room : ℕ) (fs : List FrameValue) → room ≤ 65527 → Carries closing time s form room fs →
+      IsSpaceBelowLimit (space_of s.waiting.spaces (number_space form)) → ArePlain (space_of s.waiting.spaces (number_space form)) fs
   unfolding padded
-  carried_plain closing time s id room fs small (Carries.a_close owed gs closes is) h =
-      let w : SpaceWaiting = space_of s.waiting.spaces id in
-      subst (ArePlain w) (sym is) (padded_plain w gs (padding_of s id gs) (closes_plain time s id room gs small closes h))
-  carried_plain closing time s id room fs small (Carries.what_waits free gs wait some is) h =
-      let w : SpaceWaiting = space_of s.waiting.spaces id in
-      subst (ArePlain w) (sym is) (padded_plain w gs (padding_of s id gs) (frames_spelled time s id gs wait h))
+  carried_plain closing time s form room fs small (Carries.a_close owed gs closes is) h =
+      let w : SpaceWaiting = space_of s.waiting.spaces (number_space form) in
+      subst (ArePlain w) (sym is) (padded_plain w gs (padding_of s form gs) (closes_plain time s (number_space form) room gs small closes h))
+  carried_plain closing time s form room fs small (Carries.what_waits free gs wait some is) h =
+      let w : SpaceWaiting = space_of s.waiting.spaces (number_space form) in
+      subst (ArePlain w) (sym is) (padded_plain w gs (padding_of s form gs) (frames_spelled time s (number_space form) gs wait h))
 
   -- what receiving and sending keep, from one moment to another: the deeds leave nothing out, what waits lies below the limit, and
   -- datagrams go to the same address
@@ -456,14 +470,18 @@ module _ {t : Types} where
   keeps_sending _ r a h = absurd r
 
   -- and those, as its frames leave nothing out
-  keeps_sealed : (time : ℕ) (id : SpaceId) (fs : List FrameValue) (a : At t) → IsSealable time a.state id fs → Keeps a (move_to (Seal time id (next_number a.state.numbers id) (packet_size a.state id fs) fs) (move_to (Take id fs) a))
+  keeps_sealed : (time : ℕ) (form : Form) (fs : List FrameValue) (a : At t) → IsSealable time a.state form fs →
+      Keeps a (move_to (Seal time form (next_number a.state.numbers (number_space form)) (packet_size a.state form fs) fs) (move_to (Take (number_space form) fs) a))
   unfolding move_to state_move deeds_move waiting_move keys_move paths_move life_move
-  keeps_sealed time id fs a may = record {
-    deeds = λ b. one_more a.did (deed.Sealed id (next_number a.state.numbers id) 0 false fs) ((λ e. refl), (carried_plain may.closing time a.state id may.room fs may.small may.carries (space_below a.state.waiting id b)).0);
-    crypto = λ h. sealed_below a.state.waiting id fs (is_space id a.state.keys.highest) _ h (carried_plain may.closing time a.state id may.room fs may.small may.carries (space_below a.state.waiting id h)).1;
-    path = refl;
-    notices = λ p k. k;
-  }
+  keeps_sealed time form fs a may =
+      let id : SpaceId = number_space form in
+      record {
+        deeds = λ b. one_more a.did (deed.Sealed id (next_number a.state.numbers id) (epoch_in a.state.keys form) (is_early form) fs)
+            (early_plain a.state.keys form, (carried_plain may.closing time a.state form may.room fs may.small may.carries (space_below a.state.waiting id b)).0);
+        crypto = λ h. sealed_below a.state.waiting id fs (is_space id a.state.keys.highest) _ h (carried_plain may.closing time a.state form may.room fs may.small may.carries (space_below a.state.waiting id h)).1;
+        path = refl;
+        notices = λ p k. k;
+      }
 
   keeps_transmit : (m : Meaning t) (time : ℕ) (choice : Choice) (a : At t) → MayTransmit m time choice a → Keeps a (transmit_after m time choice a)
   keeps_transmit m time choice a may = holds_transmit Keeps keeps_here keeps_next keeps_sending keeps_sealed m time choice a may

@@ -6,9 +6,12 @@ use Rattle.qc_base.specs.declared.side.SpaceId.TheVariants.{Initial, Handshake, 
 use Rattle.qc_frame.specs.Frame.{FrameValue}
 use Rattle.qc_header.specs.declared.header.Header.{Header}
 use Rattle.qc_header.specs.HeaderSpelling.{header_spelling}
+use Rattle.qc_state.specs.declared.form.Form.{Form}
+use Rattle.qc_state.specs.declared.form.Form.TheVariants as form
 use Rattle.qc_state.specs.declared.transmit.TheConstants.{DATAGRAM_SIZE}
 use Rattle.qc_state.specs.declared.keys.KeyGroup.{KeyGroup}
-use Rattle.qc_state.specs.Keys.{has_keys, reaches_limit, usage_of}
+use Rattle.qc_state.specs.Forms.{number_space}
+use Rattle.qc_state.specs.Keys.{has_keys_for, reaches_limit, usage_of}
 use Rattle.qc_state.specs.Moves.{Begin, Skip, Take, state_move, move_to, numbers_move, keys_move, paths_move, waiting_move, setup_move, deeds_move}
 use Rattle.qc_state.specs.Numbers.{next_number, acked_number, coming_number, is_skipped, number_skipped, used_in}
 use Rattle.qc_state.specs.declared.numbers.Numbers.{Numbers}
@@ -18,7 +21,7 @@ use Rattle.qc_state.specs.Types.{Types}
 use Rattle.qc_state.specs.View.{View, At, at}
 use Rattle.qc_state.specs.Offers.{packet_begun, waits_in, wants_sending}
 use Rattle.qc_send.proofs.Waits.{begun_wanted, is_wanted}
-use Rattle.qc_state.proofs.Transmitted.{unlimited}
+use Rattle.qc_state.proofs.Transmitted.{begins_keyed, unlimited}
 use Rattle.qc_send.proofs.Takes.{number_kept}
 
 -- of two tests that hold the second holds
@@ -35,11 +38,6 @@ neither_left false b h = refl
 neither_right : (a b : Bool) → (a || b) ≡ false → b ≡ false
 neither_right true b h = cc
 neither_right false b h = h
-
--- of two tests that hold the first holds
-and_left : (a b : Bool) → (a && b) ≡ true → a ≡ true
-and_left true b h = refl
-and_left false b h = cc
 
 -- a number within the limit is below the greatest
 number_low : (number acked : ℕ) → is_past_limit number acked ≡ false → number < 2 ^ 62 - 1
@@ -103,27 +101,28 @@ module _ {t : Types} where
   begun_state opens a e space is = ap (λ (x : At t). x.state) (is ∙ begun_at opens space a)
 
   -- there is room for 25 bytes in an Initial packet, where its token isn't too long, and so there is in the others
-  initial_header : (opens : Bool) (s : View t) → header_in (begun_after Initial opens (at s [])).state Initial ≡ header_in s Initial
+  initial_header : (opens : Bool) (s : View t) → header_in (begun_after Initial opens (at s [])).state form.Initial ≡ header_in s form.Initial
   unfolding begun_after skipped_after is_skipped move_to state_move numbers_move paths_move setup_move
   initial_header opens s = refl
 
-  initial_wide : (opens : Bool) (capacity : ℕ) (s : View t) → DATAGRAM_SIZE ≤ capacity → nat_lt (room_of DATAGRAM_SIZE s Initial) 25 ≡ false → 25 ≤ room_of capacity (begun_after Initial opens (at s [])).state Initial
+  initial_wide : (opens : Bool) (capacity : ℕ) (s : View t) → DATAGRAM_SIZE ≤ capacity → nat_lt (room_of DATAGRAM_SIZE s form.Initial) 25 ≡ false → 25 ≤ room_of capacity (begun_after Initial opens (at s [])).state form.Initial
   unfolding room_of
   initial_wide opens capacity s large long = subst (λ (x : Header). 25 ≤ capacity - 16 - length (header_spelling x 0)) (sym (initial_header opens s)) (grind (arith, nat_tests))
 
-  wide_by : (opens : Bool) (capacity : ℕ) (s : View t) (id : SpaceId) → DATAGRAM_SIZE ≤ capacity → (is_space id Initial && nat_lt (room_of DATAGRAM_SIZE s Initial) 25) ≡ false →
-      (is_space id Initial ≡ false → 25 ≤ room_of capacity (begun_after id opens (at s [])).state id) → 25 ≤ room_of capacity (begun_after id opens (at s [])).state id
-  wide_by opens capacity s Initial large long others = initial_wide opens capacity s large long
-  wide_by opens capacity s Handshake large long others = others refl
-  wide_by opens capacity s Data large long others = others refl
+  wide_by : (opens : Bool) (capacity : ℕ) (s : View t) (f : Form) → DATAGRAM_SIZE ≤ capacity → (is_space (number_space f) Initial && nat_lt (room_of DATAGRAM_SIZE s form.Initial) 25) ≡ false →
+      (is_space (number_space f) Initial ≡ false → 25 ≤ room_of capacity (begun_after (number_space f) opens (at s [])).state f) → 25 ≤ room_of capacity (begun_after (number_space f) opens (at s [])).state f
+  wide_by opens capacity s form.Initial large long others = initial_wide opens capacity s large long
+  wide_by opens capacity s form.Handshake large long others = others refl
+  wide_by opens capacity s form.Early large long others = others refl
+  wide_by opens capacity s form.OneRtt large long others = others refl
 
-  pub room_wide : (opens closing : Bool) (capacity : ℕ) (a : At t) (e : View t) (space : SpaceId) → DATAGRAM_SIZE ≤ capacity → MayBegin closing a.state space → at e a.did ≡ begun_after space opens a →
-      (is_space space Initial ≡ false → 25 ≤ room_of capacity e space) → 25 ≤ room_of capacity e space
+  pub room_wide : (opens closing : Bool) (capacity : ℕ) (a : At t) (e : View t) (form : Form) → DATAGRAM_SIZE ≤ capacity → MayBegin closing a.state form → at e a.did ≡ begun_after (number_space form) opens a →
+      (is_space (number_space form) Initial ≡ false → 25 ≤ room_of capacity e form) → 25 ≤ room_of capacity e form
   unfolding is_token_too_long
-  room_wide opens closing capacity a e space large may begun others =
-      let is_e : e ≡ (begun_after space opens (at a.state [])).state = begun_state opens a e space begun in
-      subst (λ (v : View t). 25 ≤ room_of capacity v space) (sym is_e)
-      (wide_by opens capacity a.state space large (unlimited a.state space may.fresh).2 (λ other. subst (λ (v : View t). 25 ≤ room_of capacity v space) is_e (others other)))
+  room_wide opens closing capacity a e form large may begun others =
+      let is_e : e ≡ (begun_after (number_space form) opens (at a.state [])).state = begun_state opens a e (number_space form) begun in
+      subst (λ (v : View t). 25 ≤ room_of capacity v form) (sym is_e)
+      (wide_by opens capacity a.state form large (unlimited a.state form may.fresh).2 (λ other. subst (λ (v : View t). 25 ≤ room_of capacity v form) is_e (others other)))
 
   -- once a datagram is begun, the next number is the one that was to come
   skip_number : (id : SpaceId) (a : At t) (b : Bool) → is_skipped a.state.numbers id ≡ b → next_number (if b then move_to Skip a else a).state.numbers id ≡ (if b then next_number a.state.numbers id + 1 else next_number a.state.numbers id)
@@ -150,28 +149,28 @@ module _ {t : Types} where
   begun_acked opens s id = skip_acked id (at (state_move (Begin id opens) s) []) (is_skipped s.numbers id) refl
 
   -- where a packet may be sealed, its number is near the greatest acknowledged one once a datagram is begun for it
-  pub loud_near_begun : (opens closing : Bool) (a : At t) (e : View t) (space : SpaceId) → MayBegin closing a.state space → at e a.did ≡ begun_after space opens a → next_number e.numbers space - acked_number e.numbers space < 2 ^ 31
+  pub loud_near_begun : (opens closing : Bool) (a : At t) (e : View t) (form : Form) → MayBegin closing a.state form → at e a.did ≡ begun_after (number_space form) opens a → next_number e.numbers (number_space form) - acked_number e.numbers (number_space form) < 2 ^ 31
   unfolding is_used_up
-  loud_near_begun opens closing a e space may begun =
+  loud_near_begun opens closing a e form may begun =
       let s : View t = a.state in
-      let near : coming_number s.numbers space - acked_number s.numbers space < 2 ^ 31 = number_near (coming_number s.numbers space) (acked_number s.numbers space) (unlimited s space may.fresh).1 in
-      subst (λ (v : View t). next_number v.numbers space - acked_number v.numbers space < 2 ^ 31) (sym (begun_state opens a e space begun)) (omega (arith, near, begun_number opens s space, begun_acked opens s space))
+      let near : coming_number s.numbers (number_space form) - acked_number s.numbers (number_space form) < 2 ^ 31 = number_near (coming_number s.numbers (number_space form)) (acked_number s.numbers (number_space form)) (unlimited s form may.fresh).1 in
+      subst (λ (v : View t). next_number v.numbers (number_space form) - acked_number v.numbers (number_space form) < 2 ^ 31) (sym (begun_state opens a e (number_space form) begun)) (omega (arith, near, begun_number opens s (number_space form), begun_acked opens s (number_space form)))
 
   -- so it is once frames were taken
-  pub loud_near : (opens closing : Bool) (a : At t) (e mid : View t) (space : SpaceId) (fs : List FrameValue) → MayBegin closing a.state space → at e a.did ≡ begun_after space opens a → mid ≡ state_move (Take space fs) e →
-      next_number mid.numbers space - acked_number mid.numbers space < 2 ^ 31
-  loud_near opens closing a e mid space fs may begun is_mid =
-      subst (λ (v : Numbers). next_number v space - acked_number v space < 2 ^ 31) (sym (ap (λ (x : View t). x.numbers) is_mid ∙ number_kept e space fs)) (loud_near_begun opens closing a e space may begun)
+  pub loud_near : (opens closing : Bool) (a : At t) (e mid : View t) (form : Form) (fs : List FrameValue) → MayBegin closing a.state form → at e a.did ≡ begun_after (number_space form) opens a → mid ≡ state_move (Take (number_space form) fs) e →
+      next_number mid.numbers (number_space form) - acked_number mid.numbers (number_space form) < 2 ^ 31
+  loud_near opens closing a e mid form fs may begun is_mid =
+      subst (λ (v : Numbers). next_number v (number_space form) - acked_number v (number_space form) < 2 ^ 31) (sym (ap (λ (x : View t). x.numbers) is_mid ∙ number_kept e (number_space form) fs)) (loud_near_begun opens closing a e form may begun)
 
   -- and it is below the greatest of all
-  pub loud_low : (opens closing : Bool) (a : At t) (e mid : View t) (space : SpaceId) (fs : List FrameValue) → MayBegin closing a.state space → at e a.did ≡ begun_after space opens a → mid ≡ state_move (Take space fs) e →
-      next_number mid.numbers space < 2 ^ 62 - 1
+  pub loud_low : (opens closing : Bool) (a : At t) (e mid : View t) (form : Form) (fs : List FrameValue) → MayBegin closing a.state form → at e a.did ≡ begun_after (number_space form) opens a → mid ≡ state_move (Take (number_space form) fs) e →
+      next_number mid.numbers (number_space form) < 2 ^ 62 - 1
   unfolding is_used_up
-  loud_low opens closing a e mid space fs may begun is_mid =
+  loud_low opens closing a e mid form fs may begun is_mid =
       let s : View t = a.state in
-      let low : coming_number s.numbers space < 2 ^ 62 - 1 = number_low (coming_number s.numbers space) (acked_number s.numbers space) (unlimited s space may.fresh).1 in
-      let same : next_number mid.numbers space ≡ coming_number s.numbers space =
-      ap (λ (v : Numbers). next_number v space) (ap (λ (x : View t). x.numbers) is_mid ∙ number_kept e space fs) ∙ ap (λ (v : View t). next_number v.numbers space) (begun_state opens a e space begun) ∙ begun_number opens s space in
+      let low : coming_number s.numbers (number_space form) < 2 ^ 62 - 1 = number_low (coming_number s.numbers (number_space form)) (acked_number s.numbers (number_space form)) (unlimited s form may.fresh).1 in
+      let same : next_number mid.numbers (number_space form) ≡ coming_number s.numbers (number_space form) =
+      ap (λ (v : Numbers). next_number v (number_space form)) (ap (λ (x : View t). x.numbers) is_mid ∙ number_kept e (number_space form) fs) ∙ ap (λ (v : View t). next_number v.numbers (number_space form)) (begun_state opens a e (number_space form) begun) ∙ begun_number opens s (number_space form) in
       subst (λ (n : ℕ). n < 2 ^ 62 - 1) (sym same) low
 
   -- taking frames leaves the keys, and so does a datagram that is begun
@@ -187,14 +186,15 @@ module _ {t : Types} where
   same_keys opens a e mid space fs begun is_mid =
       ap (λ (x : View t). x.keys) is_mid ∙ taken_keys e space fs ∙ ap (λ (x : View t). x.keys) (begun_state opens a e space begun) ∙ begun_keys opens a.state space
 
-  -- and its space has keys
-  pub loud_keyed : (opens closing : Bool) (a : At t) (e mid : View t) (space : SpaceId) (fs : List FrameValue) → MayBegin closing a.state space → at e a.did ≡ begun_after space opens a → mid ≡ state_move (Take space fs) e →
-      has_keys mid.keys space ≡ true
-  unfolding owes_in
-  loud_keyed opens closing a e mid space fs may begun is_mid = ap (λ (k : KeyGroup t.H t.P). has_keys k space) (same_keys opens a e mid space fs begun is_mid) ∙ and_left _ _ may.turn.owed
+  -- and there are keys for it
+  pub loud_keyed : (opens closing : Bool) (a : At t) (e mid : View t) (form : Form) (fs : List FrameValue) → MayBegin closing a.state form → at e a.did ≡ begun_after (number_space form) opens a → mid ≡ state_move (Take (number_space form) fs) e →
+      has_keys_for mid.keys form ≡ true
+  loud_keyed opens closing a e mid form fs may begun is_mid =
+      ap (λ (k : KeyGroup t.H t.P). has_keys_for k form) (same_keys opens a e mid (number_space form) fs begun is_mid) ∙ begins_keyed closing a.state form may
 
-  -- and its key may seal one packet more
-  pub loud_fresh : (opens closing : Bool) (a : At t) (e mid : View t) (space : SpaceId) (fs : List FrameValue) → MayBegin closing a.state space → at e a.did ≡ begun_after space opens a → mid ≡ state_move (Take space fs) e →
-      reaches_limit 0 (usage_of mid.keys space) ≡ false
+  -- of which its key may seal one packet more
+  pub loud_fresh : (opens closing : Bool) (a : At t) (e mid : View t) (form : Form) (fs : List FrameValue) → MayBegin closing a.state form → at e a.did ≡ begun_after (number_space form) opens a → mid ≡ state_move (Take (number_space form) fs) e →
+      reaches_limit 0 (usage_of mid.keys form) ≡ false
   unfolding is_key_used_up
-  loud_fresh opens closing a e mid space fs may begun is_mid = ap (λ (k : KeyGroup t.H t.P). reaches_limit 0 (usage_of k space)) (same_keys opens a e mid space fs begun is_mid) ∙ (unlimited a.state space may.fresh).0
+  loud_fresh opens closing a e mid form fs may begun is_mid =
+      ap (λ (k : KeyGroup t.H t.P). reaches_limit 0 (usage_of k form)) (same_keys opens a e mid (number_space form) fs begun is_mid) ∙ (unlimited a.state form may.fresh).0

@@ -1,17 +1,18 @@
--- Where a packet may begin, its builder takes it: its space has keys, and no limit of the builder stands.
+-- Where a packet may begin, its builder takes it: there are keys, and no limit of the builder stands.
 use Rattle.std.proofs.Common.{◌≡◌, ℕ, ◌+◌, ◌-◌, ◌≤◌, length, length-append, refl, ap, ◌∙◌, Bool, true, false, ◌&&◌, ◌||◌, if◌then◌else◌, Option, Some, None, is_some, IsSome, nat_le, nat_lt, ◌<◌, ◌^◌, arith}
 use Rattle.std.specs.Prelude.{min}
 use Rattle.std.proofs.lemmas.Bool.Decides.{nat_tests}
 use Rattle.std.specs.Option.{option_map}
-use Rattle.qc_base.specs.declared.side.SpaceId.{SpaceId}
-use Rattle.qc_base.specs.declared.side.SpaceId.TheVariants.{Initial, Handshake, «Data»}
 use Rattle.qc_header.specs.declared.header.Header.{Header}
 use Rattle.qc_header.specs.HeaderSpelling.{header_spelling, header_number, initial_spelling, short_spelling, long_start}
 use Rattle.qc_packet.specs.Building.{dst_cid_of, is_initial, is_short, kill_of, lacks_room, max_size_of, min_size_of}
 use Rattle.qc_packet.specs.declared.slot.Kill.TheVariants.{KeyLimit, NumberLimit, TokenRoom}
+use Rattle.qc_state.specs.declared.form.Form.{Form}
+use Rattle.qc_state.specs.declared.form.Form.TheVariants.{Initial, Handshake, Early, OneRtt}
 use Rattle.qc_state.specs.declared.keys.KeyGroup.{KeyGroup}
 use Rattle.qc_state.specs.declared.keys.KeyUse.{KeyUse}
-use Rattle.qc_state.specs.Keys.{has_keys, header_key, packet_key, reaches_limit, usage_of}
+use Rattle.qc_state.specs.Forms.{number_space}
+use Rattle.qc_state.specs.Keys.{has_keys_for, header_key, packet_key, reaches_limit, usage_of}
 use Rattle.qc_state.specs.Numbers.{next_number, acked_number}
 use Rattle.qc_state.specs.Sending.{header_in, slot_with, room_of}
 use Rattle.qc_state.specs.Types.{Types}
@@ -30,24 +31,27 @@ fresh_use usage h = below_limit usage.sealed usage.limit h
     below_limit sealed limit e = grind (arith, nat_tests)
 
 module _ {H P : Type 0} where
-  -- a space with keys has one that masks, one that seals, and how far that one is used
-  pub keyed_header : (v : KeyGroup H P) (id : SpaceId) → has_keys v id ≡ true → IsSome (header_key v id)
-  unfolding has_keys header_key
+  -- where there are keys, there is one that masks, one that seals, and how far that one is used
+  pub keyed_header : (v : KeyGroup H P) (form : Form) → has_keys_for v form ≡ true → IsSome (header_key v form)
+  unfolding has_keys_for header_key
   keyed_header v Initial h = some_map _ v.initial h
   keyed_header v Handshake h = some_map _ v.handshake h
-  keyed_header v Data h = some_map _ v.«data» h
+  keyed_header v Early h = cc
+  keyed_header v OneRtt h = some_map _ v.«data» h
 
-  pub keyed_packet : (v : KeyGroup H P) (id : SpaceId) → has_keys v id ≡ true → IsSome (packet_key v id)
-  unfolding has_keys packet_key
+  pub keyed_packet : (v : KeyGroup H P) (form : Form) → has_keys_for v form ≡ true → IsSome (packet_key v form)
+  unfolding has_keys_for packet_key
   keyed_packet v Initial h = some_map _ v.initial h
   keyed_packet v Handshake h = some_map _ v.handshake h
-  keyed_packet v Data h = some_map _ v.«data» h
+  keyed_packet v Early h = cc
+  keyed_packet v OneRtt h = some_map _ v.«data» h
 
-  pub keyed_usage : (v : KeyGroup H P) (id : SpaceId) → has_keys v id ≡ true → IsSome (usage_of v id)
-  unfolding has_keys usage_of
+  pub keyed_usage : (v : KeyGroup H P) (form : Form) → has_keys_for v form ≡ true → IsSome (usage_of v form)
+  unfolding has_keys_for usage_of
   keyed_usage v Initial h = some_map _ v.initial h
   keyed_usage v Handshake h = some_map _ v.handshake h
-  keyed_usage v Data h = some_map _ v.«data» h
+  keyed_usage v Early h = cc
+  keyed_usage v OneRtt h = some_map _ v.«data» h
 
 -- where no cause holds, a packet can be begun
 no_cause : (key number room : Bool) → key ≡ false → number ≡ false → room ≡ false → (if key then Some KeyLimit else (if number then Some NumberLimit else (if room then Some TokenRoom else None))) ≡ None
@@ -92,39 +96,42 @@ wide_enough capacity h most long short dst =
     (not_lt (max_size_of 0 h capacity - (0 + length (header_spelling h 0))) 25 (omega (arith, size, short)))
 
 module _ {t : Types} where
-  -- a header in each space has its destination id
-  pub dst_within : (s : View t) (id : SpaceId) → length (dst_cid_of (header_in s id)) ≤ length (header_spelling (header_in s id) 0)
+  -- a header in each space has its destination form
+  pub dst_within : (s : View t) (form : Form) → length (dst_cid_of (header_in s form)) ≤ length (header_spelling (header_in s form) 0)
   unfolding header_spelling initial_spelling short_spelling long_start
   dst_within s Initial = simp length-append (omega arith)
   dst_within s Handshake = simp length-append (omega arith)
-  dst_within s Data = simp length-append (omega arith)
+  dst_within s Early = simp length-append (omega arith)
+  dst_within s OneRtt = simp length-append (omega arith)
 
   -- where there is room for 25 bytes in a packet, it needs no more than a datagram has
-  pub least_wide : (capacity : ℕ) (s : View t) (id : SpaceId) → 25 ≤ room_of capacity s id → min_size_of 0 (header_in s id) + 16 ≤ capacity
+  pub least_wide : (capacity : ℕ) (s : View t) (form : Form) → 25 ≤ room_of capacity s form → min_size_of 0 (header_in s form) + 16 ≤ capacity
   unfolding room_of
-  least_wide capacity s id wide = least_fits capacity (header_in s id) (omega (arith, wide)) (dst_within s id)
+  least_wide capacity s form wide = least_fits capacity (header_in s form) (omega (arith, wide)) (dst_within s form)
 
   -- and its token leaves room for frames
-  roomy : (capacity : ℕ) (s : View t) (id : SpaceId) → capacity ≤ 16383 → length (header_spelling (header_in s id) 0) + 41 ≤ capacity → (is_initial (header_in s id) && lacks_room 0 (header_in s id) capacity) ≡ false
+  roomy : (capacity : ℕ) (s : View t) (form : Form) → capacity ≤ 16383 → length (header_spelling (header_in s form) 0) + 41 ≤ capacity → (is_initial (header_in s form) && lacks_room 0 (header_in s form) capacity) ≡ false
   roomy capacity s Initial most short = wide_enough capacity (header_in s Initial) most refl short (dst_within s Initial)
   roomy capacity s Handshake most short = refl
-  roomy capacity s Data most short = refl
+  roomy capacity s Early most short = refl
+  roomy capacity s OneRtt most short = refl
 
   -- so it can be begun, where its key may seal one more and its number can be spelled
-  pub no_kill : (capacity : ℕ) (s : View t) (id : SpaceId) (usage : KeyUse) → capacity ≤ 16383 → usage.sealed < usage.limit → next_number s.numbers id < 2 ^ 62 - 1 → next_number s.numbers id - acked_number s.numbers id < 2 ^ 31 → 25 ≤ room_of capacity s id →
-      kill_of (slot_with s id usage) (header_in s id) 0 capacity ≡ None
+  pub no_kill : (capacity : ℕ) (s : View t) (form : Form) (usage : KeyUse) → capacity ≤ 16383 → usage.sealed < usage.limit → next_number s.numbers (number_space form) < 2 ^ 62 - 1 → next_number s.numbers (number_space form) - acked_number s.numbers (number_space form) < 2 ^ 31 → 25 ≤ room_of capacity s form →
+      kill_of (slot_with s form usage) (header_in s form) 0 capacity ≡ None
   unfolding kill_of room_of
-  no_kill capacity s id usage most fresh low near wide =
+  no_kill capacity s form usage most fresh low near wide =
       no_cause _ _ _ (not_le usage.limit usage.sealed fresh)
-      (both_fail _ _ (not_le 4611686018427387903 (next_number s.numbers id) low) (not_le (acked_number s.numbers id + 2147483648) (next_number s.numbers id) (omega arith)))
-      (roomy capacity s id most (omega (arith, wide)))
+      (both_fail _ _ (not_le 4611686018427387903 (next_number s.numbers (number_space form)) low) (not_le (acked_number s.numbers (number_space form) + 2147483648) (next_number s.numbers (number_space form)) (omega arith)))
+      (roomy capacity s form most (omega (arith, wide)))
 
-  -- a header in each space has a number
-  number_by : (s : View t) (space : SpaceId) → IsSome (header_number (header_in s space))
+  -- the header of each form has a number
+  number_by : (s : View t) (form : Form) → IsSome (header_number (header_in s form))
   number_by s Initial = refl
   number_by s Handshake = refl
-  number_by s Data = refl
+  number_by s Early = refl
+  number_by s OneRtt = refl
 
   -- it has a number
-  pub header_has_number : (s : View t) (space : SpaceId) (h : Header) → h ≡ header_in s space → IsSome (header_number h)
-  header_has_number s space h e = ap (λ (x : Header). is_some (header_number x)) e ∙ number_by s space
+  pub header_has_number : (s : View t) (form : Form) (h : Header) → h ≡ header_in s form → IsSome (header_number h)
+  header_has_number s form h e = ap (λ (x : Header). is_some (header_number x)) e ∙ number_by s form

@@ -7,6 +7,10 @@ use Rattle.qc_send.specs.declared.owing.Turn.TheVariants.{Begins, Holds}
 use Rattle.qc_send.specs.Choosing.{first_owing, turn_by, turn_of}
 use Rattle.qc_state.specs.declared.deeds.Quiet.{Quiet}
 use Rattle.qc_state.specs.declared.deeds.Quiet.TheVariants.{Silent, Killed}
+use Rattle.qc_state.specs.declared.form.Form.{Form}
+use Rattle.qc_state.specs.declared.keys.KeyGroup.{KeyGroup}
+use Rattle.qc_state.specs.Forms.{number_space}
+use Rattle.qc_state.specs.Keys.{form_in}
 use Rattle.qc_state.specs.Paths.{is_blocked}
 use Rattle.qc_state.specs.Sending.{HasTurn, is_first_in_turn, is_silent, owes, owes_in, quiet_by, quiet_of, MayBegin, Transmits, kill_in}
 use Rattle.qc_state.specs.Types.{Types, Meaning}
@@ -28,6 +32,13 @@ goes_on state.Closed false h = cc
 goes_on state.Draining true h = (refl, λ e. cc e)
 goes_on state.Draining false h = cc
 goes_on state.Drained o h = cc
+
+-- the form in which a space seals counts its numbers there
+form_back : {H P : Type 0} (v : KeyGroup H P) (id : SpaceId) → number_space (form_in v id) ≡ id
+unfolding form_in
+form_back v Initial = refl
+form_back v Handshake = refl
+form_back v Data = refl
 
 module _ {t : Types} where
   -- what it means to begin so
@@ -90,19 +101,23 @@ module _ {t : Types} where
   pub holds_quiet : (s : View t) (turn : Turn) (quiet : Quiet) → turn ≡ turn_of s → turn ≡ Holds quiet → quiet_of s.waiting.close_owed s ≡ Some quiet
   holds_quiet s turn quiet is holds = subst (IsTurn s) (sym is ∙ holds) (turn_is s)
 
-  -- a packet of that space may be begun, where no limit stands
-  pub may_begin : (s : View t) (closing : Bool) (turn : Turn) (id : SpaceId) (found : Option ConnectionError) → closing ≡ s.waiting.close_owed → turn ≡ turn_of s → turn ≡ Begins id → found ≡ kill_in s id → found ≡ None → MayBegin closing s id
-  may_begin s closing turn id found same is begins is_found none =
+  -- a packet of that space, of the form that its packets have now, may be begun, where no limit stands
+  pub may_begin : (s : View t) (closing : Bool) (turn : Turn) (id : SpaceId) (form : Form) (found : Option ConnectionError) → closing ≡ s.waiting.close_owed → turn ≡ turn_of s → turn ≡ Begins id →
+      form ≡ form_in s.keys id → found ≡ kill_in s form → found ≡ None → MayBegin closing s form
+  may_begin s closing turn id form found same is begins is_form is_found none =
       let may = begins_turn s turn id is begins in
-      subst (λ (b : Bool). MayBegin b s id) (sym same) (record { turn = may.0; free = may.1; fresh = sym is_found ∙ none })
+      let back : id ≡ number_space form = sym (ap number_space is_form ∙ form_back s.keys id) in
+      subst (λ (b : Bool). MayBegin b s form) (sym same)
+      (record { turn = subst (HasTurn s.waiting.close_owed s) back may.0; now = is_form ∙ ap (form_in s.keys) back; free = may.1; fresh = sym is_found ∙ none })
 
   -- a transmit that seals nothing, for a cause
   pub quiet_sent : (m : Meaning t) (time : ℕ) (a b : At t) (turn : Turn) (quiet : Quiet) (buffer : List ℕ) → turn ≡ turn_of a.state → turn ≡ Holds quiet → b ≡ move_to (Say quiet) a → buffer ≡ [] → Transmits m time a b None buffer
   quiet_sent m time a b turn quiet buffer is holds moved empty = transmits_quiet m time a b quiet buffer (holds_quiet a.state turn quiet is holds) moved empty
 
   -- and one that ends the connection
-  pub killed_sent : (m : Meaning t) (time : ℕ) (a mid b : At t) (turn : Turn) (id : SpaceId) (found : Option ConnectionError) (why : ConnectionError) (buffer : List ℕ) →
-      turn ≡ turn_of a.state → turn ≡ Begins id → found ≡ kill_in a.state id → found ≡ Some why → mid ≡ killed_after why a → b ≡ move_to (Say Killed) mid → buffer ≡ [] → Transmits m time a b None buffer
-  killed_sent m time a mid b turn id found why buffer is begins is_found kills ended moved empty =
+  pub killed_sent : (m : Meaning t) (time : ℕ) (a mid b : At t) (turn : Turn) (id : SpaceId) (form : Form) (found : Option ConnectionError) (why : ConnectionError) (buffer : List ℕ) →
+      turn ≡ turn_of a.state → turn ≡ Begins id → form ≡ form_in a.state.keys id → found ≡ kill_in a.state form → found ≡ Some why → mid ≡ killed_after why a → b ≡ move_to (Say Killed) mid → buffer ≡ [] →
+      Transmits m time a b None buffer
+  killed_sent m time a mid b turn id form found why buffer is begins is_form is_found kills ended moved empty =
       let may = begins_turn a.state turn id is begins in
-      transmits_killed m time a mid b id why buffer may.0 may.1 (sym is_found ∙ kills) ended moved empty
+      transmits_killed m time a mid b id why buffer may.0 may.1 (sym (ap (kill_in a.state) is_form) ∙ sym is_found ∙ kills) ended moved empty

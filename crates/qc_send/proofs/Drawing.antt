@@ -3,8 +3,6 @@ use Rattle.std.proofs.Common.{◌≡◌, ℕ, ◌+◌, ◌-◌, ◌≤◌, List,
 use Rattle.std.specs.Result.{MatchResult}
 use Rattle.std.specs.Prelude.{IfOk, IfSome, Result, Ok, Err, option_map}
 use Rattle.rand_core.specs.Stream.{Stream}
-use Rattle.qc_base.specs.declared.side.SpaceId.{SpaceId}
-use Rattle.qc_base.specs.declared.side.SpaceId.TheVariants.{Initial, Handshake, «Data»}
 use Rattle.qc_base.specs.Varint.{varint, spelled, one, two, four, eight}
 use Rattle.qc_frame.specs.Frame.{FrameValue}
 use Rattle.qc_header.specs.declared.header.Header.{Header}
@@ -17,16 +15,18 @@ use Rattle.qc_packet.specs.declared.slot.Slot.{Slot}
 use Rattle.qc_core.specs.Sealing.{sealed_drawn}
 use Rattle.qc_send.specs.Drawing.{drawn_for, header_with, slot_drawn, token_bytes, token_in}
 use Rattle.qc_state.specs.declared.deeds.Did.{Did}
+use Rattle.qc_state.specs.declared.form.Form.{Form}
+use Rattle.qc_state.specs.declared.form.Form.TheVariants.{Initial, Handshake, Early, OneRtt}
 use Rattle.qc_state.specs.Draws.{bit}
+use Rattle.qc_state.specs.Forms.{is_one_rtt, number_space}
 use Rattle.qc_state.specs.Moves.{Seal, move_to, state_move, numbers_move, keys_move, life_move, paths_move, timers_move, waiting_move, setup_move, lower_move, deeds_move}
 use Rattle.qc_state.specs.Recovering.{around_of, is_validated_by_peer, probe_timeout_now}
 use Rattle.qc_state.specs.declared.keys.KeyUse.{KeyUse}
-use Rattle.qc_state.specs.Keys.{has_keys, header_key, packet_key, reaches_limit, usage_of}
+use Rattle.qc_state.specs.Keys.{has_keys_for, header_key, packet_key, reaches_limit, usage_of}
 use Rattle.qc_state.specs.Numbers.{acked_number, next_number}
 use Rattle.qc_state.specs.Sending.{flips_now, room_of, header_in, is_flown, least_size, packet_bytes, packet_size, padded, padding_of, sealed_with, slot_with, spin_now}
 use Rattle.qc_state.specs.Setup.{behind_spin, ideal_setup, idle_limit_now, packet_drawn, takes_grease}
 use Rattle.qc_state.specs.declared.setup.Setup.{Setup}
-use Rattle.qc_state.specs.Spaces.{is_space}
 use Rattle.qc_state.specs.Types.{Types, Meaning}
 use Rattle.qc_state.specs.View.{Held, View, At, at, ideal}
 use Rattle.qc_send.proofs.Built.{fresh_use, keyed_header, keyed_packet, keyed_usage, least_wide, no_kill}
@@ -63,166 +63,169 @@ mapped_some f (Some a) some = refl
 
 module _ {t : Types} where
   -- what is drawn changes nothing that the header says
-  header_stays : (s : View t) (id : SpaceId) (spin : Bool) (token : List ℕ) → header_with (drawn_for id s) id spin token ≡ header_with s id spin token
+  header_stays : (s : View t) (form : Form) (spin : Bool) (token : List ℕ) → header_with (drawn_for form s) form spin token ≡ header_with s form spin token
   unfolding drawn_for packet_drawn
   header_stays s Initial spin token = refl
   header_stays s Handshake spin token = refl
-  header_stays s Data spin token = refl
+  header_stays s Early spin token = refl
+  header_stays s OneRtt spin token = refl
 
   -- the header by what was drawn
-  header_by : (s : View t) (id : SpaceId) → header_with s id (if is_space id Data && not s.setup.fixed.spins then bit s.setup.random else s.paths.spin) (token_in id s.setup.initial_token) ≡ header_in s id
+  header_by : (s : View t) (form : Form) → header_with s form (if is_one_rtt form && not s.setup.fixed.spins then bit s.setup.random else s.paths.spin) (token_in form s.setup.initial_token) ≡ header_in s form
   unfolding spin_now
   header_by s Initial = refl
   header_by s Handshake = refl
-  header_by s Data = ap (λ (b : Bool). header_with s Data b []) (spun_by s.setup.fixed.spins (bit s.setup.random) s.paths.spin)
+  header_by s Early = refl
+  header_by s OneRtt = ap (λ (b : Bool). header_with s OneRtt b []) (spun_by s.setup.fixed.spins (bit s.setup.random) s.paths.spin)
 
-  pub header_drawn : (s s' : View t) (id : SpaceId) (spin : Bool) (token : List ℕ) (h : Header) → s' ≡ drawn_for id s → spin ≡ (if is_space id Data && not s.setup.fixed.spins then bit s.setup.random else s.paths.spin) →
-      token ≡ token_in id s.setup.initial_token → h ≡ header_with s' id spin token → h ≡ header_in s id
-  header_drawn s s' id spin token h is_s is_spin is_token is_h =
-      is_h ∙ ap (λ (v : View t). header_with v id spin token) is_s ∙ header_stays s id spin token ∙ ap (λ (b : Bool). header_with s id b token) is_spin
-      ∙ ap (λ (x : List ℕ). header_with s id (if is_space id Data && not s.setup.fixed.spins then bit s.setup.random else s.paths.spin) x) is_token ∙ header_by s id
+  pub header_drawn : (s s' : View t) (form : Form) (spin : Bool) (token : List ℕ) (h : Header) → s' ≡ drawn_for form s → spin ≡ (if is_one_rtt form && not s.setup.fixed.spins then bit s.setup.random else s.paths.spin) →
+      token ≡ token_in form s.setup.initial_token → h ≡ header_with s' form spin token → h ≡ header_in s form
+  header_drawn s s' form spin token h is_s is_spin is_token is_h =
+      is_h ∙ ap (λ (v : View t). header_with v form spin token) is_s ∙ header_stays s form spin token ∙ ap (λ (b : Bool). header_with s form b token) is_spin
+      ∙ ap (λ (x : List ℕ). header_with s form (if is_one_rtt form && not s.setup.fixed.spins then bit s.setup.random else s.paths.spin) x) is_token ∙ header_by s form
 
   -- a packet that was sealed, for which all was drawn before, is the move
-  sealed_is : (time : ℕ) (id : SpaceId) (number size : ℕ) (fs : List FrameValue) (s : View t) (ds : List Did) → sealed_drawn time id number size fs (at (drawn_for id s) ds) ≡ move_to (Seal time id number size fs) (at s ds)
+  sealed_is : (time : ℕ) (form : Form) (number size : ℕ) (fs : List FrameValue) (s : View t) (ds : List Did) → sealed_drawn time form number size fs (at (drawn_for form s) ds) ≡ move_to (Seal time form number size fs) (at s ds)
   unfolding sealed_drawn drawn_for move_to state_move numbers_move keys_move life_move paths_move timers_move waiting_move setup_move lower_move deeds_move packet_drawn idle_limit_now probe_timeout_now around_of is_validated_by_peer
-  sealed_is time id number size fs s ds = refl
+  sealed_is time form number size fs s ds = refl
 
-  pub seals_drawn : (time : ℕ) (id : SpaceId) (number size : ℕ) (fs : List FrameValue) (s s' : View t) (ds : List Did) (b : At t) → s' ≡ drawn_for id s → b ≡ sealed_drawn time id number size fs (at s' ds) → b ≡ move_to (Seal time id number size fs) (at s ds)
-  seals_drawn time id number size fs s s' ds b is_s is_b = is_b ∙ ap (λ (v : View t). sealed_drawn time id number size fs (at v ds)) is_s ∙ sealed_is time id number size fs s ds
+  pub seals_drawn : (time : ℕ) (form : Form) (number size : ℕ) (fs : List FrameValue) (s s' : View t) (ds : List Did) (b : At t) → s' ≡ drawn_for form s → b ≡ sealed_drawn time form number size fs (at s' ds) → b ≡ move_to (Seal time form number size fs) (at s ds)
+  seals_drawn time form number size fs s s' ds b is_s is_b = is_b ∙ ap (λ (v : View t). sealed_drawn time form number size fs (at v ds)) is_s ∙ sealed_is time form number size fs s ds
 
   -- a token makes the header so much longer
-  spelled_len : (s : View t) (id : SpaceId) → length (header_spelling (header_in s id) 0) ≡ length (header_spelling (header_with s id false []) 0) + token_bytes id s.setup.initial_token
+  spelled_len : (s : View t) (form : Form) → length (header_spelling (header_in s form) 0) ≡ length (header_spelling (header_with s form false []) 0) + token_bytes form s.setup.initial_token
   unfolding header_spelling initial_spelling short_spelling
   spelled_len s Initial = simp length-append (omega (arith, varint_some (length s.setup.initial_token), varint_0))
   spelled_len s Handshake = omega arith
-  spelled_len s Data = omega arith
+  spelled_len s Early = omega arith
+  spelled_len s OneRtt = omega arith
 
   -- the room for frames, by the length of the header without a token
-  pub room_is : (left : ℕ) (s : View t) (id : SpaceId) (h : Header) (token none : List ℕ) (bare room more n : ℕ) → none ≡ [] → h ≡ header_with s id false none → bare ≡ length (header_spelling h 0) → room ≡ left - 16 - bare →
-      token ≡ s.setup.initial_token → more ≡ token_bytes id token → n ≡ room - more → n ≡ room_of left s id
+  pub room_is : (left : ℕ) (s : View t) (form : Form) (h : Header) (token none : List ℕ) (bare room more n : ℕ) → none ≡ [] → h ≡ header_with s form false none → bare ≡ length (header_spelling h 0) → room ≡ left - 16 - bare →
+      token ≡ s.setup.initial_token → more ≡ token_bytes form token → n ≡ room - more → n ≡ room_of left s form
   unfolding room_of
-  room_is left s id h token none bare room more n is_none is_h is_bare is_room is_token is_more is_n =
-      let first : bare ≡ length (header_spelling (header_with s id false []) 0) = is_bare ∙ ap (λ (x : Header). length (header_spelling x 0)) (is_h ∙ ap (λ (x : List ℕ). header_with s id false x) is_none) in
-      let rest : more ≡ token_bytes id s.setup.initial_token = is_more ∙ ap (λ (x : List ℕ). token_bytes id x) is_token in
-      omega (arith, spelled_len s id, first, is_room, rest, is_n)
+  room_is left s form h token none bare room more n is_none is_h is_bare is_room is_token is_more is_n =
+      let first : bare ≡ length (header_spelling (header_with s form false []) 0) = is_bare ∙ ap (λ (x : Header). length (header_spelling x 0)) (is_h ∙ ap (λ (x : List ℕ). header_with s form false x) is_none) in
+      let rest : more ≡ token_bytes form s.setup.initial_token = is_more ∙ ap (λ (x : List ℕ). token_bytes form x) is_token in
+      omega (arith, spelled_len s form, first, is_room, rest, is_n)
 
-  -- the space has its keys still
-  pub keyed_still : (s s' : View t) (id : SpaceId) → s' ≡ drawn_for id s → has_keys s.keys id ≡ true → has_keys s'.keys id ≡ true
+  -- there are the keys still
+  pub keyed_still : (s s' : View t) (form : Form) → s' ≡ drawn_for form s → has_keys_for s.keys form ≡ true → has_keys_for s'.keys form ≡ true
   unfolding drawn_for
-  keyed_still s s' id is_s h = subst (λ (v : View t). has_keys v.keys id ≡ true) (sym is_s) h
+  keyed_still s s' form is_s h = subst (λ (v : View t). has_keys_for v.keys form ≡ true) (sym is_s) h
 
   -- the packet can be begun by what the view before said, where its key may seal one more
-  begins_with : (capacity : ℕ) (s : View t) (id : SpaceId) (known : Option KeyUse) → capacity ≤ 16383 → reaches_limit 0 known ≡ false → next_number s.numbers id < 2 ^ 62 - 1 → next_number s.numbers id - acked_number s.numbers id < 2 ^ 31 → 25 ≤ room_of capacity s id →
-      IfSome known (λ usage. kill_of (slot_with s id usage) (header_in s id) 0 capacity ≡ None)
-  begins_with capacity s id None most fresh low near wide = tt
-  begins_with capacity s id (Some usage) most fresh low near wide = no_kill capacity s id usage most (fresh_use usage fresh) low near wide
+  begins_with : (capacity : ℕ) (s : View t) (form : Form) (known : Option KeyUse) → capacity ≤ 16383 → reaches_limit 0 known ≡ false → next_number s.numbers (number_space form) < 2 ^ 62 - 1 → next_number s.numbers (number_space form) - acked_number s.numbers (number_space form) < 2 ^ 31 → 25 ≤ room_of capacity s form →
+      IfSome known (λ usage. kill_of (slot_with s form usage) (header_in s form) 0 capacity ≡ None)
+  begins_with capacity s form None most fresh low near wide = tt
+  begins_with capacity s form (Some usage) most fresh low near wide = no_kill capacity s form usage most (fresh_use usage fresh) low near wide
 
-  slot_stays : (s : View t) (id : SpaceId) (usage : KeyUse) → slot_drawn (drawn_for id s) id (flips_now s id) usage ≡ slot_with s id usage
+  slot_stays : (s : View t) (form : Form) (usage : KeyUse) → slot_drawn (drawn_for form s) form (flips_now s form) usage ≡ slot_with s form usage
   unfolding drawn_for
-  slot_stays s id usage = refl
+  slot_stays s form usage = refl
 
-  usage_stays : (s : View t) (id : SpaceId) → usage_of (drawn_for id s).keys id ≡ usage_of s.keys id
+  usage_stays : (s : View t) (form : Form) → usage_of (drawn_for form s).keys form ≡ usage_of s.keys form
   unfolding drawn_for
-  usage_stays s id = refl
+  usage_stays s form = refl
 
-  begins_after : (capacity : ℕ) (s : View t) (id : SpaceId) (known : Option KeyUse) → IfSome known (λ usage. kill_of (slot_with s id usage) (header_in s id) 0 capacity ≡ None) →
-      IfSome known (λ usage. kill_of (slot_drawn (drawn_for id s) id (flips_now s id) usage) (header_in s id) 0 capacity ≡ None)
-  begins_after capacity s id None h = tt
-  begins_after capacity s id (Some usage) h = ap (λ (x : Slot). kill_of x (header_in s id) 0 capacity) (slot_stays s id usage) ∙ h
+  begins_after : (capacity : ℕ) (s : View t) (form : Form) (known : Option KeyUse) → IfSome known (λ usage. kill_of (slot_with s form usage) (header_in s form) 0 capacity ≡ None) →
+      IfSome known (λ usage. kill_of (slot_drawn (drawn_for form s) form (flips_now s form) usage) (header_in s form) 0 capacity ≡ None)
+  begins_after capacity s form None h = tt
+  begins_after capacity s form (Some usage) h = ap (λ (x : Slot). kill_of x (header_in s form) 0 capacity) (slot_stays s form usage) ∙ h
 
   -- and so it can by the view behind
-  pub begins_still : (capacity : ℕ) (s s' : View t) (id : SpaceId) (h : Header) (flip : Bool) → capacity ≤ 16383 → s' ≡ drawn_for id s → h ≡ header_in s id → flip ≡ flips_now s id → reaches_limit 0 (usage_of s.keys id) ≡ false →
-      next_number s.numbers id < 2 ^ 62 - 1 → next_number s.numbers id - acked_number s.numbers id < 2 ^ 31 → 25 ≤ room_of capacity s id →
-      IfSome (usage_of s'.keys id) (λ usage. kill_of (slot_drawn s' id flip usage) h 0 capacity ≡ None)
-  begins_still capacity s s' id h flip most is_s is_h is_flip fresh low near wide =
-      let first : IfSome (usage_of s.keys id) (λ usage. kill_of (slot_drawn (drawn_for id s) id (flips_now s id) usage) (header_in s id) 0 capacity ≡ None) =
-      begins_after capacity s id (usage_of s.keys id) (begins_with capacity s id (usage_of s.keys id) most fresh low near wide) in
-      let drawn : IfSome (usage_of (drawn_for id s).keys id) (λ usage. kill_of (slot_drawn (drawn_for id s) id (flips_now s id) usage) (header_in s id) 0 capacity ≡ None) =
-      subst (λ (x : Option KeyUse). IfSome x (λ usage. kill_of (slot_drawn (drawn_for id s) id (flips_now s id) usage) (header_in s id) 0 capacity ≡ None)) (sym (usage_stays s id)) first in
-      let headed : IfSome (usage_of (drawn_for id s).keys id) (λ usage. kill_of (slot_drawn (drawn_for id s) id (flips_now s id) usage) h 0 capacity ≡ None) =
-      subst (λ (x : Header). IfSome (usage_of (drawn_for id s).keys id) (λ usage. kill_of (slot_drawn (drawn_for id s) id (flips_now s id) usage) x 0 capacity ≡ None)) (sym is_h) drawn in
-      let flipped : IfSome (usage_of (drawn_for id s).keys id) (λ usage. kill_of (slot_drawn (drawn_for id s) id flip usage) h 0 capacity ≡ None) =
-      subst (λ (x : Bool). IfSome (usage_of (drawn_for id s).keys id) (λ usage. kill_of (slot_drawn (drawn_for id s) id x usage) h 0 capacity ≡ None)) (sym is_flip) headed in
-      subst (λ (v : View t). IfSome (usage_of v.keys id) (λ usage. kill_of (slot_drawn v id flip usage) h 0 capacity ≡ None)) (sym is_s) flipped
+  pub begins_still : (capacity : ℕ) (s s' : View t) (form : Form) (h : Header) (flip : Bool) → capacity ≤ 16383 → s' ≡ drawn_for form s → h ≡ header_in s form → flip ≡ flips_now s form → reaches_limit 0 (usage_of s.keys form) ≡ false →
+      next_number s.numbers (number_space form) < 2 ^ 62 - 1 → next_number s.numbers (number_space form) - acked_number s.numbers (number_space form) < 2 ^ 31 → 25 ≤ room_of capacity s form →
+      IfSome (usage_of s'.keys form) (λ usage. kill_of (slot_drawn s' form flip usage) h 0 capacity ≡ None)
+  begins_still capacity s s' form h flip most is_s is_h is_flip fresh low near wide =
+      let first : IfSome (usage_of s.keys form) (λ usage. kill_of (slot_drawn (drawn_for form s) form (flips_now s form) usage) (header_in s form) 0 capacity ≡ None) =
+      begins_after capacity s form (usage_of s.keys form) (begins_with capacity s form (usage_of s.keys form) most fresh low near wide) in
+      let drawn : IfSome (usage_of (drawn_for form s).keys form) (λ usage. kill_of (slot_drawn (drawn_for form s) form (flips_now s form) usage) (header_in s form) 0 capacity ≡ None) =
+      subst (λ (x : Option KeyUse). IfSome x (λ usage. kill_of (slot_drawn (drawn_for form s) form (flips_now s form) usage) (header_in s form) 0 capacity ≡ None)) (sym (usage_stays s form)) first in
+      let headed : IfSome (usage_of (drawn_for form s).keys form) (λ usage. kill_of (slot_drawn (drawn_for form s) form (flips_now s form) usage) h 0 capacity ≡ None) =
+      subst (λ (x : Header). IfSome (usage_of (drawn_for form s).keys form) (λ usage. kill_of (slot_drawn (drawn_for form s) form (flips_now s form) usage) x 0 capacity ≡ None)) (sym is_h) drawn in
+      let flipped : IfSome (usage_of (drawn_for form s).keys form) (λ usage. kill_of (slot_drawn (drawn_for form s) form flip usage) h 0 capacity ≡ None) =
+      subst (λ (x : Bool). IfSome (usage_of (drawn_for form s).keys form) (λ usage. kill_of (slot_drawn (drawn_for form s) form x usage) h 0 capacity ≡ None)) (sym is_flip) headed in
+      subst (λ (v : View t). IfSome (usage_of v.keys form) (λ usage. kill_of (slot_drawn v form flip usage) h 0 capacity ≡ None)) (sym is_s) flipped
 
   -- its header leaves room for what each packet needs
-  pub sized_still : (capacity : ℕ) (s : View t) (id : SpaceId) (h : Header) → h ≡ header_in s id → 25 ≤ room_of capacity s id → min_size_of 0 h + 16 ≤ capacity
-  sized_still capacity s id h is_h wide = subst (λ (x : Header). min_size_of 0 x + 16 ≤ capacity) (sym is_h) (least_wide capacity s id wide)
+  pub sized_still : (capacity : ℕ) (s : View t) (form : Form) (h : Header) → h ≡ header_in s form → 25 ≤ room_of capacity s form → min_size_of 0 h + 16 ≤ capacity
+  sized_still capacity s form h is_h wide = subst (λ (x : Header). min_size_of 0 x + 16 ≤ capacity) (sym is_h) (least_wide capacity s form wide)
 
   -- the frames have the PADDING that they need
-  pub filled : (s : View t) (id : SpaceId) (h : Header) (least : ℕ) (fs gs : List FrameValue) → h ≡ header_in s id → least ≡ least_size s id fs → gs ≡ fs ++ replicate (padding_len h fs (padded_size h fs least)) Padding → gs ≡ padded s id fs
+  pub filled : (s : View t) (form : Form) (h : Header) (least : ℕ) (fs gs : List FrameValue) → h ≡ header_in s form → least ≡ least_size s form fs → gs ≡ fs ++ replicate (padding_len h fs (padded_size h fs least)) Padding → gs ≡ padded s form fs
   unfolding padded padding_of
-  filled s id h least fs gs is_h is_least is_gs =
+  filled s form h least fs gs is_h is_least is_gs =
       is_gs ∙ ap (λ (x : Header). fs ++ replicate (padding_len x fs (padded_size x fs least)) Padding) is_h
-      ∙ ap (λ (n : ℕ). fs ++ replicate (padding_len (header_in s id) fs (padded_size (header_in s id) fs n)) Padding) is_least
+      ∙ ap (λ (n : ℕ). fs ++ replicate (padding_len (header_in s form) fs (padded_size (header_in s form) fs n)) Padding) is_least
 
   -- the packet has as many bytes as it is to have
-  pub sized : (s : View t) (id : SpaceId) (h : Header) (least n : ℕ) (fs : List FrameValue) → h ≡ header_in s id → least ≡ least_size s id fs → n ≡ padded_size h fs least → n ≡ packet_size s id (padded s id fs)
-  sized s id h least n fs is_h is_least is_n = is_n ∙ ap (λ (x : ℕ). padded_size h fs x) is_least ∙ padded_size_is s id h fs is_h
+  pub sized : (s : View t) (form : Form) (h : Header) (least n : ℕ) (fs : List FrameValue) → h ≡ header_in s form → least ≡ least_size s form fs → n ≡ padded_size h fs least → n ≡ packet_size s form (padded s form fs)
+  sized s form h least n fs is_h is_least is_n = is_n ∙ ap (λ (x : ℕ). padded_size h fs x) is_least ∙ padded_size_is s form h fs is_h
 
   -- these are its bytes
-  pub spelled_by : (m : Meaning t) (s s' : View t) (id : SpaceId) (h : Header) (flip : Bool) (least : ℕ) (fs gs : List FrameValue) (buffer : List ℕ) → s' ≡ drawn_for id s → h ≡ header_in s id → flip ≡ flips_now s id →
-      least ≡ least_size s id fs → gs ≡ fs ++ replicate (padding_len h fs (padded_size h fs least)) Padding →
-      buffer ≡ sealed_with m (header_key s'.keys id) (packet_key s'.keys id) flip h (next_number s'.numbers id) (frames_spelling gs) → buffer ≡ packet_bytes m s id (padded s id fs)
+  pub spelled_by : (m : Meaning t) (s s' : View t) (form : Form) (h : Header) (flip : Bool) (least : ℕ) (fs gs : List FrameValue) (buffer : List ℕ) → s' ≡ drawn_for form s → h ≡ header_in s form → flip ≡ flips_now s form →
+      least ≡ least_size s form fs → gs ≡ fs ++ replicate (padding_len h fs (padded_size h fs least)) Padding →
+      buffer ≡ sealed_with m (header_key s'.keys form) (packet_key s'.keys form) flip h (next_number s'.numbers (number_space form)) (frames_spelling gs) → buffer ≡ packet_bytes m s form (padded s form fs)
   unfolding packet_bytes drawn_for
-  spelled_by m s s' id h flip least fs gs buffer is_s is_h is_flip is_least is_gs is =
-      is ∙ ap (λ (v : View t). sealed_with m (header_key v.keys id) (packet_key v.keys id) flip h (next_number v.numbers id) (frames_spelling gs)) is_s
-      ∙ ap (λ (b : Bool). sealed_with m (header_key s.keys id) (packet_key s.keys id) b h (next_number s.numbers id) (frames_spelling gs)) is_flip
-      ∙ ap (λ (x : Header). sealed_with m (header_key s.keys id) (packet_key s.keys id) (flips_now s id) x (next_number s.numbers id) (frames_spelling gs)) is_h
-      ∙ ap (λ (xs : List FrameValue). sealed_with m (header_key s.keys id) (packet_key s.keys id) (flips_now s id) (header_in s id) (next_number s.numbers id) (frames_spelling xs)) (filled s id h least fs gs is_h is_least is_gs)
+  spelled_by m s s' form h flip least fs gs buffer is_s is_h is_flip is_least is_gs is =
+      is ∙ ap (λ (v : View t). sealed_with m (header_key v.keys form) (packet_key v.keys form) flip h (next_number v.numbers (number_space form)) (frames_spelling gs)) is_s
+      ∙ ap (λ (b : Bool). sealed_with m (header_key s.keys form) (packet_key s.keys form) b h (next_number s.numbers (number_space form)) (frames_spelling gs)) is_flip
+      ∙ ap (λ (x : Header). sealed_with m (header_key s.keys form) (packet_key s.keys form) (flips_now s form) x (next_number s.numbers (number_space form)) (frames_spelling gs)) is_h
+      ∙ ap (λ (xs : List FrameValue). sealed_with m (header_key s.keys form) (packet_key s.keys form) (flips_now s form) (header_in s form) (next_number s.numbers (number_space form)) (frames_spelling xs)) (filled s form h least fs gs is_h is_least is_gs)
 
   -- whether it counts as in flight
-  pub flies_by : (s s' : View t) (id : SpaceId) (h : Header) (least : ℕ) (fs gs : List FrameValue) (counts : Bool) → s' ≡ drawn_for id s → h ≡ header_in s id → least ≡ least_size s id fs →
-      gs ≡ fs ++ replicate (padding_len h fs (padded_size h fs least)) Padding → counts ≡ is_flown s' gs → counts ≡ is_flown s (padded s id fs)
+  pub flies_by : (s s' : View t) (form : Form) (h : Header) (least : ℕ) (fs gs : List FrameValue) (counts : Bool) → s' ≡ drawn_for form s → h ≡ header_in s form → least ≡ least_size s form fs →
+      gs ≡ fs ++ replicate (padding_len h fs (padded_size h fs least)) Padding → counts ≡ is_flown s' gs → counts ≡ is_flown s (padded s form fs)
   unfolding is_flown drawn_for
-  flies_by s s' id h least fs gs counts is_s is_h is_least is_gs is =
-      is ∙ ap (λ (v : View t). is_flown v gs) is_s ∙ ap (λ (xs : List FrameValue). is_flown s xs) (filled s id h least fs gs is_h is_least is_gs)
+  flies_by s s' form h least fs gs counts is_s is_h is_least is_gs is =
+      is ∙ ap (λ (v : View t). is_flown v gs) is_s ∙ ap (λ (xs : List FrameValue). is_flown s xs) (filled s form h least fs gs is_h is_least is_gs)
 
   -- and sealing it is its move
-  pub moved_by : (s s' : View t) (ds : List Did) (time : ℕ) (id : SpaceId) (h : Header) (number size least len : ℕ) (fs gs : List FrameValue) (b : At t) → s' ≡ drawn_for id s → h ≡ header_in s id → number ≡ next_number s.numbers id →
-      least ≡ least_size s id fs → gs ≡ fs ++ replicate (padding_len h fs (padded_size h fs least)) Padding → size ≡ len → b ≡ sealed_drawn time id number size gs (at s' ds) →
-      b ≡ move_to (Seal time id (next_number s.numbers id) len (padded s id fs)) (at s ds)
-  moved_by s s' ds time id h number size least len fs gs b is_s is_h is_number is_least is_gs is_size is =
-      seals_drawn time id number size gs s s' ds b is_s is ∙ ap (λ (n : ℕ). move_to (Seal time id n size gs) (at s ds)) is_number
-      ∙ ap (λ (n : ℕ). move_to (Seal time id (next_number s.numbers id) n gs) (at s ds)) is_size
-      ∙ ap (λ (xs : List FrameValue). move_to (Seal time id (next_number s.numbers id) len xs) (at s ds)) (filled s id h least fs gs is_h is_least is_gs)
+  pub moved_by : (s s' : View t) (ds : List Did) (time : ℕ) (form : Form) (h : Header) (number size least len : ℕ) (fs gs : List FrameValue) (b : At t) → s' ≡ drawn_for form s → h ≡ header_in s form → number ≡ next_number s.numbers (number_space form) →
+      least ≡ least_size s form fs → gs ≡ fs ++ replicate (padding_len h fs (padded_size h fs least)) Padding → size ≡ len → b ≡ sealed_drawn time form number size gs (at s' ds) →
+      b ≡ move_to (Seal time form (next_number s.numbers (number_space form)) len (padded s form fs)) (at s ds)
+  moved_by s s' ds time form h number size least len fs gs b is_s is_h is_number is_least is_gs is_size is =
+      seals_drawn time form number size gs s s' ds b is_s is ∙ ap (λ (n : ℕ). move_to (Seal time form n size gs) (at s ds)) is_number
+      ∙ ap (λ (n : ℕ). move_to (Seal time form (next_number s.numbers (number_space form)) n gs) (at s ds)) is_size
+      ∙ ap (λ (xs : List FrameValue). move_to (Seal time form (next_number s.numbers (number_space form)) len xs) (at s ds)) (filled s form h least fs gs is_h is_least is_gs)
 
 module _ {t : Types} {R : Type 0} (stream : R → Stream) where
   -- what is drawn for a packet was drawn
-  pub drawn_by : (v w : Held t R) (id : SpaceId) (setup : Setup R) → w ≡ v → ideal_setup stream setup ≡ packet_drawn (ideal_setup stream w.setup) id → ideal stream (record w { setup = setup }) ≡ drawn_for id (ideal stream v)
+  pub drawn_by : (v w : Held t R) (form : Form) (setup : Setup R) → w ≡ v → ideal_setup stream setup ≡ packet_drawn (ideal_setup stream w.setup) form → ideal stream (record w { setup = setup }) ≡ drawn_for form (ideal stream v)
   unfolding drawn_for
-  drawn_by v w id setup same left =
-      subst (λ (x : Held t R). ideal stream (record w { setup = setup }) ≡ drawn_for id (ideal stream x)) same (ap (λ (x : Setup Stream). record (ideal stream w) { setup = x }) left)
+  drawn_by v w form setup same left =
+      subst (λ (x : Held t R). ideal stream (record w { setup = setup }) ≡ drawn_for form (ideal stream x)) same (ap (λ (x : Setup Stream). record (ideal stream w) { setup = x }) left)
 
   -- the header by that
-  pub header_is : (v w : Held t R) (id : SpaceId) (setup : Setup R) (spin : Bool) (token : List ℕ) (h : Header) → w ≡ v → ideal_setup stream setup ≡ packet_drawn (ideal_setup stream w.setup) id →
-      spin ≡ (if is_space id Data && not w.setup.fixed.spins then bit (stream w.setup.random) else w.paths.spin) → token ≡ token_in id v.setup.initial_token → h ≡ header_with (ideal stream (record w { setup = setup })) id spin token →
-      h ≡ header_in (ideal stream v) id
+  pub header_is : (v w : Held t R) (form : Form) (setup : Setup R) (spin : Bool) (token : List ℕ) (h : Header) → w ≡ v → ideal_setup stream setup ≡ packet_drawn (ideal_setup stream w.setup) form →
+      spin ≡ (if is_one_rtt form && not w.setup.fixed.spins then bit (stream w.setup.random) else w.paths.spin) → token ≡ token_in form v.setup.initial_token → h ≡ header_with (ideal stream (record w { setup = setup })) form spin token →
+      h ≡ header_in (ideal stream v) form
   unfolding ideal_setup
-  header_is v w id setup spin token h same left is_spin is_token is_h =
-      header_drawn (ideal stream v) (ideal stream (record w { setup = setup })) id spin token h (drawn_by v w id setup same left)
-      (is_spin ∙ ap (λ (x : Held t R). if is_space id Data && not x.setup.fixed.spins then bit (stream x.setup.random) else x.paths.spin) same) is_token is_h
+  header_is v w form setup spin token h same left is_spin is_token is_h =
+      header_drawn (ideal stream v) (ideal stream (record w { setup = setup })) form spin token h (drawn_by v w form setup same left)
+      (is_spin ∙ ap (λ (x : Held t R). if is_one_rtt form && not x.setup.fixed.spins then bit (stream x.setup.random) else x.paths.spin) same) is_token is_h
 
   -- and whether its fixed bit is flipped
-  pub flip_is : (v w : Held t R) (id : SpaceId) (flip : Bool) → w ≡ v → flip ≡ (takes_grease w.setup.peer && bit (behind_spin (ideal_setup stream w.setup) id)) → flip ≡ flips_now (ideal stream v) id
+  pub flip_is : (v w : Held t R) (form : Form) (flip : Bool) → w ≡ v → flip ≡ (takes_grease w.setup.peer && bit (behind_spin (ideal_setup stream w.setup) form)) → flip ≡ flips_now (ideal stream v) form
   unfolding flips_now ideal_setup
-  flip_is v w id flip same is = is ∙ ap (λ (x : Held t R). takes_grease x.setup.peer && bit (behind_spin (ideal_setup stream x.setup) id)) same
+  flip_is v w form flip same is = is ∙ ap (λ (x : Held t R). takes_grease x.setup.peer && bit (behind_spin (ideal_setup stream x.setup) form)) same
 
-  -- a space with keys has them all, and a slot
-  pub header_key_there : (v w : Held t R) (id : SpaceId) (found : Option t.H) → w ≡ v → has_keys v.keys id ≡ true → found ≡ header_key w.keys id → found ≡ None → ⊥
-  header_key_there v w id found same keyed is none =
-      missing found (header_key w.keys id) is (keyed_header w.keys id (ap (λ (x : Held t R). has_keys x.keys id) same ∙ keyed)) none
+  -- where there are keys, there are all, and a slot
+  pub header_key_there : (v w : Held t R) (form : Form) (found : Option t.H) → w ≡ v → has_keys_for v.keys form ≡ true → found ≡ header_key w.keys form → found ≡ None → ⊥
+  header_key_there v w form found same keyed is none =
+      missing found (header_key w.keys form) is (keyed_header w.keys form (ap (λ (x : Held t R). has_keys_for x.keys form) same ∙ keyed)) none
 
-  pub packet_key_there : (v w : Held t R) (id : SpaceId) (found : Option t.P) → w ≡ v → has_keys v.keys id ≡ true → found ≡ packet_key w.keys id → found ≡ None → ⊥
-  packet_key_there v w id found same keyed is none =
-      missing found (packet_key w.keys id) is (keyed_packet w.keys id (ap (λ (x : Held t R). has_keys x.keys id) same ∙ keyed)) none
+  pub packet_key_there : (v w : Held t R) (form : Form) (found : Option t.P) → w ≡ v → has_keys_for v.keys form ≡ true → found ≡ packet_key w.keys form → found ≡ None → ⊥
+  packet_key_there v w form found same keyed is none =
+      missing found (packet_key w.keys form) is (keyed_packet w.keys form (ap (λ (x : Held t R). has_keys_for x.keys form) same ∙ keyed)) none
 
-  pub slot_there : (v : Held t R) (id : SpaceId) (flip : Bool) (found : Option Slot) → has_keys v.keys id ≡ true → found ≡ option_map (slot_drawn (ideal stream v) id flip) (usage_of v.keys id) → found ≡ None → ⊥
-  slot_there v id flip found keyed is none =
-      missing found (option_map (slot_drawn (ideal stream v) id flip) (usage_of v.keys id)) is
-      (mapped_some (slot_drawn (ideal stream v) id flip) (usage_of v.keys id) (keyed_usage v.keys id keyed)) none
+  pub slot_there : (v : Held t R) (form : Form) (flip : Bool) (found : Option Slot) → has_keys_for v.keys form ≡ true → found ≡ option_map (slot_drawn (ideal stream v) form flip) (usage_of v.keys form) → found ≡ None → ⊥
+  slot_there v form flip found keyed is none =
+      missing found (option_map (slot_drawn (ideal stream v) form flip) (usage_of v.keys form)) is
+      (mapped_some (slot_drawn (ideal stream v) form flip) (usage_of v.keys form) (keyed_usage v.keys form keyed)) none
 
   -- the token of an Initial packet
-  pub token_is : {E : Type 0} (v w : Held t R) (id : SpaceId) (copied : Result (List ℕ) E) → w ≡ v → id ≡ Initial → MatchResult copied (λ copy. copy ≡ w.setup.initial_token) (λ error. ⊥ → ⊥) → IfOk copied (λ token. token ≡ token_in id v.setup.initial_token)
-  token_is v w id (Ok copy) same first is = is ∙ ap (λ (x : Held t R). x.setup.initial_token) same ∙ ap (λ (x : SpaceId). token_in x v.setup.initial_token) (sym first)
-  token_is v w id (Err e) same first is = tt
+  pub token_is : {E : Type 0} (v w : Held t R) (form : Form) (copied : Result (List ℕ) E) → w ≡ v → form ≡ Initial → MatchResult copied (λ copy. copy ≡ w.setup.initial_token) (λ error. ⊥ → ⊥) → IfOk copied (λ token. token ≡ token_in form v.setup.initial_token)
+  token_is v w form (Ok copy) same first is = is ∙ ap (λ (x : Held t R). x.setup.initial_token) same ∙ ap (λ (x : Form). token_in x v.setup.initial_token) (sym first)
+  token_is v w form (Err e) same first is = tt

@@ -12,7 +12,9 @@ use Rattle.qc_frame.specs.declared.frames.FrameOf.TheVariants as frames
 use Rattle.qc_frame.specs.Sizes.{IsLongestReason}
 use Rattle.qc_frame.proofs.Padded.{zeros}
 use Rattle.qc_frame.proofs.Lengths.{varint_size_max, length_type, length-connection_close, length-application_close}
+use Rattle.qc_state.specs.declared.form.Form.{Form}
 use Rattle.qc_state.specs.Acks.{may_acknowledge}
+use Rattle.qc_state.specs.Forms.{number_space}
 use Rattle.qc_state.specs.Life.{is_closed}
 use Rattle.qc_state.specs.declared.life.Close.{Close}
 use Rattle.qc_state.specs.declared.life.Close.TheVariants.{Connection, Application}
@@ -40,26 +42,26 @@ padding_bytes n = ap length (zeros n) ∙ length-replicate n 0
 
 module _ {t : Types} where
   -- a packet is asked for no more bytes than a datagram has
-  pub least_low : (s : View t) (id : SpaceId) (fs : List FrameValue) → least_size s id fs ≤ DATAGRAM_SIZE
+  pub least_low : (s : View t) (form : Form) (fs : List FrameValue) → least_size s form fs ≤ DATAGRAM_SIZE
   unfolding least_size
-  least_low s id fs = least_by (fills s.setup.fixed.side id (list_any elicits fs))
+  least_low s form fs = least_by (fills s.setup.fixed.side (number_space form) (list_any elicits fs))
 
   -- so many bytes has a packet with these frames and the PADDING that they need
-  pub padded_size_is : (s : View t) (id : SpaceId) (h : Header) (fs : List FrameValue) → h ≡ header_in s id → padded_size h fs (least_size s id fs) ≡ packet_size s id (padded s id fs)
+  pub padded_size_is : (s : View t) (form : Form) (h : Header) (fs : List FrameValue) → h ≡ header_in s form → padded_size h fs (least_size s form fs) ≡ packet_size s form (padded s form fs)
   unfolding packet_size padded padding_of
-  padded_size_is s id h fs is =
-      let n : ℕ = padding_len (header_in s id) fs (padded_size (header_in s id) fs (least_size s id fs)) in
+  padded_size_is s form h fs is =
+      let n : ℕ = padding_len (header_in s form) fs (padded_size (header_in s form) fs (least_size s form fs)) in
       let whole : length (frames_spelling (fs ++ replicate n Padding)) ≡ length (frames_spelling fs) + n = bytes_append fs (replicate n Padding) ∙ ap (λ (x : ℕ). length (frames_spelling fs) + x) (padding_bytes n) in
-      ap (λ (x : Header). padded_size x fs (least_size s id fs)) is ∙ omega (arith, whole)
+      ap (λ (x : Header). padded_size x fs (least_size s form fs)) is ∙ omega (arith, whole)
 
   -- which fit into a datagram, where the frames do behind the header with room for the tag, and the header leaves room for 25 bytes
-  pub padded_fits : (capacity : ℕ) (s : View t) (id : SpaceId) (h : Header) (fs : List FrameValue) → DATAGRAM_SIZE ≤ capacity → h ≡ header_in s id → length (header_spelling h 0) + 41 ≤ capacity →
-      length (header_spelling h 0) + length (frames_spelling fs) + 16 ≤ capacity → packet_size s id (padded s id fs) ≤ capacity
+  pub padded_fits : (capacity : ℕ) (s : View t) (form : Form) (h : Header) (fs : List FrameValue) → DATAGRAM_SIZE ≤ capacity → h ≡ header_in s form → length (header_spelling h 0) + 41 ≤ capacity →
+      length (header_spelling h 0) + length (frames_spelling fs) + 16 ≤ capacity → packet_size s form (padded s form fs) ≤ capacity
   unfolding min_size_of
-  padded_fits capacity s id h fs large is short room =
-      let len : length (header_spelling h 0) ≡ length (header_spelling (header_in s id) 0) = ap (λ (x : Header). length (header_spelling x 0)) is in
-      let size : padded_size (header_in s id) fs (least_size s id fs) ≡ packet_size s id (padded s id fs) = padded_size_is s id (header_in s id) fs refl in
-      omega (arith, large, short, room, len, size, dst_within s id, least_low s id fs)
+  padded_fits capacity s form h fs large is short room =
+      let len : length (header_spelling h 0) ≡ length (header_spelling (header_in s form) 0) = ap (λ (x : Header). length (header_spelling x 0)) is in
+      let size : padded_size (header_in s form) fs (least_size s form fs) ≡ packet_size s form (padded s form fs) = padded_size_is s form (header_in s form) fs refl in
+      omega (arith, large, short, room, len, size, dst_within s form, least_low s form fs)
 
 -- a close without a reason is short
 close_short : (code : ℕ) (type : Option ℕ) → length (frames_spelling (close_frame code type ∷ [])) ≤ 18
@@ -100,7 +102,7 @@ now_fits closing time s space room fs (TakenNow.a_close e closes) wide = close_f
 now_fits closing time s space room fs (TakenNow.what_waits e taken) wide = taken_fits time s.waiting.bundled (space_of s.waiting.spaces space) room fs taken (omega arith)
 
 -- and behind the header
-pub room_holds : {t : Types} (capacity : ℕ) (s : View t) (space : SpaceId) (bytes : ℕ) → 25 ≤ room_of capacity s space → bytes ≤ room_of capacity s space →
-    (length (header_spelling (header_in s space) 0) + 41 ≤ capacity) × (length (header_spelling (header_in s space) 0) + bytes + 16 ≤ capacity)
+pub room_holds : {t : Types} (capacity : ℕ) (s : View t) (form : Form) (bytes : ℕ) → 25 ≤ room_of capacity s form → bytes ≤ room_of capacity s form →
+    (length (header_spelling (header_in s form) 0) + 41 ≤ capacity) × (length (header_spelling (header_in s form) 0) + bytes + 16 ≤ capacity)
 unfolding room_of
-room_holds capacity s space bytes wide fits = (omega (arith, wide), omega (arith, wide, fits))
+room_holds capacity s form bytes wide fits = (omega (arith, wide), omega (arith, wide, fits))

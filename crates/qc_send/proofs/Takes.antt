@@ -6,7 +6,10 @@ use Rattle.qc_base.specs.declared.side.SpaceId.TheVariants.{Initial, Handshake, 
 use Rattle.qc_frame.specs.Frame.{FrameValue}
 use Rattle.qc_frame.specs.FrameSpelling.{elicits, frames_spelling}
 use Rattle.qc_frame.specs.declared.frames.FrameOf.TheVariants.{Padding}
+use Rattle.qc_state.specs.declared.form.Form.{Form}
+use Rattle.qc_state.specs.declared.form.Form.TheVariants as form
 use Rattle.qc_state.specs.Acks.{AckPart, may_acknowledge}
+use Rattle.qc_state.specs.Forms.{number_space}
 use Rattle.qc_state.specs.Life.{is_closed}
 use Rattle.qc_state.specs.declared.life.Close.{Close}
 use Rattle.qc_state.specs.declared.life.Close.TheVariants.{Connection, Application}
@@ -47,9 +50,11 @@ close_stays w id kept false c = refl
 
 module _ {t : Types} where
   -- PADDING changes nothing of what waits
-  pub take_padded : (id : SpaceId) (fs : List FrameValue) (s : View t) → state_move (Take id (padded s id fs)) s ≡ state_move (Take id fs) s
+  pub take_padded : (form : Form) (fs : List FrameValue) (s : View t) → state_move (Take (number_space form) (padded s form fs)) s ≡ state_move (Take (number_space form) fs) s
   unfolding state_move numbers_move keys_move life_move paths_move timers_move waiting_move setup_move lower_move waiting_without padded
-  take_padded id fs s = ap (λ (w : SpaceWaiting). record s { waiting = record s.waiting { spaces = with_space s.waiting.spaces id w } }) (without_padded (space_of s.waiting.spaces id) fs (padding_of s id fs))
+  take_padded form fs s =
+      ap (λ (w : SpaceWaiting). record s { waiting = record s.waiting { spaces = with_space s.waiting.spaces (number_space form) w } })
+      (without_padded (space_of s.waiting.spaces (number_space form)) fs (padding_of s form fs))
 
   -- a close behind an ACK changes nothing more of what waits
   close_behind : (s : View t) (id : SpaceId) (kept : List ℕ) (acks : List FrameValue) → state_move (Take id acks) s ≡ state_move (Take id (acks ++ closing_frame id kept s.life ∷ [])) s
@@ -78,38 +83,39 @@ module _ {t : Types} where
   unfolding is_flown state_move waiting_move waiting_without
   flown_taken s mid id fs is = ap (λ (x : View t). is_flown x fs) is
 
-  -- a packet of the space is sealed, where its frames are taken first
-  pub sealed_now : (time : ℕ) (space : SpaceId) (ds : List Did) (e mid : View t) (b f : At t) (gs : List FrameValue) → mid ≡ state_move (Take space gs) e →
-      b ≡ move_to (Seal time space (next_number e.numbers space) (packet_size e space gs) gs) (at mid ds) → f ≡ flown_after time (is_flown mid gs) b → f ≡ sealed_in time space gs (at e ds)
+  -- a packet of this form is sealed, where its frames are taken first
+  pub sealed_now : (time : ℕ) (form : Form) (ds : List Did) (e mid : View t) (b f : At t) (gs : List FrameValue) → mid ≡ state_move (Take (number_space form) gs) e →
+      b ≡ move_to (Seal time form (next_number e.numbers (number_space form)) (packet_size e form gs) gs) (at mid ds) → f ≡ flown_after time (is_flown mid gs) b → f ≡ sealed_in time form gs (at e ds)
   unfolding sealed_in move_to deeds_move
-  sealed_now time space ds e mid b f gs same is_b is_f =
-      is_f ∙ ap (λ (x : Bool). flown_after time x b) (flown_taken e mid space gs same)
+  sealed_now time form ds e mid b f gs same is_b is_f =
+      is_f ∙ ap (λ (x : Bool). flown_after time x b) (flown_taken e mid (number_space form) gs same)
       ∙ ap (λ (x : At t). flown_after time (is_flown e gs) x)
-      (is_b ∙ ap (λ (x : View t). move_to (Seal time space (next_number e.numbers space) (packet_size e space gs) gs) (at x ds)) same)
+      (is_b ∙ ap (λ (x : View t). move_to (Seal time form (next_number e.numbers (number_space form)) (packet_size e form gs) gs) (at x ds)) same)
 
   -- taking frames leaves the header of the next packet
-  header_kept : (s : View t) (id : SpaceId) (fs : List FrameValue) → header_in (state_move (Take id fs) s) id ≡ header_in s id
+  header_kept : (s : View t) (form : Form) (fs : List FrameValue) → header_in (state_move (Take (number_space form) fs) s) form ≡ header_in s form
   unfolding state_move numbers_move keys_move paths_move setup_move spin_now
-  header_kept s Initial fs = refl
-  header_kept s Handshake fs = refl
-  header_kept s Data fs = refl
+  header_kept s form.Initial fs = refl
+  header_kept s form.Handshake fs = refl
+  header_kept s form.Early fs = refl
+  header_kept s form.OneRtt fs = refl
 
-  pub header_taken : (s mid : View t) (id : SpaceId) (fs : List FrameValue) → mid ≡ state_move (Take id fs) s → header_in mid id ≡ header_in s id
-  header_taken s mid id fs is = ap (λ (x : View t). header_in x id) is ∙ header_kept s id fs
+  pub header_taken : (s mid : View t) (form : Form) (fs : List FrameValue) → mid ≡ state_move (Take (number_space form) fs) s → header_in mid form ≡ header_in s form
+  header_taken s mid form fs is = ap (λ (x : View t). header_in x form) is ∙ header_kept s form fs
 
   -- nor does it change what a packet with given frames is
-  pub size_kept : (s : View t) (id : SpaceId) (fs gs : List FrameValue) → packet_size (state_move (Take id fs) s) id gs ≡ packet_size s id gs
+  pub size_kept : (s : View t) (form : Form) (fs gs : List FrameValue) → packet_size (state_move (Take (number_space form) fs) s) form gs ≡ packet_size s form gs
   unfolding packet_size
-  size_kept s id fs gs = ap (λ (x : Header). length (header_spelling x 0) + length (frames_spelling gs) + 16) (header_kept s id fs)
+  size_kept s form fs gs = ap (λ (x : Header). length (header_spelling x 0) + length (frames_spelling gs) + 16) (header_kept s form fs)
 
-  pub padded_kept : (s : View t) (id : SpaceId) (fs gs : List FrameValue) → padded (state_move (Take id fs) s) id gs ≡ padded s id gs
+  pub padded_kept : (s : View t) (form : Form) (fs gs : List FrameValue) → padded (state_move (Take (number_space form) fs) s) form gs ≡ padded s form gs
   unfolding padded padding_of least_size state_move setup_move
-  padded_kept s id fs gs = ap (λ (x : Header). gs ++ replicate (padding_len x gs (padded_size x gs (if fills s.setup.fixed.side id (list_any elicits gs) then DATAGRAM_SIZE else 0))) Padding) (header_kept s id fs)
+  padded_kept s form fs gs = ap (λ (x : Header). gs ++ replicate (padding_len x gs (padded_size x gs (if fills s.setup.fixed.side (number_space form) (list_any elicits gs) then DATAGRAM_SIZE else 0))) Padding) (header_kept s form fs)
 
-  pub bytes_kept : (m : Meaning t) (s : View t) (id : SpaceId) (fs gs : List FrameValue) → packet_bytes m (state_move (Take id fs) s) id gs ≡ packet_bytes m s id gs
+  pub bytes_kept : (m : Meaning t) (s : View t) (form : Form) (fs gs : List FrameValue) → packet_bytes m (state_move (Take (number_space form) fs) s) form gs ≡ packet_bytes m s form gs
   unfolding packet_bytes flips_now state_move keys_move setup_move numbers_move
-  bytes_kept m s id fs gs = ap (λ (x : Header). sealed_with m (header_key s.keys id) (packet_key s.keys id) (takes_grease s.setup.peer && bit (behind_spin s.setup id)) x (next_number s.numbers id) (frames_spelling gs)) (header_kept s id fs)
+  bytes_kept m s form fs gs = ap (λ (x : Header). sealed_with m (header_key s.keys form) (packet_key s.keys form) (takes_grease s.setup.peer && bit (behind_spin s.setup form)) x (next_number s.numbers (number_space form)) (frames_spelling gs)) (header_kept s form fs)
 
-  pub number_kept : (s : View t) (id : SpaceId) (fs : List FrameValue) → (state_move (Take id fs) s).numbers ≡ s.numbers
+  pub number_kept : (s : View t) (form : Form) (fs : List FrameValue) → (state_move (Take (number_space form) fs) s).numbers ≡ s.numbers
   unfolding state_move numbers_move
-  number_kept s id fs = refl
+  number_kept s form fs = refl

@@ -2,6 +2,7 @@
 use Rattle.std.proofs.Common.{◌≡◌, ℕ, List, [], ◌∷◌, length, refl, ap, sym, ◌∙◌, subst, false, Some, None, ◌<◌, arith}
 use Rattle.qc_base.specs.declared.side.SpaceId.{SpaceId}
 use Rattle.qc_state.specs.declared.transmit.Transmit.{Transmit}
+use Rattle.qc_state.specs.Keys.{form_in}
 use Rattle.qc_state.specs.Moves.{move_to, Say}
 use Rattle.qc_state.specs.Paths.{is_blocked}
 use Rattle.qc_state.specs.Sending.{packet_after, transmit_after, MayTransmit, transmit_bytes, transmit_with, transmit_of, Transmits, kill_in, quiet_of, HasTurn, Went, Hushed, Died, ending_after, Going, going, going_from, SendsOne, batch_begun, finished_after, gone_after, path_size}
@@ -44,7 +45,7 @@ module _ {t : Types} where
   transmits_quiet m time a b quiet buffer may l e = record { choice = record { packets = []; ending = Hushed quiet }; may = (tt, (refl, may)); leads = l; answer = refl; bytes = e; full = ap length e }
 
   -- a transmit that ends the connection
-  pub transmits_killed : (m : Meaning t) (time : ℕ) (a mid b : At t) (space : SpaceId) (why : ConnectionError) (buffer : List ℕ) → HasTurn a.state.waiting.close_owed a.state space → is_blocked a.state.paths ≡ false → kill_in a.state space ≡ Some why →
+  pub transmits_killed : (m : Meaning t) (time : ℕ) (a mid b : At t) (space : SpaceId) (why : ConnectionError) (buffer : List ℕ) → HasTurn a.state.waiting.close_owed a.state space → is_blocked a.state.paths ≡ false → kill_in a.state (form_in a.state.keys space) ≡ Some why →
       mid ≡ killed_after why a → b ≡ move_to (Say Killed) mid → buffer ≡ [] → Transmits m time a b None buffer
   unfolding MayTransmit transmit_after ending_after gone_after transmit_of transmit_bytes
   transmits_killed m time a mid b space why buffer turn free kill is_mid is_b e = record {

@@ -38,7 +38,8 @@ module _ {t : Types} where
     number = number_of (next_number s.numbers Initial) (acked_number s.numbers Initial);
     version = s.setup.fixed.version;
   })
-  header_with s form.Handshake spin token = header.Long long.Handshake s.paths.current.remote_cid s.setup.fixed.local_cid (number_of (next_number s.numbers Handshake) (acked_number s.numbers Handshake)) s.setup.fixed.version
+  header_with s form.Handshake spin token =
+      header.Long long.Handshake s.paths.current.remote_cid s.setup.fixed.local_cid (number_of (next_number s.numbers Handshake) (acked_number s.numbers Handshake)) s.setup.fixed.version
   header_with s form.Early spin token =
       header.Long long.ZeroRtt s.paths.current.remote_cid s.setup.fixed.local_cid (number_of (next_number s.numbers Data) (acked_number s.numbers Data)) s.setup.fixed.version
   header_with s form.OneRtt spin token = header.Short spin (phase_now s.keys) s.paths.current.remote_cid (number_of (next_number s.numbers Data) (acked_number s.numbers Data))

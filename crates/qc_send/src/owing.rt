@@ -118,11 +118,11 @@ pub(crate) fn is_key_nearly_used_up<U: Suite>(core: &Core<U>, form: Form) -> boo
     core.keys.reaches_limit(form, 2)
 }
 
-/// Whether a probe is due in the space.
-pub(crate) fn is_probe_due<U: Suite>(core: &Core<U>, space: SpaceId) -> bool
-    ensures { result ≡ not ((space_of core.now.waiting.spaces space).probes == 0) }
+/// Whether a probe is due in the space of packets of this form.
+pub(crate) fn is_probe_due<U: Suite>(core: &Core<U>, form: Form) -> bool
+    ensures { result ≡ not ((space_of core.now.waiting.spaces (number_space form)).probes == 0) }
 {
-    core.waiting.owes_probe(space)
+    core.waiting.owes_probe(form.space())
 }
 
 /// Whether the token of the next Initial packet leaves no room for the greatest close without a reason.

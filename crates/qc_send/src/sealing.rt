@@ -204,17 +204,18 @@ fn least_size<U: Suite>(core: &Core<U>, form: Form, frames: &FrameList) -> usize
     0
 }
 
-/// A packet of the space is begun, and a datagram with it where it opens one: a probe that is due there is spent then, and the number
-/// that would be next is skipped where it is to be. Want of memory is the only refusal.
+/// A packet of this form is begun, and a datagram with it where it opens one: a probe that is due in its space is spent then, and
+/// the number that would be next is skipped where it is to be. Want of memory is the only refusal.
 #[tactic(auto, unfolding(qc_state::specs::Sending::begun_after, qc_state::specs::Sending::skipped_after, qc_state::specs::Moves::move_to, qc_state::specs::Moves::deeds_move))]
 pub(crate) fn begin_packet<U: Suite>(
     core: &mut Core<U>,
-    space: SpaceId,
+    form: Form,
     opens: bool,
     did: &Dids,
 ) -> Result<(), AllocError>
-    ensures { OnOk result ((held U.Random.stream core.new did.now) ≡ begun_after space opens (held U.Random.stream core.old did.now)) }
+    ensures { OnOk result ((held U.Random.stream core.new did.now) ≡ begun_after (number_space form) opens (held U.Random.stream core.old did.now)) }
 {
+    let space = form.space();
     core.do_begin(space, opens)?;
     if core.numbers.is_skipped(space) {
         core.do_skip();

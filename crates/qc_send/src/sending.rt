@@ -39,17 +39,16 @@ fn seal_packet<U: Suite>(
     ensures sends { OnOk result (SendsOne ⟦<U as Means>⟧.meaning now (going (held U.Random.stream core.old did.old) batch.old buf.old.items) (going (held U.Random.stream core.new did.new) batch.new buf.new.items)) }
     ensures size { OnOk result (length buf.new.items ≡ batch.new.total) }
 {
-    let space = form.space();
     let nearly = is_key_nearly_used_up(core, form);
-    let probes = is_probe_due(core, space);
+    let probes = is_probe_due(core, form);
     let closing = batch.closing;
-    begin_packet(core, space, true, did)?;
+    begin_packet(core, form, true, did)?;
     batch.open(true, probes);
     let capacity = batch.capacity as usize;
     let frames = take(core, alloc, now, closing, capacity, form)?;
     let counts = seal(core, alloc, did, now, form, capacity, frames, buf)?;
     core.fly_after(did, now, counts);
-    batch.grow(space, buf.len() as u64, nearly);
+    batch.grow(form, buf.len() as u64, nearly);
     Ok(())
 }
 

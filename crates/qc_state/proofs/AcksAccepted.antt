@@ -9,6 +9,7 @@ use Rattle.qc_frame.specs.Frame.{FrameValue}
 use Rattle.qc_flight.specs.Packets.{Entry}
 use Rattle.qc_path.specs.Arrived.{Window, arrived}
 use Rattle.qc_path.specs.declared.pending_acks.Arrival.{Arrival}
+use Rattle.qc_state.specs.declared.form.Form.{Form}
 use Rattle.qc_state.specs.declared.coming.Coming.{Coming}
 use Rattle.qc_state.specs.declared.deeds.Did.{Did}
 use Rattle.qc_state.specs.declared.deeds.Did.TheVariants as did
@@ -19,6 +20,8 @@ use Rattle.qc_state.specs.declared.life.Close.{Close}
 use Rattle.qc_state.specs.declared.trace.Step.{Step}
 use Rattle.qc_state.specs.declared.waiting.SpaceWaiting.{SpaceWaiting}
 use Rattle.qc_state.specs.declared.waiting.Waiting.{Waiting}
+use Rattle.qc_state.specs.Keys.{epoch_in}
+use Rattle.qc_state.specs.Forms.{number_space, is_early}
 use Rattle.qc_state.specs.Headline.{deeds_of, KnownBehind, AcksOnly, SealsKnown, AcksKnown, IsKept, EachAcksKnown}
 use Rattle.qc_state.specs.Life.{is_open}
 use Rattle.qc_state.specs.Moves.{Move, Clock, Ask, Take, Seal, Forget, Enter, Expect, Fail, Accept, Fix, Hear, Ack, Fire, Arm, Pace, Release, Begin, Skip, Come, Read, Write, Ready, Token, Learn, Want, Confirm, Establish, Tell, PeerClosesToo, PeerCloses, Owe, Shut, Raise, Give, Say, ReportReady, ReportConnected, ReportLost, ReportNotice, ReportNotices, ReportDrained, accepts, state_move, move_to, deeds_move, waiting_move, numbers_move, keys_move, life_move, MayMove, IsTold, told, arrival_of, Finish}
@@ -164,7 +167,7 @@ module _ {t : Types} where
   -- where a move may be made: a packet that is sealed acknowledges what is kept, and one that is accepted has a verdict which
   -- says so
   abbrev pub IsKnowing : Move t → View t → Type 0
-  IsKnowing (Seal time space n size fs) s = AcksOnly (IsKept space s.waiting) fs
+  IsKnowing (Seal time form n size fs) s = AcksOnly (IsKept (number_space form) s.waiting) fs
   IsKnowing (Accept time space n e g v) s = accepts v ≡ true
   IsKnowing _ s = Unit {0}
 
@@ -215,9 +218,9 @@ module _ {t : Types} where
   knows_move id (Clock time) a h k = absurd h
   knows_move id (Ask space) a h k = silent_knows id (Ask space) a refl (same_kept id space a.state.waiting _ refl)
   knows_move id (Take space fs) a h k = silent_knows id (Take space fs) a refl (same_kept id space a.state.waiting _ (without_all_keeps (space_of a.state.waiting.spaces space) fs))
-  knows_move id (Seal time space n size fs) a h k =
-      deed_knows id (Seal time space n size fs) (did.Sealed space n 0 false fs) a refl (said_there id space a.state.waiting fs k)
-      (sealed_kept id space a.state.waiting (is_space space a.state.keys.highest) fs (next_bundle time (estimate a.state.paths.current.kept.rtt) (peer_delay a.state.setup.peer)))
+  knows_move id (Seal time form n size fs) a h k =
+      deed_knows id (Seal time form n size fs) (did.Sealed (number_space form) n (epoch_in a.state.keys form) (is_early form) fs) a refl (said_there id (number_space form) a.state.waiting fs k)
+      (sealed_kept id (number_space form) a.state.waiting (is_space (number_space form) a.state.keys.highest) fs (next_bundle time (estimate a.state.paths.current.kept.rtt) (peer_delay a.state.setup.peer)))
   knows_move id (Forget space) a h k = silent_knows id (Forget space) a refl (same_kept id space a.state.waiting _ refl)
   knows_move id (Enter space n v) a h k = deed_knows id (Enter space n v) _ a refl tt (λ n m. inr m)
   knows_move id (Expect token) a h k = silent_knows id (Expect token) a refl (λ n m. m)
@@ -304,15 +307,16 @@ module _ {t : Types} where
   sending_knows _ s r = absurd r
 
   -- a packet is taken and sealed
-  knows_packet : (id : SpaceId) (time : ℕ) (space : SpaceId) (fs : List FrameValue) (a : At t) → IsSealable time a.state space fs →
-      Knows id a (move_to (Seal time space (next_number a.state.numbers space) (packet_size a.state space fs) fs) (move_to (Take space fs) a))
+  knows_packet : (id : SpaceId) (time : ℕ) (form : Form) (fs : List FrameValue) (a : At t) → IsSealable time a.state form fs →
+      Knows id a (move_to (Seal time form (next_number a.state.numbers (number_space form)) (packet_size a.state form fs) fs) (move_to (Take (number_space form) fs) a))
   unfolding MayMove move_to state_move numbers_move keys_move life_move waiting_move
-  knows_packet id time space fs a may =
+  knows_packet id time form fs a may =
+      let space : SpaceId = number_space form in
       let b : At t = move_to (Take space fs) a in
       let said : AcksOnly (IsKept space (waiting_without a.state.waiting space fs)) fs =
-      only_more (IsKept space a.state.waiting) (IsKept space (waiting_without a.state.waiting space fs)) (taken_kept space a.state.waiting fs) fs (carries_known may.closing time a.state space may.room fs may.carries) in
+      only_more (IsKept space a.state.waiting) (IsKept space (waiting_without a.state.waiting space fs)) (taken_kept space a.state.waiting fs) fs (carries_known may.closing time a.state form may.room fs may.carries) in
       knows_next id a b _ (knows_move id (Take space fs) a tt tt)
-      (knows_move id (Seal time space (next_number a.state.numbers space) (packet_size a.state space fs) fs) b (refl, may.closes, may.alive, may.keyed) said)
+      (knows_move id (Seal time form (next_number a.state.numbers (number_space form)) (packet_size a.state form fs) fs) b (refl, may.closes, may.alive, may.keyed) said)
 
   -- a transmit
   knows_transmit : (id : SpaceId) (m : Meaning t) (time : ℕ) (choice : Choice) (a : At t) → MayTransmit m time choice a → Knows id a (transmit_after m time choice a)

@@ -15,6 +15,8 @@ use Rattle.qc_path.specs.Acks.{PendingValues, acks_confirmed, acks_received}
 use Rattle.qc_base.specs.Time.{plus}
 use Rattle.qc_path.specs.Arrived.{Window}
 use Rattle.qc_path.specs.declared.pending_acks.Arrival.{Arrival}
+use Rattle.qc_state.specs.declared.form.Form.{Form}
+use Rattle.qc_state.specs.Forms.{number_space}
 use Rattle.qc_state.specs.Acks.{AckPart, SaysAck}
 use Rattle.qc_state.specs.declared.deeds.Did.{Did}
 use Rattle.qc_state.specs.declared.deeds.Did.TheVariants as did
@@ -264,11 +266,13 @@ module _ {t : Types} where
       subst (AcksOnly K) (sym is) (only_append K acks (closing_frame id kept s.life ∷ []) (part_known time w _ acks _ part) (close_only K (is_closed s.life.state) id kept s.life.close))
 
   -- frames with PADDING behind them acknowledge no more
-  padded_known : (K : ℕ → Type 0) (s : View t) (id : SpaceId) (fs gs : List FrameValue) → fs ≡ padded s id gs → AcksOnly K gs → AcksOnly K fs
+  padded_known : (K : ℕ → Type 0) (s : View t) (form : Form) (fs gs : List FrameValue) → fs ≡ padded s form gs → AcksOnly K gs → AcksOnly K fs
   unfolding padded
-  padded_known K s id fs gs is known = subst (AcksOnly K) (sym is) (only_append K gs (replicate (padding_of s id gs) frames.Padding) known (padding_only K (padding_of s id gs)))
+  padded_known K s form fs gs is known = subst (AcksOnly K) (sym is) (only_append K gs (replicate (padding_of s form gs) frames.Padding) known (padding_only K (padding_of s form gs)))
 
   -- what a packet carries acknowledges what is kept in its space
-  pub carries_known : (closing : Bool) (time : ℕ) (s : View t) (id : SpaceId) (room : ℕ) (fs : List FrameValue) → Carries closing time s id room fs → AcksOnly (IsKept id s.waiting) fs
-  carries_known closing time s id room fs (Carries.a_close owed gs closes is) = padded_known (IsKept id s.waiting) s id fs gs is (closes_known time s id room gs closes)
-  carries_known closing time s id room fs (Carries.what_waits free gs wait some is) = padded_known (IsKept id s.waiting) s id fs gs is (wait_known time s id gs wait)
+  pub carries_known : (closing : Bool) (time : ℕ) (s : View t) (form : Form) (room : ℕ) (fs : List FrameValue) → Carries closing time s form room fs → AcksOnly (IsKept (number_space form) s.waiting) fs
+  carries_known closing time s form room fs (Carries.a_close owed gs closes is) =
+      padded_known (IsKept (number_space form) s.waiting) s form fs gs is (closes_known time s (number_space form) room gs closes)
+  carries_known closing time s form room fs (Carries.what_waits free gs wait some is) =
+      padded_known (IsKept (number_space form) s.waiting) s form fs gs is (wait_known time s (number_space form) gs wait)

@@ -3,6 +3,7 @@ use Rattle.std.proofs.Common.{◌≡◌, ℕ, ◌+◌, ◌≤◌, refl, sym, ◌
 use Rattle.qc_base.specs.declared.side.SpaceId.{SpaceId}
 use Rattle.qc_state.specs.declared.transmit.Batch.{Batch}
 use Rattle.qc_state.specs.declared.transmit.TheConstants.{DATAGRAM_SIZE}
+use Rattle.qc_state.specs.Forms.{number_space}
 use Rattle.qc_state.specs.Sending.{Going, MayFollow, Sent, batch_grown, batch_opened, begun_after, packet_after, packet_size, begun_batch, next_segment}
 use Rattle.qc_state.specs.Types.{Types, Meaning}
 use Rattle.qc_state.specs.View.{View, At}
@@ -84,16 +85,16 @@ grown_total id size nearly b e small = omega (arith, e, small)
 pub packet_made : {t : Types} (m : Meaning t) (time : ℕ) (p : Sent) (g : Going t) → MayFollow time g.now.state g.batch p → (packet_after m time p g).batch.made ≡ 1
 unfolding packet_after begun_batch
 packet_made m time p g may =
-    let probes : Bool = not ((space_of g.now.state.waiting.spaces p.space).probes == 0) in
-    grown_made p.space _ _ (batch_opened p.opens probes g.batch) ∙ opened_made g.batch p.opens probes may.opens may.alone
+    let probes : Bool = not ((space_of g.now.state.waiting.spaces (number_space p.form)).probes == 0) in
+    grown_made (number_space p.form) _ _ (batch_opened p.opens probes g.batch) ∙ opened_made g.batch p.opens probes may.opens may.alone
 
 -- which has no more bytes than a datagram may
 pub packet_total : {t : Types} (m : Meaning t) (time : ℕ) (p : Sent) (g : Going t) → MayFollow time g.now.state g.batch p → g.batch.total ≡ 0 → g.batch.segment ≡ DATAGRAM_SIZE → (packet_after m time p g).batch.total ≤ DATAGRAM_SIZE
 unfolding packet_after begun_batch
 packet_total {t} m time p g may none whole =
-    let begun : At t = begun_after p.space p.opens g.now in
-    let probes : Bool = not ((space_of g.now.state.waiting.spaces p.space).probes == 0) in
+    let begun : At t = begun_after (number_space p.form) p.opens g.now in
+    let probes : Bool = not ((space_of g.now.state.waiting.spaces (number_space p.form)).probes == 0) in
     let opened : Batch = batch_opened p.opens probes g.batch in
     let room : opened.capacity ≡ DATAGRAM_SIZE = opened_capacity g.batch p.opens probes may.opens may.alone whole in
-    let fits : opened.filled + packet_size begun.state p.space p.frames ≤ opened.capacity = subst (λ (s : View t). opened.filled + packet_size s p.space p.frames ≤ opened.capacity) (sym (begun_same p.space p.opens g.now)) may.fits in
-    grown_total p.space (packet_size begun.state p.space p.frames) _ opened (opened_total g.batch p.opens probes ∙ none) (omega (arith, fits, room))
+    let fits : opened.filled + packet_size begun.state p.form p.frames ≤ opened.capacity = subst (λ (s : View t). opened.filled + packet_size s p.form p.frames ≤ opened.capacity) (sym (begun_same (number_space p.form) p.opens g.now)) may.fits in
+    grown_total (number_space p.form) (packet_size begun.state p.form p.frames) _ opened (opened_total g.batch p.opens probes ∙ none) (omega (arith, fits, room))

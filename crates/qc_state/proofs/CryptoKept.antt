@@ -15,11 +15,13 @@ use Rattle.qc_recovery.specs.declared.calls.Fired.{Fired}
 use Rattle.qc_recovery.specs.declared.recovery.Recovery.{Recovery}
 use Rattle.qc_recovery.proofs.RunsSettle.{put_flight}
 use Rattle.qc_send_stream.specs.Buffer.{Buffer}
+use Rattle.qc_state.specs.declared.form.Form.{Form}
 use Rattle.qc_state.specs.declared.spaces.Spaces.{Spaces}
 use Rattle.qc_state.specs.declared.waiting.SpaceWaiting.{SpaceWaiting}
 use Rattle.qc_state.specs.declared.waiting.Waiting.{Waiting}
 use Rattle.qc_state.specs.CryptoLaws.{BytesHold, CryptoHolds, CryptoKept, KeepsBytes}
 use Rattle.qc_state.specs.Flight.{flown_packet}
+use Rattle.qc_state.specs.Forms.{number_space, is_early}
 use Rattle.qc_state.specs.Spaces.{is_space, space_of, with_space}
 use Rattle.qc_state.specs.Waiting.{ack_released, acked_in, bundle_next, came_in, close_begun, crypto_more, crypto_written, done_asked, frames_again, lost_in, nothing_left, packet_came, packet_told, packets_acked, packets_lost, ping_asked, probe_spent, released, space_left, waiting_without, without_all}
 use Rattle.qc_path.specs.Arrived.{arrived}
@@ -33,7 +35,7 @@ use Rattle.qc_state.specs.declared.trace.Step.{Step}
 use Rattle.qc_state.specs.Acks.{is_ack}
 use Rattle.qc_state.specs.EndLaws.{Ends}
 use Rattle.qc_state.specs.Headline.{deeds_of}
-use Rattle.qc_state.specs.Keys.{NewKeys, failure_counted, has_keys, keys_given}
+use Rattle.qc_state.specs.Keys.{NewKeys, failure_counted, has_keys, keys_given, epoch_in}
 use Rattle.qc_state.specs.Life.{connected_reported, data_ready, drained_reported, identifiers_wanted, is_open, life_closed, life_drained, life_established, life_raised, lost_reported, ready_reported, reason_given, token_learned, notice_reported, notices_reported}
 use Rattle.qc_state.specs.Lower.{bytes_came, flight_dropped, packet_flown, packets_settled, session_read, session_wrote, timer_fired}
 use Rattle.qc_state.specs.Moves.{Accept, Ack, AreNext, Ask, Begin, Clock, Confirm, PeerClosesToo, Establish, Fail, Fire, Forget, Give, PeerCloses, MayMove, Move, Owe, Raise, Release, ReportConnected, ReportDrained, ReportLost, ReportReady, ReportNotice, ReportNotices, Seal, Shut, Take, Write, arrival_of, deeds_move, keys_move, life_move, lower_move, move_to, paths_move, state_move, waiting_move}
@@ -86,7 +88,7 @@ module _ {t : Types} where
   abbrev IsStill : Move t → Type 0
   IsStill (Clock time) = ⊥
   IsStill (Take id fs) = ⊥
-  IsStill (Seal time id n size fs) = ⊥
+  IsStill (Seal time form n size fs) = ⊥
   IsStill (Forget id) = ⊥
   IsStill (Ack id n after) = ⊥
   IsStill (Fire after) = ⊥
@@ -106,7 +108,7 @@ module _ {t : Types} where
   still_crypto (Shut time close) s id h = closed_crypto s.waiting id s.waiting.close_owed
   still_crypto (Clock time) s id h = absurd h
   still_crypto (Take space fs) s id h = absurd h
-  still_crypto (Seal time space n size fs) s id h = absurd h
+  still_crypto (Seal time form n size fs) s id h = absurd h
   still_crypto (Forget space) s id h = absurd h
   still_crypto (Ack space n after) s id h = absurd h
   still_crypto (Fire after) s id h = absurd h
@@ -118,7 +120,7 @@ module _ {t : Types} where
   unfolding lower_move bytes_came session_read
   still_lower (Clock time) s h = absurd h
   still_lower (Take space fs) s h = absurd h
-  still_lower (Seal time space n size fs) s h = absurd h
+  still_lower (Seal time form n size fs) s h = absurd h
   still_lower (Forget space) s h = absurd h
   still_lower (Ack space n after) s h = absurd h
   still_lower (Fire after) s h = absurd h
@@ -130,7 +132,7 @@ module _ {t : Types} where
   unfolding keys_move failure_counted
   still_highest (Clock time) s h = absurd h
   still_highest (Take space fs) s h = absurd h
-  still_highest (Seal time space n size fs) s h = absurd h
+  still_highest (Seal time form n size fs) s h = absurd h
   still_highest (Forget space) s h = absurd h
   still_highest (Ack space n after) s h = absurd h
   still_highest (Fire after) s h = absurd h
@@ -143,7 +145,7 @@ module _ {t : Types} where
   still_keys Fail s id h k = failed_keys s.keys id k
   still_keys (Clock time) s id h k = absurd h
   still_keys (Take space fs) s id h k = absurd h
-  still_keys (Seal time space n size fs) s id h k = absurd h
+  still_keys (Seal time form n size fs) s id h k = absurd h
   still_keys (Forget space) s id h k = absurd h
   still_keys (Ack space n after) s id h k = absurd h
   still_keys (Fire after) s id h k = absurd h
@@ -283,7 +285,7 @@ module _ {t : Types} where
   unfolding steps_of MayMove
   move_bytes m (Clock time) s k may id before h = absurd k
   move_bytes m (Take space fs) s k may id before h = absurd k
-  move_bytes m (Seal time space n size fs) s k may id before h = absurd k
+  move_bytes m (Seal time form n size fs) s k may id before h = absurd k
   move_bytes m (Forget space) s k may id before h = forget_holds space s id before h
   move_bytes m (Ack space n after) s k may id before h = ack_by m space n after s id before (same_or id space) k h
   move_bytes m (Fire after) s k may id before h = fire_holds m after s id before k h
@@ -299,21 +301,21 @@ module _ {t : Types} where
 
   -- ---- a packet that is taken and sealed
 
-  seal_kept : (time n size : ℕ) (space : SpaceId) (fs : List FrameValue) (s : View t) (id : SpaceId) (before : List Entry) → (id ≡ space) ⊎ (is_space id space ≡ false) → (is_open s.life.state ≡ true → s.waiting.close_owed ≡ false) → CryptoKept id before s →
-      CryptoKept id (before ++ []) (state_move (Seal time space n size fs) (state_move (Take space fs) s))
+  seal_kept : (time n size : ℕ) (form : Form) (fs : List FrameValue) (s : View t) (id : SpaceId) (before : List Entry) → (id ≡ number_space form) ⊎ (is_space id (number_space form) ≡ false) → (is_open s.life.state ≡ true → s.waiting.close_owed ≡ false) → CryptoKept id before s →
+      CryptoKept id (before ++ []) (state_move (Seal time form n size fs) (state_move (Take (number_space form) fs) s))
   unfolding state_move waiting_move lower_move keys_move life_move waiting_without packet_told bundle_next flown_packet
-  seal_kept time n size space fs s id before (inl is) unowed h =
-      narrow id (before ++ []) s.keys.highest _ (is_open s.life.state) (has_keys s.keys id) _ _ _ (used_highest s.keys space n) (used_keys s.keys space n id)
-      (subst (λ (b : Buffer). CryptoHolds id (before ++ []) s.keys.highest (is_open s.life.state) (has_keys s.keys id) b (recovery.space_of id (if s.waiting.close_owed then s.lower else packet_flown s.lower space n (flown_packet time size fs)).recovery).flight)
+  seal_kept time n size form fs s id before (inl is) unowed h =
+      narrow id (before ++ []) s.keys.highest _ (is_open s.life.state) (has_keys s.keys id) _ _ _ (used_highest s.keys form n) (used_keys s.keys form n id)
+      (subst (λ (b : Buffer). CryptoHolds id (before ++ []) s.keys.highest (is_open s.life.state) (has_keys s.keys id) b (recovery.space_of id (if s.waiting.close_owed then s.lower else packet_flown s.lower (number_space form) n (flown_packet time size fs)).recovery).flight)
       (sym (ap (λ (v : Spaces SpaceWaiting). (space_of v id).crypto) (bundled_spaces _ _ (list_any is_ack fs))
       ∙ subst (λ (x : SpaceId). let u : Spaces SpaceWaiting = with_space s.waiting.spaces x (without_all (space_of s.waiting.spaces x) fs) in (space_of (with_space u x (record (space_of u x) { told = true })) id).crypto ≡ (without_all (space_of s.waiting.spaces id) fs).crypto) is (sealed_stream id s.waiting.spaces fs)))
       (here_values id before s.keys.highest (is_open s.life.state) (has_keys s.keys id) s.waiting.close_owed (space_of s.waiting.spaces id) (flight_of id s) _ n (flown_packet time size fs) fs refl unowed
-      (λ no. flown_lower s.waiting.close_owed s.lower space n (flown_packet time size fs) id no is) h))
-  seal_kept time n size space fs s id before (inr other) unowed h =
-      narrow id (before ++ []) s.keys.highest _ (is_open s.life.state) (has_keys s.keys id) _ _ _ (used_highest s.keys space n) (used_keys s.keys space n id)
+      (λ no. flown_lower s.waiting.close_owed s.lower (number_space form) n (flown_packet time size fs) id no is) h))
+  seal_kept time n size form fs s id before (inr other) unowed h =
+      narrow id (before ++ []) s.keys.highest _ (is_open s.life.state) (has_keys s.keys id) _ _ _ (used_highest s.keys form n) (used_keys s.keys form n id)
       (apart_values id before s.keys.highest (is_open s.life.state) (has_keys s.keys id) (crypto_of id s) _ (flight_of id s) _
-      (ap (λ (v : Spaces SpaceWaiting). (space_of v id).crypto) (bundled_spaces _ _ (list_any is_ack fs)) ∙ sealed_apart id space s.waiting.spaces fs other)
-      (apart_lower s.waiting.close_owed s.lower space n (flown_packet time size fs) id other) h)
+      (ap (λ (v : Spaces SpaceWaiting). (space_of v id).crypto) (bundled_spaces _ _ (list_any is_ack fs)) ∙ sealed_apart id (number_space form) s.waiting.spaces fs other)
+      (apart_lower s.waiting.close_owed s.lower (number_space form) n (flown_packet time size fs) id other) h)
 
 -- ---- inputs, steps and runs
 
@@ -370,21 +372,22 @@ module _ {t : Types} where
         over = record { recovers = record { steps = steps_of x a.state; may = parts.0; leads = parts.1; sent = parts.2 }; bytes = move_bytes m x a.state k may };
       }
 
-  keeping_packet : (m : Meaning t) (time : ℕ) (space : SpaceId) (fs : List FrameValue) (a : At t) → IsSealable time a.state space fs → Ends a.state →
-      Keeping m a (move_to (Seal time space (next_number a.state.numbers space) (packet_size a.state space fs) fs) (move_to (Take space fs) a))
-  unfolding steps_of state_move lower_move paths_move deeds_move move_to waiting_move waiting_without
-  keeping_packet m time space fs a may ends =
+  keeping_packet : (m : Meaning t) (time : ℕ) (form : Form) (fs : List FrameValue) (a : At t) → IsSealable time a.state form fs → Ends a.state →
+      Keeping m a (move_to (Seal time form (next_number a.state.numbers (number_space form)) (packet_size a.state form fs) fs) (move_to (Take (number_space form) fs) a))
+  unfolding steps_of state_move lower_move paths_move keys_move deeds_move move_to waiting_move waiting_without
+  keeping_packet m time form fs a may ends =
+      let space : SpaceId = number_space form in
       let n : ℕ = next_number a.state.numbers space in
-      let size : ℕ = packet_size a.state space fs in
+      let size : ℕ = packet_size a.state form fs in
       let owed : Bool = a.state.waiting.close_owed in
-      let sealed = seal_folds m time n size space fs (state_move (Take space fs) a.state) owed (λ e. may.closes (shut_rank a.state.life.state (ends.owed e))) in
+      let sealed = seal_folds m time n size space (epoch_in a.state.keys form) (is_early form) fs (state_move (Take space fs) a.state) owed (λ e. may.closes (shut_rank a.state.life.state (ends.owed e))) in
       record {
-        since = did.Sealed space n 0 false fs ∷ [];
+        since = did.Sealed space n (epoch_in a.state.keys form) (is_early form) fs ∷ [];
         appended = refl;
         over = record {
           recovers = record { steps = if owed then [] else laws.Sent space n (flown_packet time size fs) ∷ []; may = sealed.0; leads = sealed.1; sent = sealed.2 };
-          bytes = λ id before h. subst (λ (es : List Entry). CryptoKept id (before ++ es) (state_move (Seal time space n size fs) (state_move (Take space fs) a.state))) (sym (owed_acked t.C id owed space n (flown_packet time size fs)))
-              (seal_kept time n size space fs a.state id before (same_or id space) (unowed_by (is_open a.state.life.state) owed ends.owed) h);
+          bytes = λ id before h. subst (λ (es : List Entry). CryptoKept id (before ++ es) (state_move (Seal time form n size fs) (state_move (Take space fs) a.state))) (sym (owed_acked t.C id owed space n (flown_packet time size fs)))
+              (seal_kept time n size form fs a.state id before (same_or id space) (unowed_by (is_open a.state.life.state) owed ends.owed) h);
         };
       }
 

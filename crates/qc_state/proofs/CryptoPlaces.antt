@@ -25,6 +25,8 @@ use Rattle.qc_recovery.specs.declared.recovery.Recovery.{Recovery}
 use Rattle.qc_recovery.proofs.RunsSettle.{count_keeps, put_flight}
 use Rattle.qc_recovery.proofs.Settling.{ack_settles, timer_settles}
 use Rattle.qc_send_stream.specs.Buffer.{Buffer, discarded}
+use Rattle.qc_state.specs.declared.form.Form.{Form}
+use Rattle.qc_state.specs.declared.form.Form.TheVariants as form
 use Rattle.qc_state.specs.declared.spaces.Spaces.{Spaces}
 use Rattle.qc_state.specs.declared.waiting.SpaceWaiting.{SpaceWaiting}
 use Rattle.qc_state.specs.declared.waiting.Waiting.{Waiting}
@@ -40,7 +42,7 @@ use Rattle.qc_state.specs.declared.keys.SpaceKeys.{SpaceKeys}
 use Rattle.qc_state.specs.declared.life.ConnectionError.{ConnectionError}
 use Rattle.qc_state.specs.declared.life.Life.{Life}
 use Rattle.qc_state.specs.declared.lower.Lower.{Lower}
-use Rattle.qc_state.specs.Keys.{NewKeys, NoKeys, HandshakeKeys, DataKeys, count_one, failure_counted, has_keys, key_used, keys_dropped, keys_given, ring_used}
+use Rattle.qc_state.specs.Keys.{NewKeys, NoKeys, HandshakeKeys, DataKeys, count_one, failure_counted, has_keys, key_used, keys_dropped, keys_given, ring_used, form_in, has_keys_for}
 use Rattle.qc_state.specs.Lower.{packet_flown}
 use Rattle.qc_state.specs.Moves.{Ack, AreNext}
 use Rattle.qc_state.specs.Receiving.{is_below}
@@ -346,14 +348,14 @@ put_again Data Data v fs = all_again_more v.application fs
 
 module _ {H P : Type 0} where
   pub failed_keys : (v : KeyGroup H P) (id : SpaceId) → has_keys (failure_counted v) id ≡ true → has_keys v id ≡ true
-  unfolding failure_counted has_keys
+  unfolding failure_counted has_keys has_keys_for form_in
   failed_keys v Initial h = h
   failed_keys v Handshake h = h
   failed_keys v Data h = h
 
   -- the keys of a space are dropped
   pub dropped_keys : (v : KeyGroup H P) (id space : SpaceId) → has_keys (keys_dropped v space) id ≡ true → (is_space id space ≡ false) × (has_keys v id ≡ true)
-  unfolding keys_dropped has_keys
+  unfolding keys_dropped has_keys has_keys_for form_in
   dropped_keys v Initial Initial h = cc
   dropped_keys v Initial Handshake h = (refl, h)
   dropped_keys v Initial Data h = (refl, h)
@@ -372,7 +374,7 @@ module _ {H P : Type 0} where
 
   -- keys that are given are those of a space above the highest one, and nothing lies above it that didn't before
   pub given_keys : (v : KeyGroup H P) (keys : NewKeys H P) (id : SpaceId) → AreNext keys v.highest → has_keys (keys_given v keys) id ≡ true → (has_keys v id ≡ true) ⊎ (is_below v.highest id ≡ true)
-  unfolding keys_given has_keys
+  unfolding keys_given has_keys has_keys_for form_in
   given_keys v NoKeys id next k = inl k
   given_keys v (HandshakeKeys new) Initial next k = inl k
   given_keys v (HandshakeKeys new) Handshake next k = inr (ap (λ (x : SpaceId). is_below x Handshake) next)
@@ -401,23 +403,25 @@ module _ {H P : Type 0} where
   ring_keys n None h = h
   ring_keys n (Some k) h = refl
 
-  pub used_keys : (v : KeyGroup H P) (space : SpaceId) (n : ℕ) (id : SpaceId) → has_keys (key_used v space n) id ≡ true → has_keys v id ≡ true
-  unfolding key_used has_keys
-  used_keys v Initial n Initial h = counted_keys v.initial h
-  used_keys v Initial n Handshake h = h
-  used_keys v Initial n Data h = h
-  used_keys v Handshake n Initial h = h
-  used_keys v Handshake n Handshake h = counted_keys v.handshake h
-  used_keys v Handshake n Data h = h
-  used_keys v Data n Initial h = h
-  used_keys v Data n Handshake h = h
-  used_keys v Data n Data h = ring_keys n v.«data» h
+  pub used_keys : (v : KeyGroup H P) (form : Form) (n : ℕ) (id : SpaceId) → has_keys (key_used v form n) id ≡ true → has_keys v id ≡ true
+  unfolding key_used has_keys has_keys_for form_in
+  used_keys v form.Initial n Initial h = counted_keys v.initial h
+  used_keys v form.Initial n Handshake h = h
+  used_keys v form.Initial n Data h = h
+  used_keys v form.Handshake n Initial h = h
+  used_keys v form.Handshake n Handshake h = counted_keys v.handshake h
+  used_keys v form.Handshake n Data h = h
+  used_keys v form.Early n id h = h
+  used_keys v form.OneRtt n Initial h = h
+  used_keys v form.OneRtt n Handshake h = h
+  used_keys v form.OneRtt n Data h = ring_keys n v.«data» h
 
-  pub used_highest : (v : KeyGroup H P) (space : SpaceId) (n : ℕ) → (key_used v space n).highest ≡ v.highest
+  pub used_highest : (v : KeyGroup H P) (form : Form) (n : ℕ) → (key_used v form n).highest ≡ v.highest
   unfolding key_used
-  used_highest v Initial n = refl
-  used_highest v Handshake n = refl
-  used_highest v Data n = refl
+  used_highest v form.Initial n = refl
+  used_highest v form.Handshake n = refl
+  used_highest v form.Early n = refl
+  used_highest v form.OneRtt n = refl
 
 module _ {S : Type 0} where
   pub flown_lower : (owed : Bool) (l : Lower S) (space : SpaceId) (n : ℕ) (packet : SentPacket) (id : SpaceId) → (owed ≡ false → id ≡ space → (recovery.space_of id (if owed then l else packet_flown l space n packet).recovery).flight ≡ (recovery.space_of id l.recovery).flight ++ (n, packet) ∷ [])

@@ -7,6 +7,7 @@ use Rattle.qc_frame.specs.Frame.{FrameValue}
 use Rattle.qc_frame.specs.FrameSpelling.{elicits}
 use Rattle.qc_recovery.specs.declared.calls.Fired.{Fired}
 use Rattle.qc_recovery.specs.declared.calls.Fired.TheVariants as fired
+use Rattle.qc_state.specs.declared.form.Form.{Form}
 use Rattle.qc_state.specs.declared.input.Input.{Input}
 use Rattle.qc_state.specs.declared.life.ConnectionError.{ConnectionError}
 use Rattle.qc_state.specs.declared.life.Life.{Life}
@@ -17,6 +18,7 @@ use Rattle.qc_state.specs.declared.trace.Step.{Step}
 use Rattle.qc_state.specs.declared.waiting.Waiting.{Waiting}
 use Rattle.qc_state.specs.Acks.{is_ack}
 use Rattle.qc_state.specs.EndLaws.{EndHolds, Ends, NoTimer}
+use Rattle.qc_state.specs.Forms.{number_space}
 use Rattle.qc_state.specs.Life.{connected_reported, data_ready, drained_reported, identifiers_wanted, is_closed, is_drained, is_open, life_closed, life_drained, life_established, life_raised, lost_reported, rank_of, ready_reported, reason_given, token_learned, notice_reported, notices_reported}
 use Rattle.qc_state.specs.Moves.{Accept, Ack, Arm, Ask, Begin, Clock, Come, Confirm, PeerClosesToo, Enter, Establish, Expect, Fail, Finish, Fire, Fix, Forget, Give, Hear, IsArmed, Learn, PeerCloses, MayMove, Move, Owe, Pace, Raise, Read, Ready, Release, ReportConnected, ReportDrained, ReportLost, ReportReady, ReportNotice, ReportNotices, Say, Seal, Shut, Skip, Take, Tell, Token, Want, Write, keys_move, life_move, move_to, numbers_move, state_move, timers_move, waiting_move}
 use Rattle.qc_state.specs.Numbers.{next_number}
@@ -149,11 +151,11 @@ module _ {t : Types} where
   begun_owed s id opens = begun_holds (λ (v : Waiting). v.close_owed ≡ s.waiting.close_owed) (λ w space h. h) (λ w space fs h. h) (λ w space h. h) id opens s refl
 
   -- a packet is sealed
-  seal_holds : (s : View t) (time n size : ℕ) (id : SpaceId) (fs : List FrameValue) → is_drained s.life.state ≡ false → Ends s → Ends (state_move (Seal time id n size fs) s)
+  seal_holds : (s : View t) (time n size : ℕ) (form : Form) (fs : List FrameValue) → is_drained s.life.state ≡ false → Ends s → Ends (state_move (Seal time form n size fs) s)
   unfolding state_move life_move timers_move waiting_move bundle_next packet_told
-  seal_holds s time n size id fs alive h =
-      let close : (timers_move (Seal time id n size fs) s).close ≡ s.timers.close =
-      sealed_close s.timers (idle_limit_now s.setup) (probe_timeout_now s id) time (list_any elicits fs) (list_any is_ack fs) in
+  seal_holds s time n size form fs alive h =
+      let close : (timers_move (Seal time form n size fs) s).close ≡ s.timers.close =
+      sealed_close s.timers (idle_limit_now s.setup) (probe_timeout_now s (number_space form)) time (list_any elicits fs) (list_any is_ack fs) in
       record {
         closing = λ low high. ap is_some close ∙ h.closing low high;
         ended = λ d. absurd cc;
@@ -165,7 +167,7 @@ module _ {t : Types} where
   move_keeps (Clock time) r a may = absurd may
   move_keeps (Ask id) r a may = λ h. h
   move_keeps (Take id fs) r a may = λ h. h
-  move_keeps (Seal time id n size fs) r a may = λ h. seal_holds a.state time n size id fs may.2 h
+  move_keeps (Seal time form n size fs) r a may = λ h. seal_holds a.state time n size form fs may.2 h
   move_keeps (Forget id) r a may = λ h. h
   move_keeps (Enter id n v) r a may = λ h. h
   move_keeps (Expect token) r a may = λ h. h
@@ -224,12 +226,12 @@ module _ {t : Types} where
   pub known_keeps : (m : Meaning t) (x : Move t) (a : At t) → IsKnownMove m x a.state → MayMove x a.state → Keeps a (move_to x a)
   known_keeps m x a known may = move_keeps x (known_made m x a.state known) a may
 
-  pub ends_seal : (time : ℕ) (id : SpaceId) (fs : List FrameValue) (a : At t) → IsSealable time a.state id fs → Keeps a (move_to (Seal time id (next_number a.state.numbers id) (packet_size a.state id fs) fs) (move_to (Take id fs) a))
+  pub ends_seal : (time : ℕ) (form : Form) (fs : List FrameValue) (a : At t) → IsSealable time a.state form fs → Keeps a (move_to (Seal time form (next_number a.state.numbers (number_space form)) (packet_size a.state form fs) fs) (move_to (Take (number_space form) fs) a))
   unfolding MayMove move_to state_move numbers_move keys_move life_move
-  ends_seal time id fs a may =
-      let b : At t = move_to (Take id fs) a in
-      let seal : Move t = Seal time id (next_number a.state.numbers id) (packet_size a.state id fs) fs in
-      next a b (move_to seal b) (move_keeps (Take id fs) tt a tt) (move_keeps seal tt b (refl, may.closes, may.alive, may.keyed))
+  ends_seal time form fs a may =
+      let b : At t = move_to (Take (number_space form) fs) a in
+      let seal : Move t = Seal time form (next_number a.state.numbers (number_space form)) (packet_size a.state form fs) fs in
+      next a b (move_to seal b) (move_keeps (Take (number_space form) fs) tt a tt) (move_keeps seal tt b (refl, may.closes, may.alive, may.keyed))
 
   -- a call that begins
   pub began_ends : (s : View t) (time : ℕ) → Ends s → Ends (began s time).state

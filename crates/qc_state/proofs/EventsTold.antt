@@ -164,7 +164,7 @@ module _ {t : Types} where
   life_waits : (x : Move t) (s : View t) → IsMade x → MayMove x s → OnlyDoneWaits s.life → Waits (deeds_move x s) s.life (life_move x s)
   unfolding MayMove deeds_move life_move life_closed life_drained data_ready token_learned identifiers_wanted
   life_waits (Clock time) s r h w = absurd r
-  life_waits (Seal time id n size fs) s r h w = same_waits _ s.life refl refl refl w
+  life_waits (Seal time form n size fs) s r h w = same_waits _ s.life refl refl refl w
   life_waits (Enter id n v) s r h w = same_waits _ s.life refl refl refl w
   life_waits (Accept time id n e g v) s r h w = same_waits _ s.life refl refl refl w
   life_waits (Say q) s r h w = same_waits _ s.life refl refl refl w

@@ -8,6 +8,8 @@ use Rattle.qc_base.specs.declared.side.SpaceId.{SpaceId}
 use Rattle.qc_base.specs.declared.side.SpaceId.TheVariants.{Initial, Handshake, «Data»}
 use Rattle.qc_frame.specs.Frame.{FrameValue}
 use Rattle.qc_frame.specs.Payload.{items_of}
+use Rattle.qc_state.specs.declared.form.Form.{Form}
+use Rattle.qc_state.specs.declared.form.Form.TheVariants as form
 use Rattle.qc_state.specs.declared.coming.Coming.{Coming}
 use Rattle.qc_state.specs.declared.deeds.Did.{Did}
 use Rattle.qc_state.specs.declared.deeds.Did.TheVariants as did
@@ -20,9 +22,10 @@ use Rattle.qc_state.specs.declared.keys.SpaceKeys.{SpaceKeys}
 use Rattle.qc_state.specs.declared.life.Close.{Close}
 use Rattle.qc_state.specs.declared.trace.Step.{Step}
 use Rattle.qc_state.specs.declared.transmit.Batch.{Batch}
+use Rattle.qc_state.specs.Forms.{number_space, is_early}
 use Rattle.qc_state.specs.Headline.{deeds_of}
 use Rattle.qc_state.specs.InitialLaws.{LeavesInitial, NoneInitial, has_left, leaves_with, seals_initial}
-use Rattle.qc_state.specs.Keys.{NewKeys, NoKeys, HandshakeKeys, DataKeys, count_one, failure_counted, has_keys, key_used, keys_dropped, keys_given}
+use Rattle.qc_state.specs.Keys.{NewKeys, NoKeys, HandshakeKeys, DataKeys, count_one, failure_counted, has_keys, key_used, keys_dropped, keys_given, epoch_in, form_in, has_keys_for}
 use Rattle.qc_state.specs.Life.{is_open, is_over}
 use Rattle.qc_state.specs.Moves.{Accept, Ask, Begin, PeerClosesToo, Enter, Establish, Expect, Fail, Finish, Forget, Give, IsTold, Learn, PeerCloses, MayMove, Move, Owe, Raise, Say, Seal, Shut, Skip, Take, Tell, Write, accepts, armed_with, deeds_move, enters, keys_move, move_to, setup_move, state_move}
 use Rattle.qc_state.specs.Numbers.{is_skipped, next_number}
@@ -148,18 +151,18 @@ shook_by : (id : SpaceId) (size : ℕ) (nearly : Bool) (b : Batch) → id ≡ Ha
 unfolding batch_grown
 shook_by id size nearly b is = subst (λ (space : SpaceId). (b.shook || is_space space Handshake) ≡ true) (sym is) (or_second b.shook true refl)
 
-sealed_shakes : (side : Side) (id : SpaceId) (n : ℕ) (fs : List FrameValue) → leaves_with side (did.Sealed id n 0 false fs) ≡ true → (side ≡ Client) × (id ≡ Handshake)
-sealed_shakes Client Initial n fs h = cc
-sealed_shakes Client Handshake n fs h = (refl, refl)
-sealed_shakes Client Data n fs h = cc
-sealed_shakes Server Initial n fs h = cc
-sealed_shakes Server Handshake n fs h = cc
-sealed_shakes Server Data n fs h = cc
+sealed_shakes : (side : Side) (id : SpaceId) (n epoch : ℕ) (early : Bool) (fs : List FrameValue) → leaves_with side (did.Sealed id n epoch early fs) ≡ true → (side ≡ Client) × (id ≡ Handshake)
+sealed_shakes Client Initial n epoch early fs h = cc
+sealed_shakes Client Handshake n epoch early fs h = (refl, refl)
+sealed_shakes Client Data n epoch early fs h = cc
+sealed_shakes Server Initial n epoch early fs h = cc
+sealed_shakes Server Handshake n epoch early fs h = cc
+sealed_shakes Server Data n epoch early fs h = cc
 
-sealed_initial : (id : SpaceId) (n : ℕ) (fs : List FrameValue) → seals_initial (did.Sealed id n 0 false fs) ≡ true → id ≡ Initial
-sealed_initial Initial n fs h = refl
-sealed_initial Handshake n fs h = cc
-sealed_initial Data n fs h = cc
+sealed_initial : (id : SpaceId) (n epoch : ℕ) (early : Bool) (fs : List FrameValue) → seals_initial (did.Sealed id n epoch early fs) ≡ true → id ≡ Initial
+sealed_initial Initial n epoch early fs h = refl
+sealed_initial Handshake n epoch early fs h = cc
+sealed_initial Data n epoch early fs h = cc
 
 either : (left shakes : Bool) (Q : Type 0) → (left ≡ true → Q) → (shakes ≡ true → Q) → (left || shakes) ≡ true → Q
 either true shakes Q was does e = was refl
@@ -181,30 +184,31 @@ module _ {H P : Type 0} where
   used_gone None h = refl
   used_gone (Some k) h = cc
 
-  key_gone : (v : KeyGroup H P) (id : SpaceId) (n : ℕ) → has_keys v Initial ≡ false → has_keys (key_used v id n) Initial ≡ false
-  unfolding key_used has_keys
-  key_gone v Initial n h = used_gone v.initial h
-  key_gone v Handshake n h = h
-  key_gone v Data n h = h
+  key_gone : (v : KeyGroup H P) (form : Form) (n : ℕ) → has_keys v Initial ≡ false → has_keys (key_used v form n) Initial ≡ false
+  unfolding key_used has_keys has_keys_for form_in
+  key_gone v form.Initial n h = used_gone v.initial h
+  key_gone v form.Handshake n h = h
+  key_gone v form.Early n h = h
+  key_gone v form.OneRtt n h = h
 
   dropped_gone : (v : KeyGroup H P) (id : SpaceId) → has_keys v Initial ≡ false → has_keys (keys_dropped v id) Initial ≡ false
-  unfolding keys_dropped has_keys
+  unfolding keys_dropped has_keys has_keys_for form_in
   dropped_gone v Initial h = refl
   dropped_gone v Handshake h = h
   dropped_gone v Data h = h
 
   initial_dropped : (v : KeyGroup H P) → has_keys (keys_dropped v Initial) Initial ≡ false
-  unfolding keys_dropped has_keys
+  unfolding keys_dropped has_keys has_keys_for form_in
   initial_dropped v = refl
 
   given_gone : (v : KeyGroup H P) (keys : NewKeys H P) → has_keys v Initial ≡ false → has_keys (keys_given v keys) Initial ≡ false
-  unfolding keys_given has_keys
+  unfolding keys_given has_keys has_keys_for form_in
   given_gone v NoKeys h = h
   given_gone v (HandshakeKeys k) h = h
   given_gone v (DataKeys k) h = h
 
   failed_gone : (v : KeyGroup H P) → has_keys v Initial ≡ false → has_keys (failure_counted v) Initial ≡ false
-  unfolding failure_counted has_keys
+  unfolding failure_counted has_keys has_keys_for form_in
   failed_gone v h = h
 
 -- ---- moves
@@ -220,7 +224,7 @@ module _ {t : Types} where
   -- where it has none it gets none
   move_gone : (x : Move t) (a : At t) → Gone a → Gone (move_to x a)
   unfolding move_to state_move keys_move
-  move_gone (Seal time id n size fs) a h = key_gone a.state.keys id n h
+  move_gone (Seal time form n size fs) a h = key_gone a.state.keys form n h
   move_gone (Forget id) a h = dropped_gone a.state.keys id h
   move_gone Fail a h = failed_gone a.state.keys h
   move_gone (Write bytes keys session) a h = given_gone a.state.keys keys h
@@ -235,7 +239,7 @@ module _ {t : Types} where
       side_by (Expect token) = refl
       side_by (Learn parameters) = refl
       side_by Skip = refl
-      side_by (Seal time id n size fs) = refl
+      side_by (Seal time form n size fs) = refl
       side_by _ = refl
 
   -- from one moment to another nothing was sealed in the Initial space; where an end left it, this holds
@@ -260,7 +264,7 @@ module _ {t : Types} where
 
   -- the moves that do so
   abbrev IsQuiet : Type 0 → Move t → Type 0
-  IsQuiet P (Seal time id n size fs) = ⊥
+  IsQuiet P (Seal time form n size fs) = ⊥
   IsQuiet P (Accept time id n e g v) = id ≡ Handshake → P
   IsQuiet P (Enter id n v) = accepts v ≡ false
   IsQuiet P (Tell d) = IsTold d
@@ -268,7 +272,7 @@ module _ {t : Types} where
 
   quiet_deeds : (P : Type 0) (x : Move t) (s : View t) → IsQuiet P x → SilentBut P (deeds_move x s)
   unfolding deeds_move
-  quiet_deeds P (Seal time id n size fs) s q = absurd q
+  quiet_deeds P (Seal time form n size fs) s q = absurd q
   quiet_deeds P (Accept time id n e g v) s q = (refl, λ side h. accepted_quiet P id (Some n) v q side h, tt)
   quiet_deeds P (Enter id n v) s q = piece_silent P (Some id) (Some n) v q
   quiet_deeds P (Tell d) s q = told_silent P d q
@@ -329,7 +333,7 @@ module _ {t : Types} where
   outside_quiet : (time : ℕ) (x : Move t) (s : View t) → IsOutside time x s → MayMove x s → IsQuiet ⊥ x
   unfolding MayMove
   outside_quiet at_time (Tell d) s h may = may
-  outside_quiet at_time (Seal time id n size fs) s h may = absurd h
+  outside_quiet at_time (Seal time form n size fs) s h may = absurd h
   outside_quiet at_time (Accept time id n e g v) s h may = absurd h
   outside_quiet at_time (Enter id n v) s h may = absurd h
   outside_quiet at_time _ s h may = tt
@@ -337,7 +341,7 @@ module _ {t : Types} where
   packet_quiet : (m : Meaning t) (o : OpenPacket) (x : Move t) (s : View t) → IsInPacket m o x s → MayMove x s → IsQuiet (o.space ≡ Handshake) x
   unfolding MayMove
   packet_quiet m o (Tell d) s h may = may
-  packet_quiet m o (Seal time id n size fs) s h may = absurd h
+  packet_quiet m o (Seal time form n size fs) s h may = absurd h
   packet_quiet m o (Accept time id n e g v) s h may = λ is. sym h.3.space ∙ is
   packet_quiet m o (Enter id n v) s h may = h.0
   packet_quiet m o _ s h may = tt
@@ -404,7 +408,7 @@ module _ {t : Types} where
 
   timed_quiet : (x : Move t) → IsTimed x → IsQuiet ⊥ x
   timed_quiet (Tell d) h = absurd h
-  timed_quiet (Seal time id n size fs) h = absurd h
+  timed_quiet (Seal time form n size fs) h = absurd h
   timed_quiet (Accept time id n e g v) h = absurd h
   timed_quiet (Enter id n v) h = absurd h
   timed_quiet _ h = tt
@@ -416,7 +420,7 @@ module _ {t : Types} where
 
   sending_quiet : (x : Move t) → IsSending x → IsQuiet ⊥ x
   sending_quiet (Tell d) h = absurd h
-  sending_quiet (Seal time id n size fs) h = absurd h
+  sending_quiet (Seal time form n size fs) h = absurd h
   sending_quiet (Accept time id n e g v) h = absurd h
   sending_quiet (Enter id n v) h = absurd h
   sending_quiet _ h = tt
@@ -436,29 +440,33 @@ module _ {t : Types} where
   flown_deeds time a true = refl
   flown_deeds time a false = refl
 
-  sealed_deeds : (time : ℕ) (id : SpaceId) (n size : ℕ) (fs : List FrameValue) (c : At t) → (move_to (Seal time id n size fs) (move_to (Take id fs) c)).did ≡ c.did ++ did.Sealed id n 0 false fs ∷ []
-  unfolding move_to deeds_move
-  sealed_deeds time id n size fs c = refl
+  sealed_deeds : (time : ℕ) (form : Form) (n size : ℕ) (fs : List FrameValue) (c : At t) →
+      (move_to (Seal time form n size fs) (move_to (Take (number_space form) fs) c)).did ≡ c.did ++ did.Sealed (number_space form) n (epoch_in c.state.keys form) (is_early form) fs ∷ []
+  unfolding move_to deeds_move state_move keys_move
+  sealed_deeds time form n size fs c = refl
 
-  packet_deeds : (m : Meaning t) (time : ℕ) (p : Sent) (g : Going t) → let n : ℕ = next_number (begun_after p.space p.opens g.now).state.numbers p.space in
-      (packet_after m time p g).now.did ≡ g.now.did ++ did.Sealed p.space n 0 false p.frames ∷ []
+  -- the deed of a packet, once it was begun
+  abbrev sealed_deed : Sent → At t → Did
+  sealed_deed p a = did.Sealed (number_space p.form) (next_number a.state.numbers (number_space p.form)) (epoch_in a.state.keys p.form) (is_early p.form) p.frames
+
+  packet_deeds : (m : Meaning t) (time : ℕ) (p : Sent) (g : Going t) → (packet_after m time p g).now.did ≡ g.now.did ++ sealed_deed p (begun_after (number_space p.form) p.opens g.now) ∷ []
   unfolding packet_after sealed_in
   packet_deeds m time p g =
-      let a : At t = begun_after p.space p.opens g.now in
-      let n : ℕ = next_number a.state.numbers p.space in
-      let b : At t = move_to (Seal time p.space n (packet_size a.state p.space p.frames) p.frames) (move_to (Take p.space p.frames) a) in
-      flown_deeds time b (is_flown a.state p.frames) ∙ sealed_deeds time p.space n (packet_size a.state p.space p.frames) p.frames a ∙ ap (λ (ds : List Did). ds ++ did.Sealed p.space n 0 false p.frames ∷ []) (begun_deeds p.space p.opens g.now)
+      let a : At t = begun_after (number_space p.form) p.opens g.now in
+      let n : ℕ = next_number a.state.numbers (number_space p.form) in
+      let b : At t = move_to (Seal time p.form n (packet_size a.state p.form p.frames) p.frames) (move_to (Take (number_space p.form) p.frames) a) in
+      flown_deeds time b (is_flown a.state p.frames) ∙ sealed_deeds time p.form n (packet_size a.state p.form p.frames) p.frames a ∙ ap (λ (ds : List Did). ds ++ sealed_deed p a ∷ []) (begun_deeds (number_space p.form) p.opens g.now)
 
   -- packets get the space no keys, and leave the side
   packets_gone : (m : Meaning t) (time : ℕ) (ps : List Sent) (g : Going t) → MayAll m time g ps → Gone g.now → Gone (packets_after m time ps g).now
   packets_gone m time ps g may =
       holds_packets (λ c d. Gone c → Gone d) (λ d h. h) (λ d e f h k z. k (h z)) (λ x r d h. move_gone x d)
-      (λ time id fs d h z. move_gone (Seal time id (next_number d.state.numbers id) (packet_size d.state id fs) fs) (move_to (Take id fs) d) (move_gone (Take id fs) d z)) m time ps g may
+      (λ time form fs d h z. move_gone (Seal time form (next_number d.state.numbers (number_space form)) (packet_size d.state form fs) fs) (move_to (Take (number_space form) fs) d) (move_gone (Take (number_space form) fs) d z)) m time ps g may
 
   packets_side : (m : Meaning t) (time : ℕ) (ps : List Sent) (g : Going t) → MayAll m time g ps → side_of (packets_after m time ps g).now ≡ side_of g.now
   packets_side m time ps g may =
       holds_packets (λ c d. side_of d ≡ side_of c) (λ d. refl) (λ d e f h k. k ∙ h) (λ x r d h. move_side x d)
-      (λ time id fs d h. move_side (Seal time id (next_number d.state.numbers id) (packet_size d.state id fs) fs) (move_to (Take id fs) d) ∙ move_side (Take id fs) d) m time ps g may
+      (λ time form fs d h. move_side (Seal time form (next_number d.state.numbers (number_space form)) (packet_size d.state form fs) fs) (move_to (Take (number_space form) fs) d) ∙ move_side (Take (number_space form) fs) d) m time ps g may
 
   -- a client that sealed a Handshake packet leaves the space as its transmit ends
   finished_gone : (time : ℕ) (b : Batch) (a : At t) → side_of a ≡ Client → b.shook ≡ true → Gone (finished_after time b a)
@@ -477,20 +485,20 @@ module _ {t : Types} where
   ending_quiet : (time : ℕ) (e : Ending) (b : Batch) (a : At t) → MayEnd e a.state b → Quiet ⊥ a (ending_after time e b a)
   ending_quiet time e b a may = holds_ending (Quiet ⊥) (quiet_here ⊥) (quiet_next ⊥) (λ x r c h. quiet_move ⊥ x (sending_quiet x r) c) time e b a may
 
-  packet_shook : (m : Meaning t) (time : ℕ) (p : Sent) (g : Going t) → p.space ≡ Handshake → (packet_after m time p g).batch.shook ≡ true
+  packet_shook : (m : Meaning t) (time : ℕ) (p : Sent) (g : Going t) → number_space p.form ≡ Handshake → (packet_after m time p g).batch.shook ≡ true
   unfolding packet_after
-  packet_shook m time p g is = shook_by p.space _ _ _ is
+  packet_shook m time p g is = shook_by (number_space p.form) _ _ _ is
 
-  sealed_keyed : (side : Side) (s : View t) (p : Sent) (b : Batch) (time n : ℕ) → MayFollow time s b p → seals_initial (did.Sealed p.space n 0 false p.frames) ≡ true → has_keys s.keys Initial ≡ true
-  sealed_keyed side s p b time n may h =
-      subst (λ (id : SpaceId). has_keys s.keys id ≡ true) (sealed_initial p.space n p.frames h) (owing_keyed b.closing s p.space may.begins.turn.owed)
+  sealed_keyed : (s : View t) (p : Sent) (b : Batch) (time : ℕ) (a : At t) → MayFollow time s b p → seals_initial (sealed_deed p a) ≡ true → has_keys s.keys Initial ≡ true
+  sealed_keyed s p b time a may h =
+      subst (λ (id : SpaceId). has_keys s.keys id ≡ true) (sealed_initial (number_space p.form) _ _ _ p.frames h) (owing_keyed b.closing s (number_space p.form) may.begins.turn.owed)
 
   one_leaves : (side : Side) (m : Meaning t) (time : ℕ) (p : Sent) (e : Ending) (a : At t) → let g : Going t = packet_after m time p (going_from a) in
       MayFollow time a.state (going_from a).batch p → MayEnd e g.now.state g.batch → Leaves side a (ending_after time e g.batch g.now)
   one_leaves side m time p e a may ends =
       let g : Going t = packet_after m time p (going_from a) in
-      let n : ℕ = next_number (begun_after p.space p.opens a).state.numbers p.space in
-      let sealed : Did = did.Sealed p.space n 0 false p.frames in
+      let begun : At t = begun_after (number_space p.form) p.opens a in
+      let sealed : Did = sealed_deed p begun in
       let end : At t = ending_after time e g.batch g.now in
       let q : Quiet ⊥ g.now end = ending_quiet time e g.batch g.now ends in
       let made : 0 < g.batch.made = let one = packet_made m time p (going_from a) may in omega (arith, one) in
@@ -499,12 +507,12 @@ module _ {t : Types} where
         since = sealed ∷ q.since;
         appended = q.appended ∙ ap (λ (ds : List Did). ds ++ q.since) (packet_deeds m time p (going_from a)) ∙ append_assoc a.did (sealed ∷ []) q.since;
         none = λ left is k. (
-          λ seals. not_left left (λ l. let gone : Gone a = k l in let keyed : has_keys a.state.keys Initial ≡ true = sealed_keyed side a.state p (going_from a).batch time n may seals in absurd cc),
+          λ seals. not_left left (λ l. let gone : Gone a = k l in let keyed : has_keys a.state.keys Initial ≡ true = sealed_keyed a.state p (going_from a).batch time begun may seals in absurd cc),
           silent_none ⊥ side (left || leaves_with side sealed) q.since q.silent,
         );
         gone = λ left is k left_now. silent_left ⊥ (Gone end) side (left || leaves_with side sealed) q.since q.silent
             (λ either_way. either left (leaves_with side sealed) (Gone end) (λ l. q.gone (packets_gone m time (p ∷ []) (going_from a) (may, tt) (k l)))
-            (λ leaves. let shakes = sealed_shakes side p.space n p.frames leaves in ending_gone time e g.batch g.now ends made (same ∙ is ∙ shakes.0) (packet_shook m time p (going_from a) shakes.1)) either_way)
+            (λ leaves. let shakes = sealed_shakes side (number_space p.form) _ _ _ p.frames leaves in ending_gone time e g.batch g.now ends made (same ∙ is ∙ shakes.0) (packet_shook m time p (going_from a) shakes.1)) either_way)
             (λ p server. absurd p) left_now;
         same = q.side ∙ same;
       }

@@ -2,10 +2,12 @@
 use Rattle.std.proofs.Common.{◌≡◌, ℕ, List, refl, Bool, true, false, if◌then◌else◌}
 use Rattle.qc_base.specs.declared.side.SpaceId.{SpaceId}
 use Rattle.qc_frame.specs.Frame.{FrameValue}
+use Rattle.qc_state.specs.declared.form.Form.{Form}
 use Rattle.qc_state.specs.declared.input.Input.{Input}
 use Rattle.qc_state.specs.declared.input.Input.TheVariants as input
 use Rattle.qc_state.specs.declared.life.Close.{Close}
 use Rattle.qc_state.specs.declared.life.State.TheVariants.{Drained}
+use Rattle.qc_state.specs.Forms.{number_space}
 use Rattle.qc_state.specs.Headline.{is_datagram}
 use Rattle.qc_state.specs.Life.{is_open}
 use Rattle.qc_state.specs.Moves.{Move, MayMove, Arm, Ask, Begin, Clock, Finish, Fire, Forget, Give, Pace, Raise, Release, ReportConnected, ReportDrained, ReportLost, ReportReady, ReportNotice, ReportNotices, Say, Seal, Shut, Skip, Take, keys_move, life_move, move_to, numbers_move, state_move}
@@ -36,7 +38,7 @@ IsMade _ = Unit {0}
 abbrev pub IsOwn : {t : Types} → Move t → Type 0
 IsOwn (Ask id) = Unit {0}
 IsOwn (Take id fs) = Unit {0}
-IsOwn (Seal time id n size fs) = Unit {0}
+IsOwn (Seal time form n size fs) = Unit {0}
 IsOwn (Forget id) = Unit {0}
 IsOwn (Fire after) = Unit {0}
 IsOwn (Arm at) = Unit {0}
@@ -101,12 +103,12 @@ own_made _ r = tt
 module _ {t : Types} (R : At t → At t → Type 0) (here : (a : At t) → R a a) (next : (a b c : At t) → R a b → R b c → R a c)
     (move : (x : Move t) → IsOwn x → (a : At t) → MayMove x a.state → R a (move_to x a)) where
   -- a packet is taken and sealed
-  sealed : (time : ℕ) (id : SpaceId) (fs : List FrameValue) (a : At t) → IsSealable time a.state id fs → R a (move_to (Seal time id (next_number a.state.numbers id) (packet_size a.state id fs) fs) (move_to (Take id fs) a))
+  sealed : (time : ℕ) (form : Form) (fs : List FrameValue) (a : At t) → IsSealable time a.state form fs → R a (move_to (Seal time form (next_number a.state.numbers (number_space form)) (packet_size a.state form fs) fs) (move_to (Take (number_space form) fs) a))
   unfolding MayMove move_to state_move numbers_move keys_move life_move
-  sealed time id fs a may =
-      let b : At t = move_to (Take id fs) a in
-      let seal : Move t = Seal time id (next_number a.state.numbers id) (packet_size a.state id fs) fs in
-      next a b _ (move (Take id fs) tt a tt) (move seal tt b (refl, may.closes, may.alive, may.keyed))
+  sealed time form fs a may =
+      let b : At t = move_to (Take (number_space form) fs) a in
+      let seal : Move t = Seal time form (next_number a.state.numbers (number_space form)) (packet_size a.state form fs) fs in
+      next a b _ (move (Take (number_space form) fs) tt a tt) (move seal tt b (refl, may.closes, may.alive, may.keyed))
 
   -- the application closes, or has closed before
   closed_by : (time : ℕ) (close : Close) (a : At t) (b : Bool) → is_open a.state.life.state ≡ b → R a (if b then move_to (Shut time close) a else a)

@@ -8,6 +8,8 @@ use Rattle.qc_base.specs.declared.side.SpaceId.{SpaceId}
 use Rattle.qc_base.specs.declared.side.SpaceId.TheVariants.{Initial, Handshake, «Data»}
 use Rattle.qc_frame.specs.Frame.{FrameValue}
 use Rattle.qc_rings.specs.Keyed.{keyed_sealed}
+use Rattle.qc_state.specs.declared.form.Form.{Form}
+use Rattle.qc_state.specs.declared.form.Form.TheVariants as form
 use Rattle.qc_state.specs.declared.input.Input.{Input}
 use Rattle.qc_state.specs.declared.input.Input.TheVariants as input
 use Rattle.qc_state.specs.declared.keys.KeyGroup.{KeyGroup}
@@ -15,6 +17,7 @@ use Rattle.qc_state.specs.declared.keys.OneRttKeys.{OneRttKeys}
 use Rattle.qc_state.specs.declared.keys.SpaceKeys.{SpaceKeys}
 use Rattle.qc_state.specs.declared.life.Close.{Close}
 use Rattle.qc_state.specs.declared.trace.Step.{Step}
+use Rattle.qc_state.specs.Forms.{number_space}
 use Rattle.qc_state.specs.KeyLaws.{IsWithinLimit, KeysHold}
 use Rattle.qc_state.specs.Keys.{NewKeys, NoKeys, HandshakeKeys, DataKeys, count_one, failure_counted, key_used, keys_dropped, keys_given, plain_usage, reaches_limit, ring_usage, ring_used, usage_of}
 use Rattle.qc_state.specs.Life.{is_open}
@@ -45,53 +48,63 @@ module _ {H P : Type 0} where
   ring_within n (Some k) h = once_more k.ring.count k.confidentiality_limit h
 
   -- keys that are dropped seal no more
-  dropped_hold : (v : KeyGroup H P) (id : SpaceId) → KeysHold v → (other : SpaceId) → IsWithinLimit (usage_of (keys_dropped v id) other)
+  dropped_hold : (v : KeyGroup H P) (id : SpaceId) → KeysHold v → (other : Form) → IsWithinLimit (usage_of (keys_dropped v id) other)
   unfolding keys_dropped usage_of
-  dropped_hold v Initial h Initial = tt
-  dropped_hold v Initial h Handshake = h Handshake
-  dropped_hold v Initial h Data = h «Data»
-  dropped_hold v Handshake h Initial = h Initial
-  dropped_hold v Handshake h Handshake = tt
-  dropped_hold v Handshake h Data = h «Data»
-  dropped_hold v Data h Initial = h Initial
-  dropped_hold v Data h Handshake = h Handshake
-  dropped_hold v Data h Data = tt
+  dropped_hold v Initial h form.Initial = tt
+  dropped_hold v Initial h form.Handshake = h form.Handshake
+  dropped_hold v Initial h form.Early = tt
+  dropped_hold v Initial h form.OneRtt = h form.OneRtt
+  dropped_hold v Handshake h form.Initial = h form.Initial
+  dropped_hold v Handshake h form.Handshake = tt
+  dropped_hold v Handshake h form.Early = tt
+  dropped_hold v Handshake h form.OneRtt = h form.OneRtt
+  dropped_hold v Data h form.Initial = h form.Initial
+  dropped_hold v Data h form.Handshake = h form.Handshake
+  dropped_hold v Data h form.Early = tt
+  dropped_hold v Data h form.OneRtt = tt
 
   -- keys that are given have sealed none
-  given_hold : (v : KeyGroup H P) (keys : NewKeys H P) → AreUnused keys → KeysHold v → (other : SpaceId) → IsWithinLimit (usage_of (keys_given v keys) other)
+  given_hold : (v : KeyGroup H P) (keys : NewKeys H P) → AreUnused keys → KeysHold v → (other : Form) → IsWithinLimit (usage_of (keys_given v keys) other)
   unfolding keys_given usage_of
   given_hold v NoKeys e h other = h other
-  given_hold v (HandshakeKeys k) e h Initial = h Initial
-  given_hold v (HandshakeKeys k) e h Handshake = omega arith
-  given_hold v (HandshakeKeys k) e h Data = h «Data»
-  given_hold v (DataKeys k) e h Initial = h Initial
-  given_hold v (DataKeys k) e h Handshake = h Handshake
-  given_hold v (DataKeys k) e h Data = omega arith
+  given_hold v (HandshakeKeys k) e h form.Initial = h form.Initial
+  given_hold v (HandshakeKeys k) e h form.Handshake = omega arith
+  given_hold v (HandshakeKeys k) e h form.Early = tt
+  given_hold v (HandshakeKeys k) e h form.OneRtt = h form.OneRtt
+  given_hold v (DataKeys k) e h form.Initial = h form.Initial
+  given_hold v (DataKeys k) e h form.Handshake = h form.Handshake
+  given_hold v (DataKeys k) e h form.Early = tt
+  given_hold v (DataKeys k) e h form.OneRtt = omega arith
 
   -- a packet that didn't open changes none
-  failed_hold : (v : KeyGroup H P) → KeysHold v → (other : SpaceId) → IsWithinLimit (usage_of (failure_counted v) other)
+  failed_hold : (v : KeyGroup H P) → KeysHold v → (other : Form) → IsWithinLimit (usage_of (failure_counted v) other)
   unfolding failure_counted usage_of
-  failed_hold v h Initial = h Initial
-  failed_hold v h Handshake = h Handshake
-  failed_hold v h Data = h «Data»
+  failed_hold v h form.Initial = h form.Initial
+  failed_hold v h form.Handshake = h form.Handshake
+  failed_hold v h form.Early = tt
+  failed_hold v h form.OneRtt = h form.OneRtt
 
   -- a packet that is sealed counts under its key alone
-  sealed_hold : (v : KeyGroup H P) (id : SpaceId) (n : ℕ) → reaches_limit 0 (usage_of v id) ≡ false → KeysHold v → (other : SpaceId) → IsWithinLimit (usage_of (key_used v id n) other)
+  sealed_hold : (v : KeyGroup H P) (form : Form) (n : ℕ) → reaches_limit 0 (usage_of v form) ≡ false → KeysHold v → (other : Form) → IsWithinLimit (usage_of (key_used v form n) other)
   unfolding key_used usage_of
-  sealed_hold v Initial n fresh h Initial = counted_within v.initial fresh
-  sealed_hold v Initial n fresh h Handshake = h Handshake
-  sealed_hold v Initial n fresh h Data = h «Data»
-  sealed_hold v Handshake n fresh h Initial = h Initial
-  sealed_hold v Handshake n fresh h Handshake = counted_within v.handshake fresh
-  sealed_hold v Handshake n fresh h Data = h «Data»
-  sealed_hold v Data n fresh h Initial = h Initial
-  sealed_hold v Data n fresh h Handshake = h Handshake
-  sealed_hold v Data n fresh h Data = ring_within n v.«data» fresh
+  sealed_hold v form.Initial n fresh h form.Initial = counted_within v.initial fresh
+  sealed_hold v form.Initial n fresh h form.Handshake = h form.Handshake
+  sealed_hold v form.Initial n fresh h form.Early = tt
+  sealed_hold v form.Initial n fresh h form.OneRtt = h form.OneRtt
+  sealed_hold v form.Handshake n fresh h form.Initial = h form.Initial
+  sealed_hold v form.Handshake n fresh h form.Handshake = counted_within v.handshake fresh
+  sealed_hold v form.Handshake n fresh h form.Early = tt
+  sealed_hold v form.Handshake n fresh h form.OneRtt = h form.OneRtt
+  sealed_hold v form.Early n fresh h other = h other
+  sealed_hold v form.OneRtt n fresh h form.Initial = h form.Initial
+  sealed_hold v form.OneRtt n fresh h form.Handshake = h form.Handshake
+  sealed_hold v form.OneRtt n fresh h form.Early = tt
+  sealed_hold v form.OneRtt n fresh h form.OneRtt = ring_within n v.«data» fresh
 
 module _ {t : Types} where
   -- where the key may seal one packet more, and keys that are given have sealed none
   abbrev IsSpare : Move t → View t → Type 0
-  IsSpare (Seal time id n size fs) s = reaches_limit 0 (usage_of s.keys id) ≡ false
+  IsSpare (Seal time form n size fs) s = reaches_limit 0 (usage_of s.keys form) ≡ false
   IsSpare (Write bytes keys session) s = AreUnused keys
   IsSpare _ s = Unit {0}
 
@@ -108,7 +121,7 @@ module _ {t : Types} where
   -- over each move
   move_keeps : (x : Move t) (a : At t) → IsSpare x a.state → Keeps a (move_to x a)
   unfolding move_to state_move keys_move
-  move_keeps (Seal time id n size fs) a spare = λ h. sealed_hold a.state.keys id n spare h
+  move_keeps (Seal time form n size fs) a spare = λ h. sealed_hold a.state.keys form n spare h
   move_keeps (Forget id) a spare = λ h. dropped_hold a.state.keys id h
   move_keeps Fail a spare = λ h. failed_hold a.state.keys h
   move_keeps (Write bytes keys session) a spare = λ h. given_hold a.state.keys keys spare h
@@ -117,27 +130,27 @@ module _ {t : Types} where
   -- what is received, and what a timer does, seals nothing
   received_spare : (x : Move t) (s : View t) → IsReceived x → IsSpare x s
   received_spare (Write bytes keys session) s r = r
-  received_spare (Seal time id n size fs) s r = absurd r
+  received_spare (Seal time form n size fs) s r = absurd r
   received_spare _ s r = tt
 
   timed_spare : (x : Move t) (s : View t) → IsTimed x → IsSpare x s
   timed_spare (Write bytes keys session) s r = absurd r
-  timed_spare (Seal time id n size fs) s r = absurd r
+  timed_spare (Seal time form n size fs) s r = absurd r
   timed_spare _ s r = tt
 
   sending_spare : (x : Move t) (s : View t) → IsSending x → IsSpare x s
   sending_spare (Write bytes keys session) s r = absurd r
-  sending_spare (Seal time id n size fs) s r = absurd r
+  sending_spare (Seal time form n size fs) s r = absurd r
   sending_spare _ s r = tt
 
   -- a packet is taken and sealed
-  packet_keeps : (time : ℕ) (id : SpaceId) (fs : List FrameValue) (a : At t) → IsSealable time a.state id fs →
-      Keeps a (move_to (Seal time id (next_number a.state.numbers id) (packet_size a.state id fs) fs) (move_to (Take id fs) a))
+  packet_keeps : (time : ℕ) (form : Form) (fs : List FrameValue) (a : At t) → IsSealable time a.state form fs →
+      Keeps a (move_to (Seal time form (next_number a.state.numbers (number_space form)) (packet_size a.state form fs) fs) (move_to (Take (number_space form) fs) a))
   unfolding move_to state_move keys_move
-  packet_keeps time id fs a may =
-      let b : At t = move_to (Take id fs) a in
-      let seal : Move t = Seal time id (next_number a.state.numbers id) (packet_size a.state id fs) fs in
-      next a b (move_to seal b) (move_keeps (Take id fs) a tt) (move_keeps seal b may.fresh)
+  packet_keeps time form fs a may =
+      let b : At t = move_to (Take (number_space form) fs) a in
+      let seal : Move t = Seal time form (next_number a.state.numbers (number_space form)) (packet_size a.state form fs) fs in
+      next a b (move_to seal b) (move_keeps (Take (number_space form) fs) a tt) (move_keeps seal b may.fresh)
 
   -- a transmit
   transmit_keeps : (m : Meaning t) (time : ℕ) (choice : Choice) (a : At t) → MayTransmit m time choice a → Keeps a (transmit_after m time choice a)

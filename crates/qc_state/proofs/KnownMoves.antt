@@ -3,11 +3,13 @@ use Rattle.std.proofs.Common.{◌≡◌, ℕ, List, refl, ap, sym, ◌∙◌, Bo
 use Rattle.qc_base.specs.declared.side.SpaceId.{SpaceId}
 use Rattle.qc_frame.specs.Frame.{AckValue, FrameValue}
 use Rattle.qc_recovery.specs.Steps.{After, FiredAfter}
+use Rattle.qc_state.specs.declared.form.Form.{Form}
 use Rattle.qc_state.specs.declared.coming.Coming.{Coming}
 use Rattle.qc_state.specs.declared.input.Input.{Input}
 use Rattle.qc_state.specs.declared.input.Input.TheVariants as input
 use Rattle.qc_state.specs.declared.life.Close.{Close}
 use Rattle.qc_state.specs.declared.life.State.TheVariants.{Drained}
+use Rattle.qc_state.specs.Forms.{number_space}
 use Rattle.qc_state.specs.Life.{is_open}
 use Rattle.qc_state.specs.Moves.{Ack, Ask, Clock, Fire, MayMove, Move, Raise, ReportConnected, ReportDrained, ReportLost, ReportReady, ReportNotice, ReportNotices, Seal, Shut, Take, move_to}
 use Rattle.qc_state.specs.Numbers.{next_number}
@@ -42,7 +44,7 @@ module _ {t : Types} where
   abbrev pub IsKnownMove : Meaning t → Move t → View t → Type 0
   IsKnownMove m (Clock time) s = ⊥
   IsKnownMove m (Take id fs) s = ⊥
-  IsKnownMove m (Seal time id n size fs) s = ⊥
+  IsKnownMove m (Seal time form n size fs) s = ⊥
   IsKnownMove m (Ack id n after) s = IsSettledBy m id after s
   IsKnownMove m (Fire after) s = IsFiredBy m after s
   IsKnownMove m (Raise to) s = to ≡ Drained
@@ -61,7 +63,7 @@ module _ {t : Types} where
   packet_known : (m : Meaning t) (o : OpenPacket) (x : Move t) (s : View t) → IsInPacket m o x s → IsKnownMove m x s
   packet_known m o (Clock time) s h = absurd h
   packet_known m o (Take id fs) s h = absurd h
-  packet_known m o (Seal time id n size fs) s h = absurd h
+  packet_known m o (Seal time form n size fs) s h = absurd h
   packet_known m o (Ack id n after) s h = settled_known m o id n after s h
   packet_known m o (Fire after) s h = absurd h
   packet_known m o (Raise to) s h = absurd h
@@ -77,7 +79,7 @@ module _ {t : Types} where
   outside_known : (m : Meaning t) (time : ℕ) (x : Move t) (s : View t) → IsOutside time x s → IsKnownMove m x s
   outside_known m at_time (Clock time) s h = absurd h
   outside_known m at_time (Take id fs) s h = absurd h
-  outside_known m at_time (Seal time id n size fs) s h = absurd h
+  outside_known m at_time (Seal time form n size fs) s h = absurd h
   outside_known m at_time (Ack id n after) s h = absurd h
   outside_known m at_time (Fire after) s h = absurd h
   outside_known m at_time (Raise to) s h = h
@@ -93,7 +95,7 @@ module _ {t : Types} where
   expiry_known : (m : Meaning t) (x : Move t) (s : View t) → IsExpiry x → IsKnownMove m x s
   expiry_known m (Clock time) s h = absurd h
   expiry_known m (Take id fs) s h = absurd h
-  expiry_known m (Seal time id n size fs) s h = absurd h
+  expiry_known m (Seal time form n size fs) s h = absurd h
   expiry_known m (Ack id n after) s h = absurd h
   expiry_known m (Fire after) s h = absurd h
   expiry_known m (Raise to) s h = h
@@ -109,7 +111,7 @@ module _ {t : Types} where
   sending_known : (m : Meaning t) (x : Move t) (s : View t) → IsSending x → IsKnownMove m x s
   sending_known m (Clock time) s h = absurd h
   sending_known m (Take id fs) s h = absurd h
-  sending_known m (Seal time id n size fs) s h = absurd h
+  sending_known m (Seal time form n size fs) s h = absurd h
   sending_known m (Ack id n after) s h = absurd h
   sending_known m (Fire after) s h = absurd h
   sending_known m (Raise to) s h = h
@@ -125,7 +127,7 @@ module _ {t : Types} where
 -- a packet is taken and sealed, holds of an input
 module _ {t : Types} (m : Meaning t) (R : At t → At t → Type 0) (here : (a : At t) → R a a) (next : (a b c : At t) → R a b → R b c → R a c)
     (move : (x : Move t) (a : At t) → IsKnownMove m x a.state → MayMove x a.state → R a (move_to x a))
-    (seal : (time : ℕ) (id : SpaceId) (fs : List FrameValue) (a : At t) → IsSealable time a.state id fs → R a (move_to (Seal time id (next_number a.state.numbers id) (packet_size a.state id fs) fs) (move_to (Take id fs) a))) where
+    (seal : (time : ℕ) (form : Form) (fs : List FrameValue) (a : At t) → IsSealable time a.state form fs → R a (move_to (Seal time form (next_number a.state.numbers (number_space form)) (packet_size a.state form fs) fs) (move_to (Take (number_space form) fs) a))) where
   -- a datagram
   known_datagram : (coming : Coming) (bytes : List ℕ) (a : At t) → R a (datagram_after m coming bytes a)
   known_datagram coming bytes a =

@@ -6,6 +6,8 @@ use Rattle.qc_frame.specs.Frame.{FrameValue}
 use Rattle.qc_frame.specs.declared.frames.EcnCounts.{EcnCounts}
 use Rattle.qc_frame.specs.declared.frames.FrameOf.TheVariants as frames
 use Rattle.qc_flight.specs.Packets.{Entry}
+use Rattle.qc_state.specs.declared.form.Form.{Form}
+use Rattle.qc_state.specs.Forms.{number_space}
 use Rattle.qc_state.specs.Acks.{AckPart, told_counts}
 use Rattle.qc_state.specs.declared.life.Close.{Close}
 use Rattle.qc_state.specs.declared.life.Close.TheVariants.{Connection, Application}
@@ -120,12 +122,13 @@ module _ {t : Types} where
       subst (AcksTell counts) (sym is) (tell_append counts acks (closing_frame id kept s.life ∷ []) (part_tells time w _ acks _ part) (close_tells counts (is_closed s.life.state) id kept s.life.close))
 
   -- frames with PADDING behind them tell no others
-  padded_tells : (counts : Option EcnCounts) (s : View t) (id : SpaceId) (fs gs : List FrameValue) → fs ≡ padded s id gs → AcksTell counts gs → AcksTell counts fs
+  padded_tells : (counts : Option EcnCounts) (s : View t) (form : Form) (fs gs : List FrameValue) → fs ≡ padded s form gs → AcksTell counts gs → AcksTell counts fs
   unfolding padded
-  padded_tells counts s id fs gs is told = subst (AcksTell counts) (sym is) (tell_append counts gs (replicate (padding_of s id gs) frames.Padding) told (padding_tells counts (padding_of s id gs)))
+  padded_tells counts s form fs gs is told = subst (AcksTell counts) (sym is) (tell_append counts gs (replicate (padding_of s form gs) frames.Padding) told (padding_tells counts (padding_of s form gs)))
 
   -- what a packet carries tells the counts of its space
-  pub carries_tells : (closing : Bool) (time : ℕ) (s : View t) (id : SpaceId) (room : ℕ) (fs : List FrameValue) → Carries closing time s id room fs → AcksTell (told_counts (space_of s.waiting.spaces id).marks) fs
-  carries_tells closing time s id room fs (Carries.a_close owed gs closes is) = padded_tells (told_counts (space_of s.waiting.spaces id).marks) s id fs gs is (closes_tell time s id room gs closes)
-  carries_tells closing time s id room fs (Carries.what_waits free gs wait some is) =
-      padded_tells (told_counts (space_of s.waiting.spaces id).marks) s id fs gs is (wait_tells time s id gs wait)
+  pub carries_tells : (closing : Bool) (time : ℕ) (s : View t) (form : Form) (room : ℕ) (fs : List FrameValue) → Carries closing time s form room fs → AcksTell (told_counts (space_of s.waiting.spaces (number_space form)).marks) fs
+  carries_tells closing time s form room fs (Carries.a_close owed gs closes is) =
+      padded_tells (told_counts (space_of s.waiting.spaces (number_space form)).marks) s form fs gs is (closes_tell time s (number_space form) room gs closes)
+  carries_tells closing time s form room fs (Carries.what_waits free gs wait some is) =
+      padded_tells (told_counts (space_of s.waiting.spaces (number_space form)).marks) s form fs gs is (wait_tells time s (number_space form) gs wait)

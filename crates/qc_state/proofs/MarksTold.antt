@@ -13,6 +13,7 @@ use Rattle.qc_path.specs.Arrived.{Window}
 use Rattle.qc_path.specs.declared.pending_acks.Arrival.{Arrival}
 use Rattle.qc_recovery.specs.declared.calls.Fired.{Fired}
 use Rattle.qc_recovery.specs.declared.calls.Fired.TheVariants as fired
+use Rattle.qc_state.specs.declared.form.Form.{Form}
 use Rattle.qc_state.specs.declared.coming.Coming.{Coming}
 use Rattle.qc_state.specs.declared.deeds.Did.{Did}
 use Rattle.qc_state.specs.declared.deeds.Did.TheVariants as did
@@ -26,6 +27,7 @@ use Rattle.qc_state.specs.declared.trace.Step.{Step}
 use Rattle.qc_state.specs.declared.waiting.SpaceWaiting.{SpaceWaiting}
 use Rattle.qc_state.specs.declared.waiting.Waiting.{Waiting}
 use Rattle.qc_state.specs.Acks.{is_ack, told_counts}
+use Rattle.qc_state.specs.Forms.{number_space}
 use Rattle.qc_state.specs.Life.{is_open, is_over}
 use Rattle.qc_state.specs.MarkLaws.{AcksTell, DeedsTell, EachTold, SealsTold, StepsTell, Tally, carried_mark, nothing_tallied, tally_accepted, tally_behind, tally_judged, tally_of, tally_since, tally_told}
 use Rattle.qc_state.specs.Moves.{Move, Clock, Ask, Take, Seal, Forget, Enter, Expect, Fail, Accept, Fix, Hear, Ack, Fire, Arm, Pace, Release, Begin, Skip, Come, Read, Write, Ready, Token, Learn, Want, Confirm, Establish, Tell, PeerClosesToo, PeerCloses, Owe, Shut, Raise, Give, Say, Finish, ReportReady, ReportConnected, ReportLost, ReportNotice, ReportNotices, ReportDrained, accepts, enters, state_move, move_to, deeds_move, waiting_move, numbers_move, keys_move, life_move, MayMove, IsTold, told}
@@ -234,7 +236,7 @@ module _ {t : Types} where
   -- what a move has to say: a packet that is sealed tells the counts of its space, one that is accepted came with the mark, and one
   -- whose number alone enters isn't accepted
   abbrev IsTelling : Option EcnCodepoint → Move t → View t → Type 0
-  IsTelling mark (Seal time space n size fs) s = AcksTell (told_counts (MarksOf space s.waiting)) fs
+  IsTelling mark (Seal time form n size fs) s = AcksTell (told_counts (MarksOf (number_space form) s.waiting)) fs
   IsTelling mark (Accept time space n e g v) s = (accepts v ≡ true) × (g.mark ≡ mark)
   IsTelling mark (Enter space n v) s = accepts v ≡ false
   IsTelling mark _ s = Unit {0}
@@ -302,10 +304,10 @@ module _ {t : Types} where
   counted_move id mark (Clock time) a h k = absurd h
   counted_move id mark (Ask space) a h k = silent_counted id mark (Ask space) a refl (same_marks id space a.state.waiting _ refl)
   counted_move id mark (Take space fs) a h k = silent_counted id mark (Take space fs) a refl (taken_marks id space a.state.waiting fs)
-  counted_move id mark (Seal time space n size fs) a h k =
-      let told_now : (y : Tally) → Fits y (MarksOf id a.state.waiting) → is_space id space ≡ true → AcksTell (tally_told y) fs =
-      λ y f same. subst (λ (c : Option EcnCounts). AcksTell c fs) (sym (fits_told y (MarksOf id a.state.waiting) f)) (told_there id space a.state.waiting fs k same) in
-      deed_counted id mark (Seal time space n size fs) _ a refl told_now (λ y f. subst (Fits y) (sym (sealed_marks id space a.state.waiting _ fs _)) f)
+  counted_move id mark (Seal time form n size fs) a h k =
+      let told_now : (y : Tally) → Fits y (MarksOf id a.state.waiting) → is_space id (number_space form) ≡ true → AcksTell (tally_told y) fs =
+      λ y f same. subst (λ (c : Option EcnCounts). AcksTell c fs) (sym (fits_told y (MarksOf id a.state.waiting) f)) (told_there id (number_space form) a.state.waiting fs k same) in
+      deed_counted id mark (Seal time form n size fs) _ a refl told_now (λ y f. subst (Fits y) (sym (sealed_marks id (number_space form) a.state.waiting _ fs _)) f)
   counted_move id mark (Forget space) a h k = silent_counted id mark (Forget space) a refl (same_marks id space a.state.waiting _ refl)
   counted_move id mark (Expect token) a h k = silent_counted id mark (Expect token) a refl refl
   counted_move id mark (Enter space n v) a h k = plain_counted id mark (Enter space n v) _ a refl (λ y. tt) (λ y. judged_same id mark (Some space) v y k) refl
@@ -349,7 +351,7 @@ module _ {t : Types} where
 
   -- what a packet that opened does seals nothing, and it is accepted with the mark of its datagram
   opened_telling : (m : Meaning t) (o : OpenPacket) (mark : Option EcnCodepoint) (x : Move t) (s : View t) → o.coming.mark ≡ mark → IsInPacket m o x s → IsTelling mark x s
-  opened_telling m o mark (Seal time id n size fs) s came h = absurd h
+  opened_telling m o mark (Seal time form n size fs) s came h = absurd h
   opened_telling m o mark (Accept time id n e g v) s came h = (h.2, ap (λ (signs : Signs). signs.mark) h.1 ∙ came)
   opened_telling m o mark (Enter id n v) s came h = h.0
   opened_telling m o mark _ s came h = tt
@@ -361,7 +363,7 @@ module _ {t : Types} where
 
   -- all else that receiving does seals and accepts nothing
   outside_telling : (mark : Option EcnCodepoint) (time : ℕ) (x : Move t) (s : View t) → IsOutside time x s → IsTelling mark x s
-  outside_telling mark at_time (Seal time id n size fs) s h = absurd h
+  outside_telling mark at_time (Seal time form n size fs) s h = absurd h
   outside_telling mark at_time (Accept time id n e g v) s h = absurd h
   outside_telling mark at_time (Enter id n v) s h = absurd h
   outside_telling mark at_time _ s h = tt
@@ -374,21 +376,22 @@ module _ {t : Types} where
 
   -- what a transmit does beside sealing accepts nothing
   sending_telling : (x : Move t) (s : View t) → IsSending x → IsTelling None x s
-  sending_telling (Seal time id n size fs) s h = absurd h
+  sending_telling (Seal time form n size fs) s h = absurd h
   sending_telling (Accept time id n e g v) s h = absurd h
   sending_telling (Enter id n v) s h = absurd h
   sending_telling _ s h = tt
 
   -- a packet is taken and sealed
-  counted_sealed : (id : SpaceId) (time : ℕ) (space : SpaceId) (fs : List FrameValue) (a : At t) → IsSealable time a.state space fs →
-      Counted id None a (move_to (Seal time space (next_number a.state.numbers space) (packet_size a.state space fs) fs) (move_to (Take space fs) a))
+  counted_sealed : (id : SpaceId) (time : ℕ) (form : Form) (fs : List FrameValue) (a : At t) → IsSealable time a.state form fs →
+      Counted id None a (move_to (Seal time form (next_number a.state.numbers (number_space form)) (packet_size a.state form fs) fs) (move_to (Take (number_space form) fs) a))
   unfolding MayMove move_to state_move numbers_move keys_move life_move waiting_move
-  counted_sealed id time space fs a may =
+  counted_sealed id time form fs a may =
+      let space : SpaceId = number_space form in
       let b : At t = move_to (Take space fs) a in
       let said : AcksTell (told_counts (MarksOf space (waiting_without a.state.waiting space fs))) fs =
-      subst (λ (x : Option EcnCounts). AcksTell (told_counts x) fs) (sym (taken_marks space space a.state.waiting fs)) (carries_tells may.closing time a.state space may.room fs may.carries) in
+      subst (λ (x : Option EcnCounts). AcksTell (told_counts x) fs) (sym (taken_marks space space a.state.waiting fs)) (carries_tells may.closing time a.state form may.room fs may.carries) in
       counted_next id None a b _ (counted_move id None (Take space fs) a tt tt)
-      (counted_move id None (Seal time space (next_number a.state.numbers space) (packet_size a.state space fs) fs) b (refl, may.closes, may.alive, may.keyed) said)
+      (counted_move id None (Seal time form (next_number a.state.numbers (number_space form)) (packet_size a.state form fs) fs) b (refl, may.closes, may.alive, may.keyed) said)
 
   -- a transmit
   counted_transmit : (id : SpaceId) (m : Meaning t) (time : ℕ) (choice : Choice) (a : At t) → MayTransmit m time choice a → Counted id None a (transmit_after m time choice a)

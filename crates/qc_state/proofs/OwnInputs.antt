@@ -16,7 +16,7 @@ module _ {t : Types} where
   unfolding deeds_move
   own_quiet (Ask id) r a may = gives_move [] (Ask id) a refl refl
   own_quiet (Take id fs) r a may = gives_move [] (Take id fs) a refl refl
-  own_quiet (Seal time id n size fs) r a may = gives_move [] (Seal time id n size fs) a refl refl
+  own_quiet (Seal time form n size fs) r a may = gives_move [] (Seal time form n size fs) a refl refl
   own_quiet (Forget id) r a may = gives_move [] (Forget id) a refl refl
   own_quiet (Fire after) r a may = gives_move [] (Fire after) a refl refl
   own_quiet (Arm at) r a may = gives_move [] (Arm at) a refl refl

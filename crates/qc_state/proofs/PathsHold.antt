@@ -14,6 +14,7 @@ use Rattle.qc_frame.specs.Frame.{FrameValue}
 use Rattle.qc_header.specs.HeaderGrammar.{DatagramItem}
 use Rattle.qc_recovery.specs.Steps.{path_dropped}
 use Rattle.qc_recovery.specs.declared.path.PathData.{PathData}
+use Rattle.qc_state.specs.declared.form.Form.{Form}
 use Rattle.qc_state.specs.declared.coming.Coming.{Coming}
 use Rattle.qc_state.specs.declared.deeds.Did.{Did}
 use Rattle.qc_state.specs.declared.deeds.Did.TheVariants as did
@@ -30,6 +31,7 @@ use Rattle.qc_state.specs.declared.life.State.TheVariants.{Drained}
 use Rattle.qc_state.specs.declared.paths.Paths.{Paths}
 use Rattle.qc_state.specs.declared.trace.Step.{Step}
 use Rattle.qc_state.specs.declared.transmit.TheConstants.{DATAGRAM_SIZE}
+use Rattle.qc_state.specs.Forms.{number_space}
 use Rattle.qc_state.specs.Life.{is_open}
 use Rattle.qc_state.specs.Moves.{Accept, Ack, Arm, Come, Confirm, PeerClosesToo, Enter, Establish, Expect, Fail, Fire, Fix, Forget, Give, Hear, Learn, PeerCloses, MayMove, Move, Owe, Pace, Raise, Read, Ready, Release, Say, Seal, Shut, Take, Tell, Token, Want, Write, armed_after, armed_with, deeds_move, move_to, paths_move, state_move, told, Begin, Skip}
 use Rattle.qc_state.specs.Numbers.{next_number, received_number}
@@ -386,10 +388,10 @@ module _ {t : Types} where
   packet_move (Arm at) r a h = refl
   packet_move _ r a h = absurd r
 
-  packet_sealed : (time : ℕ) (id : SpaceId) (fs : List FrameValue) (a : At t) → IsSealable time a.state id fs →
-      (move_to (Seal time id (next_number a.state.numbers id) (packet_size a.state id fs) fs) (move_to (Take id fs) a)).state.paths ≡ a.state.paths
+  packet_sealed : (time : ℕ) (form : Form) (fs : List FrameValue) (a : At t) → IsSealable time a.state form fs →
+      (move_to (Seal time form (next_number a.state.numbers (number_space form)) (packet_size a.state form fs) fs) (move_to (Take (number_space form) fs) a)).state.paths ≡ a.state.paths
   unfolding move_to state_move paths_move
-  packet_sealed time id fs a may = refl
+  packet_sealed time form fs a may = refl
 
   path_packets : (m : Meaning t) (time : ℕ) (ps : List Sent) (g : Going t) → MayAll m time g ps → (packets_after m time ps g).now.state.paths ≡ g.now.state.paths
   path_packets m time ps g may = holds_packets (λ (a b : At t). b.state.paths ≡ a.state.paths) (λ a. refl) (λ a b c p q. q ∙ p) packet_move packet_sealed m time ps g may

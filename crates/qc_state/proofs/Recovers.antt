@@ -17,6 +17,7 @@ use Rattle.qc_recovery.specs.Steps as recovery
 use Rattle.qc_recovery.specs.declared.path.PathData.{PathData}
 use Rattle.qc_recovery.specs.declared.recovery.Recovery.{Recovery}
 use Rattle.qc_recovery.proofs.RunsSettle.{calls_settle}
+use Rattle.qc_state.specs.declared.form.Form.{Form}
 use Rattle.qc_state.specs.declared.deeds.Did.{Did}
 use Rattle.qc_state.specs.declared.deeds.Did.TheVariants as did
 use Rattle.qc_state.specs.declared.deeds.Verdict.{Verdict}
@@ -27,8 +28,10 @@ use Rattle.qc_state.specs.declared.life.State.TheVariants as state
 use Rattle.qc_state.specs.declared.lower.Lower.{Lower}
 use Rattle.qc_state.specs.declared.paths.Paths.{Paths}
 use Rattle.qc_state.specs.declared.trace.Step.{Step}
+use Rattle.qc_state.specs.Keys.{epoch_in}
 use Rattle.qc_state.specs.EndLaws.{Ends}
 use Rattle.qc_state.specs.Flight.{flown_packet}
+use Rattle.qc_state.specs.Forms.{number_space, is_early}
 use Rattle.qc_state.specs.Headline.{deeds_of}
 use Rattle.qc_state.specs.Life.{is_open, rank_of}
 use Rattle.qc_state.specs.Lower.{bytes_came, flight_dropped, packet_flown, packets_settled, session_read, session_wrote, timer_fired}
@@ -160,14 +163,14 @@ module _ {t : Types} where
       ap (λ (l : Lower t.S). record { recovery = l.recovery; path = s.paths.current.kept }) lower ∙ ap (λ (p : Paths t.C). record { recovery = s'.lower.recovery; path = p.current.kept }) paths
 
   -- a packet is sealed, while a close is owed or not
-  pub seal_folds : (m : Meaning t) (time n size : ℕ) (id : SpaceId) (fs : List FrameValue) (s : View t) (owed : Bool) → (owed ≡ true → list_any is_close fs ≡ true) →
+  pub seal_folds : (m : Meaning t) (time n size : ℕ) (id : SpaceId) (epoch : ℕ) (early : Bool) (fs : List FrameValue) (s : View t) (owed : Bool) → (owed ≡ true → list_any is_close fs ≡ true) →
       let steps : List (RecoveryStep t.C) = if owed then [] else Sent id n (flown_packet time size fs) ∷ [] in
       let lower : Lower t.S = if owed then s.lower else packet_flown s.lower id n (flown_packet time size fs) in
       let k : Kept t.C = record { recovery = lower.recovery; path = s.paths.current.kept } in
-      AllMay m.control steps (kept s) × (k ≡ steps_after steps (kept s)) × ((space : SpaceId) → AreFlown space (did.Sealed id n 0 false fs ∷ []) (sent_in space steps))
+      AllMay m.control steps (kept s) × (k ≡ steps_after steps (kept s)) × ((space : SpaceId) → AreFlown space (did.Sealed id n epoch early fs ∷ []) (sent_in space steps))
   unfolding step_after packet_flown flown_packet
-  seal_folds m time n size id fs s true closes = (tt, refl, λ space. ([], [], ap (λ (es : List Entry). es ++ []) (sym (none_in space id)), inr (refl, closes refl), refl))
-  seal_folds m time n size id fs s false closes =
+  seal_folds m time n size id epoch early fs s true closes = (tt, refl, λ space. ([], [], ap (λ (es : List Entry). es ++ []) (sym (none_in space id)), inr (refl, closes refl), refl))
+  seal_folds m time n size id epoch early fs s false closes =
       ((tt, tt), refl, λ space. ((n, flown_packet time size fs) ∷ [], [], refl, inl (flown_packet time size fs, refl, record { frames = refl; counted = refl; eliciting = refl }), refl))
 
   -- each move beside those with which a packet is taken and sealed
@@ -177,7 +180,7 @@ module _ {t : Types} where
   move_parts m (Clock time) s k may = absurd k
   move_parts m (Ask id) s k may = (tt, refl, (λ id. refl))
   move_parts m (Take id fs) s k may = absurd k
-  move_parts m (Seal time id n size fs) s k may = absurd k
+  move_parts m (Seal time form n size fs) s k may = absurd k
   move_parts m (Forget id) s k may = ((tt, tt), refl, (λ id. refl))
   move_parts m (Expect token) s k may = (tt, refl, (λ id. refl))
   move_parts m (Enter id n v) s k may = (tt, refl, (λ id. refl))
@@ -217,15 +220,15 @@ module _ {t : Types} where
   move_folds m x a k may = let parts = move_parts m x a.state k may in folds_by m x a parts.0 parts.1 parts.2
 
   -- a packet is taken and sealed
-  packet_folds : (m : Meaning t) (time : ℕ) (id : SpaceId) (fs : List FrameValue) (a : At t) → IsSealable time a.state id fs → Ends a.state →
-      Folds m a (move_to (Seal time id (next_number a.state.numbers id) (packet_size a.state id fs) fs) (move_to (Take id fs) a))
+  packet_folds : (m : Meaning t) (time : ℕ) (form : Form) (fs : List FrameValue) (a : At t) → IsSealable time a.state form fs → Ends a.state →
+      Folds m a (move_to (Seal time form (next_number a.state.numbers (number_space form)) (packet_size a.state form fs) fs) (move_to (Take (number_space form) fs) a))
   unfolding steps_of step_after state_move lower_move paths_move waiting_move waiting_without deeds_move move_to
-  packet_folds m time id fs a may ends =
-      let b : At t = move_to (Take id fs) a in
+  packet_folds m time form fs a may ends =
+      let b : At t = move_to (Take (number_space form) fs) a in
       let owed : Bool = b.state.waiting.close_owed in
-      let sealed = seal_folds m time (next_number a.state.numbers id) (packet_size a.state id fs) id fs b.state owed (λ e. may.closes (shut_rank a.state.life.state (ends.owed e))) in
-      folds_next m a b _ (folds_by m (Take id fs) a tt refl (λ id. refl))
-      (folds_by m (Seal time id (next_number a.state.numbers id) (packet_size a.state id fs) fs) b sealed.0 sealed.1 sealed.2)
+      let sealed = seal_folds m time (next_number a.state.numbers (number_space form)) (packet_size a.state form fs) (number_space form) (epoch_in a.state.keys form) (is_early form) fs b.state owed (λ e. may.closes (shut_rank a.state.life.state (ends.owed e))) in
+      folds_next m a b _ (folds_by m (Take (number_space form) fs) a tt refl (λ id. refl))
+      (folds_by m (Seal time form (next_number a.state.numbers (number_space form)) (packet_size a.state form fs) fs) b sealed.0 sealed.1 sealed.2)
 
   -- ---- inputs, steps and runs
 

@@ -12,6 +12,8 @@ use Rattle.qc_state.specs.declared.life.State.{State}
 use Rattle.qc_state.specs.declared.life.State.TheVariants as state
 use Rattle.qc_path.specs.Arrived.{Window, is_new, arrived}
 use Rattle.qc_state.specs.declared.deeds.Verdict.{Verdict}
+use Rattle.qc_state.specs.Keys.{epoch_in}
+use Rattle.qc_state.specs.Forms.{is_early, number_space}
 use Rattle.qc_state.specs.Headline.{sealed_in, reasons_in, lives_in, entered_number, entered_in, EachNew, came_with, CloseFrom, RisesFrom, Kernel, kernel_of, kernel_after, IsBehind, IsRight, Tells}
 use Rattle.qc_state.specs.Life.{rank_of, is_open, is_closed, is_drained, reason_given, life_raised, life_closed, life_drained, life_established, data_ready, token_learned, identifiers_wanted, ready_reported, connected_reported, lost_reported, notice_reported, notices_reported, drained_reported}
 use Rattle.qc_state.specs.Moves.{Move, ClosesOnly, Clock, Ask, Take, Seal, Forget, Enter, Expect, Fail, Accept, Fix, Hear, Ack, Fire, Arm, Pace, Release, Begin, Skip, Come, Read, Write, Ready, Token, Learn, Want, Confirm, Establish, Tell, PeerClosesToo, PeerCloses, Owe, IsTold, enters, Shut, Raise, Give, Say, ReportReady, ReportConnected, ReportLost, ReportNotice, ReportNotices, ReportDrained, state_move, move_to, deeds_move, MayMove, told, arrival_of, numbers_move, life_move, timers_move, Finish}
@@ -310,7 +312,7 @@ module _ {t : Types} where
   move_tells id PeerClosesToo s h = (closed_rank s.life.state h, behind_here _)
   move_tells id (PeerCloses time) s h = (h, behind_here _)
   move_tells id Owe s h = behind_here _
-  move_tells id (Seal time space n size fs) s h = seal_tells id space s n 0 false fs h.0 h.1
+  move_tells id (Seal time form n size fs) s h = seal_tells id (number_space form) s n (epoch_in s.keys form) (is_early form) fs h.0 h.1
   move_tells id (Shut time close) s h = (h, behind_here _)
   move_tells id (Raise to) s h = (h, behind_here _)
   move_tells id (Give why) s h = give_tells id s why h
@@ -357,10 +359,10 @@ module _ {t : Types} where
   clock_kept PeerClosesToo s h = refl
   clock_kept (PeerCloses time) s h = refl
   clock_kept Owe s h = refl
-  clock_kept (Seal time space n size fs) s h =
+  clock_kept (Seal time form n size fs) s h =
       let b : Bool = list_any elicits fs in
-      let sealed : Timers = if b then timers_sealed s.timers (idle_limit_now s.setup) (probe_timeout_now s space) time else s.timers in
-      acking_clock sealed (list_any is_ack fs) ∙ sealed_clock s.timers (idle_limit_now s.setup) (probe_timeout_now s space) time b
+      let sealed : Timers = if b then timers_sealed s.timers (idle_limit_now s.setup) (probe_timeout_now s (number_space form)) time else s.timers in
+      acking_clock sealed (list_any is_ack fs) ∙ sealed_clock s.timers (idle_limit_now s.setup) (probe_timeout_now s (number_space form)) time b
   clock_kept (Shut time close) s h = refl
   clock_kept (Raise to) s h = refl
   clock_kept (Give why) s h = refl

@@ -4,11 +4,13 @@ use Rattle.std.specs.Prelude.{option_to_list, max}
 use Rattle.qc_base.specs.declared.side.SpaceId.{SpaceId}
 use Rattle.qc_base.specs.declared.side.SpaceId.TheVariants.{Initial}
 use Rattle.qc_frame.specs.Frame.{FrameValue}
+use Rattle.qc_state.specs.declared.form.Form.{Form}
 use Rattle.qc_state.specs.declared.deeds.Did.{Did}
 use Rattle.qc_state.specs.declared.input.Input.{Input}
 use Rattle.qc_state.specs.declared.input.Input.TheVariants as input
 use Rattle.qc_state.specs.declared.life.Close.{Close}
 use Rattle.qc_state.specs.declared.trace.Step.{Step}
+use Rattle.qc_state.specs.Forms.{number_space}
 use Rattle.qc_state.specs.Headline as headline
 use Rattle.qc_state.specs.Headline.{deeds_of, reasons_in, lives_in, entered_in, EachNew, CloseFrom, RisesFrom, Kernel, IsBehind, Tells, EachRises, EachAdmitted, LifeRises, OnlyCloses, LosesOnce}
 use Rattle.qc_state.specs.Life.{rank_of, is_open, ready_reported, connected_reported, lost_reported, notice_reported, notices_reported, drained_reported}
@@ -30,12 +32,12 @@ later_max a b h = omega (arith, h)
 
 module _ {t : Types} where
   -- a packet is taken and sealed
-  told_packet : (id : SpaceId) (time : ℕ) (space : SpaceId) (fs : List FrameValue) (a : At t) → IsSealable time a.state space fs →
-      Told id a (move_to (Seal time space (next_number a.state.numbers space) (packet_size a.state space fs) fs) (move_to (Take space fs) a))
+  told_packet : (id : SpaceId) (time : ℕ) (form : Form) (fs : List FrameValue) (a : At t) → IsSealable time a.state form fs →
+      Told id a (move_to (Seal time form (next_number a.state.numbers (number_space form)) (packet_size a.state form fs) fs) (move_to (Take (number_space form) fs) a))
   unfolding MayMove move_to state_move numbers_move keys_move life_move
-  told_packet id time space fs a may =
-      let b : At t = move_to (Take space fs) a in
-      told_next id a b _ (told_move id (Take space fs) a tt) (told_move id (Seal time space (next_number a.state.numbers space) (packet_size a.state space fs) fs) b (refl, may.closes, may.alive, may.keyed))
+  told_packet id time form fs a may =
+      let b : At t = move_to (Take (number_space form) fs) a in
+      told_next id a b _ (told_move id (Take (number_space form) fs) a tt) (told_move id (Seal time form (next_number a.state.numbers (number_space form)) (packet_size a.state form fs) fs) b (refl, may.closes, may.alive, may.keyed))
 
   -- a transmit
   pub told_transmit : (id : SpaceId) (m : Meaning t) (time : ℕ) (choice : Choice) (a : At t) → MayTransmit m time choice a → Told id a (transmit_after m time choice a)

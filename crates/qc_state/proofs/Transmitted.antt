@@ -9,6 +9,7 @@ use Rattle.qc_base.specs.declared.side.SpaceId.{SpaceId}
 use Rattle.qc_base.specs.declared.side.SpaceId.TheVariants.{Initial, Handshake, «Data»}
 use Rattle.qc_frame.specs.Frame.{FrameValue}
 use Rattle.qc_frame.specs.declared.frames.FrameOf.TheVariants.{Padding}
+use Rattle.qc_state.specs.declared.form.Form.{Form}
 use Rattle.qc_state.specs.declared.deeds.Quiet.TheVariants.{Killed}
 use Rattle.qc_state.specs.declared.life.Close.{Close}
 use Rattle.qc_state.specs.declared.life.Close.TheVariants.{Connection, Application}
@@ -17,12 +18,13 @@ use Rattle.qc_state.specs.declared.life.ConnectionError.TheVariants as lost
 use Rattle.qc_state.specs.declared.life.Life.{Life}
 use Rattle.qc_state.specs.declared.life.State.TheVariants as state
 use Rattle.qc_state.specs.declared.keys.KeyGroup.{KeyGroup}
-use Rattle.qc_state.specs.Keys.{has_keys, reaches_limit, usage_of}
+use Rattle.qc_state.specs.Forms.{number_space}
+use Rattle.qc_state.specs.Keys.{has_keys, has_keys_for, reaches_limit, usage_of}
 use Rattle.qc_state.specs.Life.{rank_of, is_open, is_closed, is_drained}
 use Rattle.qc_state.specs.Moves.{Move, ClosesOnly, is_close, Arm, Begin, Forget, Give, Raise, Say, Seal, Shut, Skip, Take, MayMove, move_to, armed_with, Finish}
 use Rattle.qc_state.specs.Numbers.{next_number}
 use Rattle.qc_state.specs.Recovering.{loss_time}
-use Rattle.qc_state.specs.Sending.{Carries, Choice, Closes, MayTransmit, application_close, begun_after, begun_view, close_frame, closing_frame, drops_initial, flown_after, initial_left, is_flown, is_key_used_up, is_used_up, is_token_too_long, kill_in, owes_in, packet_after, packet_size, padded, padding_of, sealed_in, spared_after, told_close, transmit_after, Sent, Ending, Went, Hushed, Died, ending_after, packets_after, Going, going_from, MayFollow, MayAll, MayEnd, handshake_left, finished_after, gone_after, begun_batch, room_in, room_of}
+use Rattle.qc_state.specs.Sending.{Carries, Choice, Closes, MayBegin, MayTransmit, application_close, begun_after, begun_view, close_frame, closing_frame, drops_initial, flown_after, initial_left, is_flown, is_key_used_up, is_used_up, is_token_too_long, kill_in, owes_in, packet_after, packet_size, padded, padding_of, sealed_in, spared_after, told_close, transmit_after, Sent, Ending, Went, Hushed, Died, ending_after, packets_after, Going, going_from, MayFollow, MayAll, MayEnd, handshake_left, finished_after, gone_after, begun_batch, room_in, room_of}
 use Rattle.qc_state.specs.Stopping.{given_after, key_limit_error, killed_after, stopped_after}
 use Rattle.qc_state.specs.Types.{Types, Meaning}
 use Rattle.qc_state.specs.View.{View, At, at}
@@ -96,20 +98,20 @@ none_stands false false false x y z h = (refl, refl, refl)
 
 module _ {t : Types} where
   -- where a packet may begin, its key may seal one more, its number can be spelled, and its token isn't too long
-  pub unlimited : (s : View t) (id : SpaceId) → kill_in s id ≡ None → (is_key_used_up s id ≡ false) × (is_used_up s id ≡ false) × (is_token_too_long s id ≡ false)
+  pub unlimited : (s : View t) (form : Form) → kill_in s form ≡ None → (is_key_used_up s form ≡ false) × (is_used_up s (number_space form) ≡ false) × (is_token_too_long s form ≡ false)
   unfolding kill_in
-  unlimited s id h = none_stands _ _ _ _ _ _ h
+  unlimited s form h = none_stands _ _ _ _ _ _ h
 
   -- what is known of a packet with these frames as it is sealed, once it was begun
-  pub record IsSealable (time : ℕ) (s : View t) (id : SpaceId) (fs : List FrameValue) : Type 0 where
+  pub record IsSealable (time : ℕ) (s : View t) (form : Form) (fs : List FrameValue) : Type 0 where
     pub closing : Bool
     pub room : ℕ
     pub small : room ≤ 65527
-    pub carries : Carries closing time s id room fs
+    pub carries : Carries closing time s form room fs
     pub closes : ClosesOnly (rank_of s.life.state) fs
-    pub fresh : reaches_limit 0 (usage_of s.keys id) ≡ false
+    pub fresh : reaches_limit 0 (usage_of s.keys form) ≡ false
     pub alive : is_drained s.life.state ≡ false
-    pub keyed : has_keys s.keys id ≡ true
+    pub keyed : has_keys_for s.keys form ≡ true
 
   -- an ACK and a close hold a close
   closes_close : (time : ℕ) (s : View t) (id : SpaceId) (room : ℕ) (gs : List FrameValue) → Closes time s id room gs → list_any is_close gs ≡ true
@@ -117,49 +119,54 @@ module _ {t : Types} where
       ap (list_any is_close) is ∙ any_behind acks (closing_frame id kept s.life ∷ []) (any_first (closing_frame id kept s.life) [] (closing_closes id kept (is_closed s.life.state) s.life.close))
 
   -- PADDING behind a close leaves it there
-  padded_closes : (s : View t) (id : SpaceId) (fs gs : List FrameValue) → fs ≡ padded s id gs → list_any is_close gs ≡ true → list_any is_close fs ≡ true
+  padded_closes : (s : View t) (form : Form) (fs gs : List FrameValue) → fs ≡ padded s form gs → list_any is_close gs ≡ true → list_any is_close fs ≡ true
   unfolding padded
-  padded_closes s id fs gs is holds =
-      ap (list_any is_close) is ∙ list_any-append is_close gs (replicate (padding_of s id gs) Padding) ∙ ap (λ (b : Bool). b || list_any is_close (replicate (padding_of s id gs) Padding)) holds
+  padded_closes s form fs gs is holds =
+      ap (list_any is_close) is ∙ list_any-append is_close gs (replicate (padding_of s form gs) Padding) ∙ ap (λ (b : Bool). b || list_any is_close (replicate (padding_of s form gs) Padding)) holds
 
   -- a packet that may follow holds a close, once the connection has closed
   closes_only : (time : ℕ) (s : View t) (b : Batch) (p : Sent) → MayFollow time s b p → ClosesOnly (rank_of s.life.state) p.frames
   closes_only time s b p may = carried_closes may.carries
     where
-      carried_closes : Carries b.closing time (begun_view s p.space p.opens) p.space (room_in (begun_batch s p.space p.opens b) (begun_view s p.space p.opens) p.space) p.frames → ClosesOnly (rank_of s.life.state) p.frames
-      carried_closes (Carries.a_close owed gs holds is) = λ r. padded_closes (begun_view s p.space p.opens) p.space p.frames gs is (closes_close time (begun_view s p.space p.opens) p.space _ gs holds)
+      carried_closes : Carries b.closing time (begun_view s (number_space p.form) p.opens) p.form (room_in (begun_batch s (number_space p.form) p.opens b) (begun_view s (number_space p.form) p.opens) p.form) p.frames → ClosesOnly (rank_of s.life.state) p.frames
+      carried_closes (Carries.a_close owed gs holds is) = λ r. padded_closes (begun_view s (number_space p.form) p.opens) p.form p.frames gs is (closes_close time (begun_view s (number_space p.form) p.opens) (number_space p.form) _ gs holds)
       carried_closes (Carries.what_waits free gs wait some is) = λ r. absurd (omega (arith, r, open_rank s.life.state (may.begins.turn.unclosed free)))
 
   -- a packet has no more room than its datagram has bytes
-  room_small : (b : Batch) (s : View t) (id : SpaceId) → b.capacity ≤ 65527 → room_in b s id ≤ 65527
+  room_small : (b : Batch) (s : View t) (form : Form) → b.capacity ≤ 65527 → room_in b s form ≤ 65527
   unfolding room_in room_of
-  room_small b s id h = omega (arith, h)
+  room_small b s form h = omega (arith, h)
 
   -- a space that owes something has keys
   pub owing_keyed : (closing : Bool) (s : View t) (id : SpaceId) → owes_in closing s id ≡ true → has_keys s.keys id ≡ true
   unfolding owes_in
   owing_keyed closing s id h = first_of_both (has_keys s.keys id) _ h
 
+  -- so there are keys for a packet that may be begun
+  pub begins_keyed : (closing : Bool) (s : View t) (form : Form) → MayBegin closing s form → has_keys_for s.keys form ≡ true
+  unfolding has_keys
+  begins_keyed closing s form may = subst (λ (f : Form). has_keys_for s.keys f ≡ true) (sym may.now) (owing_keyed closing s (number_space form) may.turn.owed)
+
   -- what is known of a packet that may follow, once it was begun
-  sealable : (time : ℕ) (p : Sent) (a : At t) (b : Batch) → MayFollow time a.state b p → IsSealable time (begun_after p.space p.opens a).state p.space p.frames
+  sealable : (time : ℕ) (p : Sent) (a : At t) (b : Batch) → MayFollow time a.state b p → IsSealable time (begun_after (number_space p.form) p.opens a).state p.form p.frames
   unfolding is_key_used_up
   sealable time p a b may =
       record {
         closing = b.closing;
-        room = room_in (begun_batch a.state p.space p.opens b) (begun_view a.state p.space p.opens) p.space;
-        small = room_small (begun_batch a.state p.space p.opens b) (begun_view a.state p.space p.opens) p.space may.sized;
-        carries = subst (λ (s : View t). Carries b.closing time s p.space (room_in (begun_batch a.state p.space p.opens b) (begun_view a.state p.space p.opens) p.space) p.frames) (sym (begun_same p.space p.opens a)) may.carries;
-        closes = subst (λ (l : Life). ClosesOnly (rank_of l.state) p.frames) (sym (begun_life p.space p.opens a)) (closes_only time a.state b p may);
-        fresh = subst (λ (k : KeyGroup t.H t.P). reaches_limit 0 (usage_of k p.space) ≡ false) (sym (begun_keys p.space p.opens a)) (unlimited a.state p.space may.begins.fresh).0;
-        alive = subst (λ (l : Life). is_drained l.state ≡ false) (sym (begun_life p.space p.opens a)) may.begins.turn.alive;
-        keyed = subst (λ (k : KeyGroup t.H t.P). has_keys k p.space ≡ true) (sym (begun_keys p.space p.opens a)) (owing_keyed b.closing a.state p.space may.begins.turn.owed);
+        room = room_in (begun_batch a.state (number_space p.form) p.opens b) (begun_view a.state (number_space p.form) p.opens) p.form;
+        small = room_small (begun_batch a.state (number_space p.form) p.opens b) (begun_view a.state (number_space p.form) p.opens) p.form may.sized;
+        carries = subst (λ (s : View t). Carries b.closing time s p.form (room_in (begun_batch a.state (number_space p.form) p.opens b) (begun_view a.state (number_space p.form) p.opens) p.form) p.frames) (sym (begun_same (number_space p.form) p.opens a)) may.carries;
+        closes = subst (λ (l : Life). ClosesOnly (rank_of l.state) p.frames) (sym (begun_life (number_space p.form) p.opens a)) (closes_only time a.state b p may);
+        fresh = subst (λ (k : KeyGroup t.H t.P). reaches_limit 0 (usage_of k p.form) ≡ false) (sym (begun_keys (number_space p.form) p.opens a)) (unlimited a.state p.form may.begins.fresh).0;
+        alive = subst (λ (l : Life). is_drained l.state ≡ false) (sym (begun_life (number_space p.form) p.opens a)) may.begins.turn.alive;
+        keyed = subst (λ (k : KeyGroup t.H t.P). has_keys_for k p.form ≡ true) (sym (begun_keys (number_space p.form) p.opens a)) (begins_keyed b.closing a.state p.form may.begins);
       }
 
 -- what holds of no move, of two moves one after the other, of each move with which a packet is begun, where it may be made, and of the
 -- two with which it is taken and sealed, holds of the packets of a transmit
 module _ {t : Types} (R : At t → At t → Type 0) (here : (a : At t) → R a a) (next : (a b c : At t) → R a b → R b c → R a c)
     (move : (x : Move t) → IsPacketMove x → (a : At t) → MayMove x a.state → R a (move_to x a))
-    (seal : (time : ℕ) (id : SpaceId) (fs : List FrameValue) (a : At t) → IsSealable time a.state id fs → R a (move_to (Seal time id (next_number a.state.numbers id) (packet_size a.state id fs) fs) (move_to (Take id fs) a))) where
+    (seal : (time : ℕ) (form : Form) (fs : List FrameValue) (a : At t) → IsSealable time a.state form fs → R a (move_to (Seal time form (next_number a.state.numbers (number_space form)) (packet_size a.state form fs) fs) (move_to (Take (number_space form) fs) a))) where
   -- the loss timer is set anew behind a packet in flight
   flown : (time : ℕ) (counts : Bool) (a : At t) → R a (flown_after time counts a)
   unfolding armed_with MayMove
@@ -167,18 +174,18 @@ module _ {t : Types} (R : At t → At t → Type 0) (here : (a : At t) → R a a
   flown time false a = here a
 
   -- a packet is taken and sealed
-  sealed : (time : ℕ) (id : SpaceId) (fs : List FrameValue) (a : At t) → IsSealable time a.state id fs → R a (sealed_in time id fs a)
+  sealed : (time : ℕ) (form : Form) (fs : List FrameValue) (a : At t) → IsSealable time a.state form fs → R a (sealed_in time form fs a)
   unfolding sealed_in
-  sealed time id fs a may =
-      let b : At t = move_to (Seal time id (next_number a.state.numbers id) (packet_size a.state id fs) fs) (move_to (Take id fs) a) in
-      next a b _ (seal time id fs a may) (flown time (is_flown a.state fs) b)
+  sealed time form fs a may =
+      let b : At t = move_to (Seal time form (next_number a.state.numbers (number_space form)) (packet_size a.state form fs) fs) (move_to (Take (number_space form) fs) a) in
+      next a b _ (seal time form fs a may) (flown time (is_flown a.state fs) b)
 
   pub holds_packet : (m : Meaning t) (time : ℕ) (p : Sent) (g : Going t) → MayFollow time g.now.state g.batch p → R g.now (packet_after m time p g).now
   unfolding packet_after MayMove
   holds_packet m time p g may =
-      let b : At t = begun_after p.space p.opens g.now in
-      next g.now b _ (holds_begun R here next p.space p.opens g.now (λ x. move (Begin p.space p.opens) tt x tt) (λ x skips. move Skip tt x skips))
-      (sealed time p.space p.frames b (sealable time p g.now g.batch may))
+      let b : At t = begun_after (number_space p.form) p.opens g.now in
+      next g.now b _ (holds_begun R here next (number_space p.form) p.opens g.now (λ x. move (Begin (number_space p.form) p.opens) tt x tt) (λ x skips. move Skip tt x skips))
+      (sealed time p.form p.frames b (sealable time p g.now g.batch may))
 
   pub holds_packets : (m : Meaning t) (time : ℕ) (ps : List Sent) (g : Going t) → MayAll m time g ps → R g.now (packets_after m time ps g).now
   holds_packets m time [] g may = here g.now
@@ -236,7 +243,7 @@ module _ {t : Types} (R : At t → At t → Type 0) (here : (a : At t) → R a a
 -- and of a transmit
 module _ {t : Types} (R : At t → At t → Type 0) (here : (a : At t) → R a a) (next : (a b c : At t) → R a b → R b c → R a c)
     (move : (x : Move t) → IsSending x → (a : At t) → MayMove x a.state → R a (move_to x a))
-    (seal : (time : ℕ) (id : SpaceId) (fs : List FrameValue) (a : At t) → IsSealable time a.state id fs → R a (move_to (Seal time id (next_number a.state.numbers id) (packet_size a.state id fs) fs) (move_to (Take id fs) a))) where
+    (seal : (time : ℕ) (form : Form) (fs : List FrameValue) (a : At t) → IsSealable time a.state form fs → R a (move_to (Seal time form (next_number a.state.numbers (number_space form)) (packet_size a.state form fs) fs) (move_to (Take (number_space form) fs) a))) where
   pub holds_transmit : (m : Meaning t) (time : ℕ) (choice : Choice) (a : At t) → MayTransmit m time choice a → R a (transmit_after m time choice a)
   unfolding MayTransmit transmit_after gone_after
   holds_transmit m time choice a may =

@@ -22,16 +22,18 @@ use Rattle.qc_header.specs.declared.protected.ProtectedHeader.{ProtectedHeader}
 use Rattle.qc_header.specs.declared.protected.ProtectedHeader.TheVariants as protected
 use Rattle.qc_packet.specs.OpenedPacket.{reserved_bits}
 use Rattle.qc_rings.specs.Keyed.{Keyed}
+use Rattle.qc_state.specs.declared.form.Form.{Form}
 use Rattle.qc_state.specs.declared.coming.Coming.{Coming}
 use Rattle.qc_state.specs.declared.deeds.Verdict.TheVariants as verdict
 use Rattle.qc_state.specs.declared.opening.Opening.{Opening}
 use Rattle.qc_state.specs.declared.opening.Opening.TheVariants.{Unreadable, Reserved, Opened}
 use Rattle.qc_state.specs.declared.transmit.TheConstants.{DATAGRAM_SIZE}
+use Rattle.qc_state.specs.Forms.{number_space}
 use Rattle.qc_state.specs.Keys.{opening_key, ring_of, unmasking_key}
 use Rattle.qc_state.specs.Life.{is_handshake, is_over}
 use Rattle.qc_state.specs.Moves.{Expect, life_move, move_to, paths_move, setup_move, state_move}
 use Rattle.qc_state.specs.Numbers.{received_number}
-use Rattle.qc_state.specs.Opening.{judged, names_next, opened_at, opened_by, opened_in, opened_space, opened_under, opening_of, source_of, spin_of, token_of, whole_number}
+use Rattle.qc_state.specs.Opening.{judged, names_next, opened_at, opened_by, opened_in, opened_form, opened_under, opening_of, source_of, spin_of, token_of, whole_number}
 use Rattle.qc_state.specs.Paths.{is_blocked, same_address}
 use Rattle.qc_state.specs.Receiving.{counted_after, cut_of, datagram_after, event_after, first_after, first_packet_after, first_token, has_first_ids, heard_after, is_readable, lets_in, opened_first, opening_after, piece_after, piece_told, pieces_after, received_after, token_in_first, token_in_items}
 use Rattle.qc_state.specs.Setup.{is_first_awaited, token_expected}
@@ -104,13 +106,13 @@ module _ {H P : Type 0} where
   in_spin mask opening (Some key) plain ring rx p e = under_spin mask opening key plain ring rx p e
 
 module _ {t : Types} (m : Meaning t) where
-  at_spin : (s : View t) (id : Option SpaceId) (p : Piece) → space_of p.header ≡ Some space.Initial → HasNoSpin (opened_at m s id p)
+  at_spin : (s : View t) (form : Option Form) (p : Piece) → space_of p.header ≡ Some space.Initial → HasNoSpin (opened_at m s form p)
   at_spin s None p e = tt
-  at_spin s (Some id) p e = in_spin m.mask m.opening (unmasking_key s.keys id) (opening_key s.keys id) (ring_of s.keys) (received_number s.numbers id) p e
+  at_spin s (Some f) p e = in_spin m.mask m.opening (unmasking_key s.keys f) (opening_key s.keys f) (ring_of s.keys) (received_number s.numbers (number_space f)) p e
 
   no_spin : (s : View t) (p : Piece) (source token : List ℕ) (spin : Bool) (number : ℕ) (payload : List ℕ) → space_of p.header ≡ Some space.Initial → opening_of m s p ≡ Opened source token spin number payload → spin ≡ false
   unfolding opening_of
-  no_spin s p source token spin number payload is_initial opens = subst HasNoSpin opens (at_spin s (opened_space p.header) p is_initial)
+  no_spin s p source token spin number payload is_initial opens = subst HasNoSpin opens (at_spin s (opened_form p.header) p is_initial)
 
   -- ---- a datagram that was cut
 

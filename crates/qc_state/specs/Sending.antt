@@ -383,7 +383,8 @@ module _ {t : Types} where
 
   -- a packet of this form is taken and sealed: its frames wait no longer, and its number is used
   unfoldable pub sealed_in : ℕ → Form → List FrameValue → At t → At t
-  sealed_in time form fs a = flown_after time (is_flown a.state fs) (move_to (Seal time form (next_number a.state.numbers (number_space form)) (packet_size a.state form fs) fs) (move_to (Take (number_space form) fs) a))
+  sealed_in time form fs a =
+      flown_after time (is_flown a.state fs) (move_to (Seal time form (next_number a.state.numbers (number_space form)) (packet_size a.state form fs) fs) (move_to (Take (number_space form) fs) a))
 
   -- a packet is begun, taken and sealed: the steps in their order
   unfoldable pub packet_after : Meaning t → ℕ → Sent → Going t → Going t
@@ -405,8 +406,10 @@ module _ {t : Types} where
     pub opens : p.opens ≡ true
     pub begins : MayBegin b.closing s p.form
     pub sized : (begun_batch s (number_space p.form) p.opens b).capacity ≤ 65527
-    pub carries : Carries b.closing time (begun_view s (number_space p.form) p.opens) p.form (room_in (begun_batch s (number_space p.form) p.opens b) (begun_view s (number_space p.form) p.opens) p.form) p.frames
-    pub fits : (begun_batch s (number_space p.form) p.opens b).filled + packet_size (begun_view s (number_space p.form) p.opens) p.form p.frames ≤ (begun_batch s (number_space p.form) p.opens b).capacity
+    pub carries : Carries b.closing time (begun_view s (number_space p.form) p.opens) p.form
+        (room_in (begun_batch s (number_space p.form) p.opens b) (begun_view s (number_space p.form) p.opens) p.form) p.frames
+    pub fits :
+        (begun_batch s (number_space p.form) p.opens b).filled + packet_size (begun_view s (number_space p.form) p.opens) p.form p.frames ≤ (begun_batch s (number_space p.form) p.opens b).capacity
 
   -- each of these packets may follow those before it
   abbrev pub MayAll : Meaning t → ℕ → Going t → List Sent → Type 0

@@ -1,8 +1,10 @@
 //! The datagrams of a transmit: what is known of them as it goes on, and where they go.
 
 ghost use Rattle.std.specs.Prelude.{◌≡◌};
+ghost use Rattle.qc_state.specs.Forms.{number_space};
 ghost use Rattle.qc_state.specs.Sending.{batch_begun, batch_grown, batch_opened, next_segment};
 
+use crate::form::Form;
 use crate::spaces::is_space;
 use qc_base::{EcnCodepoint, SpaceId};
 use std::cmp::min;
@@ -78,14 +80,14 @@ impl Batch {
         }
     }
 
-    /// A packet of this space with so many bytes was sealed; `nearly` says that its key could seal only two packets more before.
-    pub fn grow(&mut self, space: SpaceId, size: u64, nearly: bool)
-        ensures { self.new ≡ batch_grown space size nearly self.old }
+    /// A packet of this form with so many bytes was sealed; `nearly` says that its key could seal only two packets more before.
+    pub fn grow(&mut self, form: Form, size: u64, nearly: bool)
+        ensures { self.new ≡ batch_grown (number_space form) size nearly self.old }
     {
         self.filled = self.filled.saturating_add(size);
         self.total = self.total.saturating_add(size);
         self.worn = nearly;
-        self.shook = self.shook || is_space(space, SpaceId::Handshake);
+        self.shook = self.shook || is_space(form.space(), SpaceId::Handshake);
     }
 }
 

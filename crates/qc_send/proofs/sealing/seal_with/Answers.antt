@@ -5,12 +5,12 @@ use Rattle.qc_send.proofs.sealing.seal_with.Goals as goal
 
 -- the space has keys
 pub unreachable-requires : goal.unreachable-requires
-unreachable-requires g c = header_key_there g.U.Random.Rng.stream c.args.core.now _ c.args.space _ c.core.view_is c.requires.keyed c.header_key.ensures (ap option_copied c.in-None.is)
+unreachable-requires g c = header_key_there g.U.Random.Rng.stream c.args.core.now _ c.args.form _ c.core.view_is c.requires.keyed c.header_key.ensures (ap option_copied c.in-None.is)
 
 pub unreachable-requires-in-None-packet_key : goal.unreachable-requires-in-None-packet_key
 unreachable-requires-in-None-packet_key g c =
-    packet_key_there g.U.Random.Rng.stream c.args.core.now _ c.args.space _ c.core.view_is c.requires.keyed c.packet_key.ensures (ap option_copied c.in-None-packet_key.is)
+    packet_key_there g.U.Random.Rng.stream c.args.core.now _ c.args.form _ c.core.view_is c.requires.keyed c.packet_key.ensures (ap option_copied c.in-None-packet_key.is)
 
 -- and so a slot
 pub unreachable-requires-in-None-slot : goal.unreachable-requires-in-None-slot
-unreachable-requires-in-None-slot g c = slot_there g.U.Random.Rng.stream c.args.core.now c.args.space c.args.flip c.slot.result c.requires.keyed c.slot.ensures c.in-None-slot.is
+unreachable-requires-in-None-slot g c = slot_there g.U.Random.Rng.stream c.args.core.now c.args.form c.args.flip c.slot.result c.requires.keyed c.slot.ensures c.in-None-slot.is
