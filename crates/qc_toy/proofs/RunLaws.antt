@@ -5,7 +5,7 @@ use Rattle.qc_base.specs.declared.side.Side.{Side}
 use Rattle.qc_base.specs.declared.side.Side.TheVariants.{Client, Server}
 use Rattle.qc_toy.specs.declared.messages.Kind.{Kind}
 use Rattle.qc_toy.specs.declared.session.ToySession.{ToySession}
-use Rattle.qc_toy.specs.Handshake.{IsFresh, IsSound, session_handshaking, steps_left, steps_of}
+use Rattle.qc_toy.specs.Handshake.{IsFresh, IsSound, steps_of}
 use Rattle.qc_toy.specs.Messages.{Message, decode_error, first_message, has_form, kind_byte, message_then, messages, peer_messages, refusal, unexpected_message}
 use Rattle.qc_toy.specs.Runs.{CompletesBehindBoth, HearsInOrder, SessionCall, Read, Write, NextKeys, session_after, session_run}
 use Rattle.qc_toy.specs.SessionLaws.{all_heard, all_made, toy_fresh_sound, toy_sound_next, toy_sound_read, toy_sound_write}
@@ -40,19 +40,22 @@ same_kind k n e = grind (arith, e)
 none_whole : (n : ℕ) → suc n ≤ 0 → ⊥
 none_whole n h = omega (arith, h)
 
+-- one more message, where the following ones are of their kinds
+one_heard : (kind : Kind) (kinds : List Kind) → ((rest : List ℕ) → refusal kinds (messages (suc (length kinds)) rest) ≡ None → length kinds ≤ length (messages (length kinds) rest)
+    → map (λ (m : Message). m.kind) (messages (length kinds) rest) ≡ map kind_byte kinds) → (o : Option Message)
+    → refusal (kind ∷ kinds) (message_then (λ rest. messages (suc (length kinds)) rest) o) ≡ None → suc (length kinds) ≤ length (message_then (λ rest. messages (length kinds) rest) o)
+    → map (λ (m : Message). m.kind) (message_then (λ rest. messages (length kinds) rest) o) ≡ map kind_byte (kind ∷ kinds)
+one_heard kind kinds others None r l = absurd (none_whole (length kinds) l)
+one_heard kind kinds others (Some m) r l =
+    let taken = taken_by (m.kind == kind_byte kind) (has_form kind m.body) (refusal kinds (messages (suc (length kinds)) m.rest)) r in
+    rw (same_kind m.kind (kind_byte kind) taken.0, others m.rest taken.1 (omega (arith, l))) refl
+
 -- as many whole messages as there are kinds, none of them refused, are of these kinds
 kinds_heard : (kinds : List Kind) (bytes : List ℕ) → refusal kinds (messages (suc (length kinds)) bytes) ≡ None → length kinds ≤ length (messages (length kinds) bytes)
     → map (λ (m : Message). m.kind) (messages (length kinds) bytes) ≡ map kind_byte kinds
 unfolding messages
 kinds_heard [] bytes r l = refl
-kinds_heard (kind ∷ kinds) bytes r l = by (first_message bytes) r l where
-  by : (o : Option Message) → refusal (kind ∷ kinds) (message_then (λ rest. messages (suc (length kinds)) rest) o) ≡ None
-      → suc (length kinds) ≤ length (message_then (λ rest. messages (length kinds) rest) o)
-      → map (λ (m : Message). m.kind) (message_then (λ rest. messages (length kinds) rest) o) ≡ map kind_byte (kind ∷ kinds)
-  by None r l = absurd (none_whole (length kinds) l)
-  by (Some m) r l =
-      let taken = taken_by (m.kind == kind_byte kind) (has_form kind m.body) (refusal kinds (messages (suc (length kinds)) m.rest)) r in
-      rw (same_kind m.kind (kind_byte kind) taken.0, kinds_heard kinds m.rest taken.1 (omega (arith, l))) refl
+kinds_heard (kind ∷ kinds) bytes r l = one_heard kind kinds (λ rest. kinds_heard kinds rest) (first_message bytes) r l
 
 two_heard : (n : ℕ) → nat_le 2 n ≡ true → 2 ≤ n
 two_heard n e = grind (arith, e)
