@@ -1,2 +1,3 @@
 pub mod CipherLemmas
 pub mod MessageLemmas
+pub mod RunLaws

@@ -306,7 +306,8 @@ pub record IsFresh (s : ToySession) : Type 0 where
   pub epoch : s.epoch ≡ 0
 
 -- What holds of every session that calls lead to from a fresh one: it has made no more steps than there
--- are, and a server that made one has heard the hello.
+-- are, a server that made one has heard the hello, and no alert refuses the messages that were heard.
 pub record IsSound (s : ToySession) : Type 0 where
   pub few : s.steps ≤ length (steps_of s.side)
   pub hello : s.side ≡ Server → 0 < s.steps → is_some (first_body s.heard) ≡ true
+  pub heard : refusal (peer_messages s.side) (messages 3 s.heard) ≡ None

@@ -4,6 +4,7 @@ pub mod Handshake
 pub mod KeyBytes
 pub mod MessageLaws
 pub mod Messages
+pub mod Runs
 pub mod SessionLaws
 pub mod Settings
 pub mod Start

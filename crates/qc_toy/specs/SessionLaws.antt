@@ -28,7 +28,7 @@ use Rattle.std.proofs.lemmas.Option.{slice_get_within}
 use Rattle.qc_toy.specs.declared.settings.ToySettings.{ToySettings}
 use Rattle.qc_toy.specs.Cipher.{toy_seal, toy_opening, toy_mask}
 use Rattle.qc_toy.specs.CipherLaws.{opens_sealed, opens_no_other, opens_no_other_epoch}
-use Rattle.qc_toy.specs.Messages.{message, messages, first_body, second_body, refusal, peer_messages}
+use Rattle.qc_toy.specs.Messages.{message, messages, first_message, first_body, second_body, refusal, peer_messages}
 use Rattle.qc_toy.specs.MessageLaws.{length-message, first_stays, messages_grow, one_is_first, refusal_small}
 use Rattle.qc_toy.specs.ToyKeys.{level_keys, packet_keys, packet_key, header_key, other_side}
 use Rattle.qc_toy.specs.Handshake.{steps_of, heard_count, if_heard, session_due, body_for, bytes_for, written_for, keys_for, given_for, steps_after, session_writes, session_write_keys, session_after_write, steps_left, bytes_left, changes_by, changes_of, made_all, session_reads, session_after_read, read_answer, heard_after, session_handshaking, session_negotiated, ready_unit, early_keys, has_early, session_early_taken, session_next_keys, session_after_next, session_parameters, parameters_by, parameters_in, parameters_before, parameters_or_error, heard_parameters, parameter_error, cached_parameters, keys_of_level, keys_of_space, keys_of_epoch, keys_of_id, level_of, exported_bytes, ArePaired, IsFresh, IsSound}
@@ -177,9 +177,13 @@ all_test Server n = refl
 two : (n : ℕ) → n == 2 ≡ true → n ≡ 2
 two n e = grind (arith, e)
 
-all_made : (s : ToySession) → session_handshaking s ≡ false → made_all s ≡ true
+pub all_made : (s : ToySession) → session_handshaking s ≡ false → made_all s ≡ true
 unfolding session_handshaking
 all_made s e = (both (made_all s) (nat_le 2 (heard_count s)) (not_false _ e)).0
+
+pub all_heard : (s : ToySession) → session_handshaking s ≡ false → nat_le 2 (heard_count s) ≡ true
+unfolding session_handshaking
+all_heard s e = (both (made_all s) (nat_le 2 (heard_count s)) (not_false _ e)).1
 
 pub toy_over_late : (s : ToySession) → session_handshaking s ≡ false → changes_of s ≡ 2
 toy_over_late s e = two (changes_of s) (sym (all_test s.side s.steps) ∙ all_made s e)
@@ -696,14 +700,30 @@ toy_same_exports client server count label context h = ap (λ (secret : List ℕ
 
 -- ---- sound sessions
 
+none_heard : (kinds : List Kind) (heard : List ℕ) → heard ≡ [] → refusal kinds (messages 3 heard) ≡ None
+unfolding messages first_message
+none_heard kinds heard e = rw e refl
+
 pub toy_fresh_sound : (s : ToySession) → IsFresh s → IsSound s
-toy_fresh_sound s h = record { few = omega (arith, h.steps); hello = λ _ n. absurd (none n) } where
+toy_fresh_sound s h = record { few = omega (arith, h.steps); hello = λ _ n. absurd (none n); heard = none_heard (peer_messages s.side) s.heard h.heard } where
   none : 0 < s.steps → ⊥
   none n = omega (arith, h.steps, n)
 
+-- no alert refuses what was heard, since nothing is kept of a reading that one refuses
+in_order : (alert : Option ℕ) (kinds : List Kind) (before joined : List ℕ) → refusal kinds (messages 3 joined) ≡ alert → refusal kinds (messages 3 before) ≡ None
+    → refusal kinds (messages 3 (heard_after alert before joined)) ≡ None
+in_order None kinds before joined e h = e
+in_order (Some alert) kinds before joined e h = h
+
 pub toy_sound_read : (s : ToySession) (bytes : List ℕ) → IsSound s → IsSound (session_after_read s bytes)
 unfolding session_after_read
-toy_sound_read s bytes h = record { few = h.few; hello = λ e n. first_kept (refusal (peer_messages s.side) (messages 3 (s.heard ++ bytes))) s.heard bytes (h.hello e n) }
+toy_sound_read s bytes h =
+    let alert = refusal (peer_messages s.side) (messages 3 (s.heard ++ bytes)) in
+    record {
+      few = h.few;
+      hello = λ e n. first_kept alert s.heard bytes (h.hello e n);
+      heard = in_order alert (peer_messages s.side) s.heard (s.heard ++ bytes) refl h.heard;
+    }
 
 -- each of a server's steps needs the hello
 server_hears : (side : Side) (n : ℕ) (x : Step) → side ≡ Server → slice_get (steps_of side) n ≡ Some x → x.heard ≡ 1
@@ -716,14 +736,15 @@ pub toy_sound_write : (s : ToySession) → IsSound s → IsSound (session_after_
 unfolding session_after_write
 toy_sound_write s h = by (session_due s) refl where
   by : (o : Option Step) → session_due s ≡ o → IsSound (record s { steps = steps_after s.steps o })
-  by None e = record { few = h.few; hello = h.hello }
+  by None e = record { few = h.few; hello = h.hello; heard = h.heard }
   by (Some x) e =
       let d = due_step s x e in
       record {
         few = omega (arith, due_few s x e);
         hello = λ side n. one_is_first s.heard (let one = server_hears s.side s.steps x side d.0 in grind (arith, one, d.1));
+        heard = h.heard;
       }
 
 pub toy_sound_next : (s : ToySession) → IsSound s → IsSound (session_after_next s)
 unfolding session_after_next
-toy_sound_next s h = record { few = h.few; hello = h.hello }
+toy_sound_next s h = record { few = h.few; hello = h.hello; heard = h.heard }

@@ -21,7 +21,7 @@ mod zero_random;
 pub use config::{ToyClient, ToyServer};
 pub use header_key::ToyHeaderKey;
 pub use key_bytes::{Level, secret_of_id};
-pub use laws::one_secret_pairs;
+pub use laws::{completes_behind_both, hears_in_order, one_secret_pairs};
 pub use packet_key::ToyPacketKey;
 pub use session::ToySession;
 pub use settings::ToySettings;
