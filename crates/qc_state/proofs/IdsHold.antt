@@ -7,9 +7,11 @@ use Rattle.qc_base.specs.declared.side.SpaceId.TheVariants.{Handshake}
 use Rattle.qc_frame.specs.Frame.{FrameValue}
 use Rattle.qc_state.specs.declared.deeds.Verdict.{Verdict}
 use Rattle.qc_state.specs.declared.deeds.Verdict.TheVariants as verdict
+use Rattle.qc_state.specs.declared.form.Form.{Form}
 use Rattle.qc_state.specs.declared.input.Input.{Input}
 use Rattle.qc_state.specs.declared.paths.Paths.{Paths}
 use Rattle.qc_state.specs.declared.trace.Step.{Step}
+use Rattle.qc_state.specs.Forms.{number_space}
 use Rattle.qc_state.specs.Moves.{Accept, Ack, Finish, Fire, Fix, Forget, Hear, MayMove, Move, Say, Seal, Take, move_to, paths_move, state_move}
 use Rattle.qc_state.specs.Numbers.{next_number, received_number}
 use Rattle.qc_state.specs.PathLaws.{IdsHold}
@@ -85,9 +87,10 @@ module _ {t : Types} where
   known_ids m x a known may = ids_move x a.state may
 
   -- a packet is taken and sealed
-  sealed_ids : (time : ℕ) (id : SpaceId) (fs : List FrameValue) (a : At t) → IsSealable time a.state id fs → IdsOver a (move_to (Seal time id (next_number a.state.numbers id) (packet_size a.state id fs) fs) (move_to (Take id fs) a))
+  sealed_ids : (time : ℕ) (form : Form) (fs : List FrameValue) (a : At t) → IsSealable time a.state form fs →
+      IdsOver a (move_to (Seal time form (next_number a.state.numbers (number_space form)) (packet_size a.state form fs) fs) (move_to (Take (number_space form) fs) a))
   unfolding move_to state_move paths_move
-  sealed_ids time id fs a may = ids_here a.state.paths
+  sealed_ids time form fs a may = ids_here a.state.paths
 
   -- a step
   step_ids : (m : Meaning t) (k : ℕ) (s : View t) (i : Input) (x : Step) (s' : View t) → IsStep m k s i x s' → IdsHold s.paths s'.paths
