@@ -5,4 +5,5 @@ pub mod RunsPlain
 pub mod Reports
 pub mod Firsts
 mod NewEnds
+mod NewCrypto
 mod Stores

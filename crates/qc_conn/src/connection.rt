@@ -10,6 +10,8 @@ ghost use Rattle.qc_receive.specs.FirstPacket.{IsFirstPacket, first_reason, size
 ghost use Rattle.qc_recovery.specs.Paths.{first_size};
 ghost use Rattle.qc_state.specs.Receiving.{datagram_after, first_packet_after, is_taken};
 ghost use Rattle.qc_state.specs.Setup.{is_first_awaited};
+ghost use Rattle.qc_base.specs.declared.side.SpaceId.{SpaceId};
+ghost use Rattle.qc_state.specs.CryptoLaws.{CryptoKept};
 ghost use Rattle.qc_state.specs.EndLaws.{Ends};
 ghost use Rattle.qc_state.specs.EventLaws.{OnlyDoneWaits};
 ghost use Rattle.qc_state.specs.First.{first_view, server_view, fixed_of};
@@ -95,6 +97,7 @@ impl<U: Suite> Connection<U> {
         ensures plain { IsPlainAddress setup.remote → IfOk result (λ c. IsPlainStart c.core.waiting c.core.paths c.core.life) }
         ensures told { IfOk result (λ c. OnlyDoneWaits c.core.life) }
         ensures ends { IfOk result (λ c. Ends (ideal U.Random.stream c.core)) }
+        ensures crypto { IfOk result (λ c. (id : SpaceId) → CryptoKept id [] (ideal U.Random.stream c.core)) }
         ensures alive { IfOk result (λ c. c.failed ≡ false) }
         ensures store { OnOk result (store.new ≡ G.after_take store.old (string_bytes setup.server_name)) }
     {
@@ -123,6 +126,7 @@ impl<U: Suite> Connection<U> {
         ensures plain { IsPlainAddress setup.remote → IfOk result (λ c. IsPlainStart c.core.waiting c.core.paths c.core.life) }
         ensures told { IfOk result (λ c. OnlyDoneWaits c.core.life) }
         ensures ends { IfOk result (λ c. Ends (ideal U.Random.stream c.core)) }
+        ensures crypto { IfOk result (λ c. (id : SpaceId) → CryptoKept id [] (ideal U.Random.stream c.core)) }
         ensures alive { IfOk result (λ c. c.failed ≡ false) }
     {
         let core = qc_making::new_server(alloc, setup, now)?;

@@ -258,7 +258,7 @@ all_awaited o w (f ∷ fs) h =
 
 -- ---- bytes that are written
 
-written_holds : (b : Buffer) (bs : List ℕ) (acked flight : List Entry) → b.sent ≤ b.written → BytesHold acked b flight → BytesHold acked (bytes_written bs b) flight
+pub written_holds : (b : Buffer) (bs : List ℕ) (acked flight : List Entry) → b.sent ≤ b.written → BytesHold acked b flight → BytesHold acked (bytes_written bs b) flight
 unfolding bytes_written
 written_holds b bs acked flight sent h = record {
   kept = λ o less. list_any-append (λ k. k.offset == o) b.kept (row false b.written bs) ∙ kept_by o less (nat_lt o b.written) refl;

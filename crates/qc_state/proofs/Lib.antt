@@ -49,3 +49,4 @@ pub mod InitialLeft
 mod CryptoBuffers
 pub mod CryptoKept
 mod CryptoPlaces
+pub mod CryptoBegins

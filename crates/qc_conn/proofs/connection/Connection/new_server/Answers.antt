@@ -1,3 +1,4 @@
+use Rattle.qc_conn.proofs.NewCrypto.{server_kept}
 use Rattle.qc_conn.proofs.NewEnds.{server_ends}
 use Rattle.qc_conn.proofs.RunsPlain.{server_plain, server_told}
 use Rattle.qc_conn.proofs.connection.Connection.new_server.Goals as goal
@@ -13,3 +14,7 @@ returns-clause-told g c = server_told g.U.Random.Rng.stream _ _ _ _ c.args.setup
 -- its life is open
 pub returns-clause-ends : goal.returns-clause-ends
 returns-clause-ends g c = server_ends g.U.Random.Rng.stream _ _ _ _ c.args.setup.remote c.args.setup.remote_cid c.args.setup.validated _ _ c.args.now c.in_ok-core.core c.in_ok-core.ensures
+
+-- what its session wrote waits
+pub returns-clause-crypto : goal.returns-clause-crypto
+returns-clause-crypto g c = server_kept g.U.Random.Rng.stream _ _ _ _ c.args.setup.remote c.args.setup.remote_cid c.args.setup.validated _ _ c.args.now c.in_ok-core.core c.in_ok-core.ensures
