@@ -6,4 +6,5 @@ pub mod Reports
 pub mod Firsts
 mod NewEnds
 mod NewCrypto
+mod NewTimer
 mod Stores

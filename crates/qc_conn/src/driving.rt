@@ -16,6 +16,7 @@ ghost use Rattle.qc_state.specs.PathLaws.{PathHolds, all_from};
 ghost use Rattle.qc_state.specs.Headline.{deeds_of, EachRises, EachAdmitted, EachAcksKnown, Harmless, LifeRises, OnlyCloses, LosesOnce};
 ghost use Rattle.qc_state.specs.RecoveryLaws.{EachSettlesOnce, Recovers};
 ghost use Rattle.qc_state.specs.Run.{time_of, Adds, Run, Ran};
+ghost use Rattle.qc_state.specs.TimerLaws.{KeepsTimer};
 ghost use Rattle.qc_state.specs.View.{ideal};
 
 use crate::connection::Connection;
@@ -182,7 +183,7 @@ fn drive_all<U: Suite>(
 /// name the first input whose time lies before the greatest so far, or which asks for a call that can't be made; the
 /// connection is as the inputs before left it, and their steps are carried. `OutOfMemory` for want of memory; the steps
 /// of the inputs before are carried, and the connection is marked as failed.
-#[tactic(auto, using(qc_state::proofs::PathsHold::path_run, qc_state::proofs::EventsTold::run_tells_done, qc_state::proofs::EventsTold::ran_tells_done, qc_state::proofs::EventsTold::run_tells_once, qc_state::proofs::EventsTold::ran_tells_once, qc_state::proofs::EventsTold::run_stays_done, qc_state::proofs::KeysHold::run_keys_hold, qc_state::proofs::EndsHold::run_ends, qc_state::proofs::InitialLeft::run_leaves, qc_state::proofs::Recovers::run_recovers, qc_state::proofs::Recovers::run_settles_once, qc_state::proofs::CryptoKept::run_keeps_bytes, qc_state::proofs::HarmlessBytes::run_harmless, qc_state::proofs::Told::run_rises, qc_state::proofs::Told::run_admits, qc_state::proofs::Told::ran_admits, qc_state::proofs::AcksAccepted::run_acks_known, qc_state::proofs::AcksAccepted::ran_acks_known, qc_state::proofs::MarksTold::run_each_told, qc_state::proofs::MarksTold::ran_each_told, qc_state::proofs::Told::run_life_rises, qc_state::proofs::Told::run_closes, qc_state::proofs::Told::run_loses_once, qc_state::proofs::Told::ran_rises, qc_state::proofs::Told::ran_life_rises, qc_state::proofs::Told::ran_closes, qc_state::proofs::Told::ran_loses_once, crate::proofs::RunsPlain::run_plain, crate::proofs::RunsPlain::run_stays, crate::proofs::RunsPlain::ran_plain))]
+#[tactic(auto, using(qc_state::proofs::PathsHold::path_run, qc_state::proofs::EventsTold::run_tells_done, qc_state::proofs::EventsTold::ran_tells_done, qc_state::proofs::EventsTold::run_tells_once, qc_state::proofs::EventsTold::ran_tells_once, qc_state::proofs::EventsTold::run_stays_done, qc_state::proofs::KeysHold::run_keys_hold, qc_state::proofs::EndsHold::run_ends, qc_state::proofs::InitialLeft::run_leaves, qc_state::proofs::Recovers::run_recovers, qc_state::proofs::Recovers::run_settles_once, qc_state::proofs::CryptoKept::run_keeps_bytes, qc_state::proofs::TimerHolds::run_keeps_timer, qc_state::proofs::HarmlessBytes::run_harmless, qc_state::proofs::Told::run_rises, qc_state::proofs::Told::run_admits, qc_state::proofs::Told::ran_admits, qc_state::proofs::AcksAccepted::run_acks_known, qc_state::proofs::AcksAccepted::ran_acks_known, qc_state::proofs::MarksTold::run_each_told, qc_state::proofs::MarksTold::ran_each_told, qc_state::proofs::Told::run_life_rises, qc_state::proofs::Told::run_closes, qc_state::proofs::Told::run_loses_once, qc_state::proofs::Told::ran_rises, qc_state::proofs::Told::ran_life_rises, qc_state::proofs::Told::ran_closes, qc_state::proofs::Told::ran_loses_once, crate::proofs::RunsPlain::run_plain, crate::proofs::RunsPlain::run_stays, crate::proofs::RunsPlain::ran_plain))]
 pub fn drive<U: Suite, G: TokenStore>(
     alloc: Global,
     connection: &mut Connection<U>,
@@ -231,9 +232,11 @@ pub fn drive<U: Suite, G: TokenStore>(
     ensures told_end { OnlyDoneWaits connection.old.core.life → OnOk result (OnlyDoneWaits connection.new.core.life) }
 
     // What loss recovery keeps is what its own steps leave, and each packet that is sealed, but for closes, is acknowledged, lost, dropped
-    // with its space or in flight, and that once; so each byte that the session wrote waits, is in flight or was acknowledged.
+    // with its space or in flight, and that once; so each byte that the session wrote waits, is in flight or was acknowledged. And the loss
+    // timer stands where an acknowledgement is waited for.
     ensures recovers { Ends (ideal U.Random.stream connection.old.core) → IfOk result (λ trace. Recovers ⟦<U as Means>⟧.meaning (deeds_of trace) (ideal U.Random.stream connection.old.core) (ideal U.Random.stream connection.new.core)) }
     ensures crypto { Ends (ideal U.Random.stream connection.old.core) → IfOk result (λ trace. KeepsBytes ⟦<U as Means>⟧.meaning (deeds_of trace) (ideal U.Random.stream connection.old.core) (ideal U.Random.stream connection.new.core)) }
+    ensures timer { Ends (ideal U.Random.stream connection.old.core) → IfOk result (λ trace. KeepsTimer (deeds_of trace) (ideal U.Random.stream connection.old.core) (ideal U.Random.stream connection.new.core)) }
     ensures settles { Ends (ideal U.Random.stream connection.old.core) → IfOk result (λ trace. EachSettlesOnce (deeds_of trace) (ideal U.Random.stream connection.old.core) (ideal U.Random.stream connection.new.core)) }
 
     // Where the path's address has neither flow label nor scope, the trace's text leaves nothing out.

@@ -60,7 +60,7 @@ module _ {t : Types} where
   settled_known : (m : Meaning t) (o : OpenPacket) (id : SpaceId) (n : ℕ) (after : After t.C) (s : View t) → IsSettledOf m o id n after s → IsSettledBy m id after s
   settled_known m o id n after s h = record { time = o.coming.time; ack = h.ack; is = h.settled ∙ ap (λ (space : SpaceId). settled_by m o.coming.time space h.ack s) (sym h.space) }
 
-  packet_known : (m : Meaning t) (o : OpenPacket) (x : Move t) (s : View t) → IsInPacket m o x s → IsKnownMove m x s
+  pub packet_known : (m : Meaning t) (o : OpenPacket) (x : Move t) (s : View t) → IsInPacket m o x s → IsKnownMove m x s
   packet_known m o (Clock time) s h = absurd h
   packet_known m o (Take id fs) s h = absurd h
   packet_known m o (Seal time form n size fs) s h = absurd h
@@ -76,7 +76,7 @@ module _ {t : Types} where
   packet_known m o _ s h = tt
 
   -- of those around it
-  outside_known : (m : Meaning t) (time : ℕ) (x : Move t) (s : View t) → IsOutside time x s → IsKnownMove m x s
+  pub outside_known : (m : Meaning t) (time : ℕ) (x : Move t) (s : View t) → IsOutside time x s → IsKnownMove m x s
   outside_known m at_time (Clock time) s h = absurd h
   outside_known m at_time (Take id fs) s h = absurd h
   outside_known m at_time (Seal time form n size fs) s h = absurd h

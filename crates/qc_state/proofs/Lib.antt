@@ -50,3 +50,7 @@ mod CryptoBuffers
 pub mod CryptoKept
 mod CryptoPlaces
 pub mod CryptoBegins
+pub mod TimerFlights
+pub mod TimerMoves
+pub mod TimerHolds
+pub mod TimerBegins

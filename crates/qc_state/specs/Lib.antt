@@ -36,6 +36,7 @@ pub mod Spaces
 pub mod Stopping
 pub mod Taking
 pub mod Timeouts
+pub mod TimerLaws
 pub mod Timers
 pub mod Types
 pub mod Verdicts

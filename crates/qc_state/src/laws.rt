@@ -22,6 +22,7 @@ ghost use Rattle.qc_state.specs.Receiving.{datagram_after, event_after, first_pa
 ghost use Rattle.qc_state.specs.RecoveryLaws.{EachSettlesOnce, Recovers};
 ghost use Rattle.qc_state.specs.Run.{IsStep, Run, began, placed_behind};
 ghost use Rattle.qc_state.specs.Setup.{is_first_awaited};
+ghost use Rattle.qc_state.specs.TimerLaws.{KeepsTimer};
 ghost use Rattle.qc_state.specs.View.{View, At, at};
 ghost use Rattle.qc_state.specs.declared.coming.Coming.{Coming};
 ghost use Rattle.qc_state.specs.declared.deeds.Did.{Did};
@@ -99,6 +100,13 @@ pub fn recovery_is_folded<U: Suite>()
 /// steps acknowledged, or was acknowledged before (RFC 9000, 13.3).
 pub fn bytes_are_kept<U: Suite>()
     ensures { (s last : View ⟦<U as Means>⟧.types) (k : ℕ) (is : List Input) (xs : List Step) → Run ⟦<U as Means>⟧.meaning k s is xs last → Ends s → KeepsBytes ⟦<U as Means>⟧.meaning (deeds_of xs) s last }
+{}
+
+/// A law, which runs no code. Over a run, while the connection is open, the loss timer stands where an acknowledgement is waited for:
+/// a packet is in flight that elicits one, in the Initial or the Handshake space, or in Data, where the handshake is over and one that
+/// counts was sealed since; unless the path is blocked (RFC 9002, 6.2.1 and 6.2.2.1; RFC 9000, 8.1).
+pub fn loss_timer_stands<U: Suite>()
+    ensures { (s last : View ⟦<U as Means>⟧.types) (k : ℕ) (is : List Input) (xs : List Step) → Run ⟦<U as Means>⟧.meaning k s is xs last → Ends s → KeepsTimer (deeds_of xs) s last }
 {}
 
 /// A law, which runs no code. Over a run just what came to pass is told, in the step in which it did, and each thing at most once: a

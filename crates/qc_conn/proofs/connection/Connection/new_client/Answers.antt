@@ -1,5 +1,6 @@
 use Rattle.qc_conn.proofs.NewCrypto.{first_kept}
 use Rattle.qc_conn.proofs.NewEnds.{first_ends}
+use Rattle.qc_conn.proofs.NewTimer.{first_timer}
 use Rattle.qc_conn.proofs.RunsPlain.{first_plain, first_told}
 use Rattle.qc_conn.proofs.connection.Connection.new_client.Goals as goal
 
@@ -18,3 +19,7 @@ returns-clause-ends g c = first_ends g.U.Random.Rng.stream _ _ _ _ c.args.setup.
 -- what its session wrote waits
 pub returns-clause-crypto : goal.returns-clause-crypto
 returns-clause-crypto g c = first_kept g.U.Random.Rng.stream _ _ _ _ c.args.setup.remote c.args.setup.first_cid _ _ _ c.args.now c.in_ok-core.core c.in_ok-core.ensures.made
+
+-- nothing is in flight
+pub returns-clause-timer : goal.returns-clause-timer
+returns-clause-timer g c = first_timer g.U.Random.Rng.stream _ _ _ _ c.args.setup.remote c.args.setup.first_cid _ _ _ c.args.now c.in_ok-core.core c.in_ok-core.ensures.made

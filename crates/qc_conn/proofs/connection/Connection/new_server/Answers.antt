@@ -1,5 +1,6 @@
 use Rattle.qc_conn.proofs.NewCrypto.{server_kept}
 use Rattle.qc_conn.proofs.NewEnds.{server_ends}
+use Rattle.qc_conn.proofs.NewTimer.{server_timer}
 use Rattle.qc_conn.proofs.RunsPlain.{server_plain, server_told}
 use Rattle.qc_conn.proofs.connection.Connection.new_server.Goals as goal
 
@@ -18,3 +19,7 @@ returns-clause-ends g c = server_ends g.U.Random.Rng.stream _ _ _ _ c.args.setup
 -- what its session wrote waits
 pub returns-clause-crypto : goal.returns-clause-crypto
 returns-clause-crypto g c = server_kept g.U.Random.Rng.stream _ _ _ _ c.args.setup.remote c.args.setup.remote_cid c.args.setup.validated _ _ c.args.now c.in_ok-core.core c.in_ok-core.ensures
+
+-- nothing is in flight
+pub returns-clause-timer : goal.returns-clause-timer
+returns-clause-timer g c = server_timer g.U.Random.Rng.stream _ _ _ _ c.args.setup.remote c.args.setup.remote_cid c.args.setup.validated _ _ c.args.now c.in_ok-core.core c.in_ok-core.ensures
