@@ -15,12 +15,12 @@ module _ {t : Types} where
   -- a client
   client_view_kept : (m : Meaning t) (session : t.S) (words : Stream) (fixed : Fixed) (remote : SocketAddr) (first_cid token : List ℕ) (transport : TransportValues) (congestion : t.C) (time : ℕ) (id : SpaceId) → CryptoKept id [] (first_view m session words fixed remote first_cid token transport congestion time)
   unfolding first_view
-  client_view_kept m session words fixed remote first_cid token transport congestion time id = made_kept t id _ _ _ _ _ _ _ _ _ _
+  client_view_kept m session words fixed remote first_cid token transport congestion time id = made_kept t id _ _ _ _ _ _ _ _ _
 
   -- a server
   server_view_kept : (m : Meaning t) (session : t.S) (words : Stream) (fixed : Fixed) (remote : SocketAddr) (remote_cid : List ℕ) (validated : Bool) (transport : TransportValues) (congestion : t.C) (time : ℕ) (id : SpaceId) → CryptoKept id [] (server_view m session words fixed remote remote_cid validated transport congestion time)
   unfolding server_view
-  server_view_kept m session words fixed remote remote_cid validated transport congestion time id = made_kept t id _ _ _ _ _ _ _ _ _ _
+  server_view_kept m session words fixed remote remote_cid validated transport congestion time id = made_kept t id _ _ _ _ _ _ _ _ _
 
 -- so is one that was made so
 module _ {t : Types} {R : Type 0} where

@@ -7,7 +7,6 @@ use Rattle.qc_base.specs.declared.side.SpaceId.TheVariants.{Initial, Handshake, 
 use Rattle.qc_recovery.specs.Calls.{begun_recovery}
 use Rattle.qc_recovery.specs.Steps.{no_space}
 use Rattle.qc_recovery.specs.TransportValues.{TransportValues}
-use Rattle.qc_recovery.specs.declared.path.PathData.{PathData}
 use Rattle.qc_send_stream.specs.Buffer.{bytes_written, nothing}
 use Rattle.qc_state.specs.declared.keys.SpaceKeys.{SpaceKeys}
 use Rattle.qc_state.specs.declared.paths.Paths.{Paths}
@@ -30,9 +29,9 @@ unfolding bytes_written nothing
 just_held id bs opened keyed above =
     record { sent = omega arith; above = λ e. let none : length bs ≡ 0 = ap (λ (l : List ℕ). length l) (above e) in omega (arith, none); holds = λ o k. written_holds nothing bs [] [] (omega arith) none_held }
 
-pub made_kept : (t : Types) (id : SpaceId) (keys : SpaceKeys t.H t.P) (session : t.S) (hello token : List ℕ) (words : Stream) (fixed : Fixed) (paths : Paths) (transport : TransportValues) (path : PathData t.C) (time : ℕ) →
-    CryptoKept id [] (just_made {t = t} keys session hello token words fixed paths transport path time)
+pub made_kept : (t : Types) (id : SpaceId) (keys : SpaceKeys t.H t.P) (session : t.S) (hello token : List ℕ) (words : Stream) (fixed : Fixed) (paths : Paths t.C) (transport : TransportValues) (time : ℕ) →
+    CryptoKept id [] (just_made {t = t} keys session hello token words fixed paths transport time)
 unfolding begun_recovery no_space first_keys
-made_kept t Initial keys session hello token words fixed paths transport path time = just_held Initial hello true _ (λ e. absurd cc)
-made_kept t Handshake keys session hello token words fixed paths transport path time = just_held Handshake [] true _ (λ e. refl)
-made_kept t Data keys session hello token words fixed paths transport path time = just_held «Data» [] true _ (λ e. refl)
+made_kept t Initial keys session hello token words fixed paths transport time = just_held Initial hello true _ (λ e. absurd cc)
+made_kept t Handshake keys session hello token words fixed paths transport time = just_held Handshake [] true _ (λ e. refl)
+made_kept t Data keys session hello token words fixed paths transport time = just_held «Data» [] true _ (λ e. refl)

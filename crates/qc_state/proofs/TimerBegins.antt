@@ -7,7 +7,6 @@ use Rattle.qc_recovery.specs.Calls.{begun_recovery}
 use Rattle.qc_recovery.specs.Steps.{no_space}
 use Rattle.qc_recovery.specs.Steps as recovery
 use Rattle.qc_recovery.specs.TransportValues.{TransportValues}
-use Rattle.qc_recovery.specs.declared.path.PathData.{PathData}
 use Rattle.qc_state.specs.declared.keys.SpaceKeys.{SpaceKeys}
 use Rattle.qc_state.specs.declared.paths.Paths.{Paths}
 use Rattle.qc_state.specs.declared.setup.Fixed.{Fixed}
@@ -22,7 +21,7 @@ begun_flights transport Initial = record { counts = refl; asked = λ e. absurd c
 begun_flights transport Handshake = record { counts = refl; asked = λ e. absurd cc }
 begun_flights transport Data = record { counts = refl; asked = λ e. absurd cc }
 
-pub made_timer : (t : Types) (keys : SpaceKeys t.H t.P) (session : t.S) (hello token : List ℕ) (words : Stream) (fixed : Fixed) (paths : Paths) (transport : TransportValues) (path : PathData t.C) (time : ℕ) →
-    TimerHolds false (just_made {t = t} keys session hello token words fixed paths transport path time)
+pub made_timer : (t : Types) (keys : SpaceKeys t.H t.P) (session : t.S) (hello token : List ℕ) (words : Stream) (fixed : Fixed) (paths : Paths t.C) (transport : TransportValues) (time : ℕ) →
+    TimerHolds false (just_made {t = t} keys session hello token words fixed paths transport time)
 unfolding begun_recovery no_space awaits_ack elicits_in
-made_timer t keys session hello token words fixed paths transport path time = record { stands = λ o u w. absurd cc; flights = begun_flights transport }
+made_timer t keys session hello token words fixed paths transport time = record { stands = λ o u w. absurd cc; flights = begun_flights transport }

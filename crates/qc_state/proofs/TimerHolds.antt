@@ -12,6 +12,7 @@ use Rattle.qc_state.specs.declared.coming.Coming.{Coming}
 use Rattle.qc_state.specs.declared.deeds.Did.{Did}
 use Rattle.qc_state.specs.declared.deeds.Did.TheVariants as did
 use Rattle.qc_state.specs.declared.deeds.Quiet.TheVariants.{Killed}
+use Rattle.qc_state.specs.declared.form.Form.{Form}
 use Rattle.qc_state.specs.declared.input.Input.{Input}
 use Rattle.qc_state.specs.declared.input.Input.TheVariants as input
 use Rattle.qc_state.specs.declared.life.Close.{Close}
@@ -25,11 +26,13 @@ use Rattle.qc_state.specs.declared.timers.Timers.{Timers}
 use Rattle.qc_state.specs.declared.trace.Step.{Step}
 use Rattle.qc_state.specs.declared.transmit.Batch.{Batch}
 use Rattle.qc_state.specs.EndLaws.{Ends}
+use Rattle.qc_state.specs.Forms.{is_early, number_space}
 use Rattle.qc_state.specs.Headline.{deeds_of}
+use Rattle.qc_state.specs.Keys.{epoch_in}
 use Rattle.qc_state.specs.Life.{is_drained, is_established, is_open}
-use Rattle.qc_state.specs.Moves.{Ack, Arm, Ask, Begin, Clock, Establish, Expect, Finish, Fire, Forget, Give, Hear, MayMove, Move, Pace, Raise, Release, ReportConnected, ReportDrained, ReportLost, ReportNotices, ReportReady, Say, Seal, Shut, Skip, Tell, armed_after, armed_with, deeds_move, move_to, paths_move, state_move}
+use Rattle.qc_state.specs.Moves.{Ack, Arm, Ask, Begin, Clock, Establish, Expect, Finish, Fire, Forget, Give, Hear, MayMove, Move, Pace, Raise, Release, ReportConnected, ReportDrained, ReportLost, ReportNotices, ReportReady, Say, Seal, Shut, Skip, Tell, armed_after, armed_with, deeds_move, keys_move, move_to, paths_move, state_move}
 use Rattle.qc_state.specs.Numbers.{next_number}
-use Rattle.qc_state.specs.Paths.{is_blocked, path_idle}
+use Rattle.qc_state.specs.Paths.{is_blocked, path_idle, path_kept}
 use Rattle.qc_state.specs.Receiving.{counted_after, cut_of, datagram_after, first_after, first_token, heard_after, pieces_after}
 use Rattle.qc_state.specs.Recovering.{fired_by, loss_time}
 use Rattle.qc_state.specs.Run.{IsAllowed, IsStep, Run, began, called, close_after, input_after, reported, step_after, time_of}
@@ -164,7 +167,7 @@ module _ {t : Types} where
   packet_frees : (m : Meaning t) (o : OpenPacket) (free : Bool) (x : Move t) (a : At t) → IsInPacket m o x a.state → MayMove x a.state → Frees free a (move_to x a)
   unfolding MayMove
   packet_frees m o free (Arm at) a h may = frees_timer free o.coming.time at a h
-  packet_frees m o free (Seal time id n size fs) a h may = absurd h
+  packet_frees m o free (Seal time form n size fs) a h may = absurd h
   packet_frees m o free (Finish bytes) a h may = absurd h
   packet_frees m o free (Hear bytes) a h may = absurd h
   packet_frees m o free (Fire after) a h may = absurd h
@@ -177,7 +180,7 @@ module _ {t : Types} where
   unopened_frees : (m : Meaning t) (time : ℕ) (free : Bool) (x : Move t) (a : At t) → IsUnopened time x → MayMove x a.state → Frees free a (move_to x a)
   unfolding MayMove
   unopened_frees m at_time free (Arm at) a h may = absurd h
-  unopened_frees m at_time free (Seal time id n size fs) a h may = absurd h
+  unopened_frees m at_time free (Seal time form n size fs) a h may = absurd h
   unopened_frees m at_time free (Finish bytes) a h may = absurd h
   unopened_frees m at_time free (Hear bytes) a h may = absurd h
   unopened_frees m at_time free (Fire after) a h may = absurd h
@@ -237,25 +240,25 @@ module _ {t : Types} where
 
   -- ---- timeouts
 
-  -- they leave the path
-  timed_paths : (x : Move t) → IsTimed x → (a : At t) → (move_to x a).state.paths ≡ a.state.paths
-  unfolding move_to state_move paths_move
-  timed_paths (Fire r) h a = refl
-  timed_paths (Arm at) h a = refl
-  timed_paths Pace h a = refl
-  timed_paths Release h a = refl
-  timed_paths (Raise to) h a = refl
-  timed_paths (Give why) h a = refl
-  timed_paths _ h a = absurd h
+  -- they leave whether datagrams may be begun
+  timed_blocked : (x : Move t) → IsTimed x → (a : At t) → is_blocked (move_to x a).state.paths ≡ is_blocked a.state.paths
+  unfolding move_to state_move paths_move path_kept is_blocked
+  timed_blocked (Fire r) h a = refl
+  timed_blocked (Arm at) h a = refl
+  timed_blocked Pace h a = refl
+  timed_blocked Release h a = refl
+  timed_blocked (Raise to) h a = refl
+  timed_blocked (Give why) h a = refl
+  timed_blocked _ h a = absurd h
 
-  timeout_paths : (m : Meaning t) (time : ℕ) (a : At t) → (timeout_after m time a).state.paths ≡ a.state.paths
-  timeout_paths m time a = holds_timeout (λ (b c : At t). c.state.paths ≡ b.state.paths) (λ b. refl) (λ b c d g h. h ∙ g) (λ x h b may. timed_paths x h b) m time a
+  timeout_blocked : (m : Meaning t) (time : ℕ) (a : At t) → is_blocked (timeout_after m time a).state.paths ≡ is_blocked a.state.paths
+  timeout_blocked m time a = holds_timeout (λ (b c : At t). is_blocked c.state.paths ≡ is_blocked b.state.paths) (λ b. refl) (λ b c d g h. h ∙ g) (λ x h b may. timed_blocked x h b) m time a
 
   loss_keeps : (m : Meaning t) (free : Bool) (time : ℕ) (a : At t) (b : Bool) → (free ≡ true → is_blocked a.state.paths ≡ false) → Keeps free a (if b then armed_after time (move_to (Fire (fired_by m time a.state)) a) else a)
-  unfolding armed_after move_to state_move paths_move
+  unfolding armed_after
   loss_keeps m free time a true unblocked =
       let b : At t = move_to (Fire (fired_by m time a.state)) a in
-      keeps_next free a b _ (keeps_plain m free (Fire (fired_by m time a.state)) a (record { time = time; is = refl })) (keeps_arm free (is_blocked b.state.paths) time b unblocked)
+      keeps_next free a b _ (keeps_plain m free (Fire (fired_by m time a.state)) a (record { time = time; is = refl })) (keeps_arm free (is_blocked b.state.paths) time b (λ f. timed_blocked (Fire (fired_by m time a.state)) tt a ∙ unblocked f))
   loss_keeps m free time a false unblocked = keeps_here free a
 
   idle_keeps : (m : Meaning t) (free : Bool) (why : ConnectionError) (a : At t) (b : Bool) → Keeps free a (if b then killed_after why a else a)
@@ -281,7 +284,7 @@ module _ {t : Types} where
   timeout_keeps m free time a unblocked = alive_keeps m free time a (is_drained a.state.life.state) unblocked
 
   timeout_holds : (m : Meaning t) (time : ℕ) (a : At t) → Holds a (timeout_after m time a)
-  timeout_holds m time a = keeps_holds a (timeout_after m time a) (is_blocked a.state.paths) refl (λ b. ap (λ (p : Paths). is_blocked p) (timeout_paths m time a) ∙ b) (λ free unblocked. timeout_keeps m free time a unblocked)
+  timeout_holds m time a = keeps_holds a (timeout_after m time a) (is_blocked a.state.paths) refl (λ b. timeout_blocked m time a ∙ b) (λ free unblocked. timeout_keeps m free time a unblocked)
 
   -- ---- transmits
 
@@ -290,12 +293,17 @@ module _ {t : Types} where
   flown_deeds time a true = refl
   flown_deeds time a false = refl
 
-  sealed_deeds : (time : ℕ) (id : SpaceId) (fs : List FrameValue) (a : At t) → (sealed_in time id fs a).did ≡ a.did ++ did.Sealed id (next_number a.state.numbers id) 0 false fs ∷ []
-  unfolding sealed_in move_to deeds_move
-  sealed_deeds time id fs a = flown_deeds time _ (is_flown a.state fs)
+  sealed_deeds : (time : ℕ) (form : Form) (fs : List FrameValue) (a : At t) →
+      (sealed_in time form fs a).did ≡ a.did ++ did.Sealed (number_space form) (next_number a.state.numbers (number_space form)) (epoch_in a.state.keys form) (is_early form) fs ∷ []
+  unfolding sealed_in move_to state_move keys_move deeds_move
+  sealed_deeds time form fs a = flown_deeds time _ (is_flown a.state fs)
 
-  keeps_sealed : (free : Bool) (time : ℕ) (id : SpaceId) (fs : List FrameValue) (a : At t) → Ends a.state → Keeps free a (sealed_in time id fs a)
-  keeps_sealed free time id fs a ends = record { since = did.Sealed id (next_number a.state.numbers id) 0 false fs ∷ []; appended = sealed_deeds time id fs a; holds = λ late h. sealed_holds free late time id fs a ends.owed h }
+  keeps_sealed : (free : Bool) (time : ℕ) (form : Form) (fs : List FrameValue) (a : At t) → Ends a.state → Keeps free a (sealed_in time form fs a)
+  keeps_sealed free time form fs a ends = record {
+    since = did.Sealed (number_space form) (next_number a.state.numbers (number_space form)) (epoch_in a.state.keys form) (is_early form) fs ∷ [];
+    appended = sealed_deeds time form fs a;
+    holds = λ late h. sealed_holds free late time form fs a ends.owed h;
+  }
 
   begun_ends : (m : Meaning t) (id : SpaceId) (opens : Bool) (a : At t) → Ends a.state → Ends (begun_after id opens a).state
   unfolding MayMove
@@ -305,9 +313,10 @@ module _ {t : Types} where
   packet_keeps : (m : Meaning t) (free : Bool) (time : ℕ) (p : Sent) (g : Going t) → Ends g.now.state → Keeps free g.now (packet_after m time p g).now
   unfolding packet_after
   packet_keeps m free time p g ends =
-      let b : At t = begun_after p.space p.opens g.now in
-      keeps_next free g.now b _ (holds_begun (Keeps free) (keeps_here free) (keeps_next free) p.space p.opens g.now (λ c. keeps_plain m free (Begin p.space p.opens) c tt) (λ c may. keeps_plain m free Skip c tt))
-      (keeps_sealed free time p.space p.frames b (begun_ends m p.space p.opens g.now ends))
+      let id : SpaceId = number_space p.form in
+      let b : At t = begun_after id p.opens g.now in
+      keeps_next free g.now b _ (holds_begun (Keeps free) (keeps_here free) (keeps_next free) id p.opens g.now (λ c. keeps_plain m free (Begin id p.opens) c tt) (λ c may. keeps_plain m free Skip c tt))
+      (keeps_sealed free time p.form p.frames b (begun_ends m id p.opens g.now ends))
 
   left_keeps : (m : Meaning t) (free : Bool) (time : ℕ) (a : At t) (b : Bool) → Keeps free a (if b then armed_with false time (move_to (Forget Initial) a) else a)
   left_keeps m free time a true = let b : At t = move_to (Forget Initial) a in keeps_next free a b _ (keeps_plain m free (Forget Initial) a tt) (keeps_arm free false time b (λ f. refl))
@@ -348,7 +357,7 @@ module _ {t : Types} where
   unfolding ending_after move_to state_move paths_move path_idle is_blocked
   quiet_stays time Went b a none may h = absurd (omega (arith, none, may))
   quiet_stays time (Hushed quiet) b a none may h = h
-  quiet_stays time (Died why) b a none may h = ap (λ (p : Paths). is_blocked p) (killed_paths why a) ∙ h
+  quiet_stays time (Died why) b a none may h = ap (λ (p : Paths t.C). is_blocked p) (killed_paths why a) ∙ h
 
   packets_hold : (m : Meaning t) (time : ℕ) (ps : List Sent) (e : Ending) (a : At t) → let g : Going t = packets_after m time ps (going_from a) in
       Ends a.state → MayAll m time (going_from a) ps → MayEnd e g.now.state g.batch → Holds a (ending_after time e g.batch g.now)
@@ -382,10 +391,10 @@ module _ {t : Types} where
   same_view : (late : Bool) (v w : View t) → w.life ≡ v.life → w.paths ≡ v.paths → w.timers ≡ v.timers → w.lower ≡ v.lower → TimerHolds late v → TimerHolds late w
   unfolding awaits_ack elicits_in
   same_view late v w life paths timers lower h = record {
-    stands = λ o u k. ap (λ (x : Timers). is_some x.loss_detection) timers ∙ h.stands (ap (λ (l : Life). is_open l.state) (sym life) ∙ o) (ap (λ (p : Paths). is_blocked p) (sym paths) ∙ u)
+    stands = λ o u k. ap (λ (x : Timers). is_some x.loss_detection) timers ∙ h.stands (ap (λ (l : Life). is_open l.state) (sym life) ∙ o) (ap (λ (p : Paths t.C). is_blocked p) (sym paths) ∙ u)
         (ap (λ (l : Life). has_eliciting v.lower.recovery.initial.flight || (has_eliciting v.lower.recovery.handshake.flight || ((late && is_established l.state) && has_eliciting v.lower.recovery.application.flight))) (sym life)
-        ∙ ap (λ (l : Lower t.S t.C). has_eliciting l.recovery.initial.flight || (has_eliciting l.recovery.handshake.flight || ((late && is_established w.life.state) && has_eliciting l.recovery.application.flight))) (sym lower) ∙ k);
-    flights = λ id. subst (λ (l : Lower t.S t.C). FlightHolds (recovery.space_of id l.recovery)) (sym lower) (h.flights id);
+        ∙ ap (λ (l : Lower t.S). has_eliciting l.recovery.initial.flight || (has_eliciting l.recovery.handshake.flight || ((late && is_established w.life.state) && has_eliciting l.recovery.application.flight))) (sym lower) ∙ k);
+    flights = λ id. subst (λ (l : Lower t.S). FlightHolds (recovery.space_of id l.recovery)) (sym lower) (h.flights id);
   }
 
   began_holds : (m : Meaning t) (s : View t) (time : ℕ) (late : Bool) → TimerHolds late s → TimerHolds late (began s time).state

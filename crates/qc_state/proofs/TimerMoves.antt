@@ -18,6 +18,7 @@ use Rattle.qc_state.specs.declared.deeds.Did.{Did}
 use Rattle.qc_state.specs.declared.deeds.Did.TheVariants as did
 use Rattle.qc_state.specs.declared.deeds.Verdict.{Verdict}
 use Rattle.qc_state.specs.declared.deeds.Verdict.TheVariants as verdict
+use Rattle.qc_state.specs.declared.form.Form.{Form}
 use Rattle.qc_state.specs.declared.life.ConnectionError.{ConnectionError}
 use Rattle.qc_state.specs.declared.life.Life.{Life}
 use Rattle.qc_state.specs.declared.life.State.{State}
@@ -27,10 +28,11 @@ use Rattle.qc_state.specs.declared.paths.Paths.{Paths}
 use Rattle.qc_state.specs.declared.timers.Timers.{Timers}
 use Rattle.qc_state.specs.Acks.{is_ack}
 use Rattle.qc_state.specs.Flight.{counts_in_flight, flown_packet, is_padding}
+use Rattle.qc_state.specs.Forms.{number_space}
 use Rattle.qc_state.specs.Life.{connected_reported, data_ready, drained_reported, identifiers_wanted, is_established, is_handshake, is_open, life_closed, life_drained, life_established, life_raised, lost_reported, notice_reported, notices_reported, rank_of, ready_reported, reason_given, token_learned}
 use Rattle.qc_state.specs.Lower.{bytes_came, flight_dropped, packet_flown, packets_settled, session_read, session_wrote, timer_fired}
 use Rattle.qc_state.specs.Moves.{Accept, Ack, Arm, Establish, Finish, Fire, Forget, Give, Hear, IsTold, Move, PeerCloses, PeerClosesToo, Raise, Seal, Shut, Tell, armed_with, deeds_move, life_move, lower_move, move_to, paths_move, state_move, timers_move, waiting_move}
-use Rattle.qc_state.specs.Paths.{is_blocked, path_accepted, path_idle, path_spun, peer_fixed}
+use Rattle.qc_state.specs.Paths.{is_blocked, path_accepted, path_idle, path_kept, path_spun, peer_fixed}
 use Rattle.qc_state.specs.Recovering.{around_of, fired_by, loss_time, settled_by}
 use Rattle.qc_state.specs.Sending.{flown_after, is_flown, sealed_in}
 use Rattle.qc_state.specs.TimerLaws.{FlightHolds, TimerHolds, awaits_ack, elicits_in, sealed_since}
@@ -117,19 +119,16 @@ put_elicits Data Handshake s r f h = h
 put_elicits Data Data s r f h = f h
 
 -- a packet that was accepted blocks no path, and neither does the peer's id
-free_if : (a b : Paths) (c : Bool) → is_blocked a ≡ false → is_blocked b ≡ false → is_blocked (if c then a else b) ≡ false
-free_if a b true h k = h
-free_if a b false h k = k
+module _ {C : Type 0} where
+  accepted_free : (p : Paths C) (id : SpaceId) (v : Verdict) → is_blocked p ≡ false → is_blocked (path_accepted p id v) ≡ false
+  unfolding path_accepted is_blocked
+  accepted_free p Handshake verdict.Admitted h = refl
+  accepted_free p _ v h = h
 
-accepted_free : (p : Paths) (id : SpaceId) (v : Verdict) → is_blocked p ≡ false → is_blocked (path_accepted p id v) ≡ false
-unfolding path_accepted is_blocked
-accepted_free p Handshake verdict.Admitted h = refl
-accepted_free p _ v h = h
-
-spun_free : (p : Paths) (side : Side) (greatest bit : Bool) → is_blocked p ≡ false → is_blocked (path_spun p side greatest bit) ≡ false
-unfolding path_spun is_blocked
-spun_free p side true bit h = h
-spun_free p side false bit h = h
+  spun_free : (p : Paths C) (side : Side) (greatest bit : Bool) → is_blocked p ≡ false → is_blocked (path_spun p side greatest bit) ≡ false
+  unfolding path_spun is_blocked
+  spun_free p side true bit h = h
+  spun_free p side false bit h = h
 
 -- once the handshake is over it goes on no longer
 open_over : (s : State) → is_established s ≡ true → not (is_handshake s) ≡ true
@@ -158,14 +157,14 @@ module _ {t : Types} where
   unfolding loss_time around_of awaits_ack elicits_in
   due_some since time s flights opened awaits =
       let r : Recovery = s.lower.recovery in
-      ap (λ (b : Bool). is_some (if b then armed_at time (around_of s false false) s.lower.path.rtt r else None)) opened
+      ap (λ (b : Bool). is_some (if b then armed_at time (around_of s false false) s.paths.current.kept.rtt r else None)) opened
       ∙ by_space (has_eliciting r.initial.flight) (has_eliciting r.handshake.flight) (since && is_established s.life.state) (has_eliciting r.application.flight) refl refl refl refl awaits
     where
       by_space : (a b c d : Bool) → has_eliciting s.lower.recovery.initial.flight ≡ a → has_eliciting s.lower.recovery.handshake.flight ≡ b → (since && is_established s.life.state) ≡ c → has_eliciting s.lower.recovery.application.flight ≡ d →
-          (a || (b || (c && d))) ≡ true → is_some (armed_at time (around_of s false false) s.lower.path.rtt s.lower.recovery) ≡ true
-      by_space true b c d ia ib ic id h = armed_some Initial time (around_of s false false) s.lower.path.rtt s.lower.recovery refl (flights Initial) ia (λ is. absurd cc)
-      by_space false true c d ia ib ic id h = armed_some Handshake time (around_of s false false) s.lower.path.rtt s.lower.recovery refl (flights Handshake) ib (λ is. absurd cc)
-      by_space false false true true ia ib ic id h = armed_some «Data» time (around_of s false false) s.lower.path.rtt s.lower.recovery refl (flights «Data») id (λ is. open_over s.life.state (last since (is_established s.life.state) ic))
+          (a || (b || (c && d))) ≡ true → is_some (armed_at time (around_of s false false) s.paths.current.kept.rtt s.lower.recovery) ≡ true
+      by_space true b c d ia ib ic id h = armed_some Initial time (around_of s false false) s.paths.current.kept.rtt s.lower.recovery refl (flights Initial) ia (λ is. absurd cc)
+      by_space false true c d ia ib ic id h = armed_some Handshake time (around_of s false false) s.paths.current.kept.rtt s.lower.recovery refl (flights Handshake) ib (λ is. absurd cc)
+      by_space false false true true ia ib ic id h = armed_some «Data» time (around_of s false false) s.paths.current.kept.rtt s.lower.recovery refl (flights «Data») id (λ is. open_over s.life.state (last since (is_established s.life.state) ic))
         where
           last : (x y : Bool) → (x && y) ≡ true → y ≡ true
           last true y p = p
@@ -184,7 +183,7 @@ module _ {t : Types} where
 
   -- the moves that leave the timer, beside those with which a packet is sealed or the timer is set
   abbrev pub IsPlain : Meaning t → Move t → View t → Type 0
-  IsPlain m (Seal time id n size fs) s = ⊥
+  IsPlain m (Seal time form n size fs) s = ⊥
   IsPlain m (Arm at) s = ⊥
   IsPlain m (Ack id n after) s = IsSettledBy m id after s
   IsPlain m (Fire after) s = IsFiredBy m after s
@@ -195,7 +194,7 @@ module _ {t : Types} where
 
   plain_timer : (m : Meaning t) (x : Move t) (s : View t) → IsPlain m x s → is_open (life_move x s).state ≡ true → (timers_move x s).loss_detection ≡ s.timers.loss_detection
   unfolding timers_move life_move life_closed life_drained life_raised clock_set timers_paced timers_released timers_accepted
-  plain_timer m (Seal time id n size fs) s h o = absurd h
+  plain_timer m (Seal time form n size fs) s h o = absurd h
   plain_timer m (Arm at) s h o = absurd h
   plain_timer m (Accept time id n e g v) s h o = held_loss _ _ time
   plain_timer m (Shut time close) s h o = cc
@@ -216,7 +215,7 @@ module _ {t : Types} where
   -- what was sealed since the handshake was over was sealed before, and then it was over
   plain_since : (m : Meaning t) (x : Move t) (s : View t) (since : Bool) → IsPlain m x s → (sealed_since since (deeds_move x s) && is_established (life_move x s).state) ≡ true → (since && is_established s.life.state) ≡ true
   unfolding deeds_move life_move life_closed life_drained data_ready life_established token_learned identifiers_wanted life_raised reason_given ready_reported connected_reported lost_reported notice_reported notices_reported drained_reported
-  plain_since m (Seal time id n size fs) s since k h = absurd k
+  plain_since m (Seal time form n size fs) s since k h = absurd k
   plain_since m (Shut time close) s since k h = never since false _ refl h
   plain_since m (PeerCloses time) s since k h = never since false _ refl h
   plain_since m PeerClosesToo s since k h = never since false _ refl h
@@ -228,21 +227,21 @@ module _ {t : Types} where
 
   plain_elicits : (m : Meaning t) (x : Move t) (s : View t) (id : SpaceId) → IsPlain m x s → elicits_in (state_move x s) id ≡ true → elicits_in s id ≡ true
   unfolding elicits_in state_move lower_move packets_settled timer_fired flight_dropped bytes_came session_read session_wrote settled_by fired_by dropped_after space_dropped
-  plain_elicits m (Seal time space n size fs) s id k h = absurd k
+  plain_elicits m (Seal time form n size fs) s id k h = absurd k
   plain_elicits m (Ack space n after) s id k h =
-      (ack_less m.control _ id space _ _ _ _ _ s.lower.recovery s.lower.path).any (λ (e : Entry). e.1.ack_eliciting) (subst (λ (a : After t.C). has_eliciting (recovery.space_of id a.recovery).flight ≡ true) k.is h)
+      (ack_less m.control _ id space _ _ _ _ _ s.lower.recovery s.paths.current.kept).any (λ (e : Entry). e.1.ack_eliciting) (subst (λ (a : After t.C). has_eliciting (recovery.space_of id a.recovery).flight ≡ true) k.is h)
   plain_elicits m (Fire after) s id k h =
-      (fire_less m.control _ id _ s.lower.recovery s.lower.path).any (λ (e : Entry). e.1.ack_eliciting) (subst (λ (a : FiredAfter t.C). has_eliciting (recovery.space_of id a.recovery).flight ≡ true) k.is h)
+      (fire_less m.control _ id _ s.lower.recovery s.paths.current.kept).any (λ (e : Entry). e.1.ack_eliciting) (subst (λ (a : FiredAfter t.C). has_eliciting (recovery.space_of id a.recovery).flight ≡ true) k.is h)
   plain_elicits m (Forget space) s id k h = put_elicits id space (space_dropped (recovery.space_of space s.lower.recovery)) s.lower.recovery (λ e. absurd cc) h
   plain_elicits m _ s id k h = h
 
   plain_flights : (m : Meaning t) (x : Move t) (s : View t) → IsPlain m x s → Flights s → Flights (state_move x s)
   unfolding state_move lower_move packets_settled timer_fired flight_dropped bytes_came session_read session_wrote settled_by fired_by
-  plain_flights m (Seal time space n size fs) s k h = absurd k
+  plain_flights m (Seal time form n size fs) s k h = absurd k
   plain_flights m (Ack space n after) s k h = λ id.
-      subst (λ (a : After t.C). FlightHolds (recovery.space_of id a.recovery)) (sym k.is) (less_holds (recovery.space_of id s.lower.recovery) _ (ack_less m.control _ id space _ _ _ _ _ s.lower.recovery s.lower.path) (h id))
+      subst (λ (a : After t.C). FlightHolds (recovery.space_of id a.recovery)) (sym k.is) (less_holds (recovery.space_of id s.lower.recovery) _ (ack_less m.control _ id space _ _ _ _ _ s.lower.recovery s.paths.current.kept) (h id))
   plain_flights m (Fire after) s k h = λ id.
-      subst (λ (a : FiredAfter t.C). FlightHolds (recovery.space_of id a.recovery)) (sym k.is) (less_holds (recovery.space_of id s.lower.recovery) _ (fire_less m.control _ id _ s.lower.recovery s.lower.path) (h id))
+      subst (λ (a : FiredAfter t.C). FlightHolds (recovery.space_of id a.recovery)) (sym k.is) (less_holds (recovery.space_of id s.lower.recovery) _ (fire_less m.control _ id _ s.lower.recovery s.paths.current.kept) (h id))
   plain_flights m (Forget space) s k h = λ id. dropped_each id space s.lower.recovery h
   plain_flights m _ s k h = h
 
@@ -263,7 +262,7 @@ module _ {t : Types} where
   IsFree _ = Unit {0}
 
   pub plain_free : (x : Move t) (s : View t) → IsFree x → is_blocked s.paths ≡ false → is_blocked (paths_move x s) ≡ false
-  unfolding paths_move peer_fixed path_idle is_blocked
+  unfolding paths_move peer_fixed path_idle path_kept is_blocked
   plain_free (Finish bytes) s k h = absurd k
   plain_free (Hear bytes) s k h = absurd k
   plain_free (Accept time id n e g v) s k h = spun_free (path_accepted s.paths id v) s.setup.fixed.side _ g.spin (accepted_free s.paths id v h)
@@ -275,13 +274,13 @@ module _ {t : Types} where
   owed_holds : (free since later : Bool) (s s1 : View t) → is_open s.life.state ≡ false → s1.life ≡ s.life → s1.lower ≡ s.lower → Flights s → HoldsIf free later s1
   owed_holds free since later s s1 shut life lower flights = record {
     stands = λ f o w. let opened : is_open s.life.state ≡ true = ap (λ (l : Life). is_open l.state) (sym life) ∙ o in absurd cc;
-    flights = λ id. subst (λ (l : Lower t.S t.C). FlightHolds (recovery.space_of id l.recovery)) (sym lower) (flights id);
+    flights = λ id. subst (λ (l : Lower t.S). FlightHolds (recovery.space_of id l.recovery)) (sym lower) (flights id);
   }
 
   flown_flights : (s s1 : View t) (time size n : ℕ) (space : SpaceId) (fs : List FrameValue) → s1.lower ≡ packet_flown s.lower space n (flown_packet time size fs) → Flights s → Flights s1
   unfolding packet_flown flown_packet counts_in_flight
   flown_flights s s1 time size n space fs lower flights = λ id.
-      subst (λ (l : Lower t.S t.C). FlightHolds (recovery.space_of id l.recovery)) (sym lower)
+      subst (λ (l : Lower t.S). FlightHolds (recovery.space_of id l.recovery)) (sym lower)
       (sent_each id space n (flown_packet time size fs) s.lower.recovery (counted (list_any elicits fs) (list_any is_padding fs)) flights)
     where
       counted : (a b : Bool) → (a && not (a || b)) ≡ false
@@ -294,7 +293,7 @@ module _ {t : Types} where
   flown_elicits s s1 time size n space fs lower none id h =
       put_elicits id space (space_sent n (flown_packet time size fs) (recovery.space_of space s.lower.recovery)) s.lower.recovery
       (λ e. before (has_eliciting (recovery.space_of space s.lower.recovery).flight) (list_any elicits fs) (silent (list_any elicits fs) (list_any is_padding fs) none) (sym (list_any-append (λ (x : Entry). x.1.ack_eliciting) (recovery.space_of space s.lower.recovery).flight ((n, flown_packet time size fs) ∷ [])) ∙ e))
-      (subst (λ (l : Lower t.S t.C). has_eliciting (recovery.space_of id l.recovery).flight ≡ true) lower h)
+      (subst (λ (l : Lower t.S). has_eliciting (recovery.space_of id l.recovery).flight ≡ true) lower h)
     where
       silent : (a b : Bool) → (a || b) ≡ false → a ≡ false
       silent true b e = cc
@@ -327,7 +326,7 @@ module _ {t : Types} where
           (and_more since (is_established s.life.state) (since || false) (is_established s1.life.state) (λ e. ap (λ (b : Bool). b && is_established s.life.state) (sym (or_none since)) ∙ ap (λ (l : Life). (since || false) && is_established l.state) (sym life) ∙ e)
           (elicits_in s «Data») (elicits_in s1 «Data») (flown_elicits s s1 time size n space fs lower is «Data»))) w
 
-  pub sealed_holds : (free since : Bool) (time : ℕ) (id : SpaceId) (fs : List FrameValue) (a : At t) → (a.state.waiting.close_owed ≡ true → is_open a.state.life.state ≡ false) → HoldsIf free since a.state → HoldsIf free (since || counts_in_flight fs) (sealed_in time id fs a).state
+  pub sealed_holds : (free since : Bool) (time : ℕ) (form : Form) (fs : List FrameValue) (a : At t) → (a.state.waiting.close_owed ≡ true → is_open a.state.life.state ≡ false) → HoldsIf free since a.state → HoldsIf free (since || counts_in_flight fs) (sealed_in time form fs a).state
   unfolding sealed_in is_flown move_to state_move life_move lower_move timers_move waiting_move waiting_without
-  sealed_holds free since time id fs a shut h =
-      seal_by free since a.state.waiting.close_owed (counts_in_flight fs) time _ _ id fs a.state _ _ shut refl refl refl (sealed_loss a.state.timers _ _ time (list_any elicits fs) (list_any is_ack fs)) h
+  sealed_holds free since time form fs a shut h =
+      seal_by free since a.state.waiting.close_owed (counts_in_flight fs) time _ _ (number_space form) fs a.state _ _ shut refl refl refl (sealed_loss a.state.timers _ _ time (list_any elicits fs) (list_any is_ack fs)) h
