@@ -96,7 +96,7 @@ fn server_session(alloc: Global) -> Option<ToySession>
 }
 
 /// A server made at 0 for a client whose first packet has these ids, on the heap as the clients are.
-#[tactic(auto, unfolding(qc_state::specs::First::server_view, qc_state::specs::Setup::is_first_awaited, qc_state::specs::Setup::ideal_setup))]
+#[tactic(auto, unfolding(qc_state::specs::First::server_view, qc_state::specs::Paths::only_path, qc_state::specs::Paths::new_path, qc_state::specs::Setup::is_first_awaited, qc_state::specs::Setup::ideal_setup))]
 fn server(
     alloc: Global,
     remote: SocketAddr,
