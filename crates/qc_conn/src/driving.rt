@@ -12,7 +12,7 @@ ghost use Rattle.qc_state.specs.EventLaws.{EachTells, OnlyDoneWaits, TellsOnce, 
 ghost use Rattle.qc_state.specs.InitialLaws.{LeavesInitial};
 ghost use Rattle.qc_state.specs.KeyLaws.{KeysHold};
 ghost use Rattle.qc_state.specs.MarkLaws.{EachTold};
-ghost use Rattle.qc_state.specs.PathLaws.{PathHolds, all_from};
+ghost use Rattle.qc_state.specs.PathLaws.{IdsHold, PathHolds, all_from};
 ghost use Rattle.qc_state.specs.Headline.{deeds_of, EachRises, EachAdmitted, EachAcksKnown, Harmless, LifeRises, OnlyCloses, LosesOnce};
 ghost use Rattle.qc_state.specs.RecoveryLaws.{EachSettlesOnce, Recovers};
 ghost use Rattle.qc_state.specs.Run.{time_of, Adds, Run, Ran};
@@ -183,7 +183,7 @@ fn drive_all<U: Suite>(
 /// name the first input whose time lies before the greatest so far, or which asks for a call that can't be made; the
 /// connection is as the inputs before left it, and their steps are carried. `OutOfMemory` for want of memory; the steps
 /// of the inputs before are carried, and the connection is marked as failed.
-#[tactic(auto, using(qc_state::proofs::PathsHold::path_run, qc_state::proofs::EventsTold::run_tells_done, qc_state::proofs::EventsTold::ran_tells_done, qc_state::proofs::EventsTold::run_tells_once, qc_state::proofs::EventsTold::ran_tells_once, qc_state::proofs::EventsTold::run_stays_done, qc_state::proofs::KeysHold::run_keys_hold, qc_state::proofs::EndsHold::run_ends, qc_state::proofs::InitialLeft::run_leaves, qc_state::proofs::Recovers::run_recovers, qc_state::proofs::Recovers::run_settles_once, qc_state::proofs::CryptoKept::run_keeps_bytes, qc_state::proofs::TimerHolds::run_keeps_timer, qc_state::proofs::HarmlessBytes::run_harmless, qc_state::proofs::Told::run_rises, qc_state::proofs::Told::run_admits, qc_state::proofs::Told::ran_admits, qc_state::proofs::AcksAccepted::run_acks_known, qc_state::proofs::AcksAccepted::ran_acks_known, qc_state::proofs::MarksTold::run_each_told, qc_state::proofs::MarksTold::ran_each_told, qc_state::proofs::Told::run_life_rises, qc_state::proofs::Told::run_closes, qc_state::proofs::Told::run_loses_once, qc_state::proofs::Told::ran_rises, qc_state::proofs::Told::ran_life_rises, qc_state::proofs::Told::ran_closes, qc_state::proofs::Told::ran_loses_once, crate::proofs::RunsPlain::run_plain, crate::proofs::RunsPlain::run_stays, crate::proofs::RunsPlain::ran_plain))]
+#[tactic(auto, using(qc_state::proofs::PathsHold::path_run, qc_state::proofs::IdsHold::run_ids, qc_state::proofs::EventsTold::run_tells_done, qc_state::proofs::EventsTold::ran_tells_done, qc_state::proofs::EventsTold::run_tells_once, qc_state::proofs::EventsTold::ran_tells_once, qc_state::proofs::EventsTold::run_stays_done, qc_state::proofs::KeysHold::run_keys_hold, qc_state::proofs::EndsHold::run_ends, qc_state::proofs::InitialLeft::run_leaves, qc_state::proofs::Recovers::run_recovers, qc_state::proofs::Recovers::run_settles_once, qc_state::proofs::CryptoKept::run_keeps_bytes, qc_state::proofs::TimerHolds::run_keeps_timer, qc_state::proofs::HarmlessBytes::run_harmless, qc_state::proofs::Told::run_rises, qc_state::proofs::Told::run_admits, qc_state::proofs::Told::ran_admits, qc_state::proofs::AcksAccepted::run_acks_known, qc_state::proofs::AcksAccepted::ran_acks_known, qc_state::proofs::MarksTold::run_each_told, qc_state::proofs::MarksTold::ran_each_told, qc_state::proofs::Told::run_life_rises, qc_state::proofs::Told::run_closes, qc_state::proofs::Told::run_loses_once, qc_state::proofs::Told::ran_rises, qc_state::proofs::Told::ran_life_rises, qc_state::proofs::Told::ran_closes, qc_state::proofs::Told::ran_loses_once, crate::proofs::RunsPlain::run_plain, crate::proofs::RunsPlain::run_stays, crate::proofs::RunsPlain::ran_plain))]
 pub fn drive<U: Suite, G: TokenStore>(
     alloc: Global,
     connection: &mut Connection<U>,
@@ -202,7 +202,7 @@ pub fn drive<U: Suite, G: TokenStore>(
     // No packet number is used twice, only packets that were accepted are acknowledged, and ACKs tell how many of them came with
     // each mark of ECN; the life never falls, all that is sent after a close is the close, no key seals more than it may, at most one
     // reason for the end is given, the close timer stands from a close on until no timer does, and no Initial packet is sealed once the
-    // Initial space was left.
+    // Initial space was left. The path keeps its address, and the peer the id that it chose, which packets to it carry.
     ensures rising { IfOk result (λ trace. EachRises (ideal U.Random.stream connection.old.core) trace) }
     ensures rising_part { IfErr result (λ e. EachRises (ideal U.Random.stream connection.old.core) e.done) }
     ensures admitted { IfOk result (λ trace. EachAdmitted (ideal U.Random.stream connection.old.core) trace) }
@@ -216,6 +216,7 @@ pub fn drive<U: Suite, G: TokenStore>(
     ensures closing { IfOk result (λ trace. OnlyCloses (ideal U.Random.stream connection.old.core) trace) }
     ensures closing_part { IfErr result (λ e. OnlyCloses (ideal U.Random.stream connection.old.core) e.done) }
     ensures paths { IfOk result (λ trace. PathHolds (all_from connection.old.core.paths.current.remote inputs.now) (deeds_of trace) connection.old.core.paths.current connection.new.core.paths.current) }
+    ensures ids { OnOk result (IdsHold connection.old.core.paths connection.new.core.paths) }
     ensures keys { KeysHold connection.old.core.keys → OnOk result (KeysHold connection.new.core.keys) }
     ensures ends { Ends (ideal U.Random.stream connection.old.core) → OnOk result (Ends (ideal U.Random.stream connection.new.core)) }
     ensures initial { IfOk result (λ trace. LeavesInitial (deeds_of trace) (ideal U.Random.stream connection.old.core) (ideal U.Random.stream connection.new.core)) }
