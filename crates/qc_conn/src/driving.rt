@@ -234,7 +234,7 @@ pub fn drive<U: Suite, G: TokenStore>(
 
     // What loss recovery keeps is what its own steps leave, and each packet that is sealed, but for closes, is acknowledged, lost, dropped
     // with its space or in flight, and that once; so each byte that the session wrote waits, is in flight or was acknowledged. And the loss
-    // timer stands where an acknowledgement is waited for.
+    // timer stands where an acknowledgement is waited for, or a client has to probe.
     ensures recovers { Ends (ideal U.Random.stream connection.old.core) → IfOk result (λ trace. Recovers ⟦<U as Means>⟧.meaning (deeds_of trace) (ideal U.Random.stream connection.old.core) (ideal U.Random.stream connection.new.core)) }
     ensures crypto { Ends (ideal U.Random.stream connection.old.core) → IfOk result (λ trace. KeepsBytes ⟦<U as Means>⟧.meaning (deeds_of trace) (ideal U.Random.stream connection.old.core) (ideal U.Random.stream connection.new.core)) }
     ensures timer { Ends (ideal U.Random.stream connection.old.core) → IfOk result (λ trace. KeepsTimer (deeds_of trace) (ideal U.Random.stream connection.old.core) (ideal U.Random.stream connection.new.core)) }

@@ -51,6 +51,7 @@ pub mod CryptoKept
 mod CryptoPlaces
 pub mod CryptoBegins
 pub mod TimerFlights
+pub mod TimerProbes
 pub mod TimerMoves
 pub mod TimerHolds
 pub mod TimerBegins

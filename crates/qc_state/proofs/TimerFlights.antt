@@ -12,11 +12,12 @@ use Rattle.qc_base.specs.declared.side.SpaceId.{SpaceId}
 use Rattle.qc_base.specs.declared.side.SpaceId.TheVariants.{Initial, Handshake, «Data»}
 use Rattle.qc_flight.specs.Packets.{Entry, counted_of, counted_one, eliciting_of, eliciting_one}
 use Rattle.qc_flight.specs.declared.sent.SentPacket.{SentPacket}
+use Rattle.qc_path.specs.Arrived.{exceeds}
 use Rattle.qc_path.specs.RoundTrips.{Rtt}
 use Rattle.qc_path.specs.declared.controller.Controller.{Ghosts as Control}
 use Rattle.qc_recovery.specs.Acking.{raised, space_acked, space_less}
 use Rattle.qc_recovery.specs.Calls.{dropped_after}
-use Rattle.qc_recovery.specs.Steps.{After, SpaceAfter, ack_after, armed_at, first_that_holds, has_eliciting, is_quiet, later_by, loss_first, losses_found, marks_read, occasion, probe_fired, probe_first, probe_in, probe_line, probe_of_nothing, sent_after, sooner, space_after, space_dropped, space_of, space_sent, space_timed, time_of, timed, timeout_after, timeout_by, with_space}
+use Rattle.qc_recovery.specs.Steps.{After, SpaceAfter, ack_after, armed_at, first_that_holds, has_eliciting, is_handshake, is_quiet, later_by, loss_first, losses_found, marks_read, occasion, probe_fired, probe_first, probe_in, probe_line, probe_of_nothing, sent_after, sooner, space_after, space_dropped, space_of, space_sent, space_timed, time_of, timed, timeout_after, timeout_by, with_space}
 use Rattle.qc_recovery.specs.declared.calls.AckValues.{AckValues}
 use Rattle.qc_recovery.specs.declared.calls.Around.{Around}
 use Rattle.qc_recovery.specs.declared.calls.Fired.{Fired}
@@ -146,12 +147,45 @@ unfolding armed_at probe_line
 armed_some id now around rtt r free h e over =
     first_some (loss_first r) _ (line_some around.blocked (is_quiet r) around.peer_validated (probe_of_nothing now around rtt r) (probe_first around rtt r) free (not_quiet id r e) (first_probe id around rtt r h e over))
 
+-- and it stands where none in flight elicits, for an end that may not be validated and has keys to probe with
+all_quiet : (r : Recovery) → has_eliciting r.initial.flight ≡ false → has_eliciting r.handshake.flight ≡ false → has_eliciting r.application.flight ≡ false → is_quiet r ≡ true
+unfolding is_quiet
+all_quiet r a b c = three _ _ _ (none_elicits r.initial.flight ∙ ap not a) (none_elicits r.handshake.flight ∙ ap not b) (none_elicits r.application.flight ∙ ap not c)
+  where
+    three : (x y z : Bool) → x ≡ true → y ≡ true → z ≡ true → ((x && y) && z) ≡ true
+    three true true z h k e = e
+    three true false z h k e = cc
+    three false y z h k e = cc
+
+nothing_some : (now : ℕ) (around : Around) (rtt : Rtt) (r : Recovery) → (if is_handshake around.highest then around.handshake_keys else around.initial_keys) ≡ true → is_some (probe_of_nothing now around rtt r) ≡ true
+unfolding probe_of_nothing
+nothing_some now around rtt r h = by (is_handshake around.highest) around.handshake_keys around.initial_keys _ _ h
+  where
+    by : (b h i : Bool) (x y : ℕ × SpaceId) → (if b then h else i) ≡ true → is_some (if b then (if h then Some x else None) else (if i then Some y else None)) ≡ true
+    by true true i x y e = refl
+    by true false i x y e = cc
+    by false h true x y e = refl
+    by false h false x y e = cc
+
+lonely_some : (blocked quiet validated : Bool) (nothing first : Due) → blocked ≡ false → quiet ≡ true → validated ≡ false → is_some nothing ≡ true → is_some (if blocked then None else if quiet && validated then None else if quiet then nothing else first) ≡ true
+lonely_some true quiet validated nothing first h k e s = cc
+lonely_some false false validated nothing first h k e s = cc
+lonely_some false true true nothing first h k e s = cc
+lonely_some false true false nothing first h k e s = s
+
+pub armed_alone : (now : ℕ) (around : Around) (rtt : Rtt) (r : Recovery) → around.blocked ≡ false → around.peer_validated ≡ false → (if is_handshake around.highest then around.handshake_keys else around.initial_keys) ≡ true →
+    has_eliciting r.initial.flight ≡ false → has_eliciting r.handshake.flight ≡ false → has_eliciting r.application.flight ≡ false → is_some (armed_at now around rtt r) ≡ true
+unfolding armed_at probe_line
+armed_alone now around rtt r free unknown keys a b c =
+    first_some (loss_first r) _ (lonely_some around.blocked (is_quiet r) around.peer_validated (probe_of_nothing now around rtt r) (probe_first around rtt r) free (all_quiet r a b c) unknown (nothing_some now around rtt r keys))
+
 -- ---- what is in flight
 
 -- packets left the space
 pub record Less (s s' : SpaceRecovery) : Type 0 where
   pub any : (p : Entry → Bool) → list_any p s'.flight ≡ true → list_any p s.flight ≡ true
   pub asked : s'.eliciting_at ≡ s.eliciting_at
+  pub greatest : is_some s.greatest ≡ true → is_some s'.greatest ≡ true
 
 no_more : (a b : Bool) → (a ≡ true → b ≡ true) → b ≡ false → a ≡ false
 no_more true b f h = let yes : b ≡ true = f refl in cc
@@ -172,7 +206,7 @@ same_any : (p : Entry → Bool) (flight flight' : List Entry) → flight' ≡ fl
 same_any p flight flight' is e = ap (λ (es : List Entry). list_any p es) (sym is) ∙ e
 
 -- a space that is put back with the time of its last packet that elicits
-kept_asked : (id space : SpaceId) (s : SpaceRecovery) (r : Recovery) → s.eliciting_at ≡ (space_of space r).eliciting_at → (space_of id (with_space space s r)).eliciting_at ≡ (space_of id r).eliciting_at
+pub kept_asked : (id space : SpaceId) (s : SpaceRecovery) (r : Recovery) → s.eliciting_at ≡ (space_of space r).eliciting_at → (space_of id (with_space space s r)).eliciting_at ≡ (space_of id r).eliciting_at
 kept_asked Initial Initial s r h = h
 kept_asked Initial Handshake s r h = refl
 kept_asked Initial Data s r h = refl
@@ -195,6 +229,35 @@ either_asked false x y at h k = k
 raised_asked : (largest : ℕ) (acked : List Entry) (s : SpaceRecovery) → (raised largest acked s).eliciting_at ≡ s.eliciting_at
 unfolding raised
 raised_asked largest acked s = either_asked _ _ s s.eliciting_at refl refl
+
+-- the greatest number acknowledged stays known
+pub kept_greatest : (id space : SpaceId) (s : SpaceRecovery) (r : Recovery) → (is_some (space_of space r).greatest ≡ true → is_some s.greatest ≡ true) → is_some (space_of id r).greatest ≡ true → is_some (space_of id (with_space space s r)).greatest ≡ true
+kept_greatest Initial Initial s r f h = f h
+kept_greatest Initial Handshake s r f h = h
+kept_greatest Initial Data s r f h = h
+kept_greatest Handshake Initial s r f h = h
+kept_greatest Handshake Handshake s r f h = f h
+kept_greatest Handshake Data s r f h = h
+kept_greatest Data Initial s r f h = h
+kept_greatest Data Handshake s r f h = h
+kept_greatest Data Data s r f h = f h
+
+count_greatest : (id : SpaceId) (n : ℕ) (r : Recovery) → is_some (space_of id r).greatest ≡ true → is_some (space_of id (record r { count = n })).greatest ≡ true
+count_greatest Initial n r h = h
+count_greatest Handshake n r h = h
+count_greatest Data n r h = h
+
+raised_greatest : (largest : ℕ) (acked : List Entry) (s : SpaceRecovery) → is_some s.greatest ≡ true → is_some (raised largest acked s).greatest ≡ true
+unfolding raised
+raised_greatest largest acked s h = by_test (exceeds s.greatest largest) _
+  where
+    by_test : (b : Bool) (kept : Option ℕ) → is_some (if b then record s { greatest = Some largest; kept_at = kept } else s).greatest ≡ true
+    by_test true kept = refl
+    by_test false kept = h
+
+acked_greatest : (largest : ℕ) (ranges : List NumberRange) (s : SpaceRecovery) → is_some s.greatest ≡ true → is_some (space_acked largest ranges s).greatest ≡ true
+unfolding space_acked
+acked_greatest largest ranges s h = raised_greatest largest _ _ h
 
 acked_asked : (largest : ℕ) (ranges : List NumberRange) (s : SpaceRecovery) → (space_acked largest ranges s).eliciting_at ≡ s.eliciting_at
 unfolding space_acked
@@ -219,6 +282,22 @@ module _ {C : Type 0} where
   unfolding space_after losses_found marks_read space_less
   ack_asked m now id next began r a ranges around s p = either_space _ _ _ s.eliciting_at (acked_asked a.largest ranges s) (acked_asked a.largest ranges s)
 
+  more_space : (b : Bool) (x y : SpaceAfter C) → is_some x.space.greatest ≡ true → is_some y.space.greatest ≡ true → is_some (if b then x else y).space.greatest ≡ true
+  more_space true x y h k = h
+  more_space false x y h k = k
+
+  ack_greatest : (m : Control C) (now : ℕ) (id : SpaceId) (next began : ℕ) (r : Recovery) (a : AckValues) (ranges : List NumberRange) (around : Around) (s : SpaceRecovery) (p : PathData C) →
+      is_some s.greatest ≡ true → is_some (space_after m r.limits (occasion now id next began r) a ranges around s p).space.greatest ≡ true
+  unfolding space_after losses_found marks_read space_less
+  ack_greatest m now id next began r a ranges around s p h = more_space _ _ _ (acked_greatest a.largest ranges s h) (acked_greatest a.largest ranges s h)
+
+  settled_greatest : (m : Control C) (now : ℕ) (id space : SpaceId) (next began : ℕ) (ack : AckValues) (ranges : List NumberRange) (around : Around) (r : Recovery) (p : PathData C) →
+      is_some (space_of id r).greatest ≡ true → is_some (space_of id (ack_after m now space next began ack ranges around r p).recovery).greatest ≡ true
+  unfolding ack_after
+  settled_greatest m now id space next began ack ranges around r p h =
+      let q : SpaceAfter C = space_after m r.limits (occasion now space next began r) ack ranges around (space_of space r) p in
+      count_greatest id _ (with_space space q.space r) (kept_greatest id space q.space r (ack_greatest m now space next began r ack ranges around (space_of space r) p) h)
+
   settled_asked : (m : Control C) (now : ℕ) (id space : SpaceId) (next began : ℕ) (ack : AckValues) (ranges : List NumberRange) (around : Around) (r : Recovery) (p : PathData C) →
       (space_of id (ack_after m now space next began ack ranges around r p).recovery).eliciting_at ≡ (space_of id r).eliciting_at
   unfolding ack_after
@@ -229,7 +308,7 @@ module _ {C : Type 0} where
   -- an acknowledgement
   pub ack_less : (m : Control C) (now : ℕ) (id space : SpaceId) (next began : ℕ) (ack : AckValues) (ranges : List NumberRange) (around : Around) (r : Recovery) (p : PathData C) →
       Less (space_of id r) (space_of id (ack_after m now space next began ack ranges around r p).recovery)
-  ack_less m now id space next began ack ranges around r p = record { any = λ q e. any_by q (same_or id space) e; asked = settled_asked m now id space next began ack ranges around r p }
+  ack_less m now id space next began ack ranges around r p = record { any = λ q e. any_by q (same_or id space) e; asked = settled_asked m now id space next began ack ranges around r p; greatest = settled_greatest m now id space next began ack ranges around r p }
     where
       any_by : (q : Entry → Bool) → (id ≡ space) ⊎ (is_space id space ≡ false) → list_any q (space_of id (ack_after m now space next began ack ranges around r p).recovery).flight ≡ true → list_any q (space_of id r).flight ≡ true
       any_by q (inl is) e =
@@ -248,6 +327,19 @@ module _ {C : Type 0} where
       probed (Some due) = count_asked id _ r
   fired_asked m id now around path (Some loss) r = kept_asked id loss.1 _ r refl
 
+  fired_greatest : (m : Control C) (id : SpaceId) (now : ℕ) (around : Around) (path : PathData C) (first : Due) (r : Recovery) → is_some (space_of id r).greatest ≡ true → is_some (space_of id (timeout_by m now around first r path).recovery).greatest ≡ true
+  unfolding space_timed space_less
+  fired_greatest m id now around path None r h = probed (probe_line now around path.rtt r)
+    where
+      probed : (due : Due) → is_some (space_of id (probe_fired due r path).recovery).greatest ≡ true
+      probed None = h
+      probed (Some due) = count_greatest id _ r h
+  fired_greatest m id now around path (Some loss) r h = kept_greatest id loss.1 _ r (λ e. e) h
+
+  timed_greatest : (m : Control C) (now : ℕ) (id : SpaceId) (around : Around) (r : Recovery) (p : PathData C) → is_some (space_of id r).greatest ≡ true → is_some (space_of id (timeout_after m now around r p).recovery).greatest ≡ true
+  unfolding timeout_after
+  timed_greatest m now id around r p h = fired_greatest m id now around p (loss_first r) r h
+
   timed_asked : (m : Control C) (now : ℕ) (id : SpaceId) (around : Around) (r : Recovery) (p : PathData C) → (space_of id (timeout_after m now around r p).recovery).eliciting_at ≡ (space_of id r).eliciting_at
   unfolding timeout_after
   timed_asked m now id around r p = fired_asked m id now around p (loss_first r) r
@@ -255,7 +347,7 @@ module _ {C : Type 0} where
   -- the timer
   pub fire_less : (m : Control C) (now : ℕ) (id : SpaceId) (around : Around) (r : Recovery) (p : PathData C) → Less (space_of id r) (space_of id (timeout_after m now around r p).recovery)
   fire_less m now id around r p =
-      record { any = λ q e. fired_any q id r (timeout_after m now around r p).recovery (timeout_after m now around r p).fired (fired_flight m id now around r p) e; asked = timed_asked m now id around r p }
+      record { any = λ q e. fired_any q id r (timeout_after m now around r p).recovery (timeout_after m now around r p).fired (fired_flight m id now around r p) e; asked = timed_asked m now id around r p; greatest = timed_greatest m now id around r p }
 
 -- ---- each space
 

@@ -1,13 +1,11 @@
 -- Over a run the loss timer stands where an acknowledgement is waited for.
 use Rattle.std.proofs.Common.{◌≡◌, ℕ, ◌+◌, List, [], ◌∷◌, ◌++◌, length, refl, ap, sym, ◌∙◌, subst, Bool, true, false, Option, Some, None, if◌then◌else◌, append_assoc, append-nil, arith}
-use Rattle.std.specs.Prelude.{◌&&◌, ◌||◌, not, is_none, is_some}
+use Rattle.std.specs.Prelude.{not, is_none}
 use Rattle.qc_base.specs.declared.side.Side.TheVariants.{Client}
 use Rattle.qc_base.specs.declared.side.SpaceId.{SpaceId}
-use Rattle.qc_base.specs.declared.side.SpaceId.TheVariants.{Initial, Handshake}
+use Rattle.qc_base.specs.declared.side.SpaceId.TheVariants.{Initial, Handshake, «Data»}
 use Rattle.qc_frame.specs.Frame.{FrameValue}
 use Rattle.qc_header.specs.HeaderGrammar.{DatagramItem}
-use Rattle.qc_recovery.specs.Steps.{has_eliciting}
-use Rattle.qc_recovery.specs.Steps as recovery
 use Rattle.qc_state.specs.declared.coming.Coming.{Coming}
 use Rattle.qc_state.specs.declared.deeds.Did.{Did}
 use Rattle.qc_state.specs.declared.deeds.Did.TheVariants as did
@@ -15,36 +13,34 @@ use Rattle.qc_state.specs.declared.deeds.Quiet.TheVariants.{Killed}
 use Rattle.qc_state.specs.declared.form.Form.{Form}
 use Rattle.qc_state.specs.declared.input.Input.{Input}
 use Rattle.qc_state.specs.declared.input.Input.TheVariants as input
+use Rattle.qc_state.specs.declared.keys.KeyGroup.{KeyGroup}
 use Rattle.qc_state.specs.declared.life.Close.{Close}
 use Rattle.qc_state.specs.declared.life.ConnectionError.{ConnectionError}
 use Rattle.qc_state.specs.declared.life.ConnectionError.TheVariants as lost
-use Rattle.qc_state.specs.declared.life.Life.{Life}
 use Rattle.qc_state.specs.declared.life.State.TheVariants as state
-use Rattle.qc_state.specs.declared.lower.Lower.{Lower}
 use Rattle.qc_state.specs.declared.paths.Paths.{Paths}
-use Rattle.qc_state.specs.declared.timers.Timers.{Timers}
 use Rattle.qc_state.specs.declared.trace.Step.{Step}
 use Rattle.qc_state.specs.declared.transmit.Batch.{Batch}
 use Rattle.qc_state.specs.EndLaws.{Ends}
 use Rattle.qc_state.specs.Forms.{is_early, number_space}
 use Rattle.qc_state.specs.Headline.{deeds_of}
-use Rattle.qc_state.specs.Keys.{epoch_in}
-use Rattle.qc_state.specs.Life.{is_drained, is_established, is_open}
-use Rattle.qc_state.specs.Moves.{Ack, Arm, Ask, Begin, Clock, Establish, Expect, Finish, Fire, Forget, Give, Hear, MayMove, Move, Pace, Raise, Release, ReportConnected, ReportDrained, ReportLost, ReportNotices, ReportReady, Say, Seal, Shut, Skip, Tell, armed_after, armed_with, deeds_move, keys_move, move_to, paths_move, state_move}
+use Rattle.qc_state.specs.Keys.{epoch_in, has_keys_for}
+use Rattle.qc_state.specs.Life.{is_drained, is_open}
+use Rattle.qc_state.specs.Moves.{Ack, Arm, Ask, Begin, Clock, Establish, Expect, Finish, Fire, Forget, Give, Hear, MayMove, Move, Pace, Raise, Release, ReportConnected, ReportDrained, ReportLost, ReportNotices, ReportReady, Say, Seal, Shut, Skip, Tell, Write, armed_after, armed_with, deeds_move, keys_move, move_to, paths_move, state_move}
 use Rattle.qc_state.specs.Numbers.{next_number}
 use Rattle.qc_state.specs.Paths.{is_blocked, path_idle, path_kept}
 use Rattle.qc_state.specs.Receiving.{counted_after, cut_of, datagram_after, first_after, first_token, heard_after, pieces_after}
-use Rattle.qc_state.specs.Recovering.{fired_by, loss_time}
+use Rattle.qc_state.specs.Recovering.{fired_by, is_validated_by_peer, loss_time}
 use Rattle.qc_state.specs.Run.{IsAllowed, IsStep, Run, began, called, close_after, input_after, reported, step_after, time_of}
-use Rattle.qc_state.specs.Sending.{Choice, Died, Ending, Going, Hushed, MayAll, MayEnd, MayTransmit, Sent, Went, begun_after, drops_initial, ending_after, finished_after, flown_after, going_from, gone_after, handshake_left, initial_left, is_flown, packet_after, packets_after, sealed_in, spared_after, transmit_after}
+use Rattle.qc_state.specs.Sending.{Choice, Died, Ending, Going, Hushed, MayAll, MayEnd, MayFollow, MayTransmit, Sent, Went, begun_after, drops_initial, ending_after, finished_after, flown_after, going_from, gone_after, handshake_left, initial_left, is_flown, packet_after, packets_after, sealed_in, spared_after, transmit_after}
 use Rattle.qc_state.specs.Stopping.{given_after, key_limit_error, killed_after}
-use Rattle.qc_state.specs.TimerLaws.{FlightHolds, KeepsTimer, TimerHolds, awaits_ack, elicits_in, sealed_since}
+use Rattle.qc_state.specs.TimerLaws.{KeepsTimer, TimerHolds, awaits_ack, elicits_in, has_asked, has_probe_keys, must_probe, sealed_since}
 use Rattle.qc_state.specs.Timeouts.{ack_expired, close_expired, idle_expired, loss_expired, pacing_expired, timeout_after}
 use Rattle.qc_state.specs.Timers.{has_come}
 use Rattle.qc_state.specs.Types.{Types, Meaning}
 use Rattle.qc_state.specs.View.{View, At}
 use Rattle.qc_state.proofs.Batches.{packet_made}
-use Rattle.qc_state.proofs.Begun.{holds_begun}
+use Rattle.qc_state.proofs.Begun.{begun_keys, holds_begun}
 use Rattle.qc_state.proofs.Ends.{given_by, stopped_by}
 use Rattle.qc_state.proofs.EndsHold.{began_ends, known_keeps, step_ends}
 use Rattle.qc_state.proofs.Expired.{IsTimed, holds_timeout}
@@ -54,6 +50,7 @@ use Rattle.qc_state.proofs.PacketMoves.{IsInPacket, OpenPacket}
 use Rattle.qc_state.proofs.ReceivedMoves.{IsUnopened, close_for}
 use Rattle.qc_state.proofs.Receives.{pieces_hold}
 use Rattle.qc_state.proofs.Telling.{told_appends}
+use Rattle.qc_state.proofs.Transmitted.{begins_keyed}
 use Rattle.qc_state.proofs.TimerMoves.{HoldsIf, IsFree, IsPlain, arm_holds, holds_if, plain_free, plain_holds, sealed_holds, since_append, timer_holds}
 
 module _ {t : Types} where
@@ -84,7 +81,7 @@ module _ {t : Types} where
   -- the timer is set
   keeps_arm : (free blocked : Bool) (time : ℕ) (a : At t) → (free ≡ true → blocked ≡ false) → Keeps free a (armed_with blocked time a)
   unfolding armed_with move_to deeds_move
-  keeps_arm free blocked time a unblocked = record { since = []; appended = told_appends a.did []; holds = λ late h. arm_holds free late blocked time a.state unblocked h.flights }
+  keeps_arm free blocked time a unblocked = record { since = []; appended = told_appends a.did []; holds = λ late h. arm_holds free late blocked time a.state unblocked h.spaces }
 
   -- the connection ends
   keeps_killed : (m : Meaning t) (free : Bool) (why : ConnectionError) (a : At t) → Keeps free a (killed_after why a)
@@ -131,7 +128,7 @@ module _ {t : Types} where
   unfolding state_move
   plain_view m x s late k same h = record {
     stands = λ o u w. (plain_holds m x s true late k (holds_if true late s (λ f. sym same ∙ u) h)).stands refl o w;
-    flights = (plain_holds m x s false late k (holds_if false late s (λ f. absurd cc) h)).flights;
+    spaces = (plain_holds m x s false late k (holds_if false late s (λ f. absurd cc) h)).spaces;
   }
 
   holds_plain : (m : Meaning t) (x : Move t) (a : At t) → IsPlain m x a.state → is_blocked (paths_move x a.state) ≡ is_blocked a.state.paths → Holds a (move_to x a)
@@ -173,6 +170,10 @@ module _ {t : Types} where
   packet_frees m o free (Fire after) a h may = absurd h
   packet_frees m o free (Raise to) a h may = absurd h
   packet_frees m o free (Ack id n after) a h may = frees_plain m free (Ack id n after) a (packet_known m o (Ack id n after) a.state h) tt
+  packet_frees m o free (Forget Initial) a h may = frees_plain m free (Forget Initial) a refl tt
+  packet_frees m o free (Forget Handshake) a h may = frees_plain m free (Forget Handshake) a refl tt
+  packet_frees m o free (Forget Data) a h may = absurd h
+  packet_frees m o free (Write bytes keys session) a h may = frees_plain m free (Write bytes keys session) a may tt
   packet_frees m o free (Tell d) a h may = frees_plain m free (Tell d) a may tt
   packet_frees m o free Establish a h may = frees_plain m free Establish a may tt
   packet_frees m o free x a h may = frees_plain m free x a tt tt
@@ -185,6 +186,8 @@ module _ {t : Types} where
   unopened_frees m at_time free (Hear bytes) a h may = absurd h
   unopened_frees m at_time free (Fire after) a h may = absurd h
   unopened_frees m at_time free (Ack id n after) a h may = absurd h
+  unopened_frees m at_time free (Forget id) a h may = absurd h
+  unopened_frees m at_time free (Write bytes keys session) a h may = absurd h
   unopened_frees m at_time free Establish a h may = absurd h
   unopened_frees m at_time free (Raise to) a h may = frees_plain m free (Raise to) a h tt
   unopened_frees m at_time free (Tell d) a h may = frees_plain m free (Tell d) a may tt
@@ -203,7 +206,7 @@ module _ {t : Types} where
     since = k.since;
     appended = k.appended;
     holds = λ late h. timer_holds true (sealed_since late k.since) _ (λ u. refl)
-        (arm_holds true (sealed_since late k.since) (is_blocked c.state.paths) time c.state (λ f. is) (k.holds late (holds_if false late a.state (λ f. absurd cc) h)).flights);
+        (arm_holds true (sealed_since late k.since) (is_blocked c.state.paths) time c.state (λ f. is) (k.holds late (holds_if false late a.state (λ f. absurd cc) h)).spaces);
   }
 
   counted_holds : (m : Meaning t) (coming : Coming) (n : ℕ) (items : List DatagramItem) (a : At t) (x : Bool) → is_blocked a.state.paths ≡ x → Holds a (counted_after coming.time x n (pieces_after m coming items a))
@@ -298,11 +301,11 @@ module _ {t : Types} where
   unfolding sealed_in move_to state_move keys_move deeds_move
   sealed_deeds time form fs a = flown_deeds time _ (is_flown a.state fs)
 
-  keeps_sealed : (free : Bool) (time : ℕ) (form : Form) (fs : List FrameValue) (a : At t) → Ends a.state → Keeps free a (sealed_in time form fs a)
-  keeps_sealed free time form fs a ends = record {
+  keeps_sealed : (free : Bool) (time : ℕ) (form : Form) (fs : List FrameValue) (a : At t) → Ends a.state → has_keys_for a.state.keys form ≡ true → Keeps free a (sealed_in time form fs a)
+  keeps_sealed free time form fs a ends keyed = record {
     since = did.Sealed (number_space form) (next_number a.state.numbers (number_space form)) (epoch_in a.state.keys form) (is_early form) fs ∷ [];
     appended = sealed_deeds time form fs a;
-    holds = λ late h. sealed_holds free late time form fs a ends.owed h;
+    holds = λ late h. sealed_holds free late time form fs a ends.owed keyed h;
   }
 
   begun_ends : (m : Meaning t) (id : SpaceId) (opens : Bool) (a : At t) → Ends a.state → Ends (begun_after id opens a).state
@@ -310,16 +313,17 @@ module _ {t : Types} where
   begun_ends m id opens a ends =
       holds_begun (λ (b c : At t). Ends b.state → Ends c.state) (λ b h. h) (λ b c d g h e. h (g e)) id opens a (λ b. known_keeps m (Begin id opens) b tt tt) (λ b may. known_keeps m Skip b tt may) ends
 
-  packet_keeps : (m : Meaning t) (free : Bool) (time : ℕ) (p : Sent) (g : Going t) → Ends g.now.state → Keeps free g.now (packet_after m time p g).now
+  packet_keeps : (m : Meaning t) (free : Bool) (time : ℕ) (p : Sent) (g : Going t) → Ends g.now.state → MayFollow time g.now.state g.batch p → Keeps free g.now (packet_after m time p g).now
   unfolding packet_after
-  packet_keeps m free time p g ends =
+  packet_keeps m free time p g ends may =
       let id : SpaceId = number_space p.form in
       let b : At t = begun_after id p.opens g.now in
       keeps_next free g.now b _ (holds_begun (Keeps free) (keeps_here free) (keeps_next free) id p.opens g.now (λ c. keeps_plain m free (Begin id p.opens) c tt) (λ c may. keeps_plain m free Skip c tt))
-      (keeps_sealed free time p.form p.frames b (begun_ends m id p.opens g.now ends))
+      (keeps_sealed free time p.form p.frames b (begun_ends m id p.opens g.now ends)
+      (ap (λ (k : KeyGroup t.H t.P). has_keys_for k p.form) (begun_keys id p.opens g.now) ∙ begins_keyed g.batch.closing g.now.state p.form may.begins))
 
   left_keeps : (m : Meaning t) (free : Bool) (time : ℕ) (a : At t) (b : Bool) → Keeps free a (if b then armed_with false time (move_to (Forget Initial) a) else a)
-  left_keeps m free time a true = let b : At t = move_to (Forget Initial) a in keeps_next free a b _ (keeps_plain m free (Forget Initial) a tt) (keeps_arm free false time b (λ f. refl))
+  left_keeps m free time a true = let b : At t = move_to (Forget Initial) a in keeps_next free a b _ (keeps_plain m free (Forget Initial) a refl) (keeps_arm free false time b (λ f. refl))
   left_keeps m free time a false = keeps_here free a
 
   shook_keeps : (m : Meaning t) (free : Bool) (time : ℕ) (shook : Bool) (a : At t) → Keeps free a (handshake_left time shook a)
@@ -365,7 +369,7 @@ module _ {t : Types} where
       keeps_holds a _ (is_blocked a.state.paths) refl (quiet_stays time e (going_from a).batch a refl end) (λ free unblocked. ending_keeps m free time e (going_from a).batch a)
   packets_hold m time (p ∷ []) e a ends may end =
       let g : Going t = packet_after m time p (going_from a) in
-      free_holds a _ may.0.begins.free (keeps_next true a g.now _ (packet_keeps m true time p (going_from a) ends) (ending_keeps m true time e g.batch g.now))
+      free_holds a _ may.0.begins.free (keeps_next true a g.now _ (packet_keeps m true time p (going_from a) ends may.0) (ending_keeps m true time e g.batch g.now))
   packets_hold m time (p ∷ q ∷ ps) e a ends may end = let one = packet_made m time p (going_from a) may.0 in let alone = may.1.0.alone in absurd (omega (arith, one, alone))
 
   transmit_holds : (m : Meaning t) (time : ℕ) (choice : Choice) (a : At t) → Ends a.state → MayTransmit m time choice a → Holds a (transmit_after m time choice a)
@@ -387,15 +391,12 @@ module _ {t : Types} where
   input_holds m (input.Close time code reason) choice a ends may = closed_by m time _ a (is_open a.state.life.state)
   input_holds m (input.Ping time) choice a ends may = holds_plain m (Ask a.state.keys.highest) a tt refl
 
-  -- so of another view with the same life, path, timer and packets in flight
-  same_view : (late : Bool) (v w : View t) → w.life ≡ v.life → w.paths ≡ v.paths → w.timers ≡ v.timers → w.lower ≡ v.lower → TimerHolds late v → TimerHolds late w
-  unfolding awaits_ack elicits_in
-  same_view late v w life paths timers lower h = record {
-    stands = λ o u k. ap (λ (x : Timers). is_some x.loss_detection) timers ∙ h.stands (ap (λ (l : Life). is_open l.state) (sym life) ∙ o) (ap (λ (p : Paths t.C). is_blocked p) (sym paths) ∙ u)
-        (ap (λ (l : Life). has_eliciting v.lower.recovery.initial.flight || (has_eliciting v.lower.recovery.handshake.flight || ((late && is_established l.state) && has_eliciting v.lower.recovery.application.flight))) (sym life)
-        ∙ ap (λ (l : Lower t.S). has_eliciting l.recovery.initial.flight || (has_eliciting l.recovery.handshake.flight || ((late && is_established w.life.state) && has_eliciting l.recovery.application.flight))) (sym lower) ∙ k);
-    flights = λ id. subst (λ (l : Lower t.S). FlightHolds (recovery.space_of id l.recovery)) (sym lower) (h.flights id);
-  }
+  -- so of another view with the same life, path, timer, keys, setup and packets in flight
+  same_view : (late : Bool) (v w : View t) → w.life ≡ v.life → w.paths ≡ v.paths → w.timers ≡ v.timers → w.lower ≡ v.lower → w.keys ≡ v.keys → w.setup ≡ v.setup → TimerHolds late v → TimerHolds late w
+  unfolding awaits_ack elicits_in must_probe is_validated_by_peer has_probe_keys has_asked
+  same_view late v w life paths timers lower keys setup h =
+      subst (λ (x : View t). TimerHolds late x) (sym (λ i. record { numbers = w.numbers; keys = keys i; life = life i; paths = paths i; timers = timers i; waiting = w.waiting; setup = setup i; lower = lower i }))
+      (record { stands = h.stands; spaces = λ id. record { flight = (h.spaces id).flight; keyed = (h.spaces id).keyed; below = (h.spaces id).below } })
 
   began_holds : (m : Meaning t) (s : View t) (time : ℕ) (late : Bool) → TimerHolds late s → TimerHolds late (began s time).state
   unfolding began deeds_move paths_move
@@ -418,7 +419,7 @@ module _ {t : Types} where
       let deeds : x.did ≡ holds.since = h.deeds ∙ holds.appended in
       record {
         timer = λ late k. subst (λ (ds : List Did). TimerHolds (sealed_since late ds) s') (sym deeds)
-            (same_view (sealed_since late holds.since) (step_after m s i h.choice) s' h.life h.paths h.timers h.lower (reported_holds m (input_after m i h.choice a).state (sealed_since late holds.since) (holds.holds late (began_holds m s (time_of i) late k))));
+            (same_view (sealed_since late holds.since) (step_after m s i h.choice) s' h.life h.paths h.timers h.lower h.keys h.setup (reported_holds m (input_after m i h.choice a).state (sealed_since late holds.since) (holds.holds late (began_holds m s (time_of i) late k))));
       }
 
   pub run_keeps_timer : (m : Meaning t) (k : ℕ) (s : View t) (is : List Input) (xs : List Step) (s' : View t) → Run m k s is xs s' → Ends s → KeepsTimer (deeds_of xs) s s'

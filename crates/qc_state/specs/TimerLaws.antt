@@ -10,8 +10,11 @@ use Rattle.qc_recovery.specs.declared.space.SpaceRecovery.{SpaceRecovery}
 use Rattle.qc_state.specs.declared.deeds.Did.{Did}
 use Rattle.qc_state.specs.declared.deeds.Did.TheVariants as did
 use Rattle.qc_state.specs.Flight.{counts_in_flight}
+use Rattle.qc_state.specs.Keys.{has_keys}
 use Rattle.qc_state.specs.Life.{is_established, is_open}
 use Rattle.qc_state.specs.Paths.{is_blocked}
+use Rattle.qc_state.specs.Receiving.{is_below}
+use Rattle.qc_state.specs.Recovering.{is_validated_by_peer}
 use Rattle.qc_state.specs.Types.{Types}
 use Rattle.qc_state.specs.View.{View}
 
@@ -33,6 +36,13 @@ pub record FlightHolds (s : SpaceRecovery) : Type 0 where
   pub asked : has_eliciting s.flight ≡ true → is_some s.eliciting_at ≡ true
 
 module _ {t : Types} where
+  -- Of a space: its packets in flight are as above; where one that elicits an acknowledgement was sent, and the keys weren't dropped since,
+  -- it has keys; and where it has keys, the highest space lies no lower.
+  pub record SpaceHolds (s : View t) (id : SpaceId) : Type 0 where
+    pub flight : FlightHolds (recovery.space_of id s.lower.recovery)
+    pub keyed : is_some (recovery.space_of id s.lower.recovery).eliciting_at ≡ true → has_keys s.keys id ≡ true
+    pub below : has_keys s.keys id ≡ true → is_below s.keys.highest id ≡ false
+
   -- a packet of the space is in flight that elicits an acknowledgement
   unfoldable pub elicits_in : View t → SpaceId → Bool
   elicits_in s id = has_eliciting (recovery.space_of id s.lower.recovery).flight
@@ -42,11 +52,25 @@ module _ {t : Types} where
   unfoldable pub awaits_ack : (since : Bool) → View t → Bool
   awaits_ack since s = elicits_in s Initial || (elicits_in s Handshake || ((since && is_established s.life.state) && elicits_in s «Data»))
 
-  -- While a connection is open, the loss timer stands where an acknowledgement is waited for, unless no datagram may be begun, with which
-  -- the timer could probe (RFC 9002, section 6.2.2.1; RFC 9000, section 8.1). So no packet that elicits one is waited for in vain.
+  -- a packet that elicits an acknowledgement was sent in the space, whose keys weren't dropped since
+  unfoldable pub has_asked : View t → SpaceId → Bool
+  has_asked s id = is_some (recovery.space_of id s.lower.recovery).eliciting_at
+
+  -- there are keys of the space in which an end probes that has nothing in flight
+  unfoldable pub has_probe_keys : View t → Bool
+  has_probe_keys s = if recovery.is_handshake s.keys.highest then has_keys s.keys Handshake else has_keys s.keys Initial
+
+  -- A client asked for an acknowledgement before it had 1-RTT keys, and doesn't know that the server has validated its address: so it has
+  -- to probe even with nothing in flight, lest the server may not send (RFC 9002, section 6.2.2.1).
+  unfoldable pub must_probe : View t → Bool
+  must_probe s = not (is_validated_by_peer s false) && (has_probe_keys s && ((has_asked s Initial || has_asked s Handshake) && not (has_asked s «Data»)))
+
+  -- While a connection is open, the loss timer stands where an acknowledgement is waited for, or a client has to probe, unless no datagram
+  -- may be begun, with which the timer could probe (RFC 9002, section 6.2.2.1; RFC 9000, section 8.1). So no packet that elicits an
+  -- acknowledgement is waited for in vain, and the two ends don't wait for each other.
   pub record TimerHolds (since : Bool) (s : View t) : Type 0 where
-    pub stands : is_open s.life.state ≡ true → is_blocked s.paths ≡ false → awaits_ack since s ≡ true → is_some s.timers.loss_detection ≡ true
-    pub flights : (id : SpaceId) → FlightHolds (recovery.space_of id s.lower.recovery)
+    pub stands : is_open s.life.state ≡ true → is_blocked s.paths ≡ false → (awaits_ack since s || must_probe s) ≡ true → is_some s.timers.loss_detection ≡ true
+    pub spaces : (id : SpaceId) → SpaceHolds s id
 
   -- from one view to another, between which these deeds were done, that holds on
   pub record KeepsTimer (ds : List Did) (s s' : View t) : Type 0 where

@@ -104,7 +104,8 @@ pub fn bytes_are_kept<U: Suite>()
 
 /// A law, which runs no code. Over a run, while the connection is open, the loss timer stands where an acknowledgement is waited for:
 /// a packet is in flight that elicits one, in the Initial or the Handshake space, or in Data, where the handshake is over and one that
-/// counts was sealed since; unless the path is blocked (RFC 9002, 6.2.1 and 6.2.2.1; RFC 9000, 8.1).
+/// counts was sealed since. It stands too where a client has to probe with nothing in flight, since the server may not have validated
+/// its address; unless the path is blocked (RFC 9002, 6.2.1 and 6.2.2.1; RFC 9000, 8.1).
 pub fn loss_timer_stands<U: Suite>()
     ensures { (s last : View ⟦<U as Means>⟧.types) (k : ℕ) (is : List Input) (xs : List Step) → Run ⟦<U as Means>⟧.meaning k s is xs last → Ends s → KeepsTimer (deeds_of xs) s last }
 {}
