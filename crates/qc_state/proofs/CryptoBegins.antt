@@ -31,7 +31,7 @@ just_held id bs opened keyed above =
 
 pub made_kept : (t : Types) (id : SpaceId) (keys : SpaceKeys t.H t.P) (session : t.S) (hello token : List ℕ) (words : Stream) (fixed : Fixed) (paths : Paths t.C) (transport : TransportValues) (time : ℕ) →
     CryptoKept id [] (just_made {t = t} keys session hello token words fixed paths transport time)
-unfolding begun_recovery no_space first_keys
+unfolding begun_recovery no_space
 made_kept t Initial keys session hello token words fixed paths transport time = just_held Initial hello true _ (λ e. absurd cc)
 made_kept t Handshake keys session hello token words fixed paths transport time = just_held Handshake [] true _ (λ e. refl)
 made_kept t Data keys session hello token words fixed paths transport time = just_held «Data» [] true _ (λ e. refl)
