@@ -7,4 +7,5 @@ pub mod Firsts
 mod NewEnds
 mod NewCrypto
 mod NewTimer
+mod NewAcks
 mod Stores

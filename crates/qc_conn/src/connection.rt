@@ -11,6 +11,7 @@ ghost use Rattle.qc_recovery.specs.Paths.{first_size};
 ghost use Rattle.qc_state.specs.Receiving.{datagram_after, first_packet_after, is_taken};
 ghost use Rattle.qc_state.specs.Setup.{is_first_awaited};
 ghost use Rattle.qc_base.specs.declared.side.SpaceId.{SpaceId};
+ghost use Rattle.qc_state.specs.AckLaws.{AckHolds};
 ghost use Rattle.qc_state.specs.CryptoLaws.{CryptoKept};
 ghost use Rattle.qc_state.specs.EndLaws.{Ends};
 ghost use Rattle.qc_state.specs.EventLaws.{OnlyDoneWaits};
@@ -100,6 +101,7 @@ impl<U: Suite> Connection<U> {
         ensures ends { IfOk result (λ c. Ends (ideal U.Random.stream c.core)) }
         ensures crypto { IfOk result (λ c. (id : SpaceId) → CryptoKept id [] (ideal U.Random.stream c.core)) }
         ensures timer { IfOk result (λ c. TimerHolds false (ideal U.Random.stream c.core)) }
+        ensures held { IfOk result (λ c. AckHolds (ideal U.Random.stream c.core)) }
         ensures alive { IfOk result (λ c. c.failed ≡ false) }
         ensures store { OnOk result (store.new ≡ G.after_take store.old (string_bytes setup.server_name)) }
     {
@@ -130,6 +132,7 @@ impl<U: Suite> Connection<U> {
         ensures ends { IfOk result (λ c. Ends (ideal U.Random.stream c.core)) }
         ensures crypto { IfOk result (λ c. (id : SpaceId) → CryptoKept id [] (ideal U.Random.stream c.core)) }
         ensures timer { IfOk result (λ c. TimerHolds false (ideal U.Random.stream c.core)) }
+        ensures held { IfOk result (λ c. AckHolds (ideal U.Random.stream c.core)) }
         ensures alive { IfOk result (λ c. c.failed ≡ false) }
     {
         let core = qc_making::new_server(alloc, setup, now)?;

@@ -51,6 +51,9 @@ pub mod CryptoKept
 mod CryptoPlaces
 pub mod CryptoBegins
 pub mod TimerFlights
+pub mod AckMarks
+pub mod AckHolds
+pub mod AckBegins
 pub mod TimerProbes
 pub mod TimerMoves
 pub mod TimerHolds

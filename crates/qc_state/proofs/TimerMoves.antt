@@ -284,7 +284,7 @@ module _ {t : Types} where
   plain_timer m (Raise to) s h o = let end : is_open to ≡ false = ap is_open h in cc
   plain_timer m _ s h o = refl
 
-  plain_open : (m : Meaning t) (x : Move t) (s : View t) → IsPlain m x s → is_open (life_move x s).state ≡ true → is_open s.life.state ≡ true
+  pub plain_open : (m : Meaning t) (x : Move t) (s : View t) → IsPlain m x s → is_open (life_move x s).state ≡ true → is_open s.life.state ≡ true
   unfolding life_move life_closed life_drained data_ready life_established token_learned identifiers_wanted life_raised reason_given ready_reported connected_reported lost_reported notice_reported notices_reported drained_reported
   plain_open m (Shut time close) s k h = cc
   plain_open m (PeerCloses time) s k h = cc

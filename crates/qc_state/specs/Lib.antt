@@ -1,3 +1,4 @@
+pub mod AckLaws
 pub mod Acks
 pub mod Allowed
 pub mod CryptoLaws

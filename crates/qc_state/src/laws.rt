@@ -6,6 +6,7 @@ ghost use Rattle.qc_frame.specs.Frame.{FrameValue};
 ghost use Rattle.qc_header.specs.HeaderReading.{piece_at};
 ghost use Rattle.qc_header.specs.Piece.{Piece};
 ghost use Rattle.qc_path.specs.Arrived.{Remembers, Window, is_among};
+ghost use Rattle.qc_state.specs.AckLaws.{AckHolds, EachHoldsAck};
 ghost use Rattle.qc_state.specs.CryptoLaws.{KeepsBytes};
 ghost use Rattle.qc_state.specs.DatagramLaws.{DatagramHolds};
 ghost use Rattle.qc_state.specs.EndLaws.{Ends};
@@ -108,6 +109,15 @@ pub fn bytes_are_kept<U: Suite>()
 /// its address; unless the path is blocked (RFC 9002, 6.2.1 and 6.2.2.1; RFC 9000, 8.1).
 pub fn loss_timer_stands<U: Suite>()
     ensures { (s last : View ⟦<U as Means>⟧.types) (k : ℕ) (is : List Input) (xs : List Step) → Run ⟦<U as Means>⟧.meaning k s is xs last → Ends s → KeepsTimer (deeds_of xs) s last }
+{}
+
+/// A law, which runs no code. Over a run an ACK of 1-RTT packets is held back for 25 ms at most: its timer is set with the packet that asks
+/// for it, and stands until it comes, and then the ACK is owed, where there is something to acknowledge; unless an ACK was sealed, in
+/// whatever space. And where a packet that elicits an acknowledgement came since the last ACK, one is owed or held back, where it was so
+/// at the start (RFC 9000, 13.2.1).
+pub fn held_acks_wait<U: Suite>()
+    ensures each { (s last : View ⟦<U as Means>⟧.types) (k : ℕ) (is : List Input) (xs : List Step) → Run ⟦<U as Means>⟧.meaning k s is xs last → AckHolds s → EachHoldsAck ⟦<U as Means>⟧.meaning k s is xs last }
+    ensures kept { (s last : View ⟦<U as Means>⟧.types) (k : ℕ) (is : List Input) (xs : List Step) → Run ⟦<U as Means>⟧.meaning k s is xs last → AckHolds s → AckHolds last }
 {}
 
 /// A law, which runs no code. Over a run just what came to pass is told, in the step in which it did, and each thing at most once: a

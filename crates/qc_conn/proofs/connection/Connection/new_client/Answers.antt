@@ -1,3 +1,4 @@
+use Rattle.qc_conn.proofs.NewAcks.{first_acks}
 use Rattle.qc_conn.proofs.NewCrypto.{first_kept}
 use Rattle.qc_conn.proofs.NewEnds.{first_ends}
 use Rattle.qc_conn.proofs.NewTimer.{first_timer}
@@ -23,3 +24,7 @@ returns-clause-crypto g c = first_kept g.U.Random.Rng.stream _ _ _ _ c.args.setu
 -- nothing is in flight
 pub returns-clause-timer : goal.returns-clause-timer
 returns-clause-timer g c = first_timer g.U.Random.Rng.stream _ _ _ _ c.args.setup.remote c.args.setup.first_cid _ _ _ c.args.now c.in_ok-core.core c.in_ok-core.ensures.made
+
+-- no ACK is held back
+pub returns-clause-held : goal.returns-clause-held
+returns-clause-held g c = first_acks g.U.Random.Rng.stream _ _ _ _ c.args.setup.remote c.args.setup.first_cid _ _ _ c.args.now c.in_ok-core.core c.in_ok-core.ensures.made

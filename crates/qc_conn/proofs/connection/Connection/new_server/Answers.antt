@@ -1,3 +1,4 @@
+use Rattle.qc_conn.proofs.NewAcks.{server_acks}
 use Rattle.qc_conn.proofs.NewCrypto.{server_kept}
 use Rattle.qc_conn.proofs.NewEnds.{server_ends}
 use Rattle.qc_conn.proofs.NewTimer.{server_timer}
@@ -23,3 +24,7 @@ returns-clause-crypto g c = server_kept g.U.Random.Rng.stream _ _ _ _ c.args.set
 -- nothing is in flight
 pub returns-clause-timer : goal.returns-clause-timer
 returns-clause-timer g c = server_timer g.U.Random.Rng.stream _ _ _ _ c.args.setup.remote c.args.setup.remote_cid c.args.setup.validated _ _ c.args.now c.in_ok-core.core c.in_ok-core.ensures
+
+-- no ACK is held back
+pub returns-clause-held : goal.returns-clause-held
+returns-clause-held g c = server_acks g.U.Random.Rng.stream _ _ _ _ c.args.setup.remote c.args.setup.remote_cid c.args.setup.validated _ _ c.args.now c.in_ok-core.core c.in_ok-core.ensures
