@@ -1,4 +1,3 @@
-pub mod Accepts
 pub mod Acknowledges
 pub mod EndpointPolls
 pub mod Expiring

@@ -4,6 +4,7 @@
 mod calls;
 mod moves;
 mod offers;
+mod packets;
 mod recovering;
 pub mod state;
 pub mod stopping;

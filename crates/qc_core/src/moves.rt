@@ -22,6 +22,7 @@ ghost use Rattle.qc_state.specs.Timers.{timers_acking, timers_sealed};
 ghost use Rattle.qc_state.specs.View.{at, ideal, held};
 ghost use Rattle.qc_state.specs.Taking.{TakenPart};
 
+use crate::packets::{accept_on, enter, set_accepted, tell_waiting, use_number};
 use crate::recovering::shows_validated;
 use crate::state::Core;
 use bytes::Bytes;
@@ -49,7 +50,7 @@ fn tells_congestion(mark: Option<EcnCodepoint>) -> bool
     }
 }
 
-#[tactic(auto, unfolding(qc_state::specs::Moves::move_to, qc_state::specs::Moves::state_move, qc_state::specs::Moves::numbers_move, qc_state::specs::Moves::keys_move, qc_state::specs::Moves::life_move, qc_state::specs::Moves::paths_move, qc_state::specs::Moves::timers_move, qc_state::specs::Moves::waiting_move, qc_state::specs::Moves::setup_move, qc_state::specs::Moves::lower_move, qc_state::specs::Moves::deeds_move, qc_state::specs::Setup::ideal_setup, qc_state::specs::Setup::idle_limit_now, qc_state::specs::Setup::parameters_known, qc_state::specs::Setup::token_expected, qc_state::specs::Lower::session_wrote, qc_state::specs::Paths::path_kept, crate::specs::Sealing::sealed_drawn), using(qc_state::proofs::Arrivals::came_accepted))]
+#[tactic(auto, unfolding(qc_state::specs::Moves::move_to, qc_state::specs::Moves::state_move, qc_state::specs::Moves::numbers_move, qc_state::specs::Moves::keys_move, qc_state::specs::Moves::life_move, qc_state::specs::Moves::paths_move, qc_state::specs::Moves::timers_move, qc_state::specs::Moves::waiting_move, qc_state::specs::Moves::setup_move, qc_state::specs::Moves::lower_move, qc_state::specs::Moves::deeds_move, qc_state::specs::Setup::ideal_setup, qc_state::specs::Setup::idle_limit_now, qc_state::specs::Setup::parameters_known, qc_state::specs::Setup::token_expected, qc_state::specs::Lower::session_wrote, qc_state::specs::Paths::path_kept, crate::specs::Sealing::sealed_drawn))]
 impl<U: Suite> Core<U> {
     /// The connection is told a time.
     pub fn do_clock(&mut self, now: Instant)
@@ -146,10 +147,8 @@ impl<U: Suite> Core<U> {
         self.time_packet(now, space, frames);
         self.fly(alloc, now, space, number, size, frames)?;
         let last = is_space(space, self.keys.highest);
-        self.numbers.used(space, number);
-        self.keys.used(form, number);
-        self.waiting.tell(space, last);
-        self.waiting.bundle_next(frames, next);
+        use_number(&mut self.numbers, &mut self.keys, form, number);
+        tell_waiting(&mut self.waiting, space, last, frames, next);
         Ok(())
     }
 
@@ -233,20 +232,23 @@ impl<U: Suite> Core<U> {
         ensures { OnOk result ((held U.Random.stream self.new did.new) ≡ move_to (Accept now space number eliciting signs verdict) (held U.Random.stream self.old did.old)) }
     {
         let probe = self.probe_timeout(space);
-        let greatest = self.numbers.received(space) <= number;
-        self.numbers.accepted(space, number);
         let packet = Arrival {
             number,
             at: now,
             ack_eliciting: eliciting,
             ce: tells_congestion(signs.mark),
         };
-        let came = self.numbers.came(space);
-        let holds = self.waiting.came(space, came, &packet, signs.mark);
-        self.paths.accepted(space, verdict);
-        self.paths.spun(self.setup.fixed.side, greatest, signs.spin);
-        self.timers.accepted(self.setup.idle_limit(), probe, now);
-        self.timers.hold(holds, now);
+        let entered = enter(
+            &mut self.numbers,
+            &mut self.waiting,
+            space,
+            &packet,
+            signs.mark,
+        );
+        let side = self.setup.fixed.side;
+        accept_on(&mut self.paths, space, verdict, side, entered.0, signs.spin);
+        let limit = self.setup.idle_limit();
+        set_accepted(&mut self.timers, limit, probe, entered.1, now);
         did.push_piece(Some(space), Some(number), verdict)
     }
 
