@@ -160,7 +160,7 @@ module _ {t : Types} where
   pub loud_near : (opens closing : Bool) (a : At t) (e mid : View t) (form : Form) (fs : List FrameValue) → MayBegin closing a.state form → at e a.did ≡ begun_after (number_space form) opens a → mid ≡ state_move (Take (number_space form) fs) e →
       next_number mid.numbers (number_space form) - acked_number mid.numbers (number_space form) < 2 ^ 31
   loud_near opens closing a e mid form fs may begun is_mid =
-      subst (λ (v : Numbers). next_number v (number_space form) - acked_number v (number_space form) < 2 ^ 31) (sym (ap (λ (x : View t). x.numbers) is_mid ∙ number_kept e (number_space form) fs)) (loud_near_begun opens closing a e form may begun)
+      subst (λ (v : Numbers). next_number v (number_space form) - acked_number v (number_space form) < 2 ^ 31) (sym (ap (λ (x : View t). x.numbers) is_mid ∙ number_kept e form fs)) (loud_near_begun opens closing a e form may begun)
 
   -- and it is below the greatest of all
   pub loud_low : (opens closing : Bool) (a : At t) (e mid : View t) (form : Form) (fs : List FrameValue) → MayBegin closing a.state form → at e a.did ≡ begun_after (number_space form) opens a → mid ≡ state_move (Take (number_space form) fs) e →
@@ -170,7 +170,7 @@ module _ {t : Types} where
       let s : View t = a.state in
       let low : coming_number s.numbers (number_space form) < 2 ^ 62 - 1 = number_low (coming_number s.numbers (number_space form)) (acked_number s.numbers (number_space form)) (unlimited s form may.fresh).1 in
       let same : next_number mid.numbers (number_space form) ≡ coming_number s.numbers (number_space form) =
-      ap (λ (v : Numbers). next_number v (number_space form)) (ap (λ (x : View t). x.numbers) is_mid ∙ number_kept e (number_space form) fs) ∙ ap (λ (v : View t). next_number v.numbers (number_space form)) (begun_state opens a e (number_space form) begun) ∙ begun_number opens s (number_space form) in
+      ap (λ (v : Numbers). next_number v (number_space form)) (ap (λ (x : View t). x.numbers) is_mid ∙ number_kept e form fs) ∙ ap (λ (v : View t). next_number v.numbers (number_space form)) (begun_state opens a e (number_space form) begun) ∙ begun_number opens s (number_space form) in
       subst (λ (n : ℕ). n < 2 ^ 62 - 1) (sym same) low
 
   -- taking frames leaves the keys, and so does a datagram that is begun

@@ -114,7 +114,7 @@ seals_taken {t} opens m time form nearly counts g e mid b f batch buffer capacit
     let filled : padded mid form fs ≡ gs = ap (λ (v : View _). padded v form fs) is_mid ∙ padded_kept e form fs fs in
     let whole : length buffer ≡ packet_size e form gs = full ∙ ap (λ (x : List FrameValue). packet_size mid form x) filled ∙ ap (λ (v : View _). packet_size v form gs) is_mid ∙ size_kept e form fs gs in
     let behind = room_holds capacity e form (length (frames_spelling fs)) wide (now_fits closing time e (number_space form) (room_of capacity e form) fs taken wide) in
-    let number : next_number mid.numbers (number_space form) ≡ next_number e.numbers (number_space form) = ap (λ (v : Numbers). next_number v (number_space form)) (ap (λ (x : View _). x.numbers) is_mid ∙ number_kept e (number_space form) fs) in
+    let number : next_number mid.numbers (number_space form) ≡ next_number e.numbers (number_space form) = ap (λ (v : Numbers). next_number v (number_space form)) (ap (λ (x : View _). x.numbers) is_mid ∙ number_kept e form fs) in
     seals_one opens m time form nearly g e mid b f batch buffer capacity fs gs opened alone is_capacity most none may (begun_state opens a e (number_space form) begun) wide taken refl is_mid
     (padded_fits capacity e form (header_in e form) fs large refl behind.0 behind.1)
     (is_b ∙ ap (λ (x : List FrameValue). move_to (Seal time form (next_number mid.numbers (number_space form)) (length buffer) x) (at mid a.did)) filled

@@ -1,4 +1,5 @@
-use Rattle.std.proofs.Common.{arith}
+use Rattle.std.proofs.Common.{arith, ap, ◌∙◌}
+use Rattle.qc_state.specs.Numbers.{next_number}
 use Rattle.qc_state.specs.View.{ideal}
 use Rattle.qc_send.proofs.Drawing.{begins_still, keyed_still, sized_still, moved_by, spelled_by, sized, flies_by}
 use Rattle.qc_send.proofs.sealing.seal.Goals as goal
@@ -20,7 +21,7 @@ seal_with-requires-clause-sized g c = sized_still c.args.capacity (ideal g.U.Ran
 pub returns-clause-leads : goal.returns-clause-leads
 returns-clause-leads g c =
     moved_by (ideal g.U.Random.Rng.stream c.args.core.now) (ideal g.U.Random.Rng.stream c.header_and_flip.new.core) c.args.did.now c.args.now c.args.form c.in_ok-header.header c.next_number-number.result _ c.least_size-least.result _ c.args.frames _ _
-    c.in_ok-header.ensures.leads c.in_ok-header.ensures.header c.next_number-number.ensures c.least_size-least.ensures.value c.in_ok-seal_with.ensures.frames (omega (arith, c.len.ensures)) c.in_ok-do_seal.ensures
+    c.in_ok-header.ensures.leads c.in_ok-header.ensures.header (c.next_number-number.ensures ∙ ap (λ id. next_number c.args.core.now.numbers id) c.space.ensures) c.least_size-least.ensures.value c.in_ok-seal_with.ensures.frames (omega (arith, c.len.ensures)) c.in_ok-do_seal.ensures
 
 pub returns-clause-bytes : goal.returns-clause-bytes
 returns-clause-bytes g c =
