@@ -62,11 +62,11 @@ module _ {t : Types} {R : Type 0} (m : Meaning t) (stream : R → Stream) where
       fired_is m (ideal stream v) time blocked around after as_stands is_around (is ∙ ap (λ (x : Held t R). timeout_after m.control time around x.lower.recovery x.paths.current.kept) same)
 
   -- the groups that change are those of the move
-  pub settled_parts : (v w : Held t R) (time : ℕ) (id : SpaceId) (ack : AckValue) (after : After t.C) (numbers : Numbers) (waiting : Waiting) (lower : Lower t.S) (kept : PathData t.C) → w ≡ v →
-      after ≡ settled_by m time id ack (ideal stream v) → kept ≡ after.path → lower ≡ packets_settled w.lower after → numbers ≡ number_acked w.numbers id ack.largest → waiting ≡ packets_lost (packets_acked w.waiting id after.acked) id after.lost →
-      ideal stream (record w { numbers = numbers; paths = record w.paths { current = record w.paths.current { kept = kept } }; waiting = waiting; lower = lower }) ≡ state_move (Ack id ack.largest (settled_by m time id ack (ideal stream v))) (ideal stream v)
+  pub settled_parts : (r : Result Bool AllocError) (v w : Held t R) (time : ℕ) (id : SpaceId) (ack : AckValue) (after : After t.C) (numbers : Numbers) (waiting : Waiting) (lower : Lower t.S) (kept : PathData t.C) → w ≡ v →
+      after ≡ settled_by m time id ack (ideal stream v) → kept ≡ after.path → lower ≡ packets_settled w.lower after → numbers ≡ number_acked w.numbers id ack.largest → OnOk r (waiting ≡ packets_lost (packets_acked w.waiting id after.acked) id after.lost) →
+      OnOk r (ideal stream (record w { numbers = numbers; paths = record w.paths { current = record w.paths.current { kept = kept } }; waiting = waiting; lower = lower }) ≡ state_move (Ack id ack.largest (settled_by m time id ack (ideal stream v))) (ideal stream v))
   unfolding state_move numbers_move keys_move life_move paths_move timers_move waiting_move setup_move lower_move path_kept ideal_setup
-  settled_parts v w time id ack after numbers waiting lower kept same is is_kept is_lower is_numbers is_waiting =
+  settled_parts (Ok newly) v w time id ack after numbers waiting lower kept same is is_kept is_lower is_numbers is_waiting =
       subst (λ (x : Held t R). ideal stream (record w { numbers = numbers; paths = record w.paths { current = record w.paths.current { kept = kept } }; waiting = waiting; lower = lower }) ≡ state_move (Ack id ack.largest after) (ideal stream x)) same
       (λ i. record {
         numbers = is_numbers i;
@@ -79,6 +79,7 @@ module _ {t : Types} {R : Type 0} (m : Meaning t) (stream : R → Stream) where
         lower = is_lower i;
       })
       ∙ ap (λ (x : After t.C). state_move (Ack id ack.largest x) (ideal stream v)) is
+  settled_parts (Err x) v w time id ack after numbers waiting lower kept same is is_kept is_lower is_numbers is_waiting = tt
 
   pub fired_parts : (r : Result (Unit {0}) AllocError) (v w : Held t R) (time : ℕ) (after : FiredAfter t.C) (waiting : Waiting) (lower : Lower t.S) (kept : PathData t.C) → w ≡ v →
       after ≡ fired_by m time (ideal stream v) → kept ≡ after.path → lower ≡ timer_fired w.lower after → OnOk r (waiting ≡ fired_in w.waiting after.fired) →

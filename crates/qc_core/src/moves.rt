@@ -22,7 +22,7 @@ ghost use Rattle.qc_state.specs.Timers.{timers_acking, timers_sealed};
 ghost use Rattle.qc_state.specs.View.{at, ideal, held};
 ghost use Rattle.qc_state.specs.Taking.{TakenPart};
 
-use crate::packets::{accept_on, enter, set_accepted, tell_waiting, use_number};
+use crate::packets::{accept_on, enter, set_accepted, settle_in, tell_waiting, use_number};
 use crate::recovering::shows_validated;
 use crate::state::Core;
 use bytes::Bytes;
@@ -286,10 +286,13 @@ impl<U: Suite> Core<U> {
         let settled = self
             .lower
             .settle(alloc, now, space, next, began, ack, &around, path)?;
-        let newly = !settled.acked.is_empty();
-        self.numbers.acked(space, ack.largest);
-        self.waiting.settle(space, settled)?;
-        Ok(newly)
+        settle_in(
+            &mut self.numbers,
+            &mut self.waiting,
+            space,
+            ack.largest,
+            settled,
+        )
     }
 
     /// The loss timer fires: packets are lost, or probes are due. Want of memory is the only refusal.

@@ -1,18 +1,20 @@
-//! What a packet changes in the groups as it is sealed, or accepted.
+//! What a packet changes in the groups as it is sealed, or accepted, and what its ACK does.
 
-ghost use Rattle.std.specs.Prelude.{◌≡◌, ◌<◌, ◌^◌, nat_le};
+ghost use Rattle.std.specs.Prelude.{◌≡◌, ◌<◌, ◌^◌, ◌==◌, length, nat_le, not, IfOk, OnOk};
 ghost use Rattle.qc_path.specs.Arrived.{arrived};
 ghost use Rattle.qc_state.specs.Forms.{number_space};
 ghost use Rattle.qc_state.specs.Keys.{key_used};
-ghost use Rattle.qc_state.specs.Numbers.{came_in, number_accepted, number_used, received_number};
+ghost use Rattle.qc_state.specs.Numbers.{came_in, number_accepted, number_acked, number_used, received_number};
 ghost use Rattle.qc_state.specs.Paths.{path_accepted, path_spun};
 ghost use Rattle.qc_state.specs.Timers.{timers_accepted, timers_holding};
-ghost use Rattle.qc_state.specs.Waiting.{bundle_next, holds_back, packet_came, packet_told};
+ghost use Rattle.qc_state.specs.Waiting.{bundle_next, holds_back, packet_came, packet_told, packets_acked, packets_lost};
 
 use qc_base::{Duration, EcnCodepoint, Instant, Side, SpaceId};
 use qc_frame::FrameList;
 use qc_path::{Arrival, Controller};
+use qc_recovery::Settled;
 use qc_state::{Form, KeyGroup, Numbers, Paths, Timers, Verdict, Waiting};
+use std::alloc::AllocError;
 
 /// A packet of the form with this number is sealed: its number and its key are used.
 pub(crate) fn use_number<H: Drop, P: Drop>(
@@ -92,4 +94,23 @@ pub(crate) fn set_accepted(
 {
     timers.accepted(limit, probe, now);
     timers.hold(holds, now);
+}
+
+/// An ACK of the space with this largest number acknowledged packets, by which others are lost. Answers whether some are newly
+/// acknowledged. Want of memory is the only refusal.
+pub(crate) fn settle_in(
+    numbers: &mut Numbers,
+    waiting: &mut Waiting,
+    space: SpaceId,
+    largest: u64,
+    settled: Settled,
+) -> Result<bool, AllocError>
+    ensures newly { IfOk result (λ newly. newly ≡ not (length settled.acked == 0)) }
+    ensures numbers { numbers.new ≡ number_acked numbers.old space largest }
+    ensures waiting { OnOk result (waiting.new ≡ packets_lost (packets_acked waiting.old space settled.acked) space settled.lost) }
+{
+    let newly = !settled.acked.is_empty();
+    numbers.acked(space, largest);
+    waiting.settle(space, settled)?;
+    Ok(newly)
 }
