@@ -68,6 +68,18 @@ impl<U: Suite> Core<U> {
         }
     }
 
+    /// Each timer that has come does what it is for, one after the other. Want of memory is the only refusal.
+    fn expire(&mut self, now: Instant, did: &mut Dids) -> Result<(), AllocError>
+        ensures { OnOk result ((held U.Random.stream self.new did.new) ≡ ack_expired now (pacing_expired now (close_expired now (idle_expired now (loss_expired ⟦<U as Means>⟧.meaning now (held U.Random.stream self.old did.old)))))) }
+    {
+        self.expire_loss(now, did)?;
+        self.expire_idle(now, did)?;
+        self.expire_close(now, did)?;
+        self.expire_pacing(now, did);
+        self.expire_ack(now, did);
+        Ok(())
+    }
+
     /// Timers may have come by `now`: each that has, to that time or an earlier one, does what it is for, in this order. The loss
     /// timer: packets are lost, or probes are due, and it is set anew, perhaps to a time that has come. The idle timer: the
     /// connection ends for `TimedOut`. The close timer: the connection, which closed before, ends. The pacing timer: a datagram that
@@ -88,11 +100,6 @@ impl<U: Suite> Core<U> {
         if self.life.is_drained() {
             return Ok(());
         }
-        self.expire_loss(now, did)?;
-        self.expire_idle(now, did)?;
-        self.expire_close(now, did)?;
-        self.expire_pacing(now, did);
-        self.expire_ack(now, did);
-        Ok(())
+        self.expire(now, did)
     }
 }
