@@ -8,4 +8,5 @@ mod NewEnds
 mod NewCrypto
 mod NewTimer
 mod NewAcks
+mod NewStreams
 mod Stores

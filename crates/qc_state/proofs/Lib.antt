@@ -51,6 +51,9 @@ pub mod CryptoKept
 mod CryptoPlaces
 pub mod CryptoBegins
 pub mod TimerFlights
+pub mod StreamSteps
+pub mod StreamHolds
+pub mod StreamBegins
 pub mod AckMarks
 pub mod AckHolds
 pub mod AckBegins

@@ -40,7 +40,7 @@ use Rattle.qc_state.specs.Verdicts.{first_row, verdict_of}
 use Rattle.qc_state.specs.View.{View, At}
 use Rattle.qc_state.proofs.Ends.{given_by, stopped_by}
 use Rattle.qc_state.proofs.Progresses.{holds_progress}
-use Rattle.qc_state.proofs.PacketMoves.{Bytes, Empty, EndsWith, Fault, IsAmong, IsFrameOf, IsGivenTo, IsInPacket, IsReasonOf, IsTypedOf, Kind, OpenPacket, Refusal, Stops, progress_in_packet}
+use Rattle.qc_state.proofs.PacketMoves.{Bytes, Empty, EndsWith, Fault, IsAmong, IsFrameOf, IsGivenTo, IsInPacket, IsProgress, IsReasonOf, IsTypedOf, Kind, OpenPacket, Refusal, Stops, progress_in_packet}
 use Rattle.qc_state.proofs.ReceivedMoves.{close_for}
 
 -- ---- what a verdict on a packet that opened says of the view
@@ -145,10 +145,26 @@ module _ {t : Types} where
   abbrev pub packet_received : Meaning t → OpenPacket → At t → At t
   packet_received m o a = received_after m o.coming o.space o.spin o.source o.token o.number o.payload a
 
--- what holds of no move, of two moves one after the other, and of each move that the packet makes, where it may be made, holds of
--- the packet
+  -- the session is given bytes: this is told, and it reads them
+  abbrev pub given_read : Meaning t → OpenPacket → (first : ℕ) → (bytes : List ℕ) → At t → At t
+  given_read m o x bytes a = move_to (Read o.space (length (x ∷ bytes)) (m.after_read a.state.lower.session (x ∷ bytes))) (move_to (Tell (did.Gave layer.Session (x ∷ bytes))) a)
+
+  -- the moves beside those two
+  abbrev pub IsBeside : Move t → Type 0
+  IsBeside (Read id count session) = ⊥
+  IsBeside (Tell (did.Gave layer.Session body)) = ⊥
+  IsBeside _ = Unit {0}
+
+  progress_beside : (m : Meaning t) (time : ℕ) (id : SpaceId) (x : Move t) (s : View t) → IsProgress m time id x s → IsBeside x
+  progress_beside m time id (Read space count session) s h = absurd h
+  progress_beside m time id (Tell d) s h = absurd h
+  progress_beside m time id _ s h = tt
+
+-- what holds of no move, of two moves one after the other, of the two by which the session is given bytes, and of each other move that
+-- the packet makes, where it may be made, holds of the packet
 module _ {t : Types} (m : Meaning t) (o : OpenPacket) (R : At t → At t → Type 0) (here : (a : At t) → R a a) (next : (a b c : At t) → R a b → R b c → R a c)
-    (move : (x : Move t) (a : At t) → IsInPacket m o x a.state → MayMove x a.state → R a (move_to x a)) where
+    (move : (x : Move t) (a : At t) → IsInPacket m o x a.state → IsBeside x → MayMove x a.state → R a (move_to x a))
+    (gave : (x : ℕ) (bytes : List ℕ) (a : At t) → x ∷ bytes ≡ ready_bytes (stream_of a.state.lower o.space) → R a (given_read m o x bytes a)) where
   -- a frame of this type stops nothing by its kind
   abbrev GoesOn : View t → (type : ℕ) → FrameValue → Type 0
   GoesOn s type f = stop_in s.setup.fixed.side o.space (next_number s.numbers o.space) s.numbers.filter.last type f ≡ None
@@ -162,24 +178,24 @@ module _ {t : Types} (m : Meaning t) (o : OpenPacket) (R : At t → At t → Typ
   unfolding MayMove move_to
   stopped error a stops =
       let b : At t = move_to (Shut o.coming.time (close_for error)) a in
-      stopped_by R here next o.coming.time error a (λ low. move (Shut o.coming.time (close_for error)) a (record { same = refl; error = error; closes = refl; cause = stops }) low)
-      (λ none. move (Give (lost.TransportError error)) b (inr (record { error = error; reason = refl; before = a.state; closed = refl; cause = stops })) none)
+      stopped_by R here next o.coming.time error a (λ low. move (Shut o.coming.time (close_for error)) a (record { same = refl; error = error; closes = refl; cause = stops }) tt low)
+      (λ none. move (Give (lost.TransportError error)) b (inr (record { error = error; reason = refl; before = a.state; closed = refl; cause = stops })) tt none)
 
   -- the reason that a close of the peer's gives is given
   given : (why : ConnectionError) (a : At t) → IsReasonOf o why → R a (given_after why a)
   unfolding MayMove
-  given why a reason = given_by R here next why a (λ none. move (Give why) a (inl reason) none)
+  given why a reason = given_by R here next why a (λ none. move (Give why) a (inl reason) tt none)
 
   -- the loss timer is set anew
   armed : (a : At t) → R a (armed_after o.coming.time a)
   unfolding armed_after armed_with MayMove
-  armed a = move (Arm (loss_time a.state (is_blocked a.state.paths) o.coming.time)) a refl (record { blocked = is_blocked a.state.paths; time = o.coming.time; set = refl })
+  armed a = move (Arm (loss_time a.state (is_blocked a.state.paths) o.coming.time)) a refl tt (record { blocked = is_blocked a.state.paths; time = o.coming.time; set = refl })
 
   -- ---- closes, and acknowledgements
 
   left_by : (why : ConnectionError) (a : At t) (b : Bool) → is_open a.state.life.state ≡ b → IsReasonOf o why → R a (if b then given_after why (move_to (PeerCloses o.coming.time) a) else a)
   unfolding MayMove
-  left_by why a true h reason = next a (move_to (PeerCloses o.coming.time) a) _ (move (PeerCloses o.coming.time) a (refl, (why, reason)) (open_low a.state.life.state h)) (given why (move_to (PeerCloses o.coming.time) a) reason)
+  left_by why a true h reason = next a (move_to (PeerCloses o.coming.time) a) _ (move (PeerCloses o.coming.time) a (refl, (why, reason)) tt (open_low a.state.life.state h)) (given why (move_to (PeerCloses o.coming.time) a) reason)
   left_by why a false h reason = here a
 
   -- the peer closed: the connection drains, if it was open
@@ -193,8 +209,8 @@ module _ {t : Types} (m : Meaning t) (o : OpenPacket) (R : At t → At t → Typ
   holds_confirmed a h side space =
       let b : At t = move_to (Tell (did.Gave layer.Life (spelling frames.HandshakeDone))) a in
       let c : At t = move_to (Forget Handshake) b in
-      next a b _ (move (Tell (did.Gave layer.Life (spelling frames.HandshakeDone))) a (frames.HandshakeDone, h, tt, refl) tt)
-      (next b c _ (move (Forget Handshake) b (inl (side, space, h)) tt) (armed c))
+      next a b _ (move (Tell (did.Gave layer.Life (spelling frames.HandshakeDone))) a (frames.HandshakeDone, h, tt, refl) tt tt)
+      (next b c _ (move (Forget Handshake) b (inl (side, space, h)) tt tt) (armed c))
 
   -- the loss timer is set anew where packets were newly acknowledged
   holds_rearmed : (acked : List Entry) (a : At t) → R a (rearmed_after o.coming.time acked a)
@@ -208,19 +224,19 @@ module _ {t : Types} (m : Meaning t) (o : OpenPacket) (R : At t → At t → Typ
       let after = settled_by m o.coming.time o.space ack a.state in
       let b : At t = move_to (Tell d) a in
       let c : At t = move_to (Ack o.space ack.largest after) b in
-      next a b _ (move (Tell d) a (frames.Ack ack, h, tt, refl) tt)
-      (next b c _ (move (Ack o.space ack.largest after) b (record { ack = ack; among = h; space = refl; greatest = refl; settled = told_settled m o.coming.time o.space ack d a.state }) tt)
+      next a b _ (move (Tell d) a (frames.Ack ack, h, tt, refl) tt tt)
+      (next b c _ (move (Ack o.space ack.largest after) b (record { ack = ack; among = h; space = refl; greatest = refl; settled = told_settled m o.coming.time o.space ack d a.state }) tt tt)
       (holds_rearmed after.acked c))
 
   -- a close of the peer's is given to the life
   holds_given_close : (f : FrameValue) (a : At t) → IsFrameOf o f → IsGivenTo layer.Life f → R a (close_given f a)
   unfolding close_given MayMove
-  holds_given_close f a h to = move (Tell (did.Gave layer.Life (spelling f))) a (f, h, to, refl) tt
+  holds_given_close f a h to = move (Tell (did.Gave layer.Life (spelling f))) a (f, h, to, refl) tt tt
 
   -- the last close of a 1-RTT packet counts, where the connection was open
   data_by : (why : ConnectionError) (a : At t) (b : Bool) → is_open a.state.life.state ≡ b → IsReasonOf o why → R a (if b then move_to Owe (left_after o.coming.time why a) else a)
   unfolding MayMove
-  data_by why a true is reason = next a (left_after o.coming.time why a) _ (holds_left why a reason) (move Owe (left_after o.coming.time why a) tt (left_shut o.coming.time why a is))
+  data_by why a true is reason = next a (left_after o.coming.time why a) _ (holds_left why a reason) (move Owe (left_after o.coming.time why a) tt tt (left_shut o.coming.time why a is))
   data_by why a false is reason = here a
 
   -- it counts, or not
@@ -250,7 +266,7 @@ module _ {t : Types} (m : Meaning t) (o : OpenPacket) (R : At t → At t → Typ
 
   -- the handshake goes on behind the frames
   progress : (a : At t) → R a (progress_after m o.coming.time o.space a)
-  progress a = holds_progress m o.coming.time o.space R here next (λ x b h may. move x b (progress_in_packet m o x b.state h) may) a
+  progress a = holds_progress m o.coming.time o.space R here next (λ x b h may. move x b (progress_in_packet m o x b.state h) (progress_beside m o.coming.time o.space x b.state h) may) a
 
   -- ---- the frames
 
@@ -264,28 +280,23 @@ module _ {t : Types} (m : Meaning t) (o : OpenPacket) (R : At t → At t → Typ
   holds_answered : (bytes : List ℕ) (session : t.S) (r : Result Bool TransportError) (a : At t) → m.reads session bytes ≡ r → a.state.lower.session ≡ m.after_read session bytes → Leaves a (answered_after o.coming r a)
   unfolding MayMove
   holds_answered bytes session (Err error) a refused behind = stopped error a (Refusal bytes session refused behind)
-  holds_answered bytes session (Ok true) a refused behind = move Ready a tt tt
+  holds_answered bytes session (Ok true) a refused behind = move Ready a tt tt tt
   holds_answered bytes session (Ok false) a refused behind = here a
 
   -- the session is given the bytes that can be read in order
   holds_bytes : (bytes : List ℕ) (a : At t) → bytes ≡ ready_bytes (stream_of a.state.lower o.space) → Leaves a (bytes_given m o.coming o.space bytes a)
-  unfolding MayMove move_to state_move lower_move session_read
+  unfolding move_to state_move lower_move session_read
   holds_bytes [] a ready = here a
   holds_bytes (x ∷ bytes) a ready =
-      let read : Move t = Read o.space (length (x ∷ bytes)) (m.after_read a.state.lower.session (x ∷ bytes)) in
-      let b : At t = move_to (Tell (did.Gave layer.Session (x ∷ bytes))) a in
-      let c : At t = move_to read b in
-      let given : R a c =
-      next a b c (move (Tell (did.Gave layer.Session (x ∷ bytes))) a ready tt)
-      (move read b (record { space = refl; counted = ap (λ (l : List ℕ). length l) ready; behind = ap (λ (l : List ℕ). m.after_read a.state.lower.session l) ready }) tt) in
-      leaves_next a c given (answered_after o.coming (m.reads a.state.lower.session (x ∷ bytes)) c) (holds_answered (x ∷ bytes) a.state.lower.session (m.reads a.state.lower.session (x ∷ bytes)) c refl refl)
+      let c : At t = given_read m o x bytes a in
+      leaves_next a c (gave x bytes a ready) (answered_after o.coming (m.reads a.state.lower.session (x ∷ bytes)) c) (holds_answered (x ∷ bytes) a.state.lower.session (m.reads a.state.lower.session (x ∷ bytes)) c refl refl)
 
   -- bytes of a CRYPTO stream came
   holds_kept : (offset : ℕ) (body : List ℕ) (a : At t) → IsFrameOf o (frames.Crypto offset body) → Leaves a (kept_after m o.coming o.space offset body a)
   unfolding kept_after MayMove
   holds_kept offset body a among =
       let b : At t = move_to (Come o.space offset body) a in
-      leaves_next a b (move (Come o.space offset body) a (refl, among) tt) (bytes_given m o.coming o.space (ready_bytes (stream_of b.state.lower o.space)) b) (holds_bytes (ready_bytes (stream_of b.state.lower o.space)) b refl)
+      leaves_next a b (move (Come o.space offset body) a (refl, among) tt tt) (bytes_given m o.coming o.space (ready_bytes (stream_of b.state.lower o.space)) b) (holds_bytes (ready_bytes (stream_of b.state.lower o.space)) b refl)
 
   -- a frame that its kind doesn't stop
   holds_applied : (f : FrameValue) (a : At t) → (among : IsFrameOf o f) → GoesOn a.state among.0 f → Leaves a (applied_after m o.coming o.space f a)
@@ -339,30 +350,30 @@ module _ {t : Types} (m : Meaning t) (o : OpenPacket) (R : At t → At t → Typ
       (record { reads = λ r among. subst (λ (p : List ℕ). IsAmong r (items_of p)) (sym same) among; fault = λ r ends. subst (λ (p : List ℕ). EndsWith r (items_of p)) (sym same) ends }) tt
 
   -- its payload
-  pub holds_payload : (a : At t) → R a (payload_after m o.coming o.space o.payload a)
-  holds_payload a = payload_by o.payload a refl
+  pub payload_beside : (a : At t) → R a (payload_after m o.coming o.space o.payload a)
+  payload_beside a = payload_by o.payload a refl
 
   -- ---- the packet, by its verdict
 
   fixed_by : (a : At t) (b : Bool) → fixes_peer o.space a.state ≡ b → R a (if b then move_to (Fix o.source) a else a)
   unfolding MayMove
-  fixed_by a true h = move (Fix o.source) a refl (unknown_peer o.space a.state h)
+  fixed_by a true h = move (Fix o.source) a refl tt (unknown_peer o.space a.state h)
   fixed_by a false h = here a
 
-  pub holds_fixed : (a : At t) → R a (fixed_after o.space o.source a)
+  pub fixed_beside : (a : At t) → R a (fixed_after o.space o.source a)
   unfolding fixed_after
-  holds_fixed a = fixed_by a (fixes_peer o.space a.state) refl
+  fixed_beside a = fixed_by a (fixes_peer o.space a.state) refl
 
   closing_by : (b : At t) (close : Bool) → list_any is_close_item (items_of o.payload) ≡ close → is_closed b.state.life.state ≡ true → R b (if close then move_to PeerClosesToo b else move_to Owe b)
   unfolding MayMove
-  closing_by b true is h = move PeerClosesToo b is h
-  closing_by b false is h = move Owe b tt (shut_by b.state.life.state h)
+  closing_by b true is h = move PeerClosesToo b is tt h
+  closing_by b false is h = move Owe b tt tt (shut_by b.state.life.state h)
 
   holds_closing : (a : At t) → verdict.ReadForClose ≡ verdict_of a.state o.space o.source o.token o.number → is_new_in a.state.numbers o.space o.number ≡ true → is_closed a.state.life.state ≡ true → R a (read_for_close o.space o.number o.payload a)
   unfolding read_for_close MayMove move_to state_move life_move
   holds_closing a judged new closed =
       let b : At t = move_to (Enter o.space o.number verdict.ReadForClose) a in
-      next a b _ (move (Enter o.space o.number verdict.ReadForClose) a (refl, record { space = refl; same = refl; judged = judged }) (new, refl))
+      next a b _ (move (Enter o.space o.number verdict.ReadForClose) a (refl, record { space = refl; same = refl; judged = judged }) tt (new, refl))
       (closing_by b _ refl closed)
 
   -- a server leaves the Initial space with a Handshake packet, or not
@@ -370,7 +381,7 @@ module _ {t : Types} (m : Meaning t) (o : OpenPacket) (R : At t → At t → Typ
   unfolding armed_with MayMove move_to state_move paths_move path_kept is_blocked
   initial_by a true drops =
       let b : At t = move_to (Forget Initial) a in
-      next a b _ (move (Forget Initial) a drops tt) (move (Arm (loss_time b.state (is_blocked a.state.paths) o.coming.time)) b refl (record { blocked = is_blocked a.state.paths; time = o.coming.time; set = refl }))
+      next a b _ (move (Forget Initial) a drops tt tt) (move (Arm (loss_time b.state (is_blocked a.state.paths) o.coming.time)) b refl tt (record { blocked = is_blocked a.state.paths; time = o.coming.time; set = refl }))
   initial_by a false drops = here a
 
   holds_initial : (a : At t) → R a (initial_left Server (is_blocked a.state.paths) o.coming.time o.space a)
@@ -382,7 +393,7 @@ module _ {t : Types} (m : Meaning t) (o : OpenPacket) (R : At t → At t → Typ
   unfolding accepted_after MayMove
   holds_accepted e v a judged new enters_v accepts_v opened =
       let b : At t = move_to (Accept o.coming.time o.space o.number e (signs_of o.coming o.spin) v) a in
-      next a b _ (move (Accept o.coming.time o.space o.number e (signs_of o.coming o.spin) v) a (refl, refl, accepts_v, record { space = refl; same = refl; judged = judged }) (new, enters_v, opened)) (holds_initial b)
+      next a b _ (move (Accept o.coming.time o.space o.number e (signs_of o.coming o.spin) v) a (refl, refl, accepts_v, record { space = refl; same = refl; judged = judged }) tt (new, enters_v, opened)) (holds_initial b)
 
   holds_admitted : (a : At t) → verdict.Admitted ≡ verdict_of a.state o.space o.source o.token o.number → is_new_in a.state.numbers o.space o.number ≡ true → is_open a.state.life.state ≡ true → R a (admitted_after m o.coming o.space o.spin o.source o.number o.payload a)
   unfolding admitted_after
@@ -390,7 +401,7 @@ module _ {t : Types} (m : Meaning t) (o : OpenPacket) (R : At t → At t → Typ
       let e : Bool = list_any is_eliciting_item (items_of o.payload) in
       let b : At t = accepted_after o.coming o.space o.number e o.spin verdict.Admitted a in
       let c : At t = fixed_after o.space o.source b in
-      next a b _ (holds_accepted e verdict.Admitted a judged new refl refl opened) (next b c _ (holds_fixed b) (holds_payload c))
+      next a b _ (holds_accepted e verdict.Admitted a judged new refl refl opened) (next b c _ (fixed_beside b) (payload_beside c))
 
   verdict_by : (v : Verdict) (a : At t) → v ≡ verdict_of a.state o.space o.source o.token o.number →
       (enters v ≡ true → is_new_in a.state.numbers o.space o.number ≡ true) → (v ≡ verdict.ReadForClose → is_closed a.state.life.state ≡ true) → (accepts v ≡ true → is_open a.state.life.state ≡ true) →
@@ -399,16 +410,36 @@ module _ {t : Types} (m : Meaning t) (o : OpenPacket) (R : At t → At t → Typ
   verdict_by verdict.Ignored a judged new closed opened = here a
   verdict_by verdict.Failure a judged new closed opened = here a
   verdict_by verdict.BadBits a judged new closed opened = here a
-  verdict_by verdict.Seen a judged new closed opened = move (Tell (did.Piece (Some o.space) (Some o.number) verdict.Seen)) a (refl, refl, refl, sym judged) refl
+  verdict_by verdict.Seen a judged new closed opened = move (Tell (did.Piece (Some o.space) (Some o.number) verdict.Seen)) a (refl, refl, refl, sym judged) tt refl
   verdict_by verdict.ReadForClose a judged new closed opened = holds_closing a judged (new refl) (closed refl)
-  verdict_by verdict.NumberOnly a judged new closed opened = move (Enter o.space o.number verdict.NumberOnly) a (refl, record { space = refl; same = refl; judged = judged }) (new refl, refl)
+  verdict_by verdict.NumberOnly a judged new closed opened = move (Enter o.space o.number verdict.NumberOnly) a (refl, record { space = refl; same = refl; judged = judged }) tt (new refl, refl)
   verdict_by verdict.AckOnly a judged new closed opened = holds_accepted false verdict.AckOnly a judged (new refl) refl refl (opened refl)
   verdict_by verdict.Admitted a judged new closed opened = holds_admitted a judged (new refl) (opened refl)
 
-  pub holds_packet : (a : At t) → is_over a.state.life.state ≡ false → R a (packet_received m o a)
+  pub packet_beside : (a : At t) → is_over a.state.life.state ≡ false → R a (packet_received m o a)
   unfolding received_after verdict_of
-  holds_packet a lively =
+  packet_beside a lively =
       verdict_by (verdict_of a.state o.space o.source o.token o.number) a refl
       (λ h. new_by (is_new_in a.state.numbers o.space o.number) (is_closed a.state.life.state) _ _ (verdict_of a.state o.space o.source o.token o.number) refl h)
       (λ e. closed_by_row (is_new_in a.state.numbers o.space o.number) (is_closed a.state.life.state) _ _ e)
       (λ h. still_open a.state.life.state lively (open_by_row (is_new_in a.state.numbers o.space o.number) (is_closed a.state.life.state) _ _ (verdict_of a.state o.space o.source o.token o.number) refl h))
+
+-- so does what holds of each move that the packet makes
+module _ {t : Types} (m : Meaning t) (o : OpenPacket) (R : At t → At t → Type 0) (here : (a : At t) → R a a) (next : (a b c : At t) → R a b → R b c → R a c)
+    (move : (x : Move t) (a : At t) → IsInPacket m o x a.state → MayMove x a.state → R a (move_to x a)) where
+  read_by : (x : ℕ) (bytes : List ℕ) (a : At t) → x ∷ bytes ≡ ready_bytes (stream_of a.state.lower o.space) → R a (given_read m o x bytes a)
+  unfolding MayMove move_to state_move lower_move
+  read_by x bytes a ready =
+      let read : Move t = Read o.space (length (x ∷ bytes)) (m.after_read a.state.lower.session (x ∷ bytes)) in
+      let b : At t = move_to (Tell (did.Gave layer.Session (x ∷ bytes))) a in
+      next a b (move_to read b) (move (Tell (did.Gave layer.Session (x ∷ bytes))) a ready tt)
+      (move read b (record { space = refl; counted = ap (λ (l : List ℕ). length l) ready; behind = ap (λ (l : List ℕ). m.after_read a.state.lower.session l) ready }) tt)
+
+  pub holds_payload : (a : At t) → R a (payload_after m o.coming o.space o.payload a)
+  holds_payload a = payload_beside m o R here next (λ x b h beside may. move x b h may) read_by a
+
+  pub holds_fixed : (a : At t) → R a (fixed_after o.space o.source a)
+  holds_fixed a = fixed_beside m o R here next (λ x b h beside may. move x b h may) read_by a
+
+  pub holds_packet : (a : At t) → is_over a.state.life.state ≡ false → R a (packet_received m o a)
+  holds_packet a lively = packet_beside m o R here next (λ x b h beside may. move x b h may) read_by a lively

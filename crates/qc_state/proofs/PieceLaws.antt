@@ -148,7 +148,7 @@ module _ {t : Types} where
   unfolding verdict_of
   read_row s id source token number = read_by_row _ _ _ _
 
-  received_tells : (m : Meaning t) (coming : Coming) (id : SpaceId) (spin : Bool) (source token : List ℕ) (number : ℕ) (payload : List ℕ) (a : At t) →
+  pub received_tells : (m : Meaning t) (coming : Coming) (id : SpaceId) (spin : Bool) (source token : List ℕ) (number : ℕ) (payload : List ℕ) (a : At t) →
       let v : Verdict = verdict_of a.state id source token number in
       TellsPiece (did.Piece (Some id) (Some number) v) (gifts_by m a.state id payload v) a (received_after m coming id spin source token number payload a)
   unfolding received_after

@@ -35,6 +35,7 @@ pub mod Setup
 pub mod Shown
 pub mod Spaces
 pub mod Stopping
+pub mod StreamLaws
 pub mod Taking
 pub mod Timeouts
 pub mod TimerLaws

@@ -23,6 +23,7 @@ ghost use Rattle.qc_state.specs.Receiving.{datagram_after, event_after, first_pa
 ghost use Rattle.qc_state.specs.RecoveryLaws.{EachSettlesOnce, Recovers};
 ghost use Rattle.qc_state.specs.Run.{IsStep, Run, began, placed_behind};
 ghost use Rattle.qc_state.specs.Setup.{is_first_awaited};
+ghost use Rattle.qc_state.specs.StreamLaws.{GivesStream};
 ghost use Rattle.qc_state.specs.TimerLaws.{KeepsTimer};
 ghost use Rattle.qc_state.specs.View.{View, At, at};
 ghost use Rattle.qc_state.specs.declared.coming.Coming.{Coming};
@@ -118,6 +119,13 @@ pub fn loss_timer_stands<U: Suite>()
 pub fn held_acks_wait<U: Suite>()
     ensures each { (s last : View ⟦<U as Means>⟧.types) (k : ℕ) (is : List Input) (xs : List Step) → Run ⟦<U as Means>⟧.meaning k s is xs last → AckHolds s → EachHoldsAck ⟦<U as Means>⟧.meaning k s is xs last }
     ensures kept { (s last : View ⟦<U as Means>⟧.types) (k : ℕ) (is : List Input) (xs : List Step) → Run ⟦<U as Means>⟧.meaning k s is xs last → AckHolds s → AckHolds last }
+{}
+
+/// A law, which runs no code. Over a run the session is given the bytes of each space's CRYPTO stream in order, each once: what the space
+/// keeps of the stream is what bytes that came and reads in order leave, and what the reads gave, one behind the other, is what the
+/// session was given. So from a new connection on it is the front of what came, from offset 0 on (RFC 9000, 19.6).
+pub fn session_is_given_its_stream<U: Suite>()
+    ensures { (id : SpaceId) (s last : View ⟦<U as Means>⟧.types) (k : ℕ) (is : List Input) (xs : List Step) → Run ⟦<U as Means>⟧.meaning k s is xs last → GivesStream id (deeds_of xs) s last }
 {}
 
 /// A law, which runs no code. Over a run just what came to pass is told, in the step in which it did, and each thing at most once: a

@@ -1,6 +1,7 @@
 use Rattle.qc_conn.proofs.NewAcks.{first_acks}
 use Rattle.qc_conn.proofs.NewCrypto.{first_kept}
 use Rattle.qc_conn.proofs.NewEnds.{first_ends}
+use Rattle.qc_conn.proofs.NewStreams.{first_streams}
 use Rattle.qc_conn.proofs.NewTimer.{first_timer}
 use Rattle.qc_conn.proofs.RunsPlain.{first_plain, first_told}
 use Rattle.qc_conn.proofs.connection.Connection.new_client.Goals as goal
@@ -28,3 +29,7 @@ returns-clause-timer g c = first_timer g.U.Random.Rng.stream _ _ _ _ c.args.setu
 -- no ACK is held back
 pub returns-clause-held : goal.returns-clause-held
 returns-clause-held g c = first_acks g.U.Random.Rng.stream _ _ _ _ c.args.setup.remote c.args.setup.first_cid _ _ _ c.args.now c.in_ok-core.core c.in_ok-core.ensures.made
+
+-- nothing came of any CRYPTO stream
+pub returns-clause-unread : goal.returns-clause-unread
+returns-clause-unread g c = first_streams g.U.Random.Rng.stream _ _ _ _ c.args.setup.remote c.args.setup.first_cid _ _ _ c.args.now c.in_ok-core.core c.in_ok-core.ensures.made

@@ -1,6 +1,7 @@
 use Rattle.qc_conn.proofs.NewAcks.{server_acks}
 use Rattle.qc_conn.proofs.NewCrypto.{server_kept}
 use Rattle.qc_conn.proofs.NewEnds.{server_ends}
+use Rattle.qc_conn.proofs.NewStreams.{server_streams}
 use Rattle.qc_conn.proofs.NewTimer.{server_timer}
 use Rattle.qc_conn.proofs.RunsPlain.{server_plain, server_told}
 use Rattle.qc_conn.proofs.connection.Connection.new_server.Goals as goal
@@ -28,3 +29,7 @@ returns-clause-timer g c = server_timer g.U.Random.Rng.stream _ _ _ _ c.args.set
 -- no ACK is held back
 pub returns-clause-held : goal.returns-clause-held
 returns-clause-held g c = server_acks g.U.Random.Rng.stream _ _ _ _ c.args.setup.remote c.args.setup.remote_cid c.args.setup.validated _ _ c.args.now c.in_ok-core.core c.in_ok-core.ensures
+
+-- nothing came of any CRYPTO stream
+pub returns-clause-unread : goal.returns-clause-unread
+returns-clause-unread g c = server_streams g.U.Random.Rng.stream _ _ _ _ c.args.setup.remote c.args.setup.remote_cid c.args.setup.validated _ _ c.args.now c.in_ok-core.core c.in_ok-core.ensures
