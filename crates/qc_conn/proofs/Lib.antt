@@ -5,8 +5,5 @@ pub mod RunsPlain
 pub mod Reports
 pub mod Firsts
 mod NewEnds
-mod NewCrypto
-mod NewTimer
-mod NewAcks
-mod NewStreams
+mod NewLaws
 mod Stores

@@ -1,9 +1,12 @@
 use Rattle.std.specs.Prelude.{List, Result, Ok, Err, IfOk, OnOk}
 use Rattle.qc_state.proofs.AcksAccepted.{none_acks_known}
+use Rattle.qc_state.proofs.CryptoKept.{run_keeps_bytes}
 use Rattle.qc_state.proofs.EventsTold.{none_tells_done, none_tells_once}
 use Rattle.qc_state.proofs.KeysHold.{run_keys_hold}
 use Rattle.qc_state.proofs.MarksTold.{none_each_told}
+use Rattle.qc_state.proofs.Recovers.{run_recovers}
 use Rattle.qc_state.proofs.Steps.{ran_none}
+use Rattle.qc_state.proofs.StreamHolds.{run_gives}
 use Rattle.qc_state.proofs.Told.{none_rises, none_admits, none_life_rises, none_closes, none_loses_once}
 use Rattle.qc_state.specs.declared.input.Input.{Input}
 use Rattle.qc_state.specs.declared.trace.Step.{Step}
@@ -19,6 +22,20 @@ use Rattle.qc_conn.proofs.driving.drive.Goals as goal
 keys_kept : {t : Types} {E : Type 0} (m : Meaning t) (s s' : View t) (inputs : List Input) (answer : Result (List Step) E) → IfOk answer (λ trace. Run m 0 s inputs trace s') → KeysHold s.keys → OnOk answer (KeysHold s'.keys)
 keys_kept m s s' inputs (Ok trace) run h = run_keys_hold m 0 s inputs trace s' run h
 keys_kept m s s' inputs (Err e) run h = tt
+
+-- what holds of each run holds of a trace, if there is one
+of_trace : {t : Types} {E : Type 0} (m : Meaning t) (s s' : View t) (inputs : List Input) (answer : Result (List Step) E) (P : List Step → Type 0) → IfOk answer (λ trace. Run m 0 s inputs trace s') → ((trace : List Step) → Run m 0 s inputs trace s' → P trace) → IfOk answer P
+of_trace m s s' inputs (Ok trace) P run holds = holds trace run
+of_trace m s s' inputs (Err e) P run holds = tt
+
+pub returns-clause-recovers : goal.returns-clause-recovers
+returns-clause-recovers g c = λ ends. of_trace _ _ _ _ c.drive_all.result _ c.drive_all.ensures.run (λ trace run. run_recovers _ 0 _ _ trace _ run ends)
+
+pub returns-clause-crypto : goal.returns-clause-crypto
+returns-clause-crypto g c = λ ends. of_trace _ _ _ _ c.drive_all.result _ c.drive_all.ensures.run (λ trace run. run_keeps_bytes _ 0 _ _ trace _ run ends)
+
+pub returns-clause-streams : goal.returns-clause-streams
+returns-clause-streams g c = λ id. of_trace _ _ _ _ c.drive_all.result _ c.drive_all.ensures.run (λ trace run. run_gives id _ 0 _ _ trace _ run)
 
 pub returns-clause-keys : goal.returns-clause-keys
 returns-clause-keys g c = keys_kept _ _ _ _ c.drive_all.result c.drive_all.ensures.run

@@ -1,8 +1,5 @@
-use Rattle.qc_conn.proofs.NewAcks.{first_acks}
-use Rattle.qc_conn.proofs.NewCrypto.{first_kept}
 use Rattle.qc_conn.proofs.NewEnds.{first_ends}
-use Rattle.qc_conn.proofs.NewStreams.{first_streams}
-use Rattle.qc_conn.proofs.NewTimer.{first_timer}
+use Rattle.qc_conn.proofs.NewLaws.{first_acks, first_kept, first_streams, first_timer}
 use Rattle.qc_conn.proofs.RunsPlain.{first_plain, first_told}
 use Rattle.qc_conn.proofs.connection.Connection.new_client.Goals as goal
 

@@ -1,8 +1,5 @@
-use Rattle.qc_conn.proofs.NewAcks.{server_acks}
-use Rattle.qc_conn.proofs.NewCrypto.{server_kept}
 use Rattle.qc_conn.proofs.NewEnds.{server_ends}
-use Rattle.qc_conn.proofs.NewStreams.{server_streams}
-use Rattle.qc_conn.proofs.NewTimer.{server_timer}
+use Rattle.qc_conn.proofs.NewLaws.{server_acks, server_kept, server_streams, server_timer}
 use Rattle.qc_conn.proofs.RunsPlain.{server_plain, server_told}
 use Rattle.qc_conn.proofs.connection.Connection.new_server.Goals as goal
 
