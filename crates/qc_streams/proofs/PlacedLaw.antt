@@ -1,7 +1,7 @@
 -- Whatever happens, a place is put by for each stream on which a write was blocked, and what gives credit queues at once what it lets be told
-use Rattle.std.proofs.Common.{◌≡◌, ◌∙◌, ℕ, ◌+◌, ◌-◌, ◌≤◌, Bool, true, false, cond, not, ◌&&◌, ◌||◌, nat_le, nat_lt, List, [], ◌∷◌, ◌++◌, take, Option, None, Some, is_some, option_map, nat_cmp, ap, sym, subst, arith, refl, append-nil, append_assoc}
+use Rattle.std.proofs.Common.{◌≡◌, ◌∙◌, ℕ, ◌+◌, ◌-◌, ◌≤◌, Bool, true, false, cond, not, ◌&&◌, ◌||◌, nat_le, nat_lt, List, [], ◌∷◌, ◌++◌, take, min, Option, None, Some, is_some, option_map, nat_cmp, ap, sym, subst, arith, refl, append-nil, append_assoc}
 use Rattle.std.specs.BTreeMap.{is_at}
-use Rattle.std.proofs.lemmas.Bool.{false≢true}
+use Rattle.std.proofs.lemmas.Bool.{false≢true, lt-leb, lt-ltb}
 use Rattle.qc_base.specs.declared.side.Dir.TheVariants.{Bi, Uni}
 use Rattle.qc_base.specs.declared.side.Side.{Side}
 use Rattle.qc_base.specs.declared.varint.VarInt.{VarInt}
@@ -24,10 +24,11 @@ use Rattle.qc_streams.specs.Blocked.{BlockedIds, is_below}
 use Rattle.qc_streams.specs.Calls.{after_read, gives, if_known, reading_begun, resets, sends, write_refused, wrote}
 use Rattle.qc_streams.specs.Control.{control_acked, control_lost, control_sealed, stop_again}
 use Rattle.qc_streams.specs.Counts.{by_dir, dir_put, own_raised}
-use Rattle.qc_streams.specs.Credit.{outgoing_raised, outgoing_written}
+use Rattle.qc_streams.specs.Credit.{budget, outgoing_raised, outgoing_written}
 use Rattle.qc_streams.specs.Early.{early_refused}
 use Rattle.qc_streams.specs.Events.{EventQueue, event_added, event_placed, first_dropped, given_up_if, no_events, place_given_up, place_put_by, put_by_if}
 use Rattle.qc_streams.specs.Frames.{comes, limit_came, reads_more, reset_came, stop_came, stream_came, stream_limit_came, streams_limit_came}
+use Rattle.qc_streams.specs.Kept.{kept_in}
 use Rattle.qc_streams.specs.Lending.{AllRecords}
 use Rattle.qc_streams.specs.Owed.{max_data_lost, max_data_sealed, max_streams_lost, max_streams_sealed, polled, told_opened}
 use Rattle.qc_streams.specs.StreamBytes.{bytes_acked, bytes_gone, bytes_lost, bytes_taken, finishes, part_end, sealed_part}
@@ -38,7 +39,7 @@ use Rattle.qc_streams.specs.Stops.{with_stop}
 use Rattle.qc_streams.specs.Stream.{limit_taken, stop_taken, stops_at, with_receiving, with_sending}
 use Rattle.qc_streams.specs.Streams.{accepted_one, counted, limits_set, met, new_streams, next_accepted, opened_own, target, told_if}
 use Rattle.qc_streams.specs.Queues.{all_filed, queued, touched}
-use Rattle.qc_streams.specs.Waits.{ArePossible, BlockedHavePlaces, CreditIsToldAtOnce, EventsWaitInOrder, IsPossible, QueuesBehind, Step, LimitsKnown, EarlyRefused, Closed, Failed, Opened, Accepted, Wrote, Refused, Finished, WasReset, Began, Read, Stopped, ResetAsked, PrioritySet, SendWindowSet, ReceiveWindowSet, ConcurrentSet, Polled, StreamCame, ResetCame, StopCame, StreamLimitCame, StreamsLimitCame, LimitCame, MarksFiled, ControlSealed, ControlLost, ControlAcked, PartSealed, BytesLost, BytesAcked, after, after_step, gives_credit, placed_count, waits_at}
+use Rattle.qc_streams.specs.Waits.{ArePossible, BlockedHavePlaces, CreditIsToldAtOnce, EventsWaitInOrder, GoesOn, IsPossible, QueuesBehind, Step, TakesByte, LimitsKnown, EarlyRefused, Closed, Failed, Opened, Accepted, Wrote, Refused, Finished, WasReset, Began, Read, Stopped, ResetAsked, PrioritySet, SendWindowSet, ReceiveWindowSet, ConcurrentSet, Polled, StreamCame, ResetCame, StopCame, StreamLimitCame, StreamsLimitCame, LimitCame, MarksFiled, ControlSealed, ControlLost, ControlAcked, PartSealed, BytesLost, BytesAcked, after, after_step, gives_credit, placed_count, waits_at}
 use Rattle.qc_streams.specs.Writable.{all_told, awaits, awaits_at, credit_at, has_credit, has_place, has_place_at, has_room, held_up, needs_place, needs_place_at, passed, place_reserved, told_first, watched, writables_told}
 use Rattle.qc_streams.proofs.Keyed.{own_key}
 use Rattle.qc_streams.proofs.Placed.{Rests, acked_same, all_filed_rests, count_set, counts_at, left_over_rests, limit_same, lost_same, met_rests, noted_rests, opened_own_rests, received_same, reset_acked_same, reset_lost_same, reset_sealed_same, rests_changed, rests_same, rests_then, sealed_same, settled_rests, side_same, stop_same, touched_rests, turned_rests, written_same}
@@ -467,13 +468,29 @@ step_gone (PartSealed d) s is room = absurd (cc)
 step_gone (BytesLost id start stop last) s is room = absurd (cc)
 step_gone (BytesAcked id start stop last) s is room = told_gone _ room
 
+-- where the connection takes a byte it has room
+takes_room : (s : StreamsState) → TakesByte s → has_room s ≡ true
+unfolding has_room budget
+takes_room s takes =
+    ap (λ (b : Bool). not b && nat_lt 0 (min (s.outgoing.limit - s.outgoing.written) (s.send_window - kept_in s.records))) takes.unclosed
+    ∙ lt-ltb 0 (min (s.outgoing.limit - s.outgoing.written) (s.send_window - kept_in s.records)) (omega (arith, takes.credit, takes.room))
+
+-- a sending side that goes on waits to be told so
+goes_awaits : (p : SendPart) → GoesOn p → awaits (Some p) ≡ true
+unfolding has_credit
+goes_awaits p goes =
+    ap (λ (b : Bool). b && not (is_closed p || nat_le p.limit p.buffer.written)) goes.blocked
+    ∙ (ap (λ (b : Bool). not (b || nat_le p.limit p.buffer.written)) goes.unclosed ∙ ap not (lt-leb p.limit p.buffer.written goes.credit))
+
 pub credit_is_told_at_once : (side : Side) (uni bi window stream_window send_window : ℕ) (fair : Bool) (xs : List Step) → ArePossible xs
     → CreditIsToldAtOnce (new_streams side uni bi window stream_window send_window fair) xs
 unfolding CreditIsToldAtOnce new_streams
-credit_is_told_at_once side uni bi window stream_window send_window fair xs can x possible gives room id =
+credit_is_told_at_once side uni bi window stream_window send_window fair xs can x possible gives takes id st p is sends goes =
     let s : StreamsState = after xs (new_streams side uni bi window stream_window send_window fair) in
     let holds : Holds s = after_ok xs (new_streams side uni bi window stream_window send_window fair) can (nothing _) in
-    sym ((step_ok x s possible holds).waits id) ∙ ap (λ (ids : BlockedIds). waits_at id ids) (step_gone x s gives room)
+    let none : awaits_at (record_of id (after_step x s).records) ≡ false =
+    sym ((step_ok x s possible holds).waits id) ∙ ap (λ (ids : BlockedIds). waits_at id ids) (step_gone x s gives (takes_room (after_step x s) takes)) in
+    false≢true (sym none ∙ (ap awaits_at is ∙ (ap awaits sends ∙ goes_awaits p goes)))
 
 -- ---- events wait in the order of their causes
 

@@ -1,5 +1,5 @@
 -- Which streams wait until they can be written on again: those on which a write was blocked, and that have credit of their own
-use Rattle.std.specs.Prelude.{◌≡◌, ℕ, ℤ, ◌<◌, ◌≤◌, ◌^◌, Bool, true, false, List, [], ◌∷◌, ◌++◌, Option, is_some, Result}
+use Rattle.std.specs.Prelude.{◌≡◌, ℕ, ℤ, ◌<◌, ◌≤◌, ◌^◌, Bool, true, false, List, [], ◌∷◌, ◌++◌, Option, Some, is_some, Result}
 use Rattle.std.specs.BTreeMap.{is_at}
 use Rattle.std.specs.List.{count_by}
 use Rattle.std.specs.Map.{lookup, values_of}
@@ -9,13 +9,15 @@ use Rattle.qc_base.specs.declared.varint.VarInt.{VarInt}
 use Rattle.qc_recv.specs.declared.recv.Chunk.{Chunk}
 use Rattle.qc_recv.specs.Receiving.{reset_asked, stop_asked}
 use Rattle.qc_send_stream.specs.declared.fault.WriteError.{WriteError}
-use Rattle.qc_send_stream.specs.Sending.{finished}
+use Rattle.qc_send_stream.specs.declared.send.SendPart.{SendPart}
+use Rattle.qc_send_stream.specs.Sending.{finished, is_closed}
 use Rattle.qc_streams.specs.declared.control.Control.{Control}
 use Rattle.qc_streams.specs.declared.events.StreamEvent.{StreamEvent}
 use Rattle.qc_streams.specs.declared.fault.ReadFault.{ReadFault}
 use Rattle.qc_streams.specs.declared.parts.StreamPart.{StreamPart}
 use Rattle.qc_streams.specs.declared.state.PeerLimits.{PeerLimits}
 use Rattle.qc_streams.specs.declared.state.StreamsState.{StreamsState}
+use Rattle.qc_streams.specs.declared.stream.Stream.{Stream}
 use Rattle.qc_streams.specs.Blocked.{BlockedIds}
 use Rattle.qc_streams.specs.Calls.{after_read, gives, reading_begun, resets, sends, write_refused, wrote}
 use Rattle.qc_streams.specs.Control.{control_acked, control_lost, control_sealed}
@@ -27,7 +29,8 @@ use Rattle.qc_streams.specs.Records.{record_of}
 use Rattle.qc_streams.specs.Settings.{max_concurrent_set, priority_set, receive_window_set, send_window_set}
 use Rattle.qc_streams.specs.Streams.{accepted_one, closed, failed, limits_set, opened_own}
 use Rattle.qc_streams.specs.Queues.{all_filed}
-use Rattle.qc_streams.specs.Writable.{awaits_at, has_place, has_room}
+use Rattle.qc_streams.specs.Kept.{kept_in}
+use Rattle.qc_streams.specs.Writable.{awaits_at, has_place}
 use Rattle.qc_streams.specs.Lending.{AllRecords}
 
 -- what happens to the streams of a connection
@@ -158,11 +161,25 @@ gives_credit (LimitCame n) = true
 gives_credit (BytesAcked id start stop last) = true
 gives_credit x = false
 
--- Whatever happened, once one of these has happened no stream waits that can be written on: that is queued to be told by then
+-- a byte may be written on some stream, as far as the connection goes: it is open, the peer takes one more of all streams, and the send
+-- window has room for it (RFC 9000, section 4.1)
+pub record TakesByte (s : StreamsState) : Type 0 where
+  pub unclosed : s.closed ≡ false
+  pub credit : s.outgoing.written < s.outgoing.limit
+  pub room : kept_in s.records < s.send_window
+
+-- a write was blocked on a sending side, and that it can go on wasn't told since; it is neither finished nor reset, and the peer takes a
+-- byte more of it
+pub record GoesOn (p : SendPart) : Type 0 where
+  pub blocked : p.blocked ≡ true
+  pub unclosed : is_closed p ≡ false
+  pub credit : p.buffer.written < p.limit
+
+-- Whatever happened, once one of these has happened no stream waits on which a byte can be written: that is queued to be told by then
 unfoldable pub CreditIsToldAtOnce : StreamsState → List Step → Type 0
 CreditIsToldAtOnce s xs =
-    (x : Step) → IsPossible x → gives_credit x ≡ true → has_room (after_step x (after xs s)) ≡ true
-    → (id : ℕ) → awaits_at (record_of id (after_step x (after xs s)).records) ≡ false
+    (x : Step) → IsPossible x → gives_credit x ≡ true → TakesByte (after_step x (after xs s))
+    → (id : ℕ) (st : Stream) (p : SendPart) → record_of id (after_step x (after xs s)).records ≡ Some st → st.sending ≡ Some p → GoesOn p → ⊥
 
 -- the events of a state wait behind those of another, which still wait in their order
 abbrev pub QueuesBehind : StreamsState → StreamsState → Type 0
