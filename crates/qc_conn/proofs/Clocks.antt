@@ -10,7 +10,7 @@ use Rattle.qc_state.specs.Moves.{Clock, state_move}
 use Rattle.qc_state.specs.Run.{began, close_after}
 use Rattle.qc_state.specs.Types.{Types, Meaning}
 use Rattle.qc_state.specs.View.{View, at}
-use Rattle.qc_state.proofs.Clocks.{close_clock, event_clock, transmit_clock}
+use Rattle.qc_laws.proofs.Clocks.{close_clock, event_clock, transmit_clock}
 use Rattle.qc_conn.specs.Seen.{Sends}
 
 -- what holds in any case holds where the call is done

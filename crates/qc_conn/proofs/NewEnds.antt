@@ -4,7 +4,7 @@ use Rattle.rand_core.specs.Stream.{Stream}
 use Rattle.std.specs.declared.net.SocketAddr.{SocketAddr}
 use Rattle.qc_recovery.specs.TransportValues.{TransportValues}
 use Rattle.qc_state.specs.declared.setup.Fixed.{Fixed}
-use Rattle.qc_state.specs.EndLaws.{Ends}
+use Rattle.qc_laws.specs.EndLaws.{Ends}
 use Rattle.qc_state.specs.First.{first_view, server_view}
 use Rattle.qc_state.specs.Types.{Types, Meaning}
 use Rattle.qc_state.specs.View.{Held, View, ideal}

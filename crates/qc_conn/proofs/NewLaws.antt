@@ -9,19 +9,19 @@ use Rattle.qc_recovery.specs.TransportValues.{TransportValues}
 use Rattle.qc_state.specs.declared.keys.SpaceKeys.{SpaceKeys}
 use Rattle.qc_state.specs.declared.paths.Paths.{Paths}
 use Rattle.qc_state.specs.declared.setup.Fixed.{Fixed}
-use Rattle.qc_state.specs.AckLaws.{AckHolds}
-use Rattle.qc_state.specs.CryptoLaws.{CryptoKept}
+use Rattle.qc_laws.specs.AckLaws.{AckHolds}
+use Rattle.qc_laws.specs.CryptoLaws.{CryptoKept}
 use Rattle.qc_state.specs.First.{first_path, first_view, just_made, server_view}
 use Rattle.qc_state.specs.Keys.{new_keys}
 use Rattle.qc_state.specs.Paths.{new_path, only_path}
-use Rattle.qc_state.specs.StreamLaws.{IsUnread}
-use Rattle.qc_state.specs.TimerLaws.{TimerHolds}
+use Rattle.qc_laws.specs.StreamLaws.{IsUnread}
+use Rattle.qc_laws.specs.TimerLaws.{TimerHolds}
 use Rattle.qc_state.specs.Types.{Types, Meaning}
 use Rattle.qc_state.specs.View.{Held, View, ideal}
-use Rattle.qc_state.proofs.AckBegins.{made_acks}
-use Rattle.qc_state.proofs.CryptoBegins.{made_kept}
-use Rattle.qc_state.proofs.StreamBegins.{made_streams}
-use Rattle.qc_state.proofs.TimerBegins.{made_timer}
+use Rattle.qc_laws.proofs.AckBegins.{made_acks}
+use Rattle.qc_laws.proofs.CryptoBegins.{made_kept}
+use Rattle.qc_laws.proofs.StreamBegins.{made_streams}
+use Rattle.qc_laws.proofs.TimerBegins.{made_timer}
 
 module _ {t : Types} (P : View t → Type 0) (made : (keys : SpaceKeys t.H t.P) (session : t.S) (hello token : List ℕ) (words : Stream) (fixed : Fixed) (paths : Paths t.C) (transport : TransportValues) (time : ℕ) → P (just_made keys session hello token words fixed paths transport time)) where
   -- a client

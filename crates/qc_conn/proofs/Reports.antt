@@ -13,7 +13,7 @@ use Rattle.qc_state.specs.Moves.{ReportReady, ReportConnected, ReportLost, Repor
 use Rattle.qc_state.specs.Polls.{endpoint_events, first_endpoint_event, first_event, waiting_events}
 use Rattle.qc_state.specs.Types.{Types}
 use Rattle.qc_state.specs.View.{View}
-use Rattle.qc_state.proofs.Steps.{endpoint_wait, events_wait}
+use Rattle.qc_laws.proofs.Steps.{endpoint_wait, events_wait}
 
 -- three lists behind one another
 joined : {A : Type 0} (e0 e1 e2 e3 : List A) (x y z : List A) → e0 ≡ [] → e1 ≡ e0 ++ x → e2 ≡ e1 ++ y → e3 ≡ e2 ++ z → e3 ≡ x ++ (y ++ z)

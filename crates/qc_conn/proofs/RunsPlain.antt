@@ -58,7 +58,7 @@ use Rattle.qc_state.specs.Spaces.{space_of, with_space, is_space}
 use Rattle.qc_state.specs.Timeouts.{timeout_after}
 use Rattle.qc_state.specs.Types.{Types, Meaning}
 use Rattle.qc_state.specs.View.{Held, View, At, ideal}
-use Rattle.qc_state.specs.EventLaws.{OnlyDoneWaits, ends_in}
+use Rattle.qc_laws.specs.EventLaws.{OnlyDoneWaits, ends_in}
 use Rattle.qc_state.specs.Polls.{endpoint_events}
 use Rattle.qc_state.specs.First.{first_view, server_view}
 use Rattle.qc_state.specs.declared.setup.Fixed.{Fixed}
@@ -68,7 +68,7 @@ use Rattle.qc_state.specs.Waiting.{again, all_again, lost_in, confirmed, all_con
 use Rattle.qc_state.proofs.Probed.{begun_holds, taken_space}
 use Rattle.qc_state.proofs.Expired.{IsTimed, holds_timeout}
 use Rattle.qc_state.proofs.ReceivedMoves.{IsReceived}
-use Rattle.qc_state.proofs.Receives.{holds_datagram}
+use Rattle.qc_laws.proofs.Receives.{holds_datagram}
 use Rattle.qc_text.specs.OneText.{IsSpelled, IsDeedPlain, IsPlainAddress, IsAnswerPlain, IsEndpointPlain, IsPlain, IsSpaceBelowLimit, IsBelowLimit, IsPlainStart, IsTellingRun}
 use Rattle.qc_text.specs.TraceText.{trace_text}
 use Rattle.qc_text.proofs.TraceBack.{trace_back}

@@ -6,20 +6,20 @@ ghost use Rattle.qc_text.specs.OneText.{IsPlain, IsPlainStart};
 ghost use Rattle.qc_conn.specs.Refusal.{bad_call, refusal_of, NamesInput, RefusedAt, TakesAll};
 ghost use Rattle.qc_conn.specs.Seen.{counted};
 ghost use Rattle.qc_base.specs.declared.side.SpaceId.{SpaceId};
-ghost use Rattle.qc_state.specs.AckLaws.{AckHolds, EachHoldsAck};
-ghost use Rattle.qc_state.specs.CryptoLaws.{KeepsBytes};
-ghost use Rattle.qc_state.specs.EndLaws.{Ends};
+ghost use Rattle.qc_laws.specs.AckLaws.{AckHolds, EachHoldsAck};
+ghost use Rattle.qc_laws.specs.CryptoLaws.{KeepsBytes};
+ghost use Rattle.qc_laws.specs.EndLaws.{Ends};
 ghost use Rattle.qc_conn.specs.Stored.{stored, tokens_in};
-ghost use Rattle.qc_state.specs.EventLaws.{EachTells, OnlyDoneWaits, TellsOnce, untold_of};
-ghost use Rattle.qc_state.specs.InitialLaws.{LeavesInitial};
-ghost use Rattle.qc_state.specs.KeyLaws.{KeysHold};
-ghost use Rattle.qc_state.specs.MarkLaws.{EachTold};
-ghost use Rattle.qc_state.specs.PathLaws.{IdsHold, PathHolds, all_from};
+ghost use Rattle.qc_laws.specs.EventLaws.{EachTells, OnlyDoneWaits, TellsOnce, untold_of};
+ghost use Rattle.qc_laws.specs.InitialLaws.{LeavesInitial};
+ghost use Rattle.qc_laws.specs.KeyLaws.{KeysHold};
+ghost use Rattle.qc_laws.specs.MarkLaws.{EachTold};
+ghost use Rattle.qc_laws.specs.PathLaws.{IdsHold, PathHolds, all_from};
 ghost use Rattle.qc_state.specs.Headline.{deeds_of, EachRises, EachAdmitted, EachAcksKnown, Harmless, LifeRises, OnlyCloses, LosesOnce};
-ghost use Rattle.qc_state.specs.RecoveryLaws.{EachSettlesOnce, Recovers};
+ghost use Rattle.qc_laws.specs.RecoveryLaws.{EachSettlesOnce, Recovers};
 ghost use Rattle.qc_state.specs.Run.{time_of, Adds, Run, Ran};
-ghost use Rattle.qc_state.specs.StreamLaws.{GivesStream};
-ghost use Rattle.qc_state.specs.TimerLaws.{KeepsTimer};
+ghost use Rattle.qc_laws.specs.StreamLaws.{GivesStream};
+ghost use Rattle.qc_laws.specs.TimerLaws.{KeepsTimer};
 ghost use Rattle.qc_state.specs.View.{ideal};
 
 use crate::connection::Connection;
@@ -186,7 +186,7 @@ fn drive_all<U: Suite>(
 /// name the first input whose time lies before the greatest so far, or which asks for a call that can't be made; the
 /// connection is as the inputs before left it, and their steps are carried. `OutOfMemory` for want of memory; the steps
 /// of the inputs before are carried, and the connection is marked as failed.
-#[tactic(auto, using(qc_state::proofs::PathsHold::path_run, qc_state::proofs::IdsHold::run_ids, qc_state::proofs::EventsTold::run_tells_done, qc_state::proofs::EventsTold::ran_tells_done, qc_state::proofs::EventsTold::run_tells_once, qc_state::proofs::EventsTold::ran_tells_once, qc_state::proofs::EventsTold::run_stays_done, qc_state::proofs::KeysHold::run_keys_hold, qc_state::proofs::EndsHold::run_ends, qc_state::proofs::InitialLeft::run_leaves, qc_state::proofs::Recovers::run_settles_once, qc_state::proofs::TimerHolds::run_keeps_timer, qc_state::proofs::AckHolds::run_each_holds, qc_state::proofs::AckHolds::run_acks_hold, qc_state::proofs::HarmlessBytes::run_harmless, qc_state::proofs::Told::run_rises, qc_state::proofs::Told::run_admits, qc_state::proofs::Told::ran_admits, qc_state::proofs::AcksAccepted::run_acks_known, qc_state::proofs::AcksAccepted::ran_acks_known, qc_state::proofs::MarksTold::run_each_told, qc_state::proofs::MarksTold::ran_each_told, qc_state::proofs::Told::run_life_rises, qc_state::proofs::Told::run_closes, qc_state::proofs::Told::run_loses_once, qc_state::proofs::Told::ran_rises, qc_state::proofs::Told::ran_life_rises, qc_state::proofs::Told::ran_closes, qc_state::proofs::Told::ran_loses_once, crate::proofs::RunsPlain::run_plain, crate::proofs::RunsPlain::run_stays, crate::proofs::RunsPlain::ran_plain))]
+#[tactic(auto, using(qc_laws::proofs::PathsHold::path_run, qc_laws::proofs::IdsHold::run_ids, qc_laws::proofs::EventsTold::run_tells_done, qc_laws::proofs::EventsTold::ran_tells_done, qc_laws::proofs::EventsTold::run_tells_once, qc_laws::proofs::EventsTold::ran_tells_once, qc_laws::proofs::EventsTold::run_stays_done, qc_laws::proofs::KeysHold::run_keys_hold, qc_laws::proofs::EndsHold::run_ends, qc_laws::proofs::InitialLeft::run_leaves, qc_laws::proofs::Recovers::run_settles_once, qc_laws::proofs::TimerHolds::run_keeps_timer, qc_laws::proofs::AckHolds::run_each_holds, qc_laws::proofs::AckHolds::run_acks_hold, qc_laws::proofs::HarmlessBytes::run_harmless, qc_laws::proofs::Told::run_rises, qc_laws::proofs::Told::run_admits, qc_laws::proofs::Told::ran_admits, qc_laws::proofs::AcksAccepted::run_acks_known, qc_laws::proofs::AcksAccepted::ran_acks_known, qc_laws::proofs::MarksTold::run_each_told, qc_laws::proofs::MarksTold::ran_each_told, qc_laws::proofs::Told::run_life_rises, qc_laws::proofs::Told::run_closes, qc_laws::proofs::Told::run_loses_once, qc_laws::proofs::Told::ran_rises, qc_laws::proofs::Told::ran_life_rises, qc_laws::proofs::Told::ran_closes, qc_laws::proofs::Told::ran_loses_once, crate::proofs::RunsPlain::run_plain, crate::proofs::RunsPlain::run_stays, crate::proofs::RunsPlain::ran_plain))]
 pub fn drive<U: Suite, G: TokenStore>(
     alloc: Global,
     connection: &mut Connection<U>,

@@ -145,7 +145,7 @@ pub(crate) fn core_timeout<U: Suite>(
 }
 
 /// A transmit at `now`.
-#[tactic(auto, using(qc_state::proofs::Steps::calls_transmit))]
+#[tactic(auto, using(qc_laws::proofs::Steps::calls_transmit))]
 fn transmit_call<U: Suite>(
     core: &mut Core<U>,
     alloc: Global,
@@ -180,7 +180,7 @@ fn close_told<U: Suite>(
 }
 
 /// A close of the application at `now`.
-#[tactic(auto, using(qc_state::proofs::Steps::calls_close))]
+#[tactic(auto, using(qc_laws::proofs::Steps::calls_close))]
 fn close_call<U: Suite>(
     core: &mut Core<U>,
     alloc: Global,
@@ -213,7 +213,7 @@ fn timeout_call<U: Suite>(
 }
 
 /// A PING is asked for at `now`.
-#[tactic(auto, using(qc_state::proofs::Steps::calls_ping))]
+#[tactic(auto, using(qc_laws::proofs::Steps::calls_ping))]
 fn ping_call<U: Suite>(core: &mut Core<U>, now: Instant, did: &Dids) -> Answer
     requires { did.now ≡ [] }
     ensures { Calls ⟦<U as Means>⟧.meaning (ideal U.Random.stream core.old) (Input.Ping now) (held U.Random.stream core.new did.now) result }
@@ -372,7 +372,7 @@ pub(crate) fn time(input: &Input) -> Instant
 }
 
 /// One input: the call, and the reports after it. Want of memory is the only refusal.
-#[tactic(auto, using(qc_state::proofs::Steps::is_step))]
+#[tactic(auto, using(qc_laws::proofs::Steps::is_step))]
 pub(crate) fn core_step<U: Suite>(
     core: &mut Core<U>,
     alloc: Global,

@@ -12,7 +12,6 @@ pub mod flight;
 pub mod form;
 pub mod input;
 pub mod keys;
-mod laws;
 pub mod life;
 pub mod lower;
 pub mod numbers;
@@ -38,11 +37,6 @@ pub use events::{EndpointEvent, EndpointEvents, Event, Events};
 pub use form::Form;
 pub use input::{Input, Word};
 pub use keys::{KeyGroup, KeyUse, OneRttKeys, SpaceKeys};
-pub use laws::{
-    acks_were_accepted, datagrams_alone_tell, datagrams_keep, datagrams_tell, events_are_datagrams,
-    events_told, first_packets_are_datagrams, harmless_bytes, keys_hold, marks_are_told,
-    numbers_count_once, packets_tell, paths_hold, runs_join, steps_tell,
-};
 pub use life::{ApplicationClose, Close, ConnectionClose, ConnectionError, Life, State};
 pub use lower::Lower;
 pub use numbers::{Numbers, SpaceNumbers};

@@ -1,5 +1,5 @@
 use Rattle.std.proofs.Common.{ap, ◌∙◌}
-use Rattle.qc_state.proofs.Told.{step_time}
+use Rattle.qc_laws.proofs.Told.{step_time}
 use Rattle.qc_conn.proofs.driving.add_step.Goals as goal
 
 -- the clock stands at the input's time after its step

@@ -1,16 +1,16 @@
 use Rattle.std.specs.Prelude.{List, Result, Ok, Err, IfOk, OnOk}
-use Rattle.qc_state.proofs.AcksAccepted.{none_acks_known}
-use Rattle.qc_state.proofs.CryptoKept.{run_keeps_bytes}
-use Rattle.qc_state.proofs.EventsTold.{none_tells_done, none_tells_once}
-use Rattle.qc_state.proofs.KeysHold.{run_keys_hold}
-use Rattle.qc_state.proofs.MarksTold.{none_each_told}
-use Rattle.qc_state.proofs.Recovers.{run_recovers}
-use Rattle.qc_state.proofs.Steps.{ran_none}
-use Rattle.qc_state.proofs.StreamHolds.{run_gives}
-use Rattle.qc_state.proofs.Told.{none_rises, none_admits, none_life_rises, none_closes, none_loses_once}
+use Rattle.qc_laws.proofs.AcksAccepted.{none_acks_known}
+use Rattle.qc_laws.proofs.CryptoKept.{run_keeps_bytes}
+use Rattle.qc_laws.proofs.EventsTold.{none_tells_done, none_tells_once}
+use Rattle.qc_laws.proofs.KeysHold.{run_keys_hold}
+use Rattle.qc_laws.proofs.MarksTold.{none_each_told}
+use Rattle.qc_laws.proofs.Recovers.{run_recovers}
+use Rattle.qc_laws.proofs.Steps.{ran_none}
+use Rattle.qc_laws.proofs.StreamHolds.{run_gives}
+use Rattle.qc_laws.proofs.Told.{none_rises, none_admits, none_life_rises, none_closes, none_loses_once}
 use Rattle.qc_state.specs.declared.input.Input.{Input}
 use Rattle.qc_state.specs.declared.trace.Step.{Step}
-use Rattle.qc_state.specs.KeyLaws.{KeysHold}
+use Rattle.qc_laws.specs.KeyLaws.{KeysHold}
 use Rattle.qc_state.specs.Run.{Run}
 use Rattle.qc_state.specs.Types.{Types, Meaning}
 use Rattle.qc_state.specs.View.{View}

@@ -1,6 +1,6 @@
 use Rattle.std.proofs.Common.{ap, length, arith, refl, sym, ◌∙◌}
 use Rattle.qc_conn.proofs.Refusals.{takes_none, takes_next, refused_at}
-use Rattle.qc_state.proofs.Steps.{run_empty, ran_kept, run_next, added_length, ran}
+use Rattle.qc_laws.proofs.Steps.{run_empty, ran_kept, run_next, added_length, ran}
 use Rattle.qc_conn.proofs.Counting.{none_counted, one_counted, counted_before}
 use Rattle.qc_conn.proofs.driving.drive_all.Goals as goal
 

@@ -1,4 +1,4 @@
-use Rattle.qc_state.proofs.Steps.{transmits_began}
+use Rattle.qc_laws.proofs.Steps.{transmits_began}
 use Rattle.qc_conn.proofs.steps.core_send.Goals as goal
 
 pub returns : goal.returns

@@ -1,5 +1,5 @@
 use Rattle.std.proofs.Common.{refl}
-use Rattle.qc_state.proofs.Steps.{is_step_reported}
+use Rattle.qc_laws.proofs.Steps.{is_step_reported}
 use Rattle.qc_conn.proofs.steps.core_step.Goals as goal
 
 pub returns : goal.returns

@@ -1,6 +1,6 @@
 use Rattle.std.proofs.Common.{ap, sym, ◌∙◌, Bool, if◌then◌else◌}
 use Rattle.qc_state.specs.declared.trace.Answer.TheVariants.{Done, Dropped}
-use Rattle.qc_state.proofs.Steps.{calls_datagram}
+use Rattle.qc_laws.proofs.Steps.{calls_datagram}
 use Rattle.qc_conn.proofs.steps.datagram_call.Goals as goal
 
 -- a datagram that begins with a packet

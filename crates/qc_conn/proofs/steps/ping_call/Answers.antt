@@ -1,5 +1,5 @@
 use Rattle.std.proofs.Common.{refl}
-use Rattle.qc_state.proofs.Steps.{calls_ping}
+use Rattle.qc_laws.proofs.Steps.{calls_ping}
 use Rattle.qc_conn.proofs.steps.ping_call.Goals as goal
 
 pub returns : goal.returns

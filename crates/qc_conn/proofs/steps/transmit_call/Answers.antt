@@ -1,4 +1,4 @@
-use Rattle.qc_state.proofs.Steps.{calls_transmit, transmits_began}
+use Rattle.qc_laws.proofs.Steps.{calls_transmit, transmits_began}
 use Rattle.qc_conn.proofs.steps.transmit_call.Goals as goal
 
 pub returns : goal.returns

@@ -1,7 +1,7 @@
 use Rattle.std.proofs.Common.{ap, ◌∙◌}
 use Rattle.std.specs.Prelude.{max}
 use Rattle.qc_state.specs.Life.{is_handshake}
-use Rattle.qc_state.proofs.Clocks.{first_packet_clock}
+use Rattle.qc_laws.proofs.Clocks.{first_packet_clock}
 use Rattle.qc_conn.proofs.connection.Connection.handle_first_packet.Goals as goal
 
 -- the greatest time, where the packet gave no reason for the end

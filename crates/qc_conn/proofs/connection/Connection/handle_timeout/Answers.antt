@@ -1,6 +1,6 @@
 use Rattle.std.proofs.Common.{ap, ◌∙◌}
 use Rattle.std.specs.Prelude.{max}
-use Rattle.qc_state.proofs.Clocks.{timeout_clock}
+use Rattle.qc_laws.proofs.Clocks.{timeout_clock}
 use Rattle.qc_conn.proofs.connection.Connection.handle_timeout.Goals as goal
 
 -- the greatest time

@@ -1,0 +1,185 @@
+-- Over a run no key seals more packets than it may.
+use Rattle.std.proofs.Common.{◌≡◌, ℕ, ◌+◌, ◌≤◌, List, [], ◌∷◌, sym, subst, Bool, true, false, Option, Some, None, if◌then◌else◌, arith}
+use Rattle.std.proofs.lemmas.Bool.Decides.{nat_tests}
+use Rattle.std.specs.Prelude.{nat_le}
+use Rattle.std.specs.Option.{option_map}
+use Rattle.qc_base.specs.Time.{plus}
+use Rattle.qc_base.specs.declared.side.SpaceId.{SpaceId}
+use Rattle.qc_base.specs.declared.side.SpaceId.TheVariants.{Initial, Handshake, «Data»}
+use Rattle.qc_frame.specs.Frame.{FrameValue}
+use Rattle.qc_rings.specs.Keyed.{keyed_sealed}
+use Rattle.qc_state.specs.declared.form.Form.{Form}
+use Rattle.qc_state.specs.declared.form.Form.TheVariants as form
+use Rattle.qc_state.specs.declared.input.Input.{Input}
+use Rattle.qc_state.specs.declared.input.Input.TheVariants as input
+use Rattle.qc_state.specs.declared.keys.KeyGroup.{KeyGroup}
+use Rattle.qc_state.specs.declared.keys.OneRttKeys.{OneRttKeys}
+use Rattle.qc_state.specs.declared.keys.SpaceKeys.{SpaceKeys}
+use Rattle.qc_state.specs.declared.life.Close.{Close}
+use Rattle.qc_state.specs.declared.trace.Step.{Step}
+use Rattle.qc_state.specs.Forms.{number_space}
+use Rattle.qc_laws.specs.KeyLaws.{IsWithinLimit, KeysHold}
+use Rattle.qc_state.specs.Keys.{NewKeys, NoKeys, HandshakeKeys, DataKeys, count_one, failure_counted, key_used, keys_dropped, keys_given, plain_usage, reaches_limit, ring_usage, ring_used, usage_of}
+use Rattle.qc_state.specs.Life.{is_open}
+use Rattle.qc_state.specs.Moves.{Move, Ask, Fail, Forget, Seal, Shut, Take, Write, keys_move, move_to, state_move}
+use Rattle.qc_state.specs.Numbers.{next_number}
+use Rattle.qc_state.specs.Run.{IsAllowed, IsStep, Run, began, called, close_after, input_after, reported, step_after, time_of}
+use Rattle.qc_state.specs.Sending.{MayTransmit, packet_size, transmit_after, Choice}
+use Rattle.qc_state.specs.Types.{Types, Meaning}
+use Rattle.qc_state.specs.View.{View, At}
+use Rattle.qc_state.proofs.Expired.{IsTimed, holds_timeout}
+use Rattle.qc_state.proofs.ReceivedMoves.{AreUnused, IsReceived}
+use Rattle.qc_laws.proofs.Receives.{holds_datagram}
+use Rattle.qc_state.proofs.Transmitted.{IsSealable, IsSending, holds_transmit}
+
+-- a key that may seal one packet more has sealed no more than it may behind it
+once_more : (sealed limit : ℕ) → nat_le limit (sealed + 0) ≡ false → plus sealed 1 ≤ limit
+once_more sealed limit e = grind (arith, nat_tests)
+
+module _ {H P : Type 0} where
+  counted_within : (o : Option (SpaceKeys H P)) → reaches_limit 0 (option_map plain_usage o) ≡ false → IsWithinLimit (option_map plain_usage (count_one o))
+  unfolding count_one
+  counted_within None h = tt
+  counted_within (Some k) h = once_more k.sealed k.confidentiality_limit h
+
+  ring_within : (n : ℕ) (o : Option (OneRttKeys H P)) → reaches_limit 0 (option_map ring_usage o) ≡ false → IsWithinLimit (option_map ring_usage (ring_used n o))
+  unfolding ring_used keyed_sealed
+  ring_within n None h = tt
+  ring_within n (Some k) h = once_more k.ring.count k.confidentiality_limit h
+
+  -- keys that are dropped seal no more
+  dropped_hold : (v : KeyGroup H P) (id : SpaceId) → KeysHold v → (other : Form) → IsWithinLimit (usage_of (keys_dropped v id) other)
+  unfolding keys_dropped usage_of
+  dropped_hold v Initial h form.Initial = tt
+  dropped_hold v Initial h form.Handshake = h form.Handshake
+  dropped_hold v Initial h form.Early = tt
+  dropped_hold v Initial h form.OneRtt = h form.OneRtt
+  dropped_hold v Handshake h form.Initial = h form.Initial
+  dropped_hold v Handshake h form.Handshake = tt
+  dropped_hold v Handshake h form.Early = tt
+  dropped_hold v Handshake h form.OneRtt = h form.OneRtt
+  dropped_hold v Data h form.Initial = h form.Initial
+  dropped_hold v Data h form.Handshake = h form.Handshake
+  dropped_hold v Data h form.Early = tt
+  dropped_hold v Data h form.OneRtt = tt
+
+  -- keys that are given have sealed none
+  given_hold : (v : KeyGroup H P) (keys : NewKeys H P) → AreUnused keys → KeysHold v → (other : Form) → IsWithinLimit (usage_of (keys_given v keys) other)
+  unfolding keys_given usage_of
+  given_hold v NoKeys e h other = h other
+  given_hold v (HandshakeKeys k) e h form.Initial = h form.Initial
+  given_hold v (HandshakeKeys k) e h form.Handshake = omega arith
+  given_hold v (HandshakeKeys k) e h form.Early = tt
+  given_hold v (HandshakeKeys k) e h form.OneRtt = h form.OneRtt
+  given_hold v (DataKeys k) e h form.Initial = h form.Initial
+  given_hold v (DataKeys k) e h form.Handshake = h form.Handshake
+  given_hold v (DataKeys k) e h form.Early = tt
+  given_hold v (DataKeys k) e h form.OneRtt = omega arith
+
+  -- a packet that didn't open changes none
+  failed_hold : (v : KeyGroup H P) → KeysHold v → (other : Form) → IsWithinLimit (usage_of (failure_counted v) other)
+  unfolding failure_counted usage_of
+  failed_hold v h form.Initial = h form.Initial
+  failed_hold v h form.Handshake = h form.Handshake
+  failed_hold v h form.Early = tt
+  failed_hold v h form.OneRtt = h form.OneRtt
+
+  -- a packet that is sealed counts under its key alone
+  sealed_hold : (v : KeyGroup H P) (form : Form) (n : ℕ) → reaches_limit 0 (usage_of v form) ≡ false → KeysHold v → (other : Form) → IsWithinLimit (usage_of (key_used v form n) other)
+  unfolding key_used usage_of
+  sealed_hold v form.Initial n fresh h form.Initial = counted_within v.initial fresh
+  sealed_hold v form.Initial n fresh h form.Handshake = h form.Handshake
+  sealed_hold v form.Initial n fresh h form.Early = tt
+  sealed_hold v form.Initial n fresh h form.OneRtt = h form.OneRtt
+  sealed_hold v form.Handshake n fresh h form.Initial = h form.Initial
+  sealed_hold v form.Handshake n fresh h form.Handshake = counted_within v.handshake fresh
+  sealed_hold v form.Handshake n fresh h form.Early = tt
+  sealed_hold v form.Handshake n fresh h form.OneRtt = h form.OneRtt
+  sealed_hold v form.Early n fresh h other = h other
+  sealed_hold v form.OneRtt n fresh h form.Initial = h form.Initial
+  sealed_hold v form.OneRtt n fresh h form.Handshake = h form.Handshake
+  sealed_hold v form.OneRtt n fresh h form.Early = tt
+  sealed_hold v form.OneRtt n fresh h form.OneRtt = ring_within n v.«data» fresh
+
+module _ {t : Types} where
+  -- where the key may seal one packet more, and keys that are given have sealed none
+  abbrev IsSpare : Move t → View t → Type 0
+  IsSpare (Seal time form n size fs) s = reaches_limit 0 (usage_of s.keys form) ≡ false
+  IsSpare (Write bytes keys session) s = AreUnused keys
+  IsSpare _ s = Unit {0}
+
+  -- what holds of the keys at one moment holds at another
+  abbrev Keeps : At t → At t → Type 0
+  Keeps a b = KeysHold a.state.keys → KeysHold b.state.keys
+
+  here : (a : At t) → Keeps a a
+  here a = λ h. h
+
+  next : (a b c : At t) → Keeps a b → Keeps b c → Keeps a c
+  next a b c g k = λ h. k (g h)
+
+  -- over each move
+  move_keeps : (x : Move t) (a : At t) → IsSpare x a.state → Keeps a (move_to x a)
+  unfolding move_to state_move keys_move
+  move_keeps (Seal time form n size fs) a spare = λ h. sealed_hold a.state.keys form n spare h
+  move_keeps (Forget id) a spare = λ h. dropped_hold a.state.keys id h
+  move_keeps Fail a spare = λ h. failed_hold a.state.keys h
+  move_keeps (Write bytes keys session) a spare = λ h. given_hold a.state.keys keys spare h
+  move_keeps _ a spare = λ h. h
+
+  -- what is received, and what a timer does, seals nothing
+  received_spare : (x : Move t) (s : View t) → IsReceived x → IsSpare x s
+  received_spare (Write bytes keys session) s r = r
+  received_spare (Seal time form n size fs) s r = absurd r
+  received_spare _ s r = tt
+
+  timed_spare : (x : Move t) (s : View t) → IsTimed x → IsSpare x s
+  timed_spare (Write bytes keys session) s r = absurd r
+  timed_spare (Seal time form n size fs) s r = absurd r
+  timed_spare _ s r = tt
+
+  sending_spare : (x : Move t) (s : View t) → IsSending x → IsSpare x s
+  sending_spare (Write bytes keys session) s r = absurd r
+  sending_spare (Seal time form n size fs) s r = absurd r
+  sending_spare _ s r = tt
+
+  -- a packet is taken and sealed
+  packet_keeps : (time : ℕ) (form : Form) (fs : List FrameValue) (a : At t) → IsSealable time a.state form fs →
+      Keeps a (move_to (Seal time form (next_number a.state.numbers (number_space form)) (packet_size a.state form fs) fs) (move_to (Take (number_space form) fs) a))
+  unfolding move_to state_move keys_move
+  packet_keeps time form fs a may =
+      let b : At t = move_to (Take (number_space form) fs) a in
+      let seal : Move t = Seal time form (next_number a.state.numbers (number_space form)) (packet_size a.state form fs) fs in
+      next a b (move_to seal b) (move_keeps (Take (number_space form) fs) a tt) (move_keeps seal b may.fresh)
+
+  -- a transmit
+  transmit_keeps : (m : Meaning t) (time : ℕ) (choice : Choice) (a : At t) → MayTransmit m time choice a → Keeps a (transmit_after m time choice a)
+  transmit_keeps m time choice a may =
+      holds_transmit Keeps here next (λ x r d k. move_keeps x d (sending_spare x d.state r)) (λ at_time id fs d k. packet_keeps at_time id fs d k) m time choice a may
+
+  -- the application closes, or has closed before
+  closed_by : (time : ℕ) (close : Close) (a : At t) (b : Bool) → Keeps a (if b then move_to (Shut time close) a else a)
+  closed_by time close a true = move_keeps (Shut time close) a tt
+  closed_by time close a false = here a
+
+  -- each input
+  input_keeps : (m : Meaning t) (i : Input) (choice : Choice) (a : At t) → IsAllowed m i choice a → Keeps a (input_after m i choice a)
+  unfolding IsAllowed input_after close_after
+  input_keeps m (input.Datagram time remote ecn bytes) choice a may = holds_datagram Keeps here next (λ x r d k. move_keeps x d (received_spare x d.state r)) m (record { time = time; remote = remote; mark = ecn }) bytes a
+  input_keeps m (input.Timeout time) choice a may = holds_timeout Keeps here next (λ x r d k. move_keeps x d (timed_spare x d.state r)) m time a
+  input_keeps m (input.Transmit time max) choice a may = transmit_keeps m time choice a may
+  input_keeps m (input.Close time code reason) choice a may = closed_by time _ a (is_open a.state.life.state)
+  input_keeps m (input.Ping time) choice a may = move_keeps (Ask a.state.keys.highest) a tt
+
+  -- a step
+  step_keeps : (m : Meaning t) (k : ℕ) (s : View t) (i : Input) (x : Step) (s' : View t) → IsStep m k s i x s' → KeysHold s.keys → KeysHold s'.keys
+  unfolding called began step_after reported state_move keys_move
+  step_keeps m k s i x s' h kept = subst KeysHold (sym h.keys) (input_keeps m i h.choice (began s (time_of i)) h.allowed kept)
+
+  -- a run, one step after the other
+  pub run_keys_hold : (m : Meaning t) (k : ℕ) (s : View t) (is : List Input) (xs : List Step) (s' : View t) → Run m k s is xs s' → KeysHold s.keys → KeysHold s'.keys
+  unfolding Run
+  run_keys_hold m k s [] [] s' r h = subst (λ (v : View t). KeysHold v.keys) (sym r) h
+  run_keys_hold m k s (i ∷ is) (x ∷ xs) s' r h = run_keys_hold m (k + 1) r.0 is xs s' r.2 (step_keeps m k s i x r.0 r.1 h)
+  run_keys_hold m k s [] (x ∷ xs) s' r h = absurd r
+  run_keys_hold m k s (i ∷ is) [] s' r h = absurd r

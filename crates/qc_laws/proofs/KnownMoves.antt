@@ -1,0 +1,152 @@
+-- What is known of each move that an input makes, and what holds of each such move holds of the input.
+use Rattle.std.proofs.Common.{◌≡◌, ℕ, List, refl, ap, sym, ◌∙◌, Bool, true, false, if◌then◌else◌}
+use Rattle.qc_base.specs.declared.side.SpaceId.{SpaceId}
+use Rattle.qc_frame.specs.Frame.{AckValue, FrameValue}
+use Rattle.qc_recovery.specs.Steps.{After, FiredAfter}
+use Rattle.qc_state.specs.declared.form.Form.{Form}
+use Rattle.qc_state.specs.declared.coming.Coming.{Coming}
+use Rattle.qc_state.specs.declared.input.Input.{Input}
+use Rattle.qc_state.specs.declared.input.Input.TheVariants as input
+use Rattle.qc_state.specs.declared.life.Close.{Close}
+use Rattle.qc_state.specs.declared.life.State.TheVariants.{Drained}
+use Rattle.qc_state.specs.Forms.{number_space}
+use Rattle.qc_state.specs.Life.{is_open}
+use Rattle.qc_state.specs.Moves.{Ack, Ask, Clock, Fire, MayMove, Move, Raise, ReportConnected, ReportDrained, ReportLost, ReportReady, ReportNotice, ReportNotices, Seal, Shut, Take, move_to}
+use Rattle.qc_state.specs.Numbers.{next_number}
+use Rattle.qc_state.specs.Receiving.{datagram_after}
+use Rattle.qc_state.specs.Recovering.{fired_by, settled_by}
+use Rattle.qc_state.specs.Run.{IsAllowed, close_after, input_after}
+use Rattle.qc_state.specs.Sending.{Choice, packet_size}
+use Rattle.qc_state.specs.Types.{Types, Meaning}
+use Rattle.qc_state.specs.View.{View, At}
+use Rattle.qc_state.proofs.Expired.{IsExpiry, holds_expired}
+use Rattle.qc_state.proofs.OpenPackets.{holds_packet}
+use Rattle.qc_state.proofs.PacketMoves.{IsInPacket, IsSettledOf, OpenPacket}
+use Rattle.qc_state.proofs.ReceivedMoves.{IsOutside}
+use Rattle.qc_laws.proofs.Receives.{datagram_holds}
+use Rattle.qc_state.proofs.Telling.{open_rank}
+use Rattle.qc_state.proofs.Transmitted.{IsSealable, IsSending, holds_transmit}
+
+module _ {t : Types} where
+  -- an acknowledgement settles what recovery makes of an ACK at a time
+  pub record IsSettledBy (m : Meaning t) (id : SpaceId) (after : After t.C) (s : View t) : Type 0 where
+    pub time : ℕ
+    pub ack : AckValue
+    pub is : after ≡ settled_by m time id ack s
+
+  -- the loss timer leaves what recovery makes of it at a time
+  pub record IsFiredBy (m : Meaning t) (after : FiredAfter t.C) (s : View t) : Type 0 where
+    pub time : ℕ
+    pub is : after ≡ fired_by m time s
+
+  -- what is known of a move that an input makes, beside those with which a packet is taken and sealed: it is no report, a life that rises
+  -- by itself rises to its end, and what acknowledgements and the loss timer leave is what recovery makes of them
+  abbrev pub IsKnownMove : Meaning t → Move t → View t → Type 0
+  IsKnownMove m (Clock time) s = ⊥
+  IsKnownMove m (Take id fs) s = ⊥
+  IsKnownMove m (Seal time form n size fs) s = ⊥
+  IsKnownMove m (Ack id n after) s = IsSettledBy m id after s
+  IsKnownMove m (Fire after) s = IsFiredBy m after s
+  IsKnownMove m (Raise to) s = to ≡ Drained
+  IsKnownMove m ReportReady s = ⊥
+  IsKnownMove m ReportConnected s = ⊥
+  IsKnownMove m ReportLost s = ⊥
+  IsKnownMove m ReportNotice s = ⊥
+  IsKnownMove m ReportNotices s = ⊥
+  IsKnownMove m ReportDrained s = ⊥
+  IsKnownMove m _ s = Unit {0}
+
+  -- so of the moves of a packet that opened
+  settled_known : (m : Meaning t) (o : OpenPacket) (id : SpaceId) (n : ℕ) (after : After t.C) (s : View t) → IsSettledOf m o id n after s → IsSettledBy m id after s
+  settled_known m o id n after s h = record { time = o.coming.time; ack = h.ack; is = h.settled ∙ ap (λ (space : SpaceId). settled_by m o.coming.time space h.ack s) (sym h.space) }
+
+  pub packet_known : (m : Meaning t) (o : OpenPacket) (x : Move t) (s : View t) → IsInPacket m o x s → IsKnownMove m x s
+  packet_known m o (Clock time) s h = absurd h
+  packet_known m o (Take id fs) s h = absurd h
+  packet_known m o (Seal time form n size fs) s h = absurd h
+  packet_known m o (Ack id n after) s h = settled_known m o id n after s h
+  packet_known m o (Fire after) s h = absurd h
+  packet_known m o (Raise to) s h = absurd h
+  packet_known m o ReportReady s h = absurd h
+  packet_known m o ReportConnected s h = absurd h
+  packet_known m o ReportLost s h = absurd h
+  packet_known m o ReportNotice s h = absurd h
+  packet_known m o ReportNotices s h = absurd h
+  packet_known m o ReportDrained s h = absurd h
+  packet_known m o _ s h = tt
+
+  -- of those around it
+  pub outside_known : (m : Meaning t) (time : ℕ) (x : Move t) (s : View t) → IsOutside time x s → IsKnownMove m x s
+  outside_known m at_time (Clock time) s h = absurd h
+  outside_known m at_time (Take id fs) s h = absurd h
+  outside_known m at_time (Seal time form n size fs) s h = absurd h
+  outside_known m at_time (Ack id n after) s h = absurd h
+  outside_known m at_time (Fire after) s h = absurd h
+  outside_known m at_time (Raise to) s h = h
+  outside_known m at_time ReportReady s h = absurd h
+  outside_known m at_time ReportConnected s h = absurd h
+  outside_known m at_time ReportLost s h = absurd h
+  outside_known m at_time ReportNotice s h = absurd h
+  outside_known m at_time ReportNotices s h = absurd h
+  outside_known m at_time ReportDrained s h = absurd h
+  outside_known m at_time _ s h = tt
+
+  -- of those of the other timers
+  expiry_known : (m : Meaning t) (x : Move t) (s : View t) → IsExpiry x → IsKnownMove m x s
+  expiry_known m (Clock time) s h = absurd h
+  expiry_known m (Take id fs) s h = absurd h
+  expiry_known m (Seal time form n size fs) s h = absurd h
+  expiry_known m (Ack id n after) s h = absurd h
+  expiry_known m (Fire after) s h = absurd h
+  expiry_known m (Raise to) s h = h
+  expiry_known m ReportReady s h = absurd h
+  expiry_known m ReportConnected s h = absurd h
+  expiry_known m ReportLost s h = absurd h
+  expiry_known m ReportNotice s h = absurd h
+  expiry_known m ReportNotices s h = absurd h
+  expiry_known m ReportDrained s h = absurd h
+  expiry_known m _ s h = tt
+
+  -- and of those of a transmit
+  sending_known : (m : Meaning t) (x : Move t) (s : View t) → IsSending x → IsKnownMove m x s
+  sending_known m (Clock time) s h = absurd h
+  sending_known m (Take id fs) s h = absurd h
+  sending_known m (Seal time form n size fs) s h = absurd h
+  sending_known m (Ack id n after) s h = absurd h
+  sending_known m (Fire after) s h = absurd h
+  sending_known m (Raise to) s h = h
+  sending_known m ReportReady s h = absurd h
+  sending_known m ReportConnected s h = absurd h
+  sending_known m ReportLost s h = absurd h
+  sending_known m ReportNotice s h = absurd h
+  sending_known m ReportNotices s h = absurd h
+  sending_known m ReportDrained s h = absurd h
+  sending_known m _ s h = tt
+
+-- what holds of no move, of two moves one after the other, of each move that is known so, where it may be made, and of the two with which
+-- a packet is taken and sealed, holds of an input
+module _ {t : Types} (m : Meaning t) (R : At t → At t → Type 0) (here : (a : At t) → R a a) (next : (a b c : At t) → R a b → R b c → R a c)
+    (move : (x : Move t) (a : At t) → IsKnownMove m x a.state → MayMove x a.state → R a (move_to x a))
+    (seal : (time : ℕ) (form : Form) (fs : List FrameValue) (a : At t) → IsSealable time a.state form fs → R a (move_to (Seal time form (next_number a.state.numbers (number_space form)) (packet_size a.state form fs) fs) (move_to (Take (number_space form) fs) a))) where
+  -- a datagram
+  known_datagram : (coming : Coming) (bytes : List ℕ) (a : At t) → R a (datagram_after m coming bytes a)
+  known_datagram coming bytes a =
+      datagram_holds m coming (λ p. Unit {0}) R here next (λ x b h may. move x b (outside_known m coming.time x b.state h) may)
+      (λ p comes o b opened. holds_packet m o R here next (λ x c h may. move x c (packet_known m o x c.state h) may) b opened.lively)
+      bytes a (λ p among. tt)
+
+  -- the application closes, or has closed before
+  closed_by : (time : ℕ) (close : Close) (a : At t) (b : Bool) → is_open a.state.life.state ≡ b → R a (if b then move_to (Shut time close) a else a)
+  unfolding MayMove
+  closed_by time close a true h = move (Shut time close) a tt (open_rank a.state.life.state h)
+  closed_by time close a false h = here a
+
+  -- each input
+  pub known_input : (i : Input) (choice : Choice) (a : At t) → IsAllowed m i choice a → R a (input_after m i choice a)
+  unfolding IsAllowed input_after close_after MayMove
+  known_input (input.Datagram time remote ecn bytes) choice a h = known_datagram (record { time = time; remote = remote; mark = ecn }) bytes a
+  known_input (input.Timeout time) choice a h =
+      holds_expired m R here next (λ at_time b. move (Fire (fired_by m at_time b.state)) b (record { time = at_time; is = refl }) tt) (λ x e b may. move x b (expiry_known m x b.state e) may) time a
+  known_input (input.Transmit time max) choice a h = holds_transmit R here next (λ x r b may. move x b (sending_known m x b.state r) may) seal m time choice a h
+  known_input (input.Close time code reason) choice a h = closed_by time _ a _ refl
+  known_input (input.Ping time) choice a h = move (Ask a.state.keys.highest) a tt tt

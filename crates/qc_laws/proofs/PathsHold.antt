@@ -1,0 +1,479 @@
+-- The laws of the path, of each input and of a run.
+use Rattle.std.proofs.Common.{◌≡◌, ℕ, ◌+◌, ◌*◌, ◌<◌, ◌≤◌, List, [], ◌∷◌, ◌++◌, ◌⊎◌, inl, inr, length, refl, ap, sym, ◌∙◌, subst, Bool, true, false, Option, Some, None, if◌then◌else◌, arith}
+use Rattle.std.proofs.lemmas.Bool.Decides.{nat_tests}
+use Rattle.std.proofs.lemmas.List.{append_assoc, append-nil}
+use Rattle.std.proofs.lemmas.List.Folds.{list_any-append}
+use Rattle.std.specs.Prelude.{◌&&◌, ◌||◌, not, nat_le, is_none}
+use Rattle.std.specs.List.{list_any}
+use Rattle.std.specs.declared.net.SocketAddr.{SocketAddr}
+use Rattle.qc_base.specs.declared.side.Side.{Side}
+use Rattle.qc_base.specs.declared.side.Side.TheVariants.{Client}
+use Rattle.qc_base.specs.declared.side.SpaceId.{SpaceId}
+use Rattle.qc_base.specs.declared.side.SpaceId.TheVariants.{Initial, Handshake}
+use Rattle.qc_frame.specs.Frame.{FrameValue}
+use Rattle.qc_header.specs.HeaderGrammar.{DatagramItem}
+use Rattle.qc_recovery.specs.Steps.{path_dropped}
+use Rattle.qc_recovery.specs.declared.path.PathData.{PathData}
+use Rattle.qc_state.specs.declared.form.Form.{Form}
+use Rattle.qc_state.specs.declared.coming.Coming.{Coming}
+use Rattle.qc_state.specs.declared.deeds.Did.{Did}
+use Rattle.qc_state.specs.declared.deeds.Did.TheVariants as did
+use Rattle.qc_state.specs.declared.deeds.Verdict.{Verdict}
+use Rattle.qc_state.specs.declared.deeds.Verdict.TheVariants as verdict
+use Rattle.qc_state.specs.declared.deeds.Quiet.TheVariants.{Killed}
+use Rattle.qc_state.specs.declared.input.Input.{Input}
+use Rattle.qc_state.specs.declared.input.Input.TheVariants as input
+use Rattle.qc_state.specs.declared.life.Close.{Close}
+use Rattle.qc_state.specs.declared.life.Close.TheVariants as close
+use Rattle.qc_state.specs.declared.life.ConnectionError.{ConnectionError}
+use Rattle.qc_state.specs.declared.life.ConnectionError.TheVariants as lost
+use Rattle.qc_state.specs.declared.life.State.TheVariants.{Drained}
+use Rattle.qc_state.specs.declared.paths.Paths.{Paths}
+use Rattle.qc_state.specs.declared.trace.Step.{Step}
+use Rattle.qc_state.specs.declared.transmit.TheConstants.{DATAGRAM_SIZE}
+use Rattle.qc_state.specs.Forms.{number_space}
+use Rattle.qc_state.specs.Life.{is_open}
+use Rattle.qc_state.specs.Moves.{Accept, Ack, Arm, Come, Confirm, PeerClosesToo, Enter, Establish, Expect, Fail, Fire, Fix, Forget, Give, Hear, Learn, PeerCloses, MayMove, Move, Owe, Pace, Raise, Read, Ready, Release, Say, Seal, Shut, Take, Tell, Token, Want, Write, armed_after, armed_with, deeds_move, move_to, paths_move, state_move, told, Begin, Skip}
+use Rattle.qc_state.specs.Numbers.{next_number, received_number}
+use Rattle.qc_state.specs.Headline.{deeds_of}
+use Rattle.qc_laws.specs.PathLaws.{PathHolds, all_from, bytes_from, is_handshake_admitted}
+use Rattle.qc_state.specs.Paths.{is_blocked, path_accepted, path_idle, path_kept, path_received, path_sent, path_spun, peer_fixed, same_address, spun_by}
+use Rattle.qc_state.specs.Receiving.{counted_after, cut_of, datagram_after, first_after, first_token, heard_after, is_readable, lets_in, pieces_after}
+use Rattle.qc_state.specs.Run.{IsAllowed, IsStep, Run, began, called, close_after, input_after, reported, step_after, time_of}
+use Rattle.qc_state.specs.Sending.{MayTransmit, drops_initial, initial_left, packet_size, spared_after, transmit_after, Choice, Sent, Ending, Went, Hushed, Died, ending_after, packets_after, Going, going_from, MayAll, MayEnd, handshake_left, finished_after, gone_after}
+use Rattle.qc_state.specs.Stopping.{given_after, key_limit_error, killed_after, stopped_after}
+use Rattle.qc_state.specs.Setup.{is_first_awaited}
+use Rattle.qc_state.specs.Timeouts.{timeout_after}
+use Rattle.qc_state.specs.Types.{Types, Meaning}
+use Rattle.qc_state.specs.View.{View, At, at}
+use Rattle.qc_state.proofs.Expired.{IsTimed, holds_timeout}
+use Rattle.qc_state.proofs.ReceivedMoves.{IsOfPiece}
+use Rattle.qc_laws.proofs.Receives.{holds_pieces}
+use Rattle.qc_state.specs.declared.deeds.Quiet.{Quiet}
+use Rattle.qc_state.specs.declared.transmit.Batch.{Batch}
+use Rattle.qc_state.proofs.Transmitted.{IsPacketMove, IsSealable, holds_packets}
+use Rattle.qc_state.proofs.Batches.{packet_made, packet_total}
+
+-- the path in use holds, from some paths to others
+abbrev KeepsPath : {C : Type 0} → (came : ℕ) → List Did → Paths C → Paths C → Type 0
+KeepsPath came ds p p' = PathHolds came ds p.current p'.current
+
+-- nothing changes of the counts of a path, nor of its address, and an address that is validated stays so
+record Still {C : Type 0} (p p' : Paths C) : Type 0 where
+  pub same : p'.current.remote ≡ p.current.remote
+  pub received : p'.current.received ≡ p.current.received
+  pub sent : p'.current.sent ≡ p.current.sent
+  pub kept : p.current.validated ≡ true → p'.current.validated ≡ true
+
+still_here : {C : Type 0} → (p : Paths C) → Still p p
+still_here p = record { same = refl; received = refl; sent = refl; kept = λ h. h }
+
+still_next : {C : Type 0} → (p q r : Paths C) → Still p q → Still q r → Still p r
+still_next p q r g h = record { same = h.same ∙ g.same; received = h.received ∙ g.received; sent = h.sent ∙ g.sent; kept = λ v. h.kept (g.kept v) }
+
+-- by these deeds an address is validated only where it was before, or a Handshake packet was admitted
+abbrev Shown : {C : Type 0} → List Did → Paths C → Paths C → Type 0
+Shown ds p p' = p'.current.validated ≡ true → (p.current.validated ≡ true) ⊎ (list_any is_handshake_admitted ds ≡ true)
+
+-- of two tests one holds
+any_left : (a b : Bool) → a ≡ true → (a || b) ≡ true
+any_left true b h = refl
+any_left false b h = cc h
+
+any_right : (a b : Bool) → b ≡ true → (a || b) ≡ true
+any_right true b h = refl
+any_right false b h = h
+
+shown_next : {C : Type 0} → (ds es : List Did) (p q r : Paths C) → Shown ds p q → Shown es q r → Shown (ds ++ es) p r
+shown_next ds es p q r g h v = elim (h v) [
+  | inl before ↦ elim (g before) [
+    | inl first ↦ inl first
+    | inr some ↦ inr (list_any-append is_handshake_admitted ds es ∙ any_left (list_any is_handshake_admitted ds) (list_any is_handshake_admitted es) some)
+  ]
+  | inr some ↦ inr (list_any-append is_handshake_admitted ds es ∙ any_right (list_any is_handshake_admitted ds) (list_any is_handshake_admitted es) some)
+]
+
+-- an address that isn't validated afterwards wasn't so before
+was_not : (a b : Bool) → (a ≡ true → b ≡ true) → b ≡ false → a ≡ false
+was_not true b h e = cc (h refl, e)
+was_not false b h e = refl
+
+-- such a path holds, whatever came
+still_holds : {C : Type 0} → (came : ℕ) (ds : List Did) (p p' : Paths C) → Still p p' → Shown ds p p' → KeepsPath came ds p p'
+still_holds came ds p p' h shown = record {
+  same = h.same;
+  validated = shown;
+  received = omega (arith, h.received);
+  ranged = λ r. omega (arith, h.received);
+  limited = λ r l not_yet. let few : p.current.sent < 3 * p.current.received + DATAGRAM_SIZE = l (was_not p.current.validated p'.current.validated h.kept not_yet) in omega (arith, few, h.received, h.sent);
+}
+
+-- a path that didn't change
+unchanged : {C : Type 0} → (came : ℕ) (ds : List Did) (p : Paths C) → KeepsPath came ds p p
+unchanged came ds p = still_holds came ds p p (still_here p) (λ v. inl v)
+
+holds_next : {C : Type 0} → (m n : ℕ) (ds es : List Did) (p q r : Paths C) → KeepsPath m ds p q → KeepsPath n es q r → KeepsPath (m + n) (ds ++ es) p r
+holds_next m n ds es p q r g h = record {
+  same = h.same ∙ g.same;
+  validated = shown_next ds es p q r g.validated h.validated;
+  received = omega (arith, g.received, h.received);
+  ranged = λ k. h.ranged (g.ranged k);
+  limited = λ k l. h.limited (g.ranged k) (g.limited k l);
+}
+
+-- a packet was accepted
+accepted_still : {C : Type 0} → (p : Paths C) (id : SpaceId) (v : Verdict) → Still p (path_accepted p id v)
+unfolding path_accepted
+accepted_still p Handshake verdict.Admitted = record { same = refl; received = refl; sent = refl; kept = λ v. refl }
+accepted_still p _ _ = still_here p
+
+accepted_shown : {C : Type 0} → (p : Paths C) (id : SpaceId) (n : ℕ) (v : Verdict) → Shown (did.Piece (Some id) (Some n) v ∷ []) p (path_accepted p id v)
+unfolding path_accepted
+accepted_shown p Handshake n verdict.Admitted h = inr refl
+accepted_shown p _ n _ h = inl h
+
+-- the spin bit leaves the counts, the address and whether it is validated
+spun_by_greatest : {C : Type 0} → (p : Paths C) (side : Side) (bit b : Bool) → Still p (if b then record p { spin = spun_by side bit } else p)
+spun_by_greatest p side bit true = record { same = refl; received = refl; sent = refl; kept = λ v. v }
+spun_by_greatest p side bit false = still_here p
+
+spun_still : {C : Type 0} → (p : Paths C) (side : Side) (greatest bit : Bool) → Still p (path_spun p side greatest bit)
+unfolding path_spun
+spun_still p side greatest bit = spun_by_greatest p side bit greatest
+
+spun_same_by : {C : Type 0} → (p : Paths C) (side : Side) (bit b : Bool) → (if b then record p { spin = spun_by side bit } else p).current.validated ≡ p.current.validated
+spun_same_by p side bit true = refl
+spun_same_by p side bit false = refl
+
+spun_shown : {C : Type 0} → (p : Paths C) (side : Side) (greatest bit : Bool) → Shown [] p (path_spun p side greatest bit)
+unfolding path_spun
+spun_shown p side greatest bit v = inl (sym (spun_same_by p side bit greatest) ∙ v)
+
+-- a packet with this spin bit was accepted
+accepted_spun : {C : Type 0} → (p : Paths C) (id : SpaceId) (v : Verdict) (side : Side) (greatest bit : Bool) → Still p (path_spun (path_accepted p id v) side greatest bit)
+accepted_spun p id v side greatest bit =
+    let q = path_accepted p id v in
+    still_next p q (path_spun q side greatest bit) (accepted_still p id v) (spun_still q side greatest bit)
+
+spun_after : {C : Type 0} → (p : Paths C) (id : SpaceId) (n : ℕ) (v : Verdict) (side : Side) (greatest bit : Bool) → Shown (did.Piece (Some id) (Some n) v ∷ []) p (path_spun (path_accepted p id v) side greatest bit)
+spun_after p id n v side greatest bit =
+    let q = path_accepted p id v in
+    shown_next (did.Piece (Some id) (Some n) v ∷ []) [] p q (path_spun q side greatest bit) (accepted_shown p id n v) (spun_shown q side greatest bit)
+
+-- what recovery keeps of the path is nothing of that
+kept_still : {C : Type 0} → (p : Paths C) (kept : PathData C) → Still p (path_kept p kept)
+unfolding path_kept
+kept_still p kept = record { same = refl; received = refl; sent = refl; kept = λ v. v }
+
+-- so many bytes were heard from the path's address
+heard_path : {C : Type 0} → (came : ℕ) (ds : List Did) (p q : Paths C) → Still p q → Shown ds p q → KeepsPath came ds p (path_received q came)
+unfolding path_received
+heard_path came ds p q h shown = record {
+  same = h.same;
+  validated = shown;
+  received = omega (arith, h.received);
+  ranged = λ r. omega arith;
+  limited = λ r l not_yet. let few : p.current.sent < 3 * p.current.received + DATAGRAM_SIZE = l (was_not p.current.validated q.current.validated h.kept not_yet) in omega (arith, few, h.received, h.sent, r);
+}
+
+-- what there is to send holds sending back
+idle_path : {C : Type 0} → (came : ℕ) (ds : List Did) (p : Paths C) → KeepsPath came ds p (path_idle p)
+unfolding path_idle
+idle_path came ds p = still_holds came ds p (path_idle p) (record { same = refl; received = refl; sent = refl; kept = λ v. v }) (λ v. inl v)
+
+-- of two tests that hold the second holds
+second_holds : (a b : Bool) → (a && b) ≡ true → b ≡ true
+second_holds true b h = h
+second_holds false b h = cc
+
+-- where it counts, it comes from the path's address
+came_length : (remote from : SocketAddr) (bytes : List ℕ) → same_address remote from ≡ true → (if same_address remote from then length bytes else 0) ≡ length bytes
+came_length remote from bytes h = ap (λ (b : Bool). if b then length bytes else 0) h
+
+-- a datagram is sent on a path that isn't blocked
+sent_path : {C : Type 0} → (came : ℕ) (ds : List Did) (p : Paths C) (size : ℕ) → size ≤ DATAGRAM_SIZE → is_blocked p ≡ false → KeepsPath came ds p (path_sent p size)
+unfolding is_blocked path_sent
+sent_path came ds p size small free = record {
+  same = refl;
+  validated = λ v. inl v;
+  received = omega arith;
+  ranged = λ r. r;
+  limited = λ r l not_yet. let few : p.current.sent < 3 * p.current.received = unblocked p.current.validated (nat_le (3 * p.current.received) p.current.sent) not_yet free refl in omega (arith, few);
+}
+  where
+    unblocked : (v b : Bool) → v ≡ false → (not v && b) ≡ false → nat_le (3 * p.current.received) p.current.sent ≡ b → p.current.sent < 3 * p.current.received
+    unblocked true b e f g = cc e
+    unblocked false true e f g = cc f
+    unblocked false false e f g = grind (arith, nat_tests)
+
+-- what is known of the datagrams of a transmit: they are one at most, which was begun on a path that wasn't blocked
+record IsWithin {C : Type 0} (p : Paths C) (b : Batch) : Type 0 where
+  pub few : b.total ≤ DATAGRAM_SIZE
+  pub free : 0 < b.made → is_blocked p ≡ false
+
+module _ {t : Types} where
+  -- from one moment to another, where the path stays as it was: the deeds between, by which it may have been validated
+  record StillAt (a b : At t) : Type 0 where
+    pub since : List Did
+    pub appended : b.did ≡ a.did ++ since
+    pub still : Still a.state.paths b.state.paths
+    pub shown : Shown since a.state.paths b.state.paths
+
+  at_here : (a : At t) → StillAt a a
+  at_here a = record { since = []; appended = sym (append-nil a.did); still = still_here a.state.paths; shown = λ v. inl v }
+
+  at_next : (a b c : At t) → StillAt a b → StillAt b c → StillAt a c
+  at_next a b c g h = record {
+    since = g.since ++ h.since;
+    appended = h.appended ∙ ap (λ (ds : List Did). ds ++ h.since) g.appended ∙ append_assoc a.did g.since h.since;
+    still = still_next a.state.paths b.state.paths c.state.paths g.still h.still;
+    shown = shown_next g.since h.since a.state.paths b.state.paths c.state.paths g.shown h.shown;
+  }
+
+  -- a move that tells nothing, or one deed, and leaves the path
+  silent_at : (x : Move t) (a : At t) → deeds_move x a.state ≡ [] → Still a.state.paths (paths_move x a.state) → Shown [] a.state.paths (paths_move x a.state) → StillAt a (move_to x a)
+  unfolding move_to state_move
+  silent_at x a none still shown = record { since = []; appended = ap (λ (ds : List Did). told a.did ds) none ∙ sym (append-nil a.did); still = still; shown = shown }
+
+  deed_at : (x : Move t) (d : Did) (a : At t) → deeds_move x a.state ≡ d ∷ [] → Still a.state.paths (paths_move x a.state) → Shown (d ∷ []) a.state.paths (paths_move x a.state) → StillAt a (move_to x a)
+  unfolding move_to state_move
+  deed_at x d a one still shown = record { since = d ∷ []; appended = ap (λ (ds : List Did). told a.did ds) one; still = still; shown = shown }
+
+  -- the moves of a packet that came
+  still_move : (x : Move t) → IsOfPiece x → (a : At t) → MayMove x a.state → StillAt a (move_to x a)
+  unfolding paths_move deeds_move path_kept peer_fixed
+  still_move (Forget id) r a h = silent_at (Forget id) a refl (kept_still a.state.paths (path_dropped id a.state.paths.current.kept)) (λ v. inl v)
+  still_move (Enter id n v) r a h = deed_at (Enter id n v) _ a refl (still_here a.state.paths) (λ v. inl v)
+  still_move Fail r a h = silent_at Fail a refl (still_here a.state.paths) (λ v. inl v)
+  still_move (Accept time id n e g v) r a h =
+      let greatest : Bool = nat_le (received_number a.state.numbers id) n in
+      let side : Side = a.state.setup.fixed.side in
+      deed_at (Accept time id n e g v) (did.Piece (Some id) (Some n) v) a refl (accepted_spun a.state.paths id v side greatest g.spin) (spun_after a.state.paths id n v side greatest g.spin)
+  still_move (Fix cid) r a h = silent_at (Fix cid) a refl (record { same = refl; received = refl; sent = refl; kept = λ v. v }) (λ v. inl v)
+  still_move (Ack id n after) r a h = silent_at (Ack id n after) a refl (kept_still a.state.paths after.path) (λ v. inl v)
+  still_move (Arm at) r a h = silent_at (Arm at) a refl (still_here a.state.paths) (λ v. inl v)
+  still_move (Come id offset bytes) r a h = silent_at (Come id offset bytes) a refl (still_here a.state.paths) (λ v. inl v)
+  still_move (Read id count session) r a h = silent_at (Read id count session) a refl (still_here a.state.paths) (λ v. inl v)
+  still_move (Write bytes keys session) r a h = silent_at (Write bytes keys session) a refl (still_here a.state.paths) (λ v. inl v)
+  still_move Ready r a h = silent_at Ready a refl (still_here a.state.paths) (λ v. inl v)
+  still_move (Token token) r a h = silent_at (Token token) a refl (still_here a.state.paths) (λ v. inl v)
+  still_move (Want time count) r a h = silent_at (Want time count) a refl (still_here a.state.paths) (λ v. inl v)
+  still_move (Learn parameters) r a h = silent_at (Learn parameters) a refl (still_here a.state.paths) (λ v. inl v)
+  still_move Confirm r a h = silent_at Confirm a refl (still_here a.state.paths) (λ v. inl v)
+  still_move Establish r a h = deed_at Establish _ a refl (still_here a.state.paths) (λ v. inl v)
+  still_move (Tell d) r a h = deed_at (Tell d) d a refl (still_here a.state.paths) (λ v. inl v)
+  still_move PeerClosesToo r a h = deed_at PeerClosesToo _ a refl (still_here a.state.paths) (λ v. inl v)
+  still_move (PeerCloses time) r a h = deed_at (PeerCloses time) _ a refl (still_here a.state.paths) (λ v. inl v)
+  still_move Owe r a h = silent_at Owe a refl (still_here a.state.paths) (λ v. inl v)
+  still_move (Shut time close) r a h = deed_at (Shut time close) _ a refl (still_here a.state.paths) (λ v. inl v)
+  still_move (Raise to) r a h = deed_at (Raise to) _ a refl (still_here a.state.paths) (λ v. inl v)
+  still_move (Give why) r a h = deed_at (Give why) _ a refl (still_here a.state.paths) (λ v. inl v)
+  still_move _ r a h = absurd r
+
+  -- the packets of a datagram
+  still_pieces : (m : Meaning t) (coming : Coming) (items : List DatagramItem) (a : At t) → StillAt a (pieces_after m coming items a)
+  still_pieces m coming items a = holds_pieces StillAt at_here at_next still_move m coming items a
+
+  -- setting the loss timer leaves the path, and tells nothing
+  freed_paths : (time : ℕ) (a : At t) (b : Bool) → (if b then armed_after time a else a).state.paths ≡ a.state.paths
+  unfolding armed_after armed_with move_to state_move paths_move
+  freed_paths time a true = refl
+  freed_paths time a false = refl
+
+  freed_did : (time : ℕ) (a : At t) (b : Bool) → (if b then armed_after time a else a).did ≡ a.did
+  unfolding armed_after armed_with move_to deeds_move
+  freed_did time a true = refl
+  freed_did time a false = refl
+
+  -- so many bytes count as received
+  counted_paths : (time : ℕ) (blocked : Bool) (n : ℕ) (a : At t) → (counted_after time blocked n a).state.paths ≡ path_received a.state.paths n
+  unfolding counted_after move_to state_move paths_move
+  counted_paths time blocked n a = let b : At t = move_to (Hear n) a in freed_paths time b (blocked && not (is_blocked b.state.paths))
+
+  pub counted_did : (time : ℕ) (blocked : Bool) (n : ℕ) (a : At t) → (counted_after time blocked n a).did ≡ a.did
+  unfolding counted_after move_to deeds_move
+  counted_did time blocked n a = let b : At t = move_to (Hear n) a in freed_did time b (blocked && not (is_blocked b.state.paths))
+
+  -- a datagram, where its bytes are those that count, or none
+  heard_by : (m : Meaning t) (coming : Coming) (blocked : Bool) (came : ℕ) (bytes : List ℕ) (items : List DatagramItem) (s : View t) (b : Bool) → (b ≡ true → came ≡ length bytes) →
+      let r : At t = if b then counted_after coming.time blocked (length bytes) (pieces_after m coming items (at s [])) else at s [] in KeepsPath came r.did s.paths r.state.paths
+  heard_by m coming blocked came bytes items s true h =
+      let q : At t = pieces_after m coming items (at s []) in
+      let r : At t = counted_after coming.time blocked (length bytes) q in
+      let pieces = still_pieces m coming items (at s []) in
+      subst (λ (n : ℕ). KeepsPath n r.did s.paths r.state.paths) (sym (h refl))
+      (subst (λ (ds : List Did). KeepsPath (length bytes) ds s.paths r.state.paths) (sym (counted_did coming.time blocked (length bytes) q ∙ pieces.appended))
+      (subst (λ (p : Paths t.C). KeepsPath (length bytes) pieces.since s.paths p) (sym (counted_paths coming.time blocked (length bytes) q)) (heard_path (length bytes) pieces.since s.paths q.state.paths pieces.still pieces.shown)))
+  heard_by m coming blocked came bytes items s false h = unchanged came [] s.paths
+
+  lets_same : (s : View t) (from : SocketAddr) → lets_in s from ≡ true → same_address s.paths.current.remote from ≡ true
+  unfolding lets_in
+  lets_same s from h = second_holds _ _ h
+
+  holds_heard : (m : Meaning t) (coming : Coming) (bytes : List ℕ) (s : View t) →
+      let r : At t = heard_after m coming bytes (at s []) in KeepsPath (if same_address s.paths.current.remote coming.remote then length bytes else 0) r.did s.paths r.state.paths
+  unfolding heard_after
+  holds_heard m coming bytes s =
+      heard_by m coming (is_blocked s.paths) _ bytes (cut_of s bytes) s (is_readable s bytes && lets_in s coming.remote)
+      (λ h. came_length s.paths.current.remote coming.remote bytes (lets_same s coming.remote (second_holds (is_readable s bytes) (lets_in s coming.remote) h)))
+
+  -- that a token is expected changes nothing of the path
+  expected_first : (m : Meaning t) (coming : Coming) (bytes token : List ℕ) (s : View t) →
+      let r : At t = heard_after m coming bytes (move_to (Expect token) (at s [])) in KeepsPath (if same_address s.paths.current.remote coming.remote then length bytes else 0) r.did s.paths r.state.paths
+  unfolding move_to state_move paths_move deeds_move
+  expected_first m coming bytes token s = holds_heard m coming bytes (state_move (Expect token) s)
+
+  holds_first : (m : Meaning t) (coming : Coming) (bytes : List ℕ) (token : Option (List ℕ)) (s : View t) →
+      let r : At t = first_after m coming bytes token (at s []) in KeepsPath (if same_address s.paths.current.remote coming.remote then length bytes else 0) r.did s.paths r.state.paths
+  holds_first m coming bytes None s = unchanged _ [] s.paths
+  holds_first m coming bytes (Some token) s = expected_first m coming bytes token s
+
+  datagram_by : (m : Meaning t) (coming : Coming) (bytes : List ℕ) (token : Option (List ℕ)) (s : View t) (b : Bool) →
+      let r : At t = if b then first_after m coming bytes token (at s []) else heard_after m coming bytes (at s []) in
+      KeepsPath (if same_address s.paths.current.remote coming.remote then length bytes else 0) r.did s.paths r.state.paths
+  datagram_by m coming bytes token s true = holds_first m coming bytes token s
+  datagram_by m coming bytes token s false = holds_heard m coming bytes s
+
+  pub path_datagram : (m : Meaning t) (coming : Coming) (bytes : List ℕ) (s : View t) →
+      let r : At t = datagram_after m coming bytes (at s []) in PathHolds (if same_address s.paths.current.remote coming.remote then length bytes else 0) r.did s.paths.current r.state.paths.current
+  unfolding datagram_after
+  path_datagram m coming bytes s = datagram_by m coming bytes (first_token m s coming.remote bytes) s (is_first_awaited s.setup)
+
+  -- the connection ends
+  killed_paths : (why : ConnectionError) (a : At t) (z : Bool) → let b : At t = move_to (Raise Drained) a in (if z then move_to (Give why) b else b).state.paths ≡ a.state.paths
+  unfolding move_to state_move paths_move
+  killed_paths why a true = refl
+  killed_paths why a false = refl
+
+  path_killed : (why : ConnectionError) (a : At t) → (move_to (Say Killed) (killed_after why a)).state.paths ≡ path_idle a.state.paths
+  unfolding killed_after given_after move_to state_move paths_move
+  path_killed why a = ap path_idle (killed_paths why a (is_none (move_to (Raise Drained) a).state.life.reason))
+
+  -- nothing is sealed
+  path_quiet : (quiet : Quiet) (ds : List Did) (a : At t) → KeepsPath 0 ds a.state.paths (move_to (Say quiet) a).state.paths
+  unfolding move_to state_move paths_move
+  path_quiet quiet ds a = idle_path 0 ds a.state.paths
+
+  -- leaving the Initial space
+  left_paths : (time : ℕ) (a : At t) (x : Bool) → (if x then armed_with false time (move_to (Forget Initial) a) else a).state.paths ≡ a.state.paths
+  unfolding armed_with move_to state_move paths_move path_dropped path_kept
+  left_paths time a true = refl
+  left_paths time a false = refl
+
+  path_left : (time : ℕ) (shook : Bool) (a : At t) → (handshake_left time shook a).state.paths ≡ a.state.paths
+  unfolding initial_left
+  path_left time true a = left_paths time a (drops_initial Client a.state Handshake)
+  path_left time false a = refl
+
+  -- this end closes behind a packet, or not
+  stopped_paths : (time : ℕ) (as_told : Close) (why : ConnectionError) (a : At t) (x y : Bool) → let b : At t = move_to (Shut time as_told) a in
+      (if x then (if y then move_to (Give why) b else b) else a).state.paths ≡ a.state.paths
+  unfolding move_to state_move paths_move
+  stopped_paths time as_told why a true true = refl
+  stopped_paths time as_told why a true false = refl
+  stopped_paths time as_told why a false y = refl
+
+  path_spared : (time : ℕ) (nearly : Bool) (a : At t) → (spared_after time nearly a).state.paths ≡ a.state.paths
+  unfolding spared_after stopped_after given_after
+  path_spared time true a =
+      let why : Close = close.Connection (record { error_code = key_limit_error.code; frame_type = key_limit_error.frame; reason = [] }) in
+      stopped_paths time why (lost.TransportError key_limit_error) a (is_open a.state.life.state) (is_none (move_to (Shut time why) a).state.life.reason)
+  path_spared time false a = refl
+
+  -- packets leave the path: their bytes count as the transmit ends
+  packet_move : (x : Move t) → IsPacketMove x → (a : At t) → MayMove x a.state → (move_to x a).state.paths ≡ a.state.paths
+  unfolding move_to state_move paths_move
+  packet_move (Begin id opens) r a h = refl
+  packet_move Skip r a h = refl
+  packet_move (Arm at) r a h = refl
+  packet_move _ r a h = absurd r
+
+  packet_sealed : (time : ℕ) (form : Form) (fs : List FrameValue) (a : At t) → IsSealable time a.state form fs →
+      (move_to (Seal time form (next_number a.state.numbers (number_space form)) (packet_size a.state form fs) fs) (move_to (Take (number_space form) fs) a)).state.paths ≡ a.state.paths
+  unfolding move_to state_move paths_move
+  packet_sealed time form fs a may = refl
+
+  path_packets : (m : Meaning t) (time : ℕ) (ps : List Sent) (g : Going t) → MayAll m time g ps → (packets_after m time ps g).now.state.paths ≡ g.now.state.paths
+  path_packets m time ps g may = holds_packets (λ (a b : At t). b.state.paths ≡ a.state.paths) (λ a. refl) (λ a b c p q. q ∙ p) packet_move packet_sealed m time ps g may
+
+  -- so it is behind its packets
+  within : (m : Meaning t) (time : ℕ) (ps : List Sent) (g : Going t) → g.batch.made ≡ 0 → g.batch.total ≡ 0 → g.batch.segment ≡ DATAGRAM_SIZE → MayAll m time g ps → IsWithin g.now.state.paths (packets_after m time ps g).batch
+  within m time [] g made total whole may = record { few = omega (arith, total); free = λ some. absurd (omega (arith, made, some)) }
+  within m time (p ∷ []) g made total whole may = record { few = packet_total m time p g may.0 total whole; free = λ some. may.0.begins.free }
+  within m time (p ∷ q ∷ ps) g made total whole may = absurd (omega (arith, packet_made m time p g may.0, may.1.0.alone))
+
+  -- what a transmit does once
+  path_finished : (time : ℕ) (b : Batch) (a : At t) → (finished_after time b a).state.paths ≡ path_sent a.state.paths b.total
+  unfolding finished_after move_to state_move paths_move
+  path_finished time b a =
+      let c : At t = handshake_left time b.shook a in
+      ap (λ (p : Paths t.C). path_sent p b.total) (path_spared time b.worn c ∙ path_left time b.shook a)
+
+  path_ending : (time : ℕ) (e : Ending) (b : Batch) (ds : List Did) (a : At t) → IsWithin a.state.paths b → MayEnd e a.state b → KeepsPath 0 ds a.state.paths (ending_after time e b a).state.paths
+  unfolding ending_after
+  path_ending time Went b ds a h may = subst (λ (p : Paths t.C). KeepsPath 0 ds a.state.paths p) (sym (path_finished time b a)) (sent_path 0 ds a.state.paths b.total h.few (h.free may))
+  path_ending time (Hushed quiet) b ds a h may = path_quiet quiet ds a
+  path_ending time (Died why) b ds a h may = subst (λ (p : Paths t.C). KeepsPath 0 ds a.state.paths p) (sym (path_killed why a)) (idle_path 0 ds a.state.paths)
+
+  path_transmit : (m : Meaning t) (time : ℕ) (choice : Choice) (ds : List Did) (a : At t) → MayTransmit m time choice a → KeepsPath 0 ds a.state.paths (transmit_after m time choice a).state.paths
+  unfolding MayTransmit transmit_after gone_after
+  path_transmit m time choice ds a may =
+      let g : Going t = packets_after m time choice.packets (going_from a) in
+      let same : g.now.state.paths ≡ a.state.paths = path_packets m time choice.packets (going_from a) may.0 in
+      let known : IsWithin g.now.state.paths g.batch = subst (λ (p : Paths t.C). IsWithin p g.batch) (sym same) (within m time choice.packets (going_from a) refl refl refl may.0) in
+      subst (λ (p : Paths t.C). KeepsPath 0 ds p (transmit_after m time choice a).state.paths) same (path_ending time choice.ending g.batch ds g.now known may.1)
+
+  -- the application closes, or has closed before
+  path_close : (time : ℕ) (close : Close) (ds : List Did) (a : At t) (b : Bool) → KeepsPath 0 ds a.state.paths (if b then move_to (Shut time close) a else a).state.paths
+  unfolding move_to state_move paths_move
+  path_close time close ds a true = unchanged 0 ds a.state.paths
+  path_close time close ds a false = unchanged 0 ds a.state.paths
+
+  -- of what a timer does, the address and the counts of the path stand still, and whether it is validated
+  abbrev Rests : At t → At t → Type 0
+  Rests a b = Still a.state.paths b.state.paths × (b.state.paths.current.validated ≡ a.state.paths.current.validated)
+
+  timed_paths : (x : Move t) → IsTimed x → (a : At t) → MayMove x a.state → Rests a (move_to x a)
+  unfolding move_to state_move paths_move path_kept
+  timed_paths (Fire after) r a h = (kept_still a.state.paths after.path, refl)
+  timed_paths (Arm at) r a h = (still_here a.state.paths, refl)
+  timed_paths Pace r a h = (still_here a.state.paths, refl)
+  timed_paths Release r a h = (still_here a.state.paths, refl)
+  timed_paths (Raise to) r a h = (still_here a.state.paths, refl)
+  timed_paths (Give why) r a h = (still_here a.state.paths, refl)
+  timed_paths _ r a h = absurd r
+
+  -- and so they do over a timeout
+  path_timeout : (m : Meaning t) (time : ℕ) (ds : List Did) (a : At t) → KeepsPath 0 ds a.state.paths (timeout_after m time a).state.paths
+  path_timeout m time ds a =
+      let rests : Rests a (timeout_after m time a) =
+      holds_timeout Rests (λ b. (still_here b.state.paths, refl)) (λ b c d g h. (still_next b.state.paths c.state.paths d.state.paths g.0 h.0, h.1 ∙ g.1)) timed_paths m time a in
+      still_holds 0 ds a.state.paths (timeout_after m time a).state.paths rests.0 (λ v. inl (sym rests.1 ∙ v))
+
+  -- each input
+  path_input : (m : Meaning t) (i : Input) (choice : Choice) (s : View t) → IsAllowed m i choice (at s []) → let r : At t = input_after m i choice (at s []) in KeepsPath (bytes_from s.paths.current.remote i) r.did s.paths r.state.paths
+  unfolding IsAllowed input_after close_after move_to state_move paths_move
+  path_input m (input.Datagram time from ecn bytes) choice s may = path_datagram m (record { time = time; remote = from; mark = ecn }) bytes s
+  path_input m (input.Timeout time) choice s may = path_timeout m time _ (at s [])
+  path_input m (input.Transmit time max) choice s may = path_transmit m time choice _ (at s []) may
+  path_input m (input.Close time code reason) choice s may = path_close time _ _ (at s []) (is_open s.life.state)
+  path_input m (input.Ping time) choice s may = unchanged 0 _ s.paths
+
+  -- a step
+  path_step : (m : Meaning t) (k : ℕ) (s : View t) (i : Input) (x : Step) (s' : View t) → IsStep m k s i x s' → KeepsPath (bytes_from s.paths.current.remote i) x.did s.paths s'.paths
+  unfolding called began step_after reported state_move paths_move
+  path_step m k s i x s' h =
+      let r : At t = input_after m i h.choice (began s (time_of i)) in
+      subst (λ (ds : List Did). KeepsPath (bytes_from s.paths.current.remote i) ds s.paths s'.paths) (sym h.deeds)
+      (subst (λ (p : Paths t.C). KeepsPath (bytes_from s.paths.current.remote i) r.did s.paths p) (sym h.paths) (path_input m i h.choice (began s (time_of i)).state h.allowed))
+
+  -- a run
+  pub path_run : (m : Meaning t) (k : ℕ) (s : View t) (is : List Input) (xs : List Step) (s' : View t) → Run m k s is xs s' → PathHolds (all_from s.paths.current.remote is) (deeds_of xs) s.paths.current s'.paths.current
+  unfolding Run
+  path_run m k s [] [] s' r = subst (λ (v : View t). KeepsPath 0 [] s.paths v.paths) (sym r) (unchanged 0 [] s.paths)
+  path_run m k s (i ∷ is) (x ∷ xs) s' r =
+      let first = path_step m k s i x r.0 r.1 in
+      holds_next (bytes_from s.paths.current.remote i) (all_from s.paths.current.remote is) x.did (deeds_of xs) s.paths r.0.paths s'.paths first
+      (subst (λ (remote : SocketAddr). KeepsPath (all_from remote is) (deeds_of xs) r.0.paths s'.paths) first.same (path_run m (k + 1) r.0 is xs s' r.2))
+  path_run m k s [] (x ∷ xs) s' r = absurd r
+  path_run m k s (i ∷ is) [] s' r = absurd r

@@ -1,0 +1,257 @@
+-- What is told of a packet that came, and that it gives to the layers what the applied frames of its payload give.
+use Rattle.std.proofs.Common.{◌≡◌, ◌⊎◌, inl, inr, ℕ, List, [], ◌∷◌, ◌++◌, length, refl, ap, ◌∙◌, Bool, true, false, Option, Some, None, if◌then◌else◌, append_assoc, append-nil}
+use Rattle.std.specs.Prelude.{not, Ok, Err}
+use Rattle.std.specs.List.{list_any}
+use Rattle.qc_base.specs.declared.side.Side.TheVariants.{Server}
+use Rattle.qc_base.specs.declared.side.SpaceId.{SpaceId}
+use Rattle.qc_base.specs.declared.side.SpaceId.TheVariants.{Initial}
+use Rattle.qc_frame.specs.Payload.{items_of}
+use Rattle.qc_header.specs.HeaderGrammar.{DatagramItem}
+use Rattle.qc_header.specs.Piece.{Piece, space_of}
+use Rattle.qc_state.specs.declared.coming.Coming.{Coming}
+use Rattle.qc_state.specs.declared.deeds.Did.{Did}
+use Rattle.qc_state.specs.declared.deeds.Did.TheVariants as did
+use Rattle.qc_state.specs.declared.deeds.Verdict.{Verdict}
+use Rattle.qc_state.specs.declared.deeds.Verdict.TheVariants as verdict
+use Rattle.qc_state.specs.declared.input.Input.TheVariants as input
+use Rattle.qc_state.specs.declared.life.ConnectionError.{ConnectionError}
+use Rattle.qc_state.specs.declared.life.ConnectionError.TheVariants as lost
+use Rattle.qc_state.specs.declared.life.State.TheVariants as state
+use Rattle.qc_state.specs.declared.opening.Opening.{Opening}
+use Rattle.qc_state.specs.declared.opening.Opening.TheVariants.{Unreadable, Unopened, Reserved, Opened}
+use Rattle.qc_state.specs.declared.opening.Signs.{Signs}
+use Rattle.qc_state.specs.declared.trace.Step.{Step}
+use Rattle.qc_state.specs.Keys.{fails_too_often, keys_dropped}
+use Rattle.qc_state.specs.Life.{is_over}
+use Rattle.qc_state.specs.Lower.{flight_dropped, stream_of}
+use Rattle.qc_state.specs.Moves.{Move, Accept, PeerClosesToo, Enter, Expect, Fail, Fix, Forget, Owe, Raise, Tell, armed_with, deeds_move, keys_move, life_move, lower_move, move_to, numbers_move, setup_move, state_move}
+use Rattle.qc_state.specs.Numbers.{number_accepted}
+use Rattle.qc_state.specs.Opening.{opening_of}
+use Rattle.qc_state.specs.Paths.{is_blocked}
+use Rattle.qc_laws.specs.PieceLaws.{Reading, TellsDatagram, TellsPiece, TellsPieces, gifts_by, opening_deed, opening_gifts, piece_deed, piece_gifts, reading_of}
+use Rattle.qc_state.specs.Receiving.{accepted_after, admitted_after, counted_after, cut_of, datagram_after, failed_after, first_after, first_token, fixed_after, fixes_peer, heard_after, is_close_item, is_eliciting_item, opening_after, payload_after, piece_after, pieces_after, piece_told, read_for_close, received_after, signs_of, verdict_after}
+use Rattle.qc_state.specs.Run.{IsStep, began, called, input_after}
+use Rattle.qc_state.specs.Sending.{drops_initial, initial_left}
+use Rattle.qc_state.specs.Stopping.{key_limit_error, killed_after, stopped_after, violation_at}
+use Rattle.qc_state.specs.Types.{Types, Meaning}
+use Rattle.qc_state.specs.Verdicts.{first_row, verdict_of}
+use Rattle.qc_state.specs.View.{View, At, at}
+use Rattle.qc_state.proofs.Ends.{holds_initial}
+use Rattle.qc_laws.proofs.PathsHold.{counted_did}
+use Rattle.qc_laws.proofs.Receives.{same_cut}
+use Rattle.qc_state.proofs.Telling.{told_appends}
+use Rattle.qc_laws.proofs.Gifts.{Along, Gives, accepted_next, ending_quiet, given_quiet, gives_here, gives_move, payload_gives, quiet_gives, quiet_next, stopped_quiet}
+
+-- ---- a packet by its verdict
+
+-- a packet that opened has one of five verdicts
+abbrev is_read : Verdict → Bool
+is_read verdict.Ignored = false
+is_read verdict.Failure = false
+is_read verdict.BadBits = false
+is_read _ = true
+
+read_by_row : (new closed early other : Bool) → is_read (first_row ((not new, verdict.Seen) ∷ (closed, verdict.ReadForClose) ∷ (early, verdict.NumberOnly) ∷ (other, verdict.AckOnly) ∷ []) verdict.Admitted) ≡ true
+read_by_row true true early other = refl
+read_by_row true false true other = refl
+read_by_row true false false true = refl
+read_by_row true false false false = refl
+read_by_row false closed early other = refl
+
+module _ {t : Types} where
+  -- a move tells of the packet, and what comes behind it gives these gifts
+  tells_then : (d : Did) (gifts : List Did) (x : Move t) (a b : At t) → deeds_move x a.state ≡ d ∷ [] → Gives gifts (move_to x a) b → TellsPiece d gifts a b
+  unfolding move_to
+  tells_then d gifts x a b one h = record {
+    others = h.since;
+    appended = h.appended ∙ ap (λ (ds : List Did). ds ++ h.since) (told_appends a.did (deeds_move x a.state) ∙ ap (λ (ds : List Did). a.did ++ ds) one) ∙ append_assoc a.did (d ∷ []) h.since;
+    one = h.pieces;
+    given = h.given;
+  }
+
+  -- what decides on its frames stands as they begin
+  left_along : (s : View t) (id : SpaceId) (r : Reading t.S) (blocked : Bool) (time : ℕ) (a : At t) (b : Bool) → Along s id r a.state →
+      let c : At t = if b then armed_with blocked time (move_to (Forget Initial) a) else a in Along s id r c.state
+  unfolding armed_with move_to state_move setup_move keys_move life_move numbers_move lower_move flight_dropped stream_of keys_dropped
+  left_along s id r blocked time a true h = record { fixed = h.fixed; highest = h.highest; life = h.life; next = h.next; skipped = h.skipped; stream = h.stream; session = h.session }
+  left_along s id r blocked time a false h = h
+
+  fixed_along : (s : View t) (id : SpaceId) (r : Reading t.S) (source : List ℕ) (a : At t) (b : Bool) → Along s id r a.state → let c : At t = if b then move_to (Fix source) a else a in Along s id r c.state
+  unfolding move_to state_move setup_move keys_move life_move numbers_move lower_move
+  fixed_along s id r source a true h = record { fixed = h.fixed; highest = h.highest; life = h.life; next = h.next; skipped = h.skipped; stream = h.stream; session = h.session }
+  fixed_along s id r source a false h = h
+
+  fixed_quiet : (source : List ℕ) (a : At t) (b : Bool) → Gives [] a (if b then move_to (Fix source) a else a)
+  unfolding deeds_move
+  fixed_quiet source a true = gives_move [] (Fix source) a refl refl
+  fixed_quiet source a false = gives_here a
+
+  accepted_along : (time : ℕ) (id : SpaceId) (number : ℕ) (e : Bool) (signs : Signs) (v : Verdict) (a : At t) → Along a.state id (reading_of a.state id) (move_to (Accept time id number e signs v) a).state
+  unfolding move_to state_move setup_move keys_move life_move numbers_move lower_move number_accepted
+  accepted_along time id number e signs v a = record { fixed = refl; highest = refl; life = refl; next = accepted_next id a.state.numbers number; skipped = refl; stream = refl; session = refl }
+
+  -- a packet that is admitted
+  admitted_tells : (m : Meaning t) (coming : Coming) (id : SpaceId) (spin : Bool) (source : List ℕ) (number : ℕ) (payload : List ℕ) (a : At t) →
+      TellsPiece (did.Piece (Some id) (Some number) verdict.Admitted) (gifts_by m a.state id payload verdict.Admitted) a (admitted_after m coming id spin source number payload a)
+  unfolding admitted_after accepted_after initial_left fixed_after deeds_move
+  admitted_tells m coming id spin source number payload a =
+      let r : Reading t.S = reading_of a.state id in
+      let accept : Move t = Accept coming.time id number (list_any is_eliciting_item (items_of payload)) (signs_of coming spin) verdict.Admitted in
+      let b : At t = move_to accept a in
+      let blocked : Bool = is_blocked b.state.paths in
+      let c : At t = initial_left Server blocked coming.time id b in
+      let d : At t = fixed_after id source c in
+      let at_b : Along a.state id r b.state = accepted_along coming.time id number (list_any is_eliciting_item (items_of payload)) (signs_of coming spin) verdict.Admitted a in
+      let at_c : Along a.state id r c.state = left_along a.state id r blocked coming.time b (drops_initial Server b.state id) at_b in
+      let at_d : Along a.state id r d.state = fixed_along a.state id r source c (fixes_peer id c.state) at_c in
+      let gifts : List Did = gifts_by m a.state id payload verdict.Admitted in
+      let e : At t = payload_after m coming id payload d in
+      tells_then (did.Piece (Some id) (Some number) verdict.Admitted) gifts accept a e refl
+      (quiet_gives gifts b c e (holds_initial (Gives []) gives_here quiet_next ending_quiet Server blocked coming.time id b)
+      (quiet_gives gifts c d e (fixed_quiet source c (fixes_peer id c.state)) (payload_gives m coming a.state id r payload d at_d)))
+
+  closing_quiet : (a : At t) (b : Bool) → Gives [] a (if b then move_to PeerClosesToo a else move_to Owe a)
+  unfolding deeds_move
+  closing_quiet a true = gives_move [] PeerClosesToo a refl refl
+  closing_quiet a false = gives_move [] Owe a refl refl
+
+  closing_tells : (id : SpaceId) (number : ℕ) (payload : List ℕ) (a : At t) → TellsPiece (did.Piece (Some id) (Some number) verdict.ReadForClose) [] a (read_for_close id number payload a)
+  unfolding read_for_close deeds_move
+  closing_tells id number payload a =
+      let enter : Move t = Enter id number verdict.ReadForClose in
+      tells_then (did.Piece (Some id) (Some number) verdict.ReadForClose) [] enter a _ refl (closing_quiet (move_to enter a) (list_any is_close_item (items_of payload)))
+
+  ack_only_tells : (coming : Coming) (id : SpaceId) (number : ℕ) (spin : Bool) (a : At t) → TellsPiece (did.Piece (Some id) (Some number) verdict.AckOnly) [] a (accepted_after coming id number false spin verdict.AckOnly a)
+  unfolding accepted_after deeds_move
+  ack_only_tells coming id number spin a =
+      let accept : Move t = Accept coming.time id number false (signs_of coming spin) verdict.AckOnly in
+      let b : At t = move_to accept a in
+      tells_then (did.Piece (Some id) (Some number) verdict.AckOnly) [] accept a _ refl (holds_initial (Gives []) gives_here quiet_next ending_quiet Server (is_blocked b.state.paths) coming.time id b)
+
+  verdict_tells : (m : Meaning t) (coming : Coming) (id : SpaceId) (spin : Bool) (source : List ℕ) (number : ℕ) (payload : List ℕ) (v : Verdict) (a : At t) → is_read v ≡ true →
+      TellsPiece (did.Piece (Some id) (Some number) v) (gifts_by m a.state id payload v) a (verdict_after m coming id spin source number payload v a)
+  unfolding deeds_move
+  verdict_tells m coming id spin source number payload verdict.Ignored a h = cc
+  verdict_tells m coming id spin source number payload verdict.Failure a h = cc
+  verdict_tells m coming id spin source number payload verdict.BadBits a h = cc
+  verdict_tells m coming id spin source number payload verdict.Seen a h =
+      let tell : Move t = Tell (did.Piece (Some id) (Some number) verdict.Seen) in
+      tells_then (did.Piece (Some id) (Some number) verdict.Seen) [] tell a _ refl (gives_here (move_to tell a))
+  verdict_tells m coming id spin source number payload verdict.ReadForClose a h = closing_tells id number payload a
+  verdict_tells m coming id spin source number payload verdict.NumberOnly a h =
+      let enter : Move t = Enter id number verdict.NumberOnly in
+      tells_then (did.Piece (Some id) (Some number) verdict.NumberOnly) [] enter a _ refl (gives_here (move_to enter a))
+  verdict_tells m coming id spin source number payload verdict.AckOnly a h = ack_only_tells coming id number spin a
+  verdict_tells m coming id spin source number payload verdict.Admitted a h = admitted_tells m coming id spin source number payload a
+
+  read_row : (s : View t) (id : SpaceId) (source token : List ℕ) (number : ℕ) → is_read (verdict_of s id source token number) ≡ true
+  unfolding verdict_of
+  read_row s id source token number = read_by_row _ _ _ _
+
+  pub received_tells : (m : Meaning t) (coming : Coming) (id : SpaceId) (spin : Bool) (source token : List ℕ) (number : ℕ) (payload : List ℕ) (a : At t) →
+      let v : Verdict = verdict_of a.state id source token number in
+      TellsPiece (did.Piece (Some id) (Some number) v) (gifts_by m a.state id payload v) a (received_after m coming id spin source token number payload a)
+  unfolding received_after
+  received_tells m coming id spin source token number payload a =
+      verdict_tells m coming id spin source number payload (verdict_of a.state id source token number) a (read_row a.state id source token number)
+
+  -- ---- a packet that came
+
+  told_as : (d : Did) (a : At t) → TellsPiece d [] a (move_to (Tell d) a)
+  unfolding deeds_move
+  told_as d a = tells_then d [] (Tell d) a _ refl (gives_here (move_to (Tell d) a))
+
+  killed_by : (why : ConnectionError) (a : At t) (b : Bool) → Gives [] a (if b then killed_after why a else a)
+  unfolding killed_after deeds_move
+  killed_by why a true = let b : At t = move_to (Raise state.Drained) a in quiet_next a b _ (gives_move [] (Raise state.Drained) a refl refl) (given_quiet why b)
+  killed_by why a false = gives_here a
+
+  -- a move without a deed comes before
+  tells_behind : (d : Did) (gifts : List Did) (x : Move t) (a b : At t) → deeds_move x a.state ≡ [] → TellsPiece d gifts (move_to x a) b → TellsPiece d gifts a b
+  unfolding move_to
+  tells_behind d gifts x a b none h = record {
+    others = h.others;
+    appended = h.appended ∙ ap (λ (ds : List Did). ds ++ d ∷ h.others) (told_appends a.did (deeds_move x a.state) ∙ ap (λ (ds : List Did). a.did ++ ds) none ∙ append-nil a.did);
+    one = h.one;
+    given = h.given;
+  }
+
+  failed_tells : (space : Option SpaceId) (a : At t) → TellsPiece (did.Piece space None verdict.Failure) [] a (failed_after space a)
+  unfolding failed_after deeds_move
+  failed_tells space a =
+      let d : Did = did.Piece space None verdict.Failure in
+      let b : At t = move_to Fail a in
+      let c : At t = move_to (Tell d) b in
+      tells_behind d [] Fail a _ refl (tells_then d [] (Tell d) b _ refl (killed_by (lost.TransportError key_limit_error) c (fails_too_often c.state.keys)))
+
+  reserved_tells : (time : ℕ) (space : Option SpaceId) (number : ℕ) (a : At t) → TellsPiece (did.Piece space (Some number) verdict.BadBits) [] a (stopped_after time (violation_at None) (piece_told space (Some number) verdict.BadBits a))
+  unfolding deeds_move
+  reserved_tells time space number a =
+      let d : Did = did.Piece space (Some number) verdict.BadBits in
+      tells_then d [] (Tell d) a _ refl (stopped_quiet time (violation_at None) (move_to (Tell d) a))
+
+  opening_tells : (m : Meaning t) (coming : Coming) (space : Option SpaceId) (o : Opening) (a : At t) →
+      TellsPiece (opening_deed a.state space o) (opening_gifts m a.state space o) a (opening_after m coming space o a)
+  opening_tells m coming space Unreadable a = told_as (did.Piece space None verdict.Ignored) a
+  opening_tells m coming space Unopened a = failed_tells space a
+  opening_tells m coming space (Reserved number) a = reserved_tells coming.time space number a
+  opening_tells m coming (Some id) (Opened source token spin number payload) a = received_tells m coming id spin source token number payload a
+  opening_tells m coming None (Opened source token spin number payload) a = told_as (did.Piece None None verdict.Ignored) a
+
+  piece_by : (m : Meaning t) (coming : Coming) (space : Option SpaceId) (o : Opening) (a : At t) (b : Bool) →
+      TellsPiece (if b then did.Piece space None verdict.Ignored else opening_deed a.state space o) (if b then [] else opening_gifts m a.state space o) a
+      (if b then piece_told space None verdict.Ignored a else opening_after m coming space o a)
+  piece_by m coming space o a true = told_as (did.Piece space None verdict.Ignored) a
+  piece_by m coming space o a false = opening_tells m coming space o a
+
+  pub piece_tells : (m : Meaning t) (coming : Coming) (p : Piece) (a : At t) → TellsPiece (piece_deed m a.state p) (piece_gifts m a.state p) a (piece_after m coming p a)
+  unfolding piece_after
+  piece_tells m coming p a = piece_by m coming (space_of p.header) (opening_of m a.state p) a (is_over a.state.life.state)
+
+  -- the packets of a datagram
+  pub pieces_tell : (m : Meaning t) (coming : Coming) (items : List DatagramItem) (a : At t) → TellsPieces m coming items a
+  unfolding TellsPieces
+  pieces_tell m coming [] a = tt
+  pieces_tell m coming (Err fault ∷ items) a = tt
+  pieces_tell m coming (Ok p ∷ items) a = (piece_tells m coming p a, pieces_tell m coming items (piece_after m coming p a))
+
+  -- a datagram that is heard, or dropped, where a token may be expected before
+  heard_by : (m : Meaning t) (coming : Coming) (blocked : Bool) (n : ℕ) (bytes : List ℕ) (a c : At t) (b : Bool) → (c ≡ a) ⊎ ((token : List ℕ) × (c ≡ move_to (Expect token) a)) →
+      cut_of c.state bytes ≡ cut_of a.state bytes → TellsDatagram m coming bytes a (if b then counted_after coming.time blocked n (pieces_after m coming (cut_of c.state bytes) c) else c)
+  unfolding TellsPieces
+  heard_by m coming blocked n bytes a c true begins same = record {
+    items = cut_of c.state bytes;
+    cut = inr same;
+    start = c;
+    begins = begins;
+    told = pieces_tell m coming (cut_of c.state bytes) c;
+    ends = counted_did coming.time blocked n (pieces_after m coming (cut_of c.state bytes) c);
+  }
+  heard_by m coming blocked n bytes a c false begins same = record { items = []; cut = inl refl; start = c; begins = begins; told = tt; ends = refl }
+
+  heard_tells : (m : Meaning t) (coming : Coming) (bytes : List ℕ) (a c : At t) → (c ≡ a) ⊎ ((token : List ℕ) × (c ≡ move_to (Expect token) a)) →
+      cut_of c.state bytes ≡ cut_of a.state bytes → TellsDatagram m coming bytes a (heard_after m coming bytes c)
+  unfolding heard_after
+  heard_tells m coming bytes a c begins same = heard_by m coming (is_blocked c.state.paths) (length bytes) bytes a c _ begins same
+
+  first_tells : (m : Meaning t) (coming : Coming) (bytes : List ℕ) (token : Option (List ℕ)) (a : At t) → TellsDatagram m coming bytes a (first_after m coming bytes token a)
+  unfolding TellsPieces
+  first_tells m coming bytes None a = record { items = []; cut = inl refl; start = a; begins = inl refl; told = tt; ends = refl }
+  first_tells m coming bytes (Some token) a = heard_tells m coming bytes a (move_to (Expect token) a) (inr (token, refl)) (same_cut token bytes a)
+
+  datagram_by : (m : Meaning t) (coming : Coming) (bytes : List ℕ) (token : Option (List ℕ)) (a : At t) (b : Bool) →
+      TellsDatagram m coming bytes a (if b then first_after m coming bytes token a else heard_after m coming bytes a)
+  datagram_by m coming bytes token a true = first_tells m coming bytes token a
+  datagram_by m coming bytes token a false = heard_tells m coming bytes a a (inl refl) refl
+
+  pub datagram_tells : (m : Meaning t) (coming : Coming) (bytes : List ℕ) (a : At t) → TellsDatagram m coming bytes a (datagram_after m coming bytes a)
+  unfolding datagram_after
+  datagram_tells m coming bytes a = datagram_by m coming bytes (first_token m a.state coming.remote bytes) a _
+
+  -- a step over a datagram tells that
+  pub step_tells : (m : Meaning t) (k : ℕ) (s : View t) (coming : Coming) (bytes : List ℕ) (x : Step) (s' : View t) →
+      IsStep m k s (input.Datagram coming.time coming.remote coming.mark bytes) x s' → TellsDatagram m coming bytes (began s coming.time) (at s' x.did)
+  unfolding called input_after
+  step_tells m k s coming bytes x s' h =
+      let told = datagram_tells m coming bytes (began s coming.time) in
+      record { items = told.items; cut = told.cut; start = told.start; begins = told.begins; told = told.told; ends = h.deeds ∙ told.ends }

@@ -1,0 +1,13 @@
+pub mod AckLaws
+pub mod CryptoLaws
+pub mod DatagramLaws
+pub mod EndLaws
+pub mod EventLaws
+pub mod InitialLaws
+pub mod KeyLaws
+pub mod MarkLaws
+pub mod PathLaws
+pub mod PieceLaws
+pub mod RecoveryLaws
+pub mod StreamLaws
+pub mod TimerLaws

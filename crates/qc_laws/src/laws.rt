@@ -1,0 +1,203 @@
+//! What follows from the laws of runs.
+
+ghost use Rattle.std.specs.Prelude.{◌≡◌, ◌⊎◌, ◌∷◌, ◌++◌, ℕ, length, Bool, true, false, if◌then◌else◌, List, [], Option, Some, Ok};
+ghost use Rattle.qc_base.specs.declared.side.SpaceId.{SpaceId};
+ghost use Rattle.qc_frame.specs.Frame.{FrameValue};
+ghost use Rattle.qc_header.specs.HeaderReading.{piece_at};
+ghost use Rattle.qc_header.specs.Piece.{Piece};
+ghost use Rattle.qc_path.specs.Arrived.{Remembers, Window, is_among};
+ghost use Rattle.qc_laws.specs.AckLaws.{AckHolds, EachHoldsAck};
+ghost use Rattle.qc_laws.specs.CryptoLaws.{KeepsBytes};
+ghost use Rattle.qc_laws.specs.DatagramLaws.{DatagramHolds};
+ghost use Rattle.qc_laws.specs.EndLaws.{Ends};
+ghost use Rattle.qc_laws.specs.EventLaws.{EachTells, OnlyDoneWaits, TellsOnce, untold_of};
+ghost use Rattle.qc_state.specs.Headline.{deeds_of, accepted_in, is_datagram, AcksOnly, EachAcksKnown, EachNew, Harmless, IsKept, NoneTwice};
+ghost use Rattle.qc_laws.specs.InitialLaws.{LeavesInitial};
+ghost use Rattle.qc_laws.specs.KeyLaws.{KeysHold};
+ghost use Rattle.qc_laws.specs.MarkLaws.{EachTold};
+ghost use Rattle.qc_state.specs.Opening.{opening_of};
+ghost use Rattle.qc_laws.specs.PathLaws.{IdsHold, PathHolds, all_from};
+ghost use Rattle.qc_state.specs.Paths.{same_address};
+ghost use Rattle.qc_laws.specs.PieceLaws.{TellsDatagram, TellsPiece, given_in, piece_deed, piece_gifts, pieces_in};
+ghost use Rattle.qc_state.specs.Receiving.{datagram_after, event_after, first_packet_after, first_token, piece_after};
+ghost use Rattle.qc_laws.specs.RecoveryLaws.{EachSettlesOnce, Recovers};
+ghost use Rattle.qc_state.specs.Run.{IsStep, Run, began, placed_behind};
+ghost use Rattle.qc_state.specs.Setup.{is_first_awaited};
+ghost use Rattle.qc_laws.specs.StreamLaws.{GivesStream};
+ghost use Rattle.qc_laws.specs.TimerLaws.{KeepsTimer};
+ghost use Rattle.qc_state.specs.View.{View, At, at};
+ghost use Rattle.qc_state.specs.declared.coming.Coming.{Coming};
+ghost use Rattle.qc_state.specs.declared.deeds.Did.{Did};
+ghost use Rattle.qc_state.specs.declared.deeds.Did.TheVariants as did;
+ghost use Rattle.qc_state.specs.declared.input.Input.{Input};
+ghost use Rattle.qc_state.specs.declared.input.Input.TheVariants as input;
+ghost use Rattle.qc_state.specs.declared.opening.Opening.TheVariants.{Opened};
+ghost use Rattle.qc_state.specs.declared.trace.Step.{Step};
+
+use qc_state::suite::{Means, Suite};
+
+/// A law, which runs no code. Numbers of which each is new as its turn comes, in a window that remembers what came before,
+/// are different from one another and from all that came before: so no packet number is admitted twice in its space.
+pub fn numbers_count_once()
+    ensures once { (came ns : List ℕ) (w : Window) → Remembers came w → EachNew w ns → NoneTwice ns }
+    ensures before { (came ns : List ℕ) (w : Window) → Remembers came w → EachNew w ns → (m : ℕ) → is_among came m ≡ true → is_among ns m ≡ false }
+{}
+
+/// A law, which runs no code. A run, and another one that begins where it ended, are one run over both lists of inputs: so the
+/// traces of two calls of `drive`, one after the other, are a trace, where the steps of the second are counted behind those of
+/// the first.
+pub fn runs_join<U: Suite>()
+    ensures { (s mid last : View ⟦<U as Means>⟧.types) (is js : List Input) (xs ys : List Step) → Run ⟦<U as Means>⟧.meaning 0 s is xs mid → Run ⟦<U as Means>⟧.meaning 0 mid js ys last → Run ⟦<U as Means>⟧.meaning 0 s (is ++ js) (xs ++ placed_behind (length xs) ys) last }
+{}
+
+/// A law, which runs no code. Where the steps from a view on acknowledge known numbers only, each number that a sealed ACK
+/// acknowledges is that of a packet which was accepted in its space by a deed before the sealing, or was kept to be
+/// acknowledged at the start.
+pub fn acks_were_accepted<U: Suite>()
+    ensures { (s : View ⟦<U as Means>⟧.types) (xs : List Step) (id : SpaceId) (ds es : List Did) (number epoch : ℕ) (early : Bool) (fs : List FrameValue) → EachAcksKnown s xs → deeds_of xs ≡ ds ++ did.Sealed id number epoch early fs ∷ es → AcksOnly (λ n. (is_among (accepted_in id ds) n ≡ true) ⊎ IsKept id s.waiting n) fs }
+{}
+
+/// A law, which runs no code. Over a run the path keeps its address, which is validated only where it was before or a Handshake
+/// packet was admitted; no more bytes count as received on it than came in datagrams from that address; and what is sent to an address that isn't validated stays less than three times what came from
+/// it, and one datagram (RFC 9000, 8.1).
+pub fn paths_hold<U: Suite>()
+    ensures { (s last : View ⟦<U as Means>⟧.types) (k : ℕ) (is : List Input) (xs : List Step) → Run ⟦<U as Means>⟧.meaning k s is xs last → PathHolds (all_from s.paths.current.remote is) (deeds_of xs) s.paths.current last.paths.current }
+{}
+
+/// A law, which runs no code. Over a run the id that the peer chose stays, once it is known; until it is, packets carry the id that they
+/// carried; and from then on they carry the chosen one (RFC 9000, 7.2).
+pub fn ids_hold<U: Suite>()
+    ensures { (s last : View ⟦<U as Means>⟧.types) (k : ℕ) (is : List Input) (xs : List Step) → Run ⟦<U as Means>⟧.meaning k s is xs last → IdsHold s.paths last.paths }
+{}
+
+/// A law, which runs no code. Over a run no key seals more packets than it may (RFC 9001, 6.6): each packet that is sealed under
+/// it counts, and the count stays within the limit. Of 1-RTT keys each epoch has a count of its own.
+pub fn keys_hold<U: Suite>()
+    ensures { (s last : View ⟦<U as Means>⟧.types) (k : ℕ) (is : List Input) (xs : List Step) → Run ⟦<U as Means>⟧.meaning k s is xs last → KeysHold s.keys → KeysHold last.keys }
+{}
+
+/// A law, which runs no code. Over a run a connection of which an end has closed comes to its end: while it is closed, or drains, the
+/// close timer stands (RFC 9000, 10.2), and once it has drained, no timer does; and a close is owed only where an end has closed.
+pub fn ends_hold<U: Suite>()
+    ensures { (s last : View ⟦<U as Means>⟧.types) (k : ℕ) (is : List Input) (xs : List Step) → Run ⟦<U as Means>⟧.meaning k s is xs last → Ends s → Ends last }
+{}
+
+/// A law, which runs no code. Over a run no Initial packet is sealed behind a Handshake packet that a client sealed, or that a server
+/// accepted, nor where the space had no keys: with such a packet an end leaves the Initial space (RFC 9001, 4.9.1), whose keys it drops.
+pub fn initial_is_left<U: Suite>()
+    ensures { (s last : View ⟦<U as Means>⟧.types) (k : ℕ) (is : List Input) (xs : List Step) → Run ⟦<U as Means>⟧.meaning k s is xs last → LeavesInitial (deeds_of xs) s last }
+{}
+
+/// A law, which runs no code. Over a run what loss recovery keeps, of the packets and of the path, is what its own steps leave, one after
+/// the other: each is a packet that was sealed, an ACK that came, the loss timer that fired, or a space whose keys were dropped, and what
+/// recovery makes of it. The packets that are put in flight are those that were sealed, but for closes. So each packet that was in flight or
+/// was sealed is acknowledged, lost, dropped with its space or in flight, and that once (RFC 9002).
+pub fn recovery_is_folded<U: Suite>()
+    ensures folded { (s last : View ⟦<U as Means>⟧.types) (k : ℕ) (is : List Input) (xs : List Step) → Run ⟦<U as Means>⟧.meaning k s is xs last → Ends s → Recovers ⟦<U as Means>⟧.meaning (deeds_of xs) s last }
+    ensures settled { (s last : View ⟦<U as Means>⟧.types) (k : ℕ) (is : List Input) (xs : List Step) → Run ⟦<U as Means>⟧.meaning k s is xs last → Ends s → EachSettlesOnce (deeds_of xs) s last }
+{}
+
+/// A law, which runs no code. Over a run, while the connection is open, each byte that the session wrote in a space with keys waits to be
+/// sealed, is in flight, or was acknowledged: a packet that has it in a CRYPTO frame is in flight, or is one of those that recovery's
+/// steps acknowledged, or was acknowledged before (RFC 9000, 13.3).
+pub fn bytes_are_kept<U: Suite>()
+    ensures { (s last : View ⟦<U as Means>⟧.types) (k : ℕ) (is : List Input) (xs : List Step) → Run ⟦<U as Means>⟧.meaning k s is xs last → Ends s → KeepsBytes ⟦<U as Means>⟧.meaning (deeds_of xs) s last }
+{}
+
+/// A law, which runs no code. Over a run, while the connection is open, the loss timer stands where an acknowledgement is waited for:
+/// a packet is in flight that elicits one, in the Initial or the Handshake space, or in Data, where the handshake is over and one that
+/// counts was sealed since. It stands too where a client has to probe with nothing in flight, since the server may not have validated
+/// its address; unless the path is blocked (RFC 9002, 6.2.1 and 6.2.2.1; RFC 9000, 8.1).
+pub fn loss_timer_stands<U: Suite>()
+    ensures { (s last : View ⟦<U as Means>⟧.types) (k : ℕ) (is : List Input) (xs : List Step) → Run ⟦<U as Means>⟧.meaning k s is xs last → Ends s → KeepsTimer (deeds_of xs) s last }
+{}
+
+/// A law, which runs no code. Over a run an ACK of 1-RTT packets is held back for 25 ms at most: its timer is set with the packet that asks
+/// for it, and stands until it comes, and then the ACK is owed, where there is something to acknowledge; unless an ACK was sealed, in
+/// whatever space. And where a packet that elicits an acknowledgement came since the last ACK, one is owed or held back, where it was so
+/// at the start (RFC 9000, 13.2.1).
+pub fn held_acks_wait<U: Suite>()
+    ensures each { (s last : View ⟦<U as Means>⟧.types) (k : ℕ) (is : List Input) (xs : List Step) → Run ⟦<U as Means>⟧.meaning k s is xs last → AckHolds s → EachHoldsAck ⟦<U as Means>⟧.meaning k s is xs last }
+    ensures kept { (s last : View ⟦<U as Means>⟧.types) (k : ℕ) (is : List Input) (xs : List Step) → Run ⟦<U as Means>⟧.meaning k s is xs last → AckHolds s → AckHolds last }
+{}
+
+/// A law, which runs no code. Over a run the session is given the bytes of each space's CRYPTO stream in order, each once: what the space
+/// keeps of the stream is what bytes that came and reads in order leave, and what the reads gave, one behind the other, is what the
+/// session was given. So from a new connection on it is the front of what came, from offset 0 on (RFC 9000, 19.6).
+pub fn session_is_given_its_stream<U: Suite>()
+    ensures { (id : SpaceId) (s last : View ⟦<U as Means>⟧.types) (k : ℕ) (is : List Input) (xs : List Step) → Run ⟦<U as Means>⟧.meaning k s is xs last → GivesStream id (deeds_of xs) s last }
+{}
+
+/// A law, which runs no code. Over a run just what came to pass is told, in the step in which it did, and each thing at most once: a
+/// loss for the reason of the end, that the handshake is over, and to the endpoint the end; where only what came to pass waited to be
+/// told at the start, as in a new connection, in which nothing waits. So it is again where the run ends.
+pub fn events_told<U: Suite>()
+    ensures done { (s last : View ⟦<U as Means>⟧.types) (k : ℕ) (is : List Input) (xs : List Step) → Run ⟦<U as Means>⟧.meaning k s is xs last → OnlyDoneWaits s.life → EachTells (untold_of s.life) xs }
+    ensures once { (s last : View ⟦<U as Means>⟧.types) (k : ℕ) (is : List Input) (xs : List Step) → Run ⟦<U as Means>⟧.meaning k s is xs last → OnlyDoneWaits s.life → TellsOnce s.life xs }
+    ensures stays { (s last : View ⟦<U as Means>⟧.types) (k : ℕ) (is : List Input) (xs : List Step) → Run ⟦<U as Means>⟧.meaning k s is xs last → OnlyDoneWaits s.life → OnlyDoneWaits last.life }
+{}
+
+/// A law, which runs no code. Over a run each ACK that is sealed in a space has counts of ECN marks exactly where a packet of the
+/// connection was accepted before whose datagram carried one, and they say how many packets of the space were accepted with each
+/// mark, as the inputs' datagrams carried them (RFC 9000, 13.4.1 and 19.3.2); what the space had counted at the start counts too.
+pub fn marks_are_told<U: Suite>()
+    ensures { (s last : View ⟦<U as Means>⟧.types) (k : ℕ) (is : List Input) (xs : List Step) → Run ⟦<U as Means>⟧.meaning k s is xs last → EachTold s is xs }
+{}
+
+/// A law, which runs no code. Where all inputs of a run are datagrams, and each of its deeds tells of a packet that was ignored
+/// or that its key didn't open, only counts change: that of the packets which didn't open, that of the bytes which came from the
+/// path's address, and the greatest time. The loss timer changes only where no datagram could be begun before. What waited to be
+/// reported is reported, and all else stays as it was. So bytes that don't open do no harm.
+pub fn harmless_bytes<U: Suite>()
+    ensures { (s last : View ⟦<U as Means>⟧.types) (k : ℕ) (is : List Input) (xs : List Step) → Run ⟦<U as Means>⟧.meaning k s is xs last → Harmless s is xs last }
+{}
+
+/// A law, which runs no code. What one datagram does keeps the laws of runs, whichever call it is handed to: no packet number counts
+/// twice, the life doesn't fall, at most one reason for the end is given, the path holds, and where no packet opens only counts
+/// change, and the loss timer where no datagram could be begun before.
+pub fn datagrams_keep<U: Suite>()
+    ensures { (s : View ⟦<U as Means>⟧.types) (coming : Coming) (bytes : List ℕ) → let r : At ⟦<U as Means>⟧.types = datagram_after ⟦<U as Means>⟧.meaning coming bytes (at s []) in DatagramHolds (if same_address s.paths.current.remote coming.remote then length bytes else 0) r.did s r.state }
+{}
+
+/// A law, which runs no code. The deeds of a packet that came begin with the one that tells of it, and no other
+/// tells of a packet: it has a number only where the packet opened, and that is the packet's, with the first
+/// verdict whose row holds. Behind it, what is given to the layers is what the applied frames of the packet's
+/// payload give, in order, if it is admitted, and nothing else: those are its frames up to the first that stops it,
+/// or outside of 1-RTT packets up to and with the first close (RFC 9000, 10.2.2 and 12.4). The session is given, in
+/// one call a CRYPTO frame, the bytes of the space's stream that can be read in order once that frame's came; any
+/// other layer the frame as it is spelled.
+pub fn packets_tell<U: Suite>()
+    ensures { (a : At ⟦<U as Means>⟧.types) (coming : Coming) (p : Piece) → TellsPiece (piece_deed ⟦<U as Means>⟧.meaning a.state p) (piece_gifts ⟦<U as Means>⟧.meaning a.state p) a (piece_after ⟦<U as Means>⟧.meaning coming p a) }
+{}
+
+/// A law, which runs no code. What a datagram tells is what its packets tell, one after the other, or nothing where
+/// it is dropped.
+pub fn datagrams_tell<U: Suite>()
+    ensures { (a : At ⟦<U as Means>⟧.types) (coming : Coming) (bytes : List ℕ) → TellsDatagram ⟦<U as Means>⟧.meaning coming bytes a (datagram_after ⟦<U as Means>⟧.meaning coming bytes a) }
+{}
+
+/// A law, which runs no code. So it is in a run: the deeds of a step over a datagram are what the datagram tells,
+/// from where the call began. Each number that the step accepts is that of a packet of this datagram which opened,
+/// and each frame that is told as given stands behind such a packet, and in its payload.
+pub fn steps_tell<U: Suite>()
+    ensures { (s s' : View ⟦<U as Means>⟧.types) (k : ℕ) (coming : Coming) (bytes : List ℕ) (x : Step) → IsStep ⟦<U as Means>⟧.meaning k s (input.Datagram coming.time coming.remote coming.mark bytes) x s' → TellsDatagram ⟦<U as Means>⟧.meaning coming bytes (began s coming.time) (at s' x.did) }
+{}
+
+/// A law, which runs no code. Only a datagram does so: a step over another input, a transmit, a timeout, a close or a ping, tells
+/// of no packet that came (`pieces`), and that nothing was given to a layer (`given`).
+pub fn datagrams_alone_tell<U: Suite>()
+    ensures pieces { (s s' : View ⟦<U as Means>⟧.types) (k : ℕ) (i : Input) (x : Step) → is_datagram i ≡ false → IsStep ⟦<U as Means>⟧.meaning k s i x s' → pieces_in x.did ≡ [] }
+    ensures given { (s s' : View ⟦<U as Means>⟧.types) (k : ℕ) (i : Input) (x : Step) → is_datagram i ≡ false → IsStep ⟦<U as Means>⟧.meaning k s i x s' → given_in x.did ≡ [] }
+{}
+
+/// A law, which runs no code. A datagram whose first packet was cut from it, as the connection cuts it, does what it does as a
+/// whole, unless a server's first packet is awaited.
+pub fn events_are_datagrams<U: Suite>()
+    ensures { (a : At ⟦<U as Means>⟧.types) (coming : Coming) (p : Piece) (behind bytes : List ℕ) → piece_at (length a.state.setup.fixed.local_cid) (a.state.setup.fixed.version ∷ []) a.state.setup.fixed.grease_quic_bit bytes ≡ Ok (p, behind) → is_first_awaited a.state.setup ≡ false → event_after ⟦<U as Means>⟧.meaning coming p behind a ≡ datagram_after ⟦<U as Means>⟧.meaning coming bytes a }
+{}
+
+/// A law, which runs no code. Where a server's first packet is awaited, and a datagram may hold it: once that packet was cut from
+/// the datagram and opened, it does what the datagram does as a whole.
+pub fn first_packets_are_datagrams<U: Suite>()
+    ensures { (a : At ⟦<U as Means>⟧.types) (coming : Coming) (p : Piece) (source token : List ℕ) (spin : Bool) (number : ℕ) (payload behind bytes : List ℕ) → piece_at (length a.state.setup.fixed.local_cid) (a.state.setup.fixed.version ∷ []) a.state.setup.fixed.grease_quic_bit bytes ≡ Ok (p, behind) → is_first_awaited a.state.setup ≡ true → first_token ⟦<U as Means>⟧.meaning a.state coming.remote bytes ≡ Some token → opening_of ⟦<U as Means>⟧.meaning a.state p ≡ Opened source token spin number payload → first_packet_after ⟦<U as Means>⟧.meaning coming source token number payload behind (length bytes) a ≡ datagram_after ⟦<U as Means>⟧.meaning coming bytes a }
+{}

@@ -1,5 +1,0 @@
-use Rattle.qc_state.proofs.AcksBefore.{acks_before}
-use Rattle.qc_state.proofs.laws.acks_were_accepted.Goals as goal
-
-pub returns : goal.returns
-returns g c s xs id ds es number epoch early fs h is = acks_before s xs id ds es number epoch early fs h is

@@ -1,5 +1,0 @@
-use Rattle.qc_state.proofs.PieceLaws.{datagram_tells}
-use Rattle.qc_state.proofs.laws.datagrams_tell.Goals as goal
-
-pub returns : goal.returns
-returns g c a coming bytes = datagram_tells _ coming bytes a
