@@ -48,7 +48,9 @@ pub use control::Control;
 pub use counts::{ByDir, OwnStreams, PeerStreams, StreamLimit};
 pub use credit::{Incoming, Outgoing};
 pub use events::{Events, StreamEvent};
-pub use fault::{ClosedStream, FinishError, ReadError, Refusal, StreamFault, WriteError};
+pub use fault::{
+    ClosedStream, FinishError, ReadError, ReadFault, Refusal, StreamFault, WriteError,
+};
 pub use laws::{
     credit_is_kept, drawn_bytes_waited, drawn_frames_were_owed, end_is_told_once,
     filed_is_what_is_owed, frames_are_steps, gives_each_once, reads_what_came,
