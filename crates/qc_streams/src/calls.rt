@@ -218,7 +218,7 @@ impl StreamsState {
     /// blocked is noted on a connection that isn't closed: [`StreamEvent::Writable`] follows once it
     /// can be done.
     #[tactic(auto, unfolding(crate::specs::Calls::write_refusal, crate::specs::Calls::write_refused, crate::specs::Calls::IsRefused))]
-    pub(crate) fn write(&mut self, id: StreamId, chunk: &mut Bytes) -> Result<usize, WriteError>
+    pub fn write(&mut self, id: StreamId, chunk: &mut Bytes) -> Result<usize, WriteError>
         ensures count { IfOk result (λ n. n ≡ count_taken (length chunk.old) (budget (send_room self.old) self.old.outgoing) (known_at id self.old)) }
         ensures written { IfOk result (λ n. self.new ≡ wrote id n chunk.old self.old) }
         ensures rest { IfOk result (λ n. chunk.new ≡ drop n chunk.old) }
@@ -245,7 +245,7 @@ impl StreamsState {
     /// [`FinishError::Stopped`] where the peer stopped it, [`FinishError::ClosedStream`] where it is
     /// finished or reset. Nothing changes then.
     #[tactic(auto, unfolding(crate::specs::Calls::sends, crate::specs::Calls::known_at))]
-    pub(crate) fn finish(&mut self, id: StreamId) -> Result<(), FinishError>
+    pub fn finish(&mut self, id: StreamId) -> Result<(), FinishError>
         ensures finished { OnOk result (self.new ≡ sends finished id self.old) }
         ensures fits { OnOk result (finish_refusal (known_at id self.old) ≡ None) }
         ensures refused { IfErr result (λ e. finish_refusal (known_at id self.old) ≡ Some e) }
@@ -291,7 +291,7 @@ impl StreamsState {
     /// order; `Reset` where the peer reset it, which is told then; `Blocked` where no byte can be
     /// read and the end isn't reached; or want of memory.
     #[tactic(auto, using(crate::proofs::Sequels::gives_so), unfolding(crate::specs::Calls::receiving_at))]
-    pub(crate) fn read(
+    pub fn read(
         &mut self,
         id: StreamId,
         ordered: bool,
