@@ -66,9 +66,9 @@ module _ {S : Type 0} where
   -- reading no bytes changes nothing
   nothing_by : (l : Lower S) (id : SpaceId) (bytes : List ℕ) → bytes ≡ [] → session_read l id (length bytes) l.session ≡ l
   unfolding session_read
-  nothing_by l Initial bytes e = ap (λ (a : Assembly). record l { streams = record l.streams { initial = a } }) (sym (first_none l.streams.initial bytes e))
-  nothing_by l Handshake bytes e = ap (λ (a : Assembly). record l { streams = record l.streams { handshake = a } }) (sym (first_none l.streams.handshake bytes e))
-  nothing_by l Data bytes e = ap (λ (a : Assembly). record l { streams = record l.streams { application = a } }) (sym (first_none l.streams.application bytes e))
+  nothing_by l Initial bytes e = ap (λ (a : Assembly). record l { crypto = record l.crypto { initial = a } }) (sym (first_none l.crypto.initial bytes e))
+  nothing_by l Handshake bytes e = ap (λ (a : Assembly). record l { crypto = record l.crypto { handshake = a } }) (sym (first_none l.crypto.handshake bytes e))
+  nothing_by l Data bytes e = ap (λ (a : Assembly). record l { crypto = record l.crypto { application = a } }) (sym (first_none l.crypto.application bytes e))
 
   -- the session behind a read
   session_by : (l l' : Lower S) (id : SpaceId) (count : ℕ) (session : S) → l' ≡ session_read l id count session → l'.session ≡ session

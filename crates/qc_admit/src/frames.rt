@@ -5,7 +5,7 @@ ghost use Rattle.qc_admit.specs.Behind.{left_by};
 ghost use Rattle.qc_frame.specs.Frame.{ack_map, borrowed, typed};
 ghost use Rattle.qc_frame.specs.FrameFits.{Fits};
 ghost use Rattle.qc_frame.specs.FrameSpelling.{spelling};
-ghost use Rattle.qc_state.specs.Receiving.{acked_after, applied_after, close_after, close_given, confirmed_after, frame_after, left_after};
+ghost use Rattle.qc_state.specs.Receiving.{acked_after, applied_after, close_after, close_given, confirmed_after, frame_after, handed_after, left_after};
 ghost use Rattle.qc_state.specs.View.{held};
 
 use crate::behind::Behind;
@@ -123,6 +123,27 @@ fn closed<U: Suite>(
     }
 }
 
+/// The streams are handed a frame: it ends its packet where they refuse it, and this end closes for the error.
+#[tactic(auto, unfolding(qc_state::specs::Receiving::handed_after))]
+fn handed<U: Suite>(
+    core: &mut Core<U>,
+    alloc: Global,
+    did: &mut Dids,
+    now: Instant,
+    frame: &Frame<'_>,
+) -> Result<Behind, AllocError>
+    requires { Fits (borrowed frame.now) }
+    ensures { IfOk result (λ behind. left_by behind (held U.Random.stream core.new did.new) ≡ handed_after now (borrowed frame.now) (held U.Random.stream core.old did.old)) }
+{
+    match core.do_hand(alloc, did, frame)? {
+        None => Ok(Behind::Goes),
+        Some(error) => {
+            core.stopped(did, now, error)?;
+            Ok(Behind::Ends)
+        }
+    }
+}
+
 /// What a frame does that its kind doesn't stop: a row for each kind that does something.
 #[tactic(auto, unfolding(qc_state::specs::Receiving::applied_after))]
 fn applied<U: Suite>(
@@ -169,6 +190,14 @@ fn applied<U: Suite>(
             });
             closed(core, alloc, did, coming, space, frame, why)
         }
+        FrameOf::ResetStream { .. }
+        | FrameOf::StopSending { .. }
+        | FrameOf::Stream { .. }
+        | FrameOf::MaxData(_)
+        | FrameOf::MaxStreamData { .. }
+        | FrameOf::MaxStreams { .. }
+        | FrameOf::StreamDataBlocked { .. }
+        | FrameOf::StreamsBlocked { .. } => handed(core, alloc, did, coming.time, frame),
         _ => Ok(Behind::Goes),
     }
 }

@@ -101,6 +101,15 @@ fn data_stop(
         FrameOf::Padding
         | FrameOf::Ping
         | FrameOf::Crypto { .. }
+        | FrameOf::ResetStream { .. }
+        | FrameOf::StopSending { .. }
+        | FrameOf::Stream { .. }
+        | FrameOf::MaxData(_)
+        | FrameOf::MaxStreamData { .. }
+        | FrameOf::MaxStreams { .. }
+        | FrameOf::DataBlocked { .. }
+        | FrameOf::StreamDataBlocked { .. }
+        | FrameOf::StreamsBlocked { .. }
         | FrameOf::ConnectionClose { .. }
         | FrameOf::ApplicationClose { .. } => None,
         FrameOf::HandshakeDone => done_stop(side),

@@ -1,18 +1,19 @@
 //! The calls of a connection.
 
-ghost use Rattle.std.specs.Prelude.{◌≡◌, ◌<◌, ◌^◌, ◌≤◌, [], length, is_some, OnOk, IfOk};
+ghost use Rattle.std.specs.Prelude.{◌≡◌, ◌<◌, ◌^◌, ◌≤◌, ◌++◌, [], length, is_some, map, OnOk, IfOk};
 ghost use Rattle.qc_state.specs.Life.{is_open, ready_event, connected_event, lost_event, drained_event};
-ghost use Rattle.qc_state.specs.Moves.{Clock, Ask, ReportReady, ReportConnected, ReportLost, ReportNotices, ReportDrained, move_to, state_move};
+ghost use Rattle.qc_state.specs.Moves.{Clock, Ask, ReportReady, ReportConnected, ReportStreams, ReportLost, ReportNotices, ReportDrained, move_to, state_move};
 ghost use Rattle.qc_state.specs.Polls.{first_endpoint_event, first_event, polled, polled_endpoint};
 ghost use Rattle.qc_state.specs.Run.{close_after};
+ghost use Rattle.qc_state.specs.Streams.{events_of};
 ghost use Rattle.qc_state.specs.Timers.{next_timeout};
 ghost use Rattle.qc_state.specs.View.{at, ideal, held};
 
 use crate::state::Core;
 use bytes::Bytes;
 use qc_base::{Instant, VarInt};
-use qc_state::{ApplicationClose, Close, EndpointEvent, EndpointEvents, Event, Suite};
-use std::alloc::Global;
+use qc_state::{ApplicationClose, Close, EndpointEvent, EndpointEvents, Event, Events, Suite};
+use std::alloc::{AllocError, Global};
 
 impl<U: Suite> Core<U> {
     /// A PING waits from now on in the highest space (RFC 9000, section 19.2).
@@ -70,12 +71,12 @@ impl<U: Suite> Core<U> {
         self.do_report_lost()
     }
 
-    /// Whether an event for the application waits.
-    #[tactic(auto, unfolding(qc_state::specs::Polls::first_event, qc_state::specs::Life::ready_event, qc_state::specs::Life::connected_event, qc_state::specs::Life::lost_event))]
-    pub fn has_events(&self) -> bool
-        ensures { result ≡ is_some (first_event (ideal U.Random.stream self.now)) }
+    /// All events of the streams, which are told, behind the others. Want of memory is the only refusal.
+    pub fn take_stream_events(&mut self, events: &mut Events) -> Result<(), AllocError>
+        ensures events { OnOk result (events.new ≡ events.old ++ map Event.Stream (events_of self.old.lower.streams)) }
+        ensures leads { OnOk result ((ideal U.Random.stream self.new) ≡ state_move ReportStreams (ideal U.Random.stream self.old)) }
     {
-        self.life.ready || (self.life.connected || self.life.lost.is_some())
+        self.do_report_streams(events)
     }
 
     /// The next event for the application. None exactly where none waits.
@@ -90,7 +91,10 @@ impl<U: Suite> Core<U> {
         if self.life.connected {
             return self.poll_connected();
         }
-        self.poll_lost()
+        match self.do_report_stream() {
+            None => self.poll_lost(),
+            Some(event) => Some(Event::Stream(event)),
+        }
     }
 
     /// All that waits to be reported to the endpoint before the end.

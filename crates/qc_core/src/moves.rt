@@ -1,24 +1,26 @@
 //! The moves of a connection, one function each.
 
-ghost use Rattle.std.specs.Prelude.{◌≡◌, [], ◌+◌, ◌<◌, ◌≤◌, ◌^◌, ◌==◌, Err, true, length, not, if◌then◌else◌, OnOk, OnErr, IfOk};
+ghost use Rattle.std.specs.Prelude.{◌≡◌, [], ◌+◌, ◌<◌, ◌≤◌, ◌^◌, ◌==◌, ◌++◌, Err, true, length, map, not, if◌then◌else◌, OnOk, OnErr, IfOk};
 ghost use Rattle.qc_assembler.specs.Assembly.{inserted, part_count};
 ghost use Rattle.qc_core.specs.Sealing.{sealed_drawn};
 ghost use Rattle.qc_state.specs.Acks.{AckPart, is_ack, may_acknowledge};
 ghost use Rattle.qc_state.specs.Life.{ready_event, connected_event, lost_event, first_notice, drained_event};
 ghost use Rattle.qc_state.specs.Lower.{packet_flown, ready_bytes, stream_of};
-ghost use Rattle.qc_frame.specs.Frame.{ack_map};
+ghost use Rattle.qc_frame.specs.Frame.{ack_map, borrowed};
 ghost use Rattle.qc_frame.specs.FrameFits.{Fits};
 ghost use Rattle.qc_frame.specs.FrameSpelling.{elicits};
 ghost use Rattle.qc_frame.specs.declared.frames.FrameOf.TheVariants as frames;
 ghost use Rattle.std.specs.List.{list_any};
 ghost use Rattle.qc_state.specs.Flight.{flown_packet};
-ghost use Rattle.qc_state.specs.Moves.{Clock, Ask, Take, Forget, Expect, Enter, Fail, Accept, Fix, Hear, Ack, Fire, Arm, Come, Pace, Ready, Release, Skip, Token, Learn, Want, Confirm, Establish, Tell, PeerClosesToo, PeerCloses, Owe, Shut, Raise, Give, Finish, Say, ReportReady, ReportConnected, ReportLost, ReportNotice, ReportNotices, ReportDrained, move_to, state_move, tells_congestion};
+ghost use Rattle.qc_state.specs.Moves.{Clock, Ask, Take, Forget, Expect, Enter, Fail, Accept, Fix, Hear, Ack, Fire, Arm, Come, Pace, Ready, Release, Skip, Token, Learn, Want, Confirm, Establish, Tell, PeerClosesToo, PeerCloses, Owe, Shut, Raise, Give, Finish, Say, Hand, ReportReady, ReportConnected, ReportStream, ReportStreams, ReportLost, ReportNotice, ReportNotices, ReportDrained, move_to, state_move, tells_congestion};
 ghost use Rattle.qc_base.specs.declared.side.SpaceId.TheVariants.{«Data»};
 ghost use Rattle.qc_state.specs.Numbers.{is_skipped};
 ghost use Rattle.qc_state.specs.Recovering.{fired_by, probe_timeout_now, settled_by};
 ghost use Rattle.qc_state.specs.Setup.{idle_limit_now};
 ghost use Rattle.qc_state.specs.Spaces.{space_of};
+ghost use Rattle.qc_state.specs.Streams.{events_of, streams_stop};
 ghost use Rattle.qc_state.specs.Timers.{timers_acking, timers_sealed};
+ghost use Rattle.qc_streams.specs.Owed.{next_event};
 ghost use Rattle.qc_state.specs.View.{at, ideal, held};
 ghost use Rattle.qc_state.specs.Taking.{TakenPart};
 
@@ -27,17 +29,19 @@ use crate::recovering::shows_validated;
 use crate::state::Core;
 use bytes::Bytes;
 use qc_assembler::InsertError;
-use qc_base::{ConnectionId, EcnCodepoint, Instant, ResetToken, SpaceId};
-use qc_frame::{Ack, FrameList};
+use qc_base::{ConnectionId, EcnCodepoint, Instant, ResetToken, SpaceId, TransportError};
+use qc_frame::{Ack, Frame, FrameList};
 use qc_params::TransportParameters;
 use qc_path::{Arrival, next_bundled_ack_time};
 use qc_state::flight::flown_packet;
 use qc_state::spaces::is_space;
+use qc_state::streams::tell_handed;
 use qc_state::waiting::holds_ack;
 use qc_state::{
-    Body, Close, ConnectionError, Did, Dids, EndpointEvent, EndpointEvents, Event, Form, Layer,
-    Means, Quiet, Signs, State, Suite, Verdict,
+    Body, Close, ConnectionError, Did, Dids, EndpointEvent, EndpointEvents, Event, Events, Form,
+    Layer, Means, Quiet, Signs, State, Suite, Verdict,
 };
+use qc_streams::StreamEvent;
 use std::alloc::{AllocError, Global};
 
 /// Whether a mark tells of congestion (RFC 3168).
@@ -363,6 +367,7 @@ impl<U: Suite> Core<U> {
     pub fn do_learn(&mut self, parameters: TransportParameters)
         ensures { (ideal U.Random.stream self.new) ≡ state_move (Learn parameters) (ideal U.Random.stream self.old) }
     {
+        self.lower.learn_limits(&parameters);
         self.setup.learn(parameters);
     }
 
@@ -401,11 +406,29 @@ impl<U: Suite> Core<U> {
         did.push_gave(layer, body)
     }
 
+    /// The streams are handed a frame. Answers the error with which they refuse it, if they do. Want of memory is the only refusal of
+    /// the call.
+    pub fn do_hand(
+        &mut self,
+        alloc: Global,
+        did: &mut Dids,
+        frame: &Frame<'_>,
+    ) -> Result<Option<TransportError>, AllocError>
+        requires { Fits (borrowed frame.now) }
+        ensures stop { IfOk result (λ stop. stop ≡ streams_stop (borrowed frame.now) self.old.lower.streams) }
+        ensures leads { OnOk result ((held U.Random.stream self.new did.new) ≡ move_to (Hand (borrowed frame.now)) (held U.Random.stream self.old did.old)) }
+    {
+        let stop = self.lower.hand(alloc, frame)?;
+        tell_handed(alloc, did, frame)?;
+        Ok(stop)
+    }
+
     /// The peer closed as well.
     pub fn do_peer_closes_too(&mut self, did: &mut Dids) -> Result<(), AllocError>
         ensures { OnOk result ((held U.Random.stream self.new did.new) ≡ move_to PeerClosesToo (held U.Random.stream self.old did.old)) }
     {
         self.life.drain();
+        self.lower.close_streams();
         did.push_rose(3)
     }
 
@@ -416,6 +439,7 @@ impl<U: Suite> Core<U> {
         let probe = self.probe_timeout(self.keys.highest);
         self.life.drain();
         self.timers.closing(probe, now);
+        self.lower.close_streams();
         did.push_rose(3)
     }
 
@@ -434,6 +458,7 @@ impl<U: Suite> Core<U> {
         self.life.shut(close);
         self.timers.closing(probe, now);
         self.waiting.owe_close();
+        self.lower.close_streams();
     }
 
     /// The life rises.
@@ -442,6 +467,7 @@ impl<U: Suite> Core<U> {
     {
         self.life.raise(to);
         self.timers.stop();
+        self.lower.close_streams();
         did.push_rose(qc_state::life::rank(to))
     }
 
@@ -492,6 +518,22 @@ impl<U: Suite> Core<U> {
         ensures leads { (ideal U.Random.stream self.new) ≡ state_move ReportLost (ideal U.Random.stream self.old) }
     {
         self.life.take_lost()
+    }
+
+    /// The first event of the streams is reported, where one waits.
+    pub fn do_report_stream(&mut self) -> Option<StreamEvent>
+        ensures event { result ≡ next_event self.old.lower.streams }
+        ensures leads { (ideal U.Random.stream self.new) ≡ state_move ReportStream (ideal U.Random.stream self.old) }
+    {
+        self.lower.take_event()
+    }
+
+    /// All events of the streams are reported, behind the others. Want of memory is the only refusal.
+    pub fn do_report_streams(&mut self, events: &mut Events) -> Result<(), AllocError>
+        ensures events { OnOk result (events.new ≡ events.old ++ map Event.Stream (events_of self.old.lower.streams)) }
+        ensures leads { OnOk result ((ideal U.Random.stream self.new) ≡ state_move ReportStreams (ideal U.Random.stream self.old)) }
+    {
+        self.lower.take_events(events)
     }
 
     /// The first that waits for the endpoint before the end is reported, where something does.

@@ -4,7 +4,7 @@ ghost use Rattle.std.specs.Prelude.{◌≡◌, ◌<◌, ◌^◌, ◌%◌, ◌&&�
 ghost use Rattle.qc_path.specs.Acks.{no_marks};
 ghost use Rattle.qc_send_stream.specs.Buffer.{bytes_written, nothing};
 ghost use Rattle.qc_state.specs.Draws.{behind, filter_words, key_phase_of, word};
-ghost use Rattle.qc_state.specs.First.{fixed_of, just_made, nothing_waits};
+ghost use Rattle.qc_state.specs.First.{first_streams, fixed_of, just_made, nothing_waits};
 ghost use Rattle.qc_state.specs.Setup.{idle_limit_of};
 ghost use Rattle.qc_state.specs.View.{ideal};
 ghost use Rattle.qc_state.specs.declared.spaces.Spaces.{Spaces};
@@ -21,6 +21,7 @@ use qc_state::{
     CryptoQueue, EndpointEvents, Fixed, KeyGroup, Life, Lower, Numbers, Paths, Setup, SoundSession,
     SpaceKeys, SpaceNumbers, SpaceWaiting, Spaces, State, Suite, Timers, Waiting,
 };
+use qc_streams::StreamsState;
 use rand_core::Rng;
 use std::alloc::{AllocError, Global};
 use std::net::IpAddr;
@@ -144,6 +145,22 @@ fn waiting(alloc: Global, hello: Vec<u8>) -> Result<Waiting, AllocError>
     })
 }
 
+/// The streams of a connection that was just made: none is open, and the peer may open as many as the configuration says.
+fn first_streams(alloc: Global, side: Side, transport: &TransportConfig) -> StreamsState
+    ensures { result ≡ first_streams side transport.now }
+{
+    StreamsState::new(
+        alloc,
+        side,
+        transport.get_max_concurrent_uni_streams(),
+        transport.get_max_concurrent_bidi_streams(),
+        transport.get_receive_window(),
+        transport.get_stream_receive_window(),
+        transport.get_send_window(),
+        transport.get_send_fairness(),
+    )
+}
+
 /// The life of a connection that was just made.
 fn life(alloc: Global) -> Life
     ensures { result ≡ record { state = State.Handshake; reason = None; ready = false; connected = false; lost = None; notices = []; drained = false; close = None } }
@@ -183,6 +200,7 @@ pub(crate) fn made<U: Suite>(
     let mut random = random;
     let fixed = fixed(given, transport, &mut random);
     let filter = PacketNumberFilter::new(&mut random);
+    let streams = first_streams(alloc, fixed.side, transport);
     Ok(Core {
         numbers: Numbers {
             spaces: Spaces {
@@ -206,12 +224,13 @@ pub(crate) fn made<U: Suite>(
         },
         lower: Lower {
             session,
-            streams: Spaces {
+            crypto: Spaces {
                 initial: Assembler::new(alloc),
                 handshake: Assembler::new(alloc),
                 application: Assembler::new(alloc),
             },
             recovery: Recovery::new(alloc, transport),
+            streams,
         },
     })
 }

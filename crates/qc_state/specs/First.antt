@@ -26,6 +26,8 @@ use Rattle.qc_recovery.specs.TransportValues.{TransportValues}
 use Rattle.qc_recovery.specs.declared.path.PathData.{PathData}
 use Rattle.qc_send_stream.specs.Buffer.{bytes_written, nothing as nothing_written}
 use Rattle.qc_state.specs.View.{View}
+use Rattle.qc_streams.specs.Streams.{new_streams}
+use Rattle.qc_streams.specs.declared.state.StreamsState.{StreamsState}
 use Rattle.std.specs.declared.net.SocketAddr.{SocketAddr}
 
 -- what doesn't change of a connection
@@ -51,6 +53,11 @@ nothing_waits crypto = record { done = false; ping = false; crypto = bytes_writt
 abbrev pub first_path : {C : Type 0} → Control C → TransportValues → C → (time : ℕ) → PathData C
 first_path m transport congestion time = begun_path m time transport congestion false None
 
+-- no stream is open, and the peer may open as many as the configuration says, with its windows
+abbrev pub first_streams : Side → TransportValues → StreamsState
+first_streams side transport =
+    new_streams side transport.max_concurrent_uni_streams transport.max_concurrent_bidi_streams transport.receive_window transport.stream_receive_window transport.send_window transport.send_fairness
+
 module _ {t : Types} where
   -- a connection that was just made at this time: it has the keys of the Initial space, nothing waits but what its session wrote, from
   -- the start of that space's CRYPTO stream, and it has drawn of these random words
@@ -74,7 +81,12 @@ module _ {t : Types} where
       bundled = None;
     };
     setup = record { fixed = fixed; peer = None; token = None; initial_token = token; random = words_left transport.allow_spin words };
-    lower = record { session = session; streams = record { initial = nothing; handshake = nothing; application = nothing }; recovery = begun_recovery transport };
+    lower = record {
+      session = session;
+      crypto = record { initial = nothing; handshake = nothing; application = nothing };
+      recovery = begun_recovery transport;
+      streams = first_streams fixed.side transport;
+    };
   }
 
   -- a client that was just made: its keys are those of the destination id of its first packets, which packets to the server carry

@@ -24,6 +24,7 @@ pub mod Setup
 pub mod Shown
 pub mod Spaces
 pub mod Stopping
+pub mod Streams
 pub mod Taking
 pub mod Timeouts
 pub mod Timers

@@ -1,13 +1,17 @@
 -- The layers below: the session, the bytes of the three CRYPTO streams that came and weren't given to it (RFC 9000, section 19.6;
--- RFC 9001, section 4), and what loss recovery keeps of the packets (RFC 9002; of the path it is Paths'). Each changes by its own steps alone.
-use Rattle.std.specs.Prelude.{ℕ, suc, ◌==◌, if◌then◌else◌, List, [], ◌∷◌}
+-- RFC 9001, section 4), and what loss recovery keeps of the packets (RFC 9002; of the path it is Paths'), and the streams of the application. Each changes by its own steps alone.
+use Rattle.std.specs.Prelude.{ℕ, suc, ◌==◌, if◌then◌else◌, List, [], ◌∷◌, length}
 use Rattle.qc_assembler.specs.Assembly.{Assembly, advanced, inserted}
 use Rattle.qc_base.specs.declared.side.SpaceId.{SpaceId}
 use Rattle.qc_state.specs.declared.lower.Lower.{Lower}
 use Rattle.qc_flight.specs.declared.sent.SentPacket.{SentPacket}
 use Rattle.qc_recovery.specs.Calls.{dropped_after}
 use Rattle.qc_recovery.specs.Steps.{After, FiredAfter, sent_after}
+use Rattle.qc_frame.specs.Frame.{FrameValue}
+use Rattle.qc_params.specs.declared.params.TransportParameters.{TransportParameters}
+use Rattle.qc_streams.specs.Waits.{Step, Closed, LimitsKnown, after}
 use Rattle.qc_state.specs.Spaces.{space_of, with_space}
+use Rattle.qc_state.specs.Streams.{events_of, limits_of, steps_of_frame, asked_for}
 
 -- the bytes at the front of those that came, up to the first that is missing; the first one is wanted at o
 abbrev pub front_run : ℕ → List (ℕ × ℕ) → List ℕ
@@ -21,15 +25,15 @@ ready_bytes a = front_run a.read a.came
 module _ {S : Type 0} where
   -- what came of the space's CRYPTO stream
   unfoldable pub stream_of : Lower S → SpaceId → Assembly
-  stream_of l id = space_of l.streams id
+  stream_of l id = space_of l.crypto id
 
   -- bytes of the space's CRYPTO stream came
   unfoldable pub bytes_came : Lower S → SpaceId → (offset : ℕ) → List ℕ → Lower S
-  bytes_came l id offset bytes = record l { streams = with_space l.streams id (inserted offset bytes (space_of l.streams id)) }
+  bytes_came l id offset bytes = record l { crypto = with_space l.crypto id (inserted offset bytes (space_of l.crypto id)) }
 
   -- so many of them were given to the session, which is this one afterwards
   unfoldable pub session_read : Lower S → SpaceId → (count : ℕ) → S → Lower S
-  session_read l id count session = record l { session = session; streams = with_space l.streams id (advanced count (space_of l.streams id)) }
+  session_read l id count session = record l { session = session; crypto = with_space l.crypto id (advanced count (space_of l.crypto id)) }
 
   -- the session wrote, and is this one afterwards
   unfoldable pub session_wrote : Lower S → S → Lower S
@@ -50,3 +54,27 @@ module _ {S : Type 0} where
   -- the keys of the space were dropped: none of its packets is in flight (RFC 9002, section 6.4)
   unfoldable pub flight_dropped : Lower S → SpaceId → Lower S
   flight_dropped l id = record l { recovery = dropped_after id l.recovery }
+
+  -- the streams made these steps of their own
+  unfoldable pub streams_stepped : List Step → Lower S → Lower S
+  streams_stepped xs l = record l { streams = after xs l.streams }
+
+  -- they were handed a frame, which they may refuse
+  unfoldable pub frame_handed : FrameValue → Lower S → Lower S
+  frame_handed frame l = streams_stepped (steps_of_frame frame l.streams) l
+
+  -- the peer's limits are known
+  unfoldable pub limits_learned : TransportParameters → Lower S → Lower S
+  limits_learned parameters l = streams_stepped (LimitsKnown (limits_of parameters) ∷ []) l
+
+  -- the connection isn't open any more
+  unfoldable pub streams_closed : Lower S → Lower S
+  streams_closed l = streams_stepped (Closed ∷ []) l
+
+  -- they were asked for an event
+  unfoldable pub event_told : Lower S → Lower S
+  event_told l = streams_stepped (asked_for 1) l
+
+  -- they were asked until none waits: once more than events wait
+  unfoldable pub events_told : Lower S → Lower S
+  events_told l = streams_stepped (asked_for (suc (length (events_of l.streams)))) l

@@ -8,7 +8,7 @@ use Rattle.qc_base.specs.declared.ecn.EcnCodepoint.TheVariants.{Ce}
 use Rattle.qc_base.specs.declared.side.SpaceId.{SpaceId}
 use Rattle.qc_base.specs.declared.side.SpaceId.TheVariants.{Initial, Handshake, «Data»}
 use Rattle.qc_frame.specs.Frame.{FrameValue}
-use Rattle.qc_frame.specs.FrameSpelling.{elicits}
+use Rattle.qc_frame.specs.FrameSpelling.{elicits, spelling}
 use Rattle.qc_frame.specs.declared.frames.FrameOf.TheVariants as frames
 use Rattle.qc_state.specs.declared.form.Form.{Form}
 use Rattle.qc_state.specs.declared.numbers.Numbers.{Numbers}
@@ -30,6 +30,7 @@ use Rattle.qc_state.specs.declared.lower.Lower.{Lower}
 use Rattle.qc_state.specs.declared.opening.Signs.{Signs}
 use Rattle.qc_state.specs.declared.deeds.Did.{Did}
 use Rattle.qc_state.specs.declared.deeds.Did.TheVariants as did
+use Rattle.qc_state.specs.declared.deeds.Layer.TheVariants as layer
 use Rattle.qc_state.specs.declared.deeds.Quiet.{Quiet}
 use Rattle.qc_state.specs.declared.deeds.Verdict.{Verdict}
 use Rattle.qc_state.specs.declared.deeds.Verdict.TheVariants as verdict
@@ -41,12 +42,15 @@ use Rattle.qc_state.specs.Numbers.{next_number, received_number, number_used, nu
 use Rattle.qc_state.specs.Forms.{is_early, number_space}
 use Rattle.qc_state.specs.Keys.{NewKeys, NoKeys, HandshakeKeys, DataKeys, epoch_in, has_keys_for, key_used, failure_counted, keys_given, keys_dropped}
 use Rattle.qc_state.specs.Flight.{flown_packet}
-use Rattle.qc_state.specs.Lower.{bytes_came, session_read, session_wrote, flight_dropped, packet_flown, packets_settled, timer_fired}
+use Rattle.qc_state.specs.Lower.{bytes_came, session_read, session_wrote, flight_dropped, packet_flown, packets_settled, timer_fired, streams_stepped, frame_handed, limits_learned, streams_closed, event_told, events_told}
 use Rattle.qc_state.specs.Offers.{packet_begun}
 use Rattle.qc_state.specs.Paths.{is_blocked, path_idle, path_sent, path_received, path_accepted, path_kept, path_spun, peer_fixed}
 use Rattle.qc_state.specs.Recovering.{loss_time, probe_timeout_now}
 use Rattle.qc_state.specs.Setup.{idle_limit_now, packet_drawn, parameters_known, peer_delay, token_expected, word_drawn}
 use Rattle.qc_state.specs.Spaces.{is_space}
+use Rattle.qc_state.specs.Streams.{is_given_to_streams, stream_frame}
+use Rattle.qc_streams.specs.Steps.{Handed, MayStep, NamesStream}
+use Rattle.qc_streams.specs.Waits as streams
 use Rattle.qc_state.specs.Timers.{timers_sealed, timers_acking, timers_stopped, timers_closing, timers_accepted, timers_holding, timers_paced, timers_released, timers_armed, clock_set}
 use Rattle.qc_state.specs.Types.{Types}
 use Rattle.qc_state.specs.View.{View, At, at}
@@ -93,6 +97,33 @@ abbrev pub IsTold : Did → Type 0
 IsTold (did.Piece space number verdict) = enters verdict ≡ false
 IsTold (did.Gave layer body) = Unit {0}
 IsTold _ = ⊥
+
+-- what is told of a frame that the streams are handed
+abbrev pub told_to_streams : FrameValue → List Did
+told_to_streams frame = if is_given_to_streams frame then did.Gave layer.Streams (spelling frame) ∷ [] else []
+
+-- A frame names a stream that there can be, where it names one (RFC 9000, section 2.1)
+abbrev pub NamesStreams : Option Handed → Type 0
+NamesStreams None = Unit {0}
+NamesStreams (Some f) = NamesStream f
+
+-- whether a step of the streams is a call of the application's
+abbrev pub is_call : streams.Step → Bool
+is_call (streams.Opened dir) = true
+is_call (streams.Accepted dir) = true
+is_call (streams.Wrote id n chunk) = true
+is_call (streams.Refused e id) = true
+is_call (streams.Finished id) = true
+is_call (streams.WasReset code id) = true
+is_call (streams.Began ordered id) = true
+is_call (streams.Read ordered result id) = true
+is_call (streams.Stopped code id) = true
+is_call (streams.ResetAsked id) = true
+is_call (streams.PrioritySet priority id) = true
+is_call (streams.SendWindowSet n) = true
+is_call (streams.ReceiveWindowSet n) = true
+is_call (streams.ConcurrentSet dir n) = true
+is_call _ = false
 
 -- the deeds, told one after another
 abbrev pub told : List Did → List Did → List Did
@@ -143,8 +174,12 @@ pub data Move (t : Types) : Type 0 where
   Give : (why : ConnectionError) → Move t  -- a reason for the end is given
   Finish : (bytes : ℕ) → Move t  -- a transmit ends that sealed packets: so many bytes go to the path's address
   Say : (quiet : Quiet) → Move t  -- a transmit sends nothing, for this cause
+  Hand : (frame : FrameValue) → Move t  -- the streams are handed a frame, which they may refuse
+  Call : (step : streams.Step) → Move t  -- the application makes a call of the streams, which is this step of theirs
   ReportReady : Move t  -- that the handshake's data is ready is reported
   ReportConnected : Move t  -- that the handshake is over is reported
+  ReportStream : Move t  -- the streams are asked for an event, and the first that waits is reported
+  ReportStreams : Move t  -- all events of the streams are reported
   ReportLost : Move t  -- the reason of the end is reported
   ReportNotice : Move t  -- the first that waits for the endpoint before the end is reported
   ReportNotices : Move t  -- all that waits for the endpoint before the end is reported
@@ -242,6 +277,15 @@ module _ {t : Types} where
   lower_move (Come id offset bytes) s = bytes_came s.lower id offset bytes
   lower_move (Read id count session) s = session_read s.lower id count session
   lower_move (Write bytes keys session) s = session_wrote s.lower session
+  lower_move (Learn parameters) s = limits_learned parameters s.lower
+  lower_move (Hand frame) s = frame_handed frame s.lower
+  lower_move (Call x) s = streams_stepped (x ∷ []) s.lower
+  lower_move (Shut time close) s = streams_closed s.lower
+  lower_move (PeerCloses time) s = streams_closed s.lower
+  lower_move PeerClosesToo s = streams_closed s.lower
+  lower_move (Raise to) s = streams_closed s.lower
+  lower_move ReportStream s = event_told s.lower
+  lower_move ReportStreams s = events_told s.lower
   lower_move _ s = s.lower
 
   unfoldable pub deeds_move : Move t → View t → List Did
@@ -250,6 +294,7 @@ module _ {t : Types} where
   deeds_move (Accept time id n e g v) s = did.Piece (Some id) (Some n) v ∷ []
   deeds_move Establish s = did.Rose 1 ∷ []
   deeds_move (Tell d) s = d ∷ []
+  deeds_move (Hand frame) s = told_to_streams frame
   deeds_move (Shut time close) s = did.Rose 2 ∷ []
   deeds_move (PeerCloses time) s = did.Rose 3 ∷ []
   deeds_move PeerClosesToo s = did.Rose 3 ∷ []
@@ -288,6 +333,8 @@ module _ {t : Types} where
   MayMove (Write bytes keys session) s = AreNext keys s.keys.highest
   MayMove Establish s = rank_of s.life.state < 1
   MayMove (Tell d) s = IsTold d
+  MayMove (Hand frame) s = NamesStreams (stream_frame frame)
+  MayMove (Call x) s = (is_call x ≡ true) × MayStep x s.lower.streams
   MayMove (Shut time close) s = rank_of s.life.state < 2
   MayMove (PeerCloses time) s = rank_of s.life.state < 3
   MayMove PeerClosesToo s = is_closed s.life.state ≡ true

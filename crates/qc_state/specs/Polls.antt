@@ -1,28 +1,47 @@
 -- The events that wait, and those that are asked for one by one.
-use Rattle.std.specs.Prelude.{if◌then◌else◌, List, [], ◌∷◌, ◌++◌, slice_get, Option, option_to_list}
+use Rattle.std.specs.Prelude.{if◌then◌else◌, List, [], ◌∷◌, ◌++◌, map, slice_get, Option, None, Some, option_to_list}
 use Rattle.qc_state.specs.declared.events.Event.{Event}
+use Rattle.qc_state.specs.declared.events.Event.TheVariants.{Stream}
 use Rattle.qc_state.specs.declared.events.EndpointEvent.{EndpointEvent}
 use Rattle.qc_state.specs.Life.{connected_event, drained_event, lost_event, ready_event}
-use Rattle.qc_state.specs.Moves.{ReportReady, ReportConnected, ReportLost, ReportNotice, ReportDrained, state_move}
+use Rattle.qc_state.specs.Moves.{ReportReady, ReportConnected, ReportStream, ReportLost, ReportNotice, ReportDrained, state_move}
+use Rattle.qc_state.specs.Streams.{events_of}
 use Rattle.qc_state.specs.Types.{Types}
 use Rattle.qc_state.specs.View.{View}
+use Rattle.qc_streams.specs.Owed.{next_event}
+use Rattle.qc_streams.specs.declared.events.StreamEvent.{StreamEvent}
 
 module _ {t : Types} where
-  -- the events that wait for the application, in their order, the reason of the end last
+  -- the events that wait for the application, in their order: those of the handshake, those of streams, and the reason of the end last
   unfoldable pub waiting_events : View t → List Event
-  waiting_events s = option_to_list (ready_event s.life) ++ (option_to_list (connected_event s.life) ++ option_to_list (lost_event s.life))
+  waiting_events s =
+      option_to_list (ready_event s.life) ++ (option_to_list (connected_event s.life) ++ (map Stream (events_of s.lower.streams) ++ option_to_list (lost_event s.life)))
 
   -- the events that wait for the endpoint, in the order of their causes, the end last
   unfoldable pub endpoint_events : View t → List EndpointEvent
   endpoint_events s = s.life.notices ++ option_to_list (drained_event s.life)
 
+  -- the first event of the streams, or the reason of the end where none waits
+  abbrev pub stream_first : Option StreamEvent → Option Event → Option Event
+  stream_first None lost = lost
+  stream_first (Some event) lost = Some (Stream event)
+
   -- the first event that waits for the application, if one does
   unfoldable pub first_event : View t → Option Event
-  first_event s = if s.life.ready then ready_event s.life else if s.life.connected then connected_event s.life else lost_event s.life
+  first_event s =
+      if s.life.ready then ready_event s.life else if s.life.connected then connected_event s.life else stream_first (next_event s.lower.streams) (lost_event s.life)
+
+  -- the streams were asked for an event, and where they had none, the reason of the end was reported
+  abbrev pub stream_polled : Option StreamEvent → View t → View t
+  stream_polled None s = state_move ReportLost (state_move ReportStream s)
+  stream_polled (Some event) s = state_move ReportStream s
 
   -- it was reported
   unfoldable pub polled : View t → View t
-  polled s = if s.life.ready then state_move ReportReady s else if s.life.connected then state_move ReportConnected s else state_move ReportLost s
+  polled s =
+      if s.life.ready then state_move ReportReady s
+      else if s.life.connected then state_move ReportConnected s
+      else stream_polled (next_event s.lower.streams) s
 
   -- the first event that waits for the endpoint, if one does
   unfoldable pub first_endpoint_event : View t → Option EndpointEvent

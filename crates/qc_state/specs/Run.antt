@@ -2,7 +2,7 @@
 use Rattle.std.specs.Prelude.{◌≡◌, ℕ, ◌+◌, ◌≤◌, List, [], ◌∷◌, ◌++◌, length, take, if◌then◌else◌, Option, Some, None}
 use Rattle.qc_state.specs.declared.life.Close.TheVariants.{Application}
 use Rattle.qc_state.specs.declared.input.Input.{Input}
-use Rattle.qc_state.specs.declared.input.Input.TheVariants.{Datagram, Timeout, Transmit, Close, Ping}
+use Rattle.qc_state.specs.declared.input.Input.TheVariants.{Datagram, Timeout, Transmit, Open, Accept, Write, Finish, ResetSend, StopRecv, Read, MaxStreams, SendWindow, ReceiveWindow, Close, Ping}
 use Rattle.qc_state.specs.declared.input.Word.{Word}
 use Rattle.qc_state.specs.declared.input.Word.TheVariants as word
 use Rattle.qc_state.specs.declared.trace.Answer.{Answer}
@@ -10,14 +10,16 @@ use Rattle.qc_state.specs.declared.trace.Answer.TheVariants.{Done, Dropped, Noth
 use Rattle.qc_state.specs.declared.trace.Step.{Step}
 use Rattle.qc_state.specs.declared.transmit.Transmit as transmit
 use Rattle.qc_state.specs.Life.{is_open}
-use Rattle.qc_state.specs.Moves.{Clock, Ask, Shut, ReportReady, ReportConnected, ReportLost, ReportNotices, ReportDrained, move_to, state_move}
+use Rattle.qc_state.specs.Moves.{Clock, Ask, Call, Shut, ReportReady, ReportConnected, ReportStreams, ReportLost, ReportNotices, ReportDrained, move_to, state_move}
 use Rattle.qc_state.specs.Polls.{waiting_events, endpoint_events}
 use Rattle.qc_state.specs.Receiving.{is_taken, datagram_after}
 use Rattle.qc_state.specs.Sending.{Choice, MayTransmit, transmit_after, transmit_bytes, transmit_of}
+use Rattle.qc_state.specs.Streams.{MayRead, call_answer, calls_of}
 use Rattle.qc_state.specs.Timeouts.{timeout_after}
 use Rattle.qc_state.specs.Timers.{next_timeout}
 use Rattle.qc_state.specs.Types.{Types, Meaning}
 use Rattle.qc_state.specs.View.{View, At, at}
+use Rattle.qc_streams.specs.Waits as streams
 
 -- the time of an input
 abbrev pub time_of : Input → ℕ
@@ -26,6 +28,16 @@ time_of (Timeout time) = time
 time_of (Transmit time max) = time
 time_of (Close time code reason) = time
 time_of (Ping time) = time
+time_of (Open time dir) = time
+time_of (Accept time dir) = time
+time_of (Write time id body) = time
+time_of (Finish time id) = time
+time_of (ResetSend time id code) = time
+time_of (StopRecv time id code) = time
+time_of (Read time id max) = time
+time_of (MaxStreams time dir count) = time
+time_of (SendWindow time size) = time
+time_of (ReceiveWindow time size) = time
 
 -- its kind
 abbrev pub word_of : Input → Word
@@ -34,6 +46,16 @@ word_of (Timeout time) = word.Timeout
 word_of (Transmit time max) = word.Transmit
 word_of (Close time code reason) = word.Close
 word_of (Ping time) = word.Ping
+word_of (Open time dir) = word.Open
+word_of (Accept time dir) = word.Accept
+word_of (Write time id body) = word.Write
+word_of (Finish time id) = word.Finish
+word_of (ResetSend time id code) = word.ResetSend
+word_of (StopRecv time id code) = word.StopRecv
+word_of (Read time id max) = word.Read
+word_of (MaxStreams time dir count) = word.MaxStreams
+word_of (SendWindow time size) = word.SendWindow
+word_of (ReceiveWindow time size) = word.ReceiveWindow
 
 -- what a transmit answers
 abbrev pub out_of : Option transmit.Transmit → List ℕ → Answer
@@ -49,21 +71,27 @@ module _ {t : Types} where
   unfoldable pub close_after : ℕ → ℕ → List ℕ → At t → At t
   close_after time code reason a = if is_open a.state.life.state then move_to (Shut time (Application (record { error_code = code; reason = reason }))) a else a
 
-  -- what an input leaves before anything is reported: a function of the view and, for a transmit, of its choice, whose packets
-  -- the deeds name
+  -- the application makes these calls of the streams
+  abbrev pub called_all : List streams.Step → At t → At t
+  called_all [] a = a
+  called_all (x ∷ xs) a = called_all xs (move_to (Call x) a)
+
+  -- what an input leaves before anything is reported: a function of the view and of what is free, which the trace names: of a transmit
+  -- its packets are in the deeds, and what a read gives is its answer
   unfoldable pub input_after : Meaning t → Input → Choice → At t → At t
   input_after m (Datagram time remote ecn bytes) choice a = datagram_after m (record { time = time; remote = remote; mark = ecn }) bytes a
   input_after m (Timeout time) choice a = timeout_after m time a
   input_after m (Transmit time max) choice a = transmit_after m time choice a
   input_after m (Close time code reason) choice a = close_after time code reason a
   input_after m (Ping time) choice a = move_to (Ask a.state.keys.highest) a
+  input_after m i choice a = called_all (calls_of i choice.read a.state.lower.streams) a
 
   unfoldable pub called : Meaning t → View t → Input → Choice → At t
   called m s i choice = input_after m i choice (began s (time_of i))
 
   -- whatever waited to be reported was reported
   unfoldable pub reported : View t → View t
-  reported s = state_move ReportDrained (state_move ReportNotices (state_move ReportLost (state_move ReportConnected (state_move ReportReady s))))
+  reported s = state_move ReportDrained (state_move ReportNotices (state_move ReportLost (state_move ReportStreams (state_move ReportConnected (state_move ReportReady s)))))
 
   -- the view after a step
   unfoldable pub step_after : Meaning t → View t → Input → Choice → View t
@@ -71,22 +99,17 @@ module _ {t : Types} where
 
   -- what an input may do, once its call has begun
   unfoldable pub IsAllowed : Meaning t → Input → Choice → At t → Type 0
-  IsAllowed m (Datagram time remote ecn bytes) choice a = Unit {0}
-  IsAllowed m (Timeout time) choice a = Unit {0}
   IsAllowed m (Transmit time max) choice a = MayTransmit m time choice a
-  IsAllowed m (Close time code reason) choice a = Unit {0}
-  IsAllowed m (Ping time) choice a = Unit {0}
+  IsAllowed m i choice a = MayRead i choice.read a.state.lower.streams
 
   -- what an input answers
   unfoldable pub answer_of : Meaning t → Input → Choice → At t → Answer
   answer_of m (Datagram time remote ecn bytes) choice a = if is_taken m a.state remote bytes then Done else Dropped
-  answer_of m (Timeout time) choice a = Done
   answer_of m (Transmit time max) choice a = out_of (transmit_of m time choice a) (transmit_bytes m time choice a)
-  answer_of m (Close time code reason) choice a = Done
-  answer_of m (Ping time) choice a = Done
+  answer_of m i choice a = call_answer i choice.read a.state.lower.streams
 
-  -- one step: how each group of the view changes, and what is told. A transmit has its choice, one for all that is said here; no other
-  -- input reads it.
+  -- one step: how each group of the view changes, and what is told. A transmit and a read have their choice, one for all that is said
+  -- here; no other input reads it.
   pub record IsStep (m : Meaning t) (k : ℕ) (s : View t) (i : Input) (x : Step) (s' : View t) : Type 0 where
     pub choice : Choice
     pub numbers : s'.numbers ≡ (step_after m s i choice).numbers

@@ -1,7 +1,7 @@
 -- What a transmit may send, and what it leaves: a list of packets, each a step of what is carried along, and an ending. Which packets
 -- there are, and which of the waiting frames each carries, is free; all else is a function of that choice. So far a transmit seals at
 -- most one packet, in a datagram of its own.
-use Rattle.std.specs.Prelude.{min, ◌≡◌, ℕ, ◌+◌, ◌-◌, ◌<◌, ◌≤◌, ◌^◌, ◌==◌, ◌⊎◌, Bool, true, false, ◌||◌, ◌&&◌, not, nat_lt, nat_le, if◌then◌else◌, List, [], ◌∷◌, ◌++◌, length, replicate, Option, Some, None}
+use Rattle.std.specs.Prelude.{min, ◌≡◌, ℕ, ◌+◌, ◌-◌, ◌<◌, ◌≤◌, ◌^◌, ◌==◌, ◌⊎◌, Bool, true, false, ◌||◌, ◌&&◌, not, nat_lt, nat_le, if◌then◌else◌, List, [], ◌∷◌, ◌++◌, length, replicate, Option, Some, None, Result}
 use Rattle.std.specs.List.{list_any}
 use Rattle.qc_base.specs.declared.ecn.EcnCodepoint.TheVariants.{Ect0}
 use Rattle.qc_base.specs.declared.side.LongType.TheVariants as long
@@ -21,6 +21,8 @@ use Rattle.qc_header.specs.declared.header.Header.TheVariants as header
 use Rattle.qc_packet.specs.declared.slot.Slot.{Slot}
 use Rattle.qc_packet.specs.Building.{padded_size}
 use Rattle.qc_packet.specs.PacketSpelling.{sealed_packet, padding_len}
+use Rattle.qc_recv.specs.declared.recv.Chunk.{Chunk}
+use Rattle.qc_streams.specs.declared.fault.ReadFault.{ReadFault}
 use Rattle.qc_state.specs.declared.deeds.Quiet.{Quiet}
 use Rattle.qc_state.specs.declared.deeds.Quiet.TheVariants.{NothingOwed, Silent, Amplification, Killed}
 use Rattle.qc_state.specs.declared.form.Form.{Form}
@@ -106,10 +108,11 @@ pub data Ending : Type 0 where
   Hushed : (quiet : Quiet) → Ending
   Died : (why : ConnectionError) → Ending
 
--- the choice of a transmit: the packets that it seals, one behind the other, and how it ends
+-- what is free of an input: of a transmit the packets that it seals, one behind the other, and how it ends; of a read what it answers
 pub record Choice : Type 0 where
   pub packets : List Sent
   pub ending : Ending
+  pub read : Result (Option Chunk) ReadFault
 
 -- why a transmit seals nothing, where the connection goes on: the end came before, or no space owes anything, or the path is blocked;
 -- the first of these counts

@@ -3,6 +3,10 @@ use Rattle.std.specs.Prelude.{ℕ, nat_le, ◌&&◌, if◌then◌else◌, List, 
 use Rattle.std.specs.List.{flat_map}
 use Rattle.std.specs.Net.Text.{socket_text}
 use Rattle.qc_base.specs.ResetToken.{token_text}
+use Rattle.qc_base.specs.declared.side.Dir.{Dir}
+use Rattle.qc_base.specs.declared.side.Dir.TheVariants.{Bi, Uni}
+use Rattle.qc_streams.specs.declared.events.StreamEvent.{StreamEvent}
+use Rattle.qc_streams.specs.declared.events.StreamEvent.TheVariants as stream
 use Rattle.qc_base.specs.TransportErrorCode.{code_text}
 use Rattle.qc_state.specs.declared.life.ApplicationClose.{ApplicationClose}
 use Rattle.qc_state.specs.declared.life.ConnectionClose.{ConnectionClose}
@@ -11,7 +15,7 @@ use Rattle.qc_state.specs.declared.life.ConnectionError.TheVariants.{TransportEr
 use Rattle.qc_state.specs.declared.events.EndpointEvent.{EndpointEvent}
 use Rattle.qc_state.specs.declared.events.EndpointEvent.TheVariants as endpoint
 use Rattle.qc_state.specs.declared.events.Event.{Event}
-use Rattle.qc_state.specs.declared.events.Event.TheVariants.{HandshakeDataReady, Connected, ConnectionLost}
+use Rattle.qc_state.specs.declared.events.Event.TheVariants.{HandshakeDataReady, Connected, ConnectionLost, Stream}
 
 -- a byte of a reason: printable ASCII as it is, any other as a question mark
 abbrev pub shown_byte : ℕ → List ℕ
@@ -41,11 +45,26 @@ error_text (ConnectionClosed close) = codes "aborted by peer: " ++ connection_cl
 error_text (ApplicationClosed close) = codes "closed by peer: " ++ application_close_text close
 error_text TimedOut = codes "timed out"
 
+-- a kind of streams
+abbrev pub dir_text : Dir → List ℕ
+dir_text Bi = codes "bidirectional"
+dir_text Uni = codes "unidirectional"
+
+-- what happened on a stream, or to how many there may be
+unfoldable pub stream_event_text : StreamEvent → List ℕ
+stream_event_text (stream.Opened dir) = dir_text dir ++ codes " streams opened"
+stream_event_text (stream.Readable id) = codes "stream " ++ decimal id ++ codes " readable"
+stream_event_text (stream.Writable id) = codes "stream " ++ decimal id ++ codes " writable"
+stream_event_text (stream.Finished id) = codes "stream " ++ decimal id ++ codes " finished"
+stream_event_text (stream.Stopped id code) = codes "stream " ++ decimal id ++ codes " stopped: " ++ decimal code
+stream_event_text (stream.Available dir) = dir_text dir ++ codes " streams available"
+
 -- what the application is told
 unfoldable pub event_text : Event → List ℕ
 event_text HandshakeDataReady = codes "handshake data ready"
 event_text Connected = codes "connected"
 event_text (ConnectionLost why) = codes "connection lost: " ++ error_text why
+event_text (Stream event) = stream_event_text event
 
 -- what the endpoint is told
 unfoldable pub endpoint_text : EndpointEvent → List ℕ

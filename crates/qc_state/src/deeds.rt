@@ -47,6 +47,8 @@ pub enum Verdict {
 /// The layer that a frame was given to.
 #[derive(Clone, Copy)]
 pub enum Layer {
+    /// The streams.
+    Streams,
     /// Loss recovery: acknowledgements.
     Recovery,
     /// The session: bytes of the handshake.

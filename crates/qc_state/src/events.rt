@@ -4,6 +4,7 @@ ghost use Rattle.std.specs.Prelude.{◌≡◌, ◌==◌, [], ◌∷◌, ◌++◌
 
 use crate::life::ConnectionError;
 use qc_base::{Instant, ResetToken};
+use qc_streams::StreamEvent;
 use std::alloc::{AllocError, Global};
 use std::marker::Model;
 use std::net::SocketAddr;
@@ -20,6 +21,8 @@ pub enum Event {
         /// Why.
         reason: ConnectionError,
     },
+    /// Something happened on a stream, or to how many streams there may be.
+    Stream(StreamEvent),
 }
 
 /// What a connection reports to its endpoint.
@@ -85,6 +88,16 @@ impl Events {
         ensures err { OnErr result (self.new ≡ self.old) }
     {
         self.events.push(Event::ConnectionLost { reason })?;
+        Ok(())
+    }
+
+    /// The report of what happened on a stream, after the others. Want of memory is the only refusal, and then the list is
+    /// as before.
+    pub fn push_stream(&mut self, event: StreamEvent) -> Result<(), AllocError>
+        ensures ok { OnOk result (self.new ≡ self.old ++ Event.Stream event ∷ []) }
+        ensures err { OnErr result (self.new ≡ self.old) }
+    {
+        self.events.push(Event::Stream(event))?;
         Ok(())
     }
 

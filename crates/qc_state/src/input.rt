@@ -1,7 +1,7 @@
 //! The inputs of a connection that is driven.
 
 use crate::body::Body;
-use qc_base::{EcnCodepoint, Instant, VarInt};
+use qc_base::{Dir, EcnCodepoint, Instant, StreamId, VarInt};
 use std::net::SocketAddr;
 
 /// What a driver tells a connection. Each input has its time.
@@ -30,6 +30,63 @@ pub enum Input {
         /// At most so many datagrams.
         max_datagrams: usize,
     },
+    /// The application opens a stream.
+    Open {
+        /// The time.
+        now: Instant,
+        /// Whether both ends send on it.
+        dir: Dir,
+    },
+    /// The application accepts a stream that the peer opened.
+    Accept {
+        /// The time.
+        now: Instant,
+        /// Whether both ends send on it.
+        dir: Dir,
+    },
+    /// The application writes on a stream.
+    Write {
+        /// The time.
+        now: Instant,
+        /// The stream.
+        id: StreamId,
+        /// The bytes.
+        body: Body,
+    },
+    /// The application finishes a stream: it writes nothing more on it.
+    Finish {
+        /// The time.
+        now: Instant,
+        /// The stream.
+        id: StreamId,
+    },
+    /// The application resets a stream that it sends on (RFC 9000, 3.1).
+    ResetSend {
+        /// The time.
+        now: Instant,
+        /// The stream.
+        id: StreamId,
+        /// The application's error code.
+        code: VarInt,
+    },
+    /// The application wants no more of a stream (RFC 9000, 3.5).
+    StopRecv {
+        /// The time.
+        now: Instant,
+        /// The stream.
+        id: StreamId,
+        /// The application's error code.
+        code: VarInt,
+    },
+    /// The application reads a stream in order.
+    Read {
+        /// The time.
+        now: Instant,
+        /// The stream.
+        id: StreamId,
+        /// At most so many bytes.
+        max: usize,
+    },
     /// The application closes the connection (RFC 9000, 10.2).
     Close {
         /// The time.
@@ -44,6 +101,29 @@ pub enum Input {
         /// The time.
         now: Instant,
     },
+    /// The application sets how many streams the peer may have open at a time (RFC 9000, 4.6).
+    MaxStreams {
+        /// The time.
+        now: Instant,
+        /// Of which streams.
+        dir: Dir,
+        /// How many.
+        count: VarInt,
+    },
+    /// The application sets how many bytes may be kept until they are acknowledged, on all streams.
+    SendWindow {
+        /// The time.
+        now: Instant,
+        /// How many.
+        size: u64,
+    },
+    /// The application sets how many bytes may be underway or unread, on all streams (RFC 9000, 4.1).
+    ReceiveWindow {
+        /// The time.
+        now: Instant,
+        /// How many.
+        size: VarInt,
+    },
 }
 
 /// The kind of an input.
@@ -55,8 +135,28 @@ pub enum Word {
     Timeout,
     /// An `Input::Transmit`.
     Transmit,
+    /// An `Input::Open`.
+    Open,
+    /// An `Input::Accept`.
+    Accept,
+    /// An `Input::Write`.
+    Write,
+    /// An `Input::Finish`.
+    Finish,
+    /// An `Input::ResetSend`.
+    ResetSend,
+    /// An `Input::StopRecv`.
+    StopRecv,
+    /// An `Input::Read`.
+    Read,
     /// An `Input::Close`.
     Close,
     /// An `Input::Ping`.
     Ping,
+    /// An `Input::MaxStreams`.
+    MaxStreams,
+    /// An `Input::SendWindow`.
+    SendWindow,
+    /// An `Input::ReceiveWindow`.
+    ReceiveWindow,
 }

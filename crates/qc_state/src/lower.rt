@@ -1,22 +1,29 @@
 //! The layers below: the session, the bytes of its CRYPTO streams that came, and loss recovery.
 
-ghost use Rattle.std.specs.Prelude.{◌≡◌, ◌+◌, ◌<◌, ◌≤◌, ◌^◌, ◌++◌, Err, length, IfOk, OnOk, OnErr};
+ghost use Rattle.std.specs.Prelude.{◌≡◌, ◌+◌, ◌<◌, ◌≤◌, ◌^◌, ◌++◌, Err, length, map, suc, IfOk, OnOk, OnErr};
 ghost use Rattle.qc_assembler.specs.Assembly.{advanced, inserted, part_count};
-ghost use Rattle.qc_frame.specs.Frame.{ack_map};
+ghost use Rattle.qc_frame.specs.Frame.{ack_map, borrowed};
 ghost use Rattle.qc_frame.specs.FrameFits.{Fits};
 ghost use Rattle.qc_frame.specs.declared.frames.FrameOf.TheVariants as frames;
 ghost use Rattle.qc_recovery.specs.Frames.{ranges_up_of, values_of};
 ghost use Rattle.qc_recovery.specs.Steps.{ack_after, after_with, fired_with, path_dropped, timeout_after};
-ghost use Rattle.qc_state.specs.Lower.{bytes_came, flight_dropped, packet_flown, packets_settled, ready_bytes, session_read, stream_of, timer_fired};
+ghost use Rattle.qc_state.specs.Lower.{bytes_came, events_told, flight_dropped, packet_flown, packets_settled, ready_bytes, session_read, stream_of, timer_fired, frame_handed, limits_learned, streams_closed, event_told};
+ghost use Rattle.qc_state.specs.Streams.{asked_for, events_of, streams_stop};
+ghost use Rattle.qc_streams.specs.Waits.{after};
+ghost use Rattle.qc_streams.specs.Owed.{next_event};
 
+use crate::events::{Event, Events};
 use crate::spaces::Spaces;
+use crate::streams::hand;
 use bytes::Bytes;
 use qc_assembler::{Assembler, InsertError};
-use qc_base::{Instant, SpaceId};
+use qc_base::{Instant, SpaceId, TransportError};
 use qc_flight::SentPacket;
-use qc_frame::Ack;
+use qc_frame::{Ack, Frame};
+use qc_params::TransportParameters;
 use qc_path::Controller;
 use qc_recovery::{Around, Fired, PathData, Recovery, Settled};
+use qc_streams::{PeerLimits, StreamEvent, StreamsState};
 use std::alloc::{AllocError, Global};
 
 /// The states of the layers below the connection.
@@ -25,18 +32,20 @@ pub struct Lower<S> {
     /// The cryptographic handshake (RFC 9001).
     pub session: S,
     /// The bytes of each space's CRYPTO stream that came, and how many were given to the session (RFC 9000, 19.6).
-    pub streams: Spaces<Assembler>,
+    pub crypto: Spaces<Assembler>,
     /// The packets in flight, and what was acknowledged (RFC 9002). What loss recovery keeps of a path stands with the path.
     pub recovery: Recovery,
+    /// The streams of the application (RFC 9000, 2 to 4).
+    pub streams: StreamsState,
 }
 
-#[tactic(auto, unfolding(crate::specs::Lower::stream_of, crate::specs::Lower::bytes_came, crate::specs::Lower::session_read, crate::specs::Lower::packet_flown, crate::specs::Lower::packets_settled, crate::specs::Lower::timer_fired, crate::specs::Lower::flight_dropped))]
+#[tactic(auto, unfolding(crate::specs::Lower::stream_of, crate::specs::Lower::bytes_came, crate::specs::Lower::session_read, crate::specs::Lower::packet_flown, crate::specs::Lower::packets_settled, crate::specs::Lower::timer_fired, crate::specs::Lower::flight_dropped, crate::specs::Lower::streams_stepped, crate::specs::Lower::frame_handed, crate::specs::Lower::limits_learned, crate::specs::Lower::streams_closed, crate::specs::Lower::event_told, crate::specs::Lower::events_told, qc_streams::specs::Waits::after, qc_streams::specs::Waits::after_step))]
 impl<S> Lower<S> {
     /// What came of the space's CRYPTO stream.
     pub fn stream(&self, space: SpaceId) -> &Assembler
         ensures { result.now ≡ stream_of self.now space }
     {
-        self.streams.get(space)
+        self.crypto.get(space)
     }
 
     /// Bytes of the space's CRYPTO stream came.
@@ -53,9 +62,9 @@ impl<S> Lower<S> {
         ensures err { OnErr result (self.new ≡ self.old) }
     {
         match space {
-            SpaceId::Initial => self.streams.initial.insert(offset, bytes),
-            SpaceId::Handshake => self.streams.handshake.insert(offset, bytes),
-            SpaceId::Data => self.streams.application.insert(offset, bytes),
+            SpaceId::Initial => self.crypto.initial.insert(offset, bytes),
+            SpaceId::Handshake => self.crypto.handshake.insert(offset, bytes),
+            SpaceId::Data => self.crypto.application.insert(offset, bytes),
         }
     }
 
@@ -65,9 +74,9 @@ impl<S> Lower<S> {
         ensures rest { IfOk result (λ bytes. self.new ≡ session_read self.old space (length bytes.items) self.old.session) }
     {
         match space {
-            SpaceId::Initial => take_ready(&mut self.streams.initial, alloc),
-            SpaceId::Handshake => take_ready(&mut self.streams.handshake, alloc),
-            SpaceId::Data => take_ready(&mut self.streams.application, alloc),
+            SpaceId::Initial => take_ready(&mut self.crypto.initial, alloc),
+            SpaceId::Handshake => take_ready(&mut self.crypto.handshake, alloc),
+            SpaceId::Data => take_ready(&mut self.crypto.application, alloc),
         }
     }
 
@@ -126,6 +135,57 @@ impl<S> Lower<S> {
     {
         let _ = self.recovery.discard(space, path);
     }
+
+    /// The streams are handed a frame, if it is about them. Answers the error with which they refuse it, if they do. Want of memory
+    /// is the only refusal of the call.
+    pub fn hand(
+        &mut self,
+        alloc: Global,
+        frame: &Frame<'_>,
+    ) -> Result<Option<TransportError>, AllocError>
+        requires { Fits (borrowed frame.now) }
+        ensures stop { IfOk result (λ stop. stop ≡ streams_stop (borrowed frame.now) self.old.streams) }
+        ensures leads { OnOk result (self.new ≡ frame_handed (borrowed frame.now) self.old) }
+    {
+        hand(&mut self.streams, alloc, frame)
+    }
+
+    /// The peer's limits on streams are known, from its parameters (RFC 9000, 18.2).
+    pub fn learn_limits(&mut self, parameters: &TransportParameters)
+        ensures { self.new ≡ limits_learned parameters.now self.old }
+    {
+        self.streams.set_limits(PeerLimits {
+            all_data: parameters.initial_max_data.into_inner(),
+            bidi_streams: parameters.initial_max_streams_bidi.into_inner(),
+            uni_streams: parameters.initial_max_streams_uni.into_inner(),
+            peer_bidi_data: parameters.initial_max_stream_data_bidi_local,
+            own_bidi_data: parameters.initial_max_stream_data_bidi_remote,
+            own_uni_data: parameters.initial_max_stream_data_uni,
+        });
+    }
+
+    /// The connection isn't open any more, which the streams are told.
+    pub fn close_streams(&mut self)
+        ensures { self.new ≡ streams_closed self.old }
+    {
+        self.streams.close();
+    }
+
+    /// The first event of the streams, which is told. None exactly where none waits.
+    pub fn take_event(&mut self) -> Option<StreamEvent>
+        ensures event { result ≡ next_event self.old.streams }
+        ensures told { self.new ≡ event_told self.old }
+    {
+        self.streams.poll()
+    }
+
+    /// All events of the streams, which are told, behind the others. Want of memory is the only refusal.
+    pub fn take_events(&mut self, events: &mut Events) -> Result<(), AllocError>
+        ensures events { OnOk result (events.new ≡ events.old ++ map Event.Stream (events_of self.old.streams)) }
+        ensures told { OnOk result (self.new ≡ events_told self.old) }
+    {
+        take_events(&mut self.streams, events)
+    }
 }
 
 /// Takes all bytes that can be read in order. Want of memory is the only refusal.
@@ -138,6 +198,19 @@ fn take_ready(stream: &mut Assembler, alloc: Global) -> Result<Vec<u8>, AllocErr
         match stream.read(usize::MAX)? {
             None => return Ok(bytes),
             Some(chunk) => bytes.extend_from_slice(chunk.as_slice())?,
+        }
+    }
+}
+
+/// All events that wait, which are told, behind the others. Want of memory is the only refusal.
+fn take_events(streams: &mut StreamsState, events: &mut Events) -> Result<(), AllocError>
+    ensures events { OnOk result (events.new ≡ events.old ++ map Event.Stream (events_of streams.old)) }
+    ensures told { OnOk result (streams.new ≡ after (asked_for (suc (length (events_of streams.old)))) streams.old) }
+{
+    loop {
+        match streams.poll() {
+            None => return Ok(()),
+            Some(event) => events.push_stream(event)?,
         }
     }
 }

@@ -1,10 +1,12 @@
 //! How the reasons for a connection's end, and what it reports, are printed.
 
 ghost use Rattle.std.specs.Prelude.{Some};
-ghost use Rattle.qc_state.specs.Shown.{shown_byte, shown_bytes, shown_reason, connection_close_text, application_close_text, error_text, event_text, endpoint_text};
+ghost use Rattle.qc_state.specs.Shown.{shown_byte, shown_bytes, shown_reason, connection_close_text, application_close_text, error_text, dir_text, stream_event_text, event_text, endpoint_text};
 
 use crate::events::{EndpointEvent, Event};
 use crate::life::{ApplicationClose, ConnectionClose, ConnectionError};
+use qc_base::Dir;
+use qc_streams::StreamEvent;
 use std::fmt;
 
 /// A byte of a reason: printable ASCII as it is, and a question mark for any other byte.
@@ -18,6 +20,14 @@ struct Shown<'a>(&'a [u8]);
 /// The reason of a close behind its code, if it has one.
 #[derive(Drop)]
 struct Reason<'a>(&'a [u8]);
+
+/// A kind of streams.
+#[derive(Drop)]
+struct Kind(Dir);
+
+/// What happened on a stream, or to how many there may be.
+#[derive(Drop)]
+struct OnStreams(StreamEvent);
 
 impl fmt::Display for ShownByte {
     ghost output = { λ byte. Some (shown_byte byte.0) };
@@ -94,6 +104,52 @@ impl fmt::Display for ConnectionError {
     }
 }
 
+impl fmt::Display for Kind {
+    ghost output = { λ kind. Some (dir_text kind.0) };
+
+    fn fmt<W: fmt::Write>(&self, f: &mut fmt::Formatter<W>) -> fmt::Result {
+        match self.0 {
+            Dir::Bi => write!(f, "bidirectional"),
+            Dir::Uni => write!(f, "unidirectional"),
+        }
+    }
+}
+
+impl fmt::Display for OnStreams {
+    ghost output = { λ event. Some (stream_event_text event.0) };
+
+    #[tactic(auto, unfolding(crate::specs::Shown::stream_event_text))]
+    fn fmt<W: fmt::Write>(&self, f: &mut fmt::Formatter<W>) -> fmt::Result {
+        match self.0 {
+            StreamEvent::Opened { dir } => {
+                let kind = Kind(dir);
+                write!(f, "{kind} streams opened")
+            }
+            StreamEvent::Readable { id } => {
+                let id = id.value();
+                write!(f, "stream {id} readable")
+            }
+            StreamEvent::Writable { id } => {
+                let id = id.value();
+                write!(f, "stream {id} writable")
+            }
+            StreamEvent::Finished { id } => {
+                let id = id.value();
+                write!(f, "stream {id} finished")
+            }
+            StreamEvent::Stopped { id, error_code } => {
+                let id = id.value();
+                let code = error_code.into_inner();
+                write!(f, "stream {id} stopped: {code}")
+            }
+            StreamEvent::Available { dir } => {
+                let kind = Kind(dir);
+                write!(f, "{kind} streams available")
+            }
+        }
+    }
+}
+
 impl fmt::Display for Event {
     ghost output = { λ event. Some (event_text event) };
 
@@ -103,6 +159,10 @@ impl fmt::Display for Event {
             Event::HandshakeDataReady => write!(f, "handshake data ready"),
             Event::Connected => write!(f, "connected"),
             Event::ConnectionLost { reason } => write!(f, "connection lost: {reason}"),
+            Event::Stream(event) => {
+                let told = OnStreams(*event);
+                write!(f, "{told}")
+            }
         }
     }
 }

@@ -6,10 +6,25 @@ use crate::body::Body;
 use crate::deeds::Dids;
 use crate::events::{EndpointEvents, Events};
 use crate::input::Word;
-use qc_base::{EcnCodepoint, Instant};
+use qc_base::{EcnCodepoint, Instant, StreamId, VarInt};
 use std::alloc::{AllocError, Global};
 use std::marker::Model;
 use std::net::SocketAddr;
+
+/// Why a call on a stream was refused.
+#[derive(Clone, Copy, Debug, PartialEq, Eq)]
+pub enum Refusal {
+    /// Nothing can be written now, or read now.
+    Blocked,
+    /// The stream is unknown, or closed to the application.
+    ClosedStream,
+    /// The peer stopped the stream, with this code (RFC 9000, 3.5).
+    Stopped(VarInt),
+    /// The stream was read out of order before.
+    IllegalOrderedRead,
+    /// The peer reset the stream, with this code (RFC 9000, 3.2).
+    Reset(VarInt),
+}
 
 /// What a call answered.
 #[derive(Drop)]
@@ -18,8 +33,25 @@ pub enum Answer {
     Done,
     /// A datagram that begins with no packet was dropped.
     Dropped,
-    /// The call gave no value; for a transmit: nothing was sent.
+    /// The call gave no value: nothing was sent, no stream can be opened, or none is there to accept.
     Nothing,
+    /// A stream was opened.
+    Opened(StreamId),
+    /// A stream was accepted.
+    Accepted(StreamId),
+    /// So many bytes were written.
+    Wrote(u64),
+    /// Bytes were read.
+    Read {
+        /// The offset of the first one in its stream.
+        offset: u64,
+        /// The bytes.
+        body: Body,
+    },
+    /// A stream was read to its end.
+    Ended,
+    /// The call was refused.
+    Error(Refusal),
     /// A transmit: datagrams to be sent.
     Out {
         /// The address to send them to.
