@@ -15,6 +15,7 @@ pub mod Progresses
 pub mod ReceivedMoves
 pub mod Telling
 pub mod Skipping
+pub mod StreamEvents
 pub mod Taken
 pub mod Transmitted
 pub mod Ready

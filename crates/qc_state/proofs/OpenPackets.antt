@@ -27,20 +27,21 @@ use Rattle.qc_state.specs.declared.life.State.TheVariants as state
 use Rattle.qc_state.specs.declared.life.Life.{Life}
 use Rattle.qc_state.specs.Life.{rank_of, is_open, is_closed, is_over, life_drained, reason_given}
 use Rattle.qc_state.specs.Lower.{ready_bytes, session_read, stream_of}
-use Rattle.qc_state.specs.Moves.{Move, Arm, Forget, Enter, Accept, Fix, Give, Ack, Come, Read, Ready, Shut, Tell, PeerClosesToo, PeerCloses, Owe, move_to, state_move, numbers_move, keys_move, life_move, paths_move, timers_move, waiting_move, setup_move, lower_move, MayMove, accepts, enters, armed_after, armed_with}
+use Rattle.qc_state.specs.Moves.{Move, Arm, Forget, Enter, Accept, Fix, Give, Hand, Ack, Come, Read, Ready, Shut, Tell, PeerClosesToo, PeerCloses, Owe, move_to, state_move, numbers_move, keys_move, life_move, paths_move, timers_move, waiting_move, setup_move, lower_move, MayMove, accepts, enters, armed_after, armed_with}
 use Rattle.qc_state.specs.Numbers.{is_new_in, next_number}
 use Rattle.qc_state.specs.Progress.{progress_after}
-use Rattle.qc_state.specs.Receiving.{reason_of, signs_of, stop_in, is_close_item, is_eliciting_item, left_after, rearmed_after, settled_after, acked_after, confirmed_after, applied_after, close_given, closed_in_data, end_after, crypto_stop, items_after, payload_after, fixes_peer, fixed_after, read_for_close, admitted_after, verdict_after, received_after, accepted_after, Behind, Goes, Closes, Ends, Course, Reads, Ended, close_after, ended_by, answered_after, bytes_given, kept_after, frame_after, course_with}
+use Rattle.qc_state.specs.Receiving.{reason_of, signs_of, stop_in, is_close_item, is_eliciting_item, left_after, rearmed_after, settled_after, acked_after, confirmed_after, applied_after, close_given, closed_in_data, end_after, crypto_stop, items_after, payload_after, fixes_peer, fixed_after, read_for_close, admitted_after, verdict_after, received_after, accepted_after, Behind, Goes, Closes, Ends, Course, Reads, Ended, close_after, ended_by, answered_after, bytes_given, kept_after, frame_after, course_with, handed_after, refused_after}
 use Rattle.qc_state.specs.Paths.{is_blocked, path_kept}
 use Rattle.qc_state.specs.Recovering.{loss_time, settled_by}
 use Rattle.qc_state.specs.Sending.{drops_initial, initial_left}
 use Rattle.qc_state.specs.Stopping.{encoding_error_at, given_after, stopped_after}
+use Rattle.qc_state.specs.Streams.{streams_stop}
 use Rattle.qc_state.specs.Types.{Types, Meaning}
 use Rattle.qc_state.specs.Verdicts.{first_row, verdict_of}
 use Rattle.qc_state.specs.View.{View, At}
 use Rattle.qc_state.proofs.Ends.{given_by, stopped_by}
 use Rattle.qc_state.proofs.Progresses.{holds_progress}
-use Rattle.qc_state.proofs.PacketMoves.{Bytes, Empty, EndsWith, Fault, IsAmong, IsFrameOf, IsGivenTo, IsInPacket, IsProgress, IsReasonOf, IsTypedOf, Kind, OpenPacket, Refusal, Stops, progress_in_packet}
+use Rattle.qc_state.proofs.PacketMoves.{Bytes, Empty, EndsWith, Fault, IsAmong, IsFrameOf, IsGivenTo, IsInPacket, IsProgress, IsReasonOf, IsTypedOf, Kind, OpenPacket, Refusal, Stops, Streams, progress_in_packet}
 use Rattle.qc_state.proofs.ReceivedMoves.{close_for}
 
 -- ---- what a verdict on a packet that opened says of the view
@@ -298,6 +299,18 @@ module _ {t : Types} (m : Meaning t) (o : OpenPacket) (R : At t → At t → Typ
       let b : At t = move_to (Come o.space offset body) a in
       leaves_next a b (move (Come o.space offset body) a (refl, among) tt tt) (bytes_given m o.coming o.space (ready_bytes (stream_of b.state.lower o.space)) b) (holds_bytes (ready_bytes (stream_of b.state.lower o.space)) b refl)
 
+  -- the streams are handed a frame, which they take, or refuse
+  handed_by : (f : FrameValue) (stop : Option TransportError) (a : At t) → IsFrameOf o f → streams_stop f a.state.lower.streams ≡ stop → Leaves a (refused_after o.coming.time stop (move_to (Hand f) a))
+  unfolding MayMove move_to
+  handed_by f None a h is = move (Hand f) a h tt tt
+  handed_by f (Some error) a h is =
+      let b : At t = move_to (Hand f) a in
+      next a b _ (move (Hand f) a h tt tt) (stopped error b (Streams f h a.state refl is))
+
+  holds_handed : (f : FrameValue) (a : At t) → IsFrameOf o f → Leaves a (handed_after o.coming.time f a)
+  unfolding handed_after
+  holds_handed f a h = handed_by f (streams_stop f a.state.lower.streams) a h refl
+
   -- a frame that its kind doesn't stop
   holds_applied : (f : FrameValue) (a : At t) → (among : IsFrameOf o f) → GoesOn a.state among.0 f → Leaves a (applied_after m o.coming o.space f a)
   unfolding applied_after
@@ -308,6 +321,14 @@ module _ {t : Types} (m : Meaning t) (o : OpenPacket) (R : At t → At t → Typ
       holds_confirmed a h done.0 done.1
   holds_applied (frames.ConnectionClose code type reason) a h goes = holds_close o.space (frames.ConnectionClose code type reason) (lost.ConnectionClosed (record { error_code = code; frame_type = type; reason = reason })) a h refl
   holds_applied (frames.ApplicationClose code reason) a h goes = holds_close o.space (frames.ApplicationClose code reason) (lost.ApplicationClosed (record { error_code = code; reason = reason })) a h refl
+  holds_applied (frames.ResetStream stream code size) a h goes = holds_handed (frames.ResetStream stream code size) a h
+  holds_applied (frames.StopSending stream code) a h goes = holds_handed (frames.StopSending stream code) a h
+  holds_applied (frames.Stream stream offset fin body) a h goes = holds_handed (frames.Stream stream offset fin body) a h
+  holds_applied (frames.MaxData limit) a h goes = holds_handed (frames.MaxData limit) a h
+  holds_applied (frames.MaxStreamData stream limit) a h goes = holds_handed (frames.MaxStreamData stream limit) a h
+  holds_applied (frames.MaxStreams dir count) a h goes = holds_handed (frames.MaxStreams dir count) a h
+  holds_applied (frames.StreamDataBlocked stream limit) a h goes = holds_handed (frames.StreamDataBlocked stream limit) a h
+  holds_applied (frames.StreamsBlocked dir limit) a h goes = holds_handed (frames.StreamsBlocked dir limit) a h
   holds_applied _ a h goes = here a
 
   -- a frame

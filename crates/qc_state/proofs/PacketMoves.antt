@@ -28,7 +28,7 @@ use Rattle.qc_state.specs.declared.life.ConnectionError.TheVariants as lost
 use Rattle.qc_state.specs.Keys.{NewKeys}
 use Rattle.qc_state.specs.Life.{is_handshake}
 use Rattle.qc_state.specs.Lower.{ready_bytes, stream_of}
-use Rattle.qc_state.specs.Moves.{Move, Give, Forget, Enter, Accept, Fix, Ack, Arm, Come, Read, Write, Ready, Token, Learn, Want, Confirm, Establish, Tell, PeerClosesToo, PeerCloses, Owe, Shut, accepts, state_move}
+use Rattle.qc_state.specs.Moves.{Move, Give, Forget, Enter, Accept, Fix, Ack, Arm, Come, Read, Write, Ready, Token, Learn, Want, Confirm, Establish, Tell, Hand, PeerClosesToo, PeerCloses, Owe, Shut, accepts, state_move}
 use Rattle.qc_state.specs.Numbers.{next_number}
 use Rattle.qc_state.specs.Paths.{is_blocked}
 use Rattle.qc_state.specs.Progress.{ids_fit, is_end, keys_behind, session_behind}
@@ -36,6 +36,7 @@ use Rattle.qc_state.specs.Receiving.{crypto_stop, is_close_item, reason_of, sign
 use Rattle.qc_state.specs.Recovering.{loss_time, settled_by}
 use Rattle.qc_state.specs.Sending.{drops_initial}
 use Rattle.qc_state.specs.Stopping.{encoding_error_at, missing_parameters, parameter_error, violation_at}
+use Rattle.qc_state.specs.Streams.{is_given_to_streams, streams_stop}
 use Rattle.qc_state.specs.Types.{Types, Meaning}
 use Rattle.qc_state.specs.Verdicts.{verdict_of}
 use Rattle.qc_state.specs.View.{View}
@@ -77,6 +78,7 @@ IsReasonOf o why = (f : FrameValue) × IsFrameOf o f × (reason_of f ≡ Some wh
 
 -- a frame of this kind is given to the layer as it is spelled
 abbrev pub IsGivenTo : Layer → FrameValue → Type 0
+IsGivenTo layer.Streams f = is_given_to_streams f ≡ true
 IsGivenTo layer.Recovery (frames.Ack ack) = Unit {0}
 IsGivenTo layer.Life frames.HandshakeDone = Unit {0}
 IsGivenTo layer.Life (frames.ConnectionClose code type reason) = Unit {0}
@@ -138,14 +140,15 @@ module _ {t : Types} where
     Unfit : (parameters : TransportParameters) → m.parameters s.lower.session ≡ Ok (Some parameters) → ids_fit s parameters ≡ false → error ≡ parameter_error → Breaks m s error
 
   -- this packet makes this end close for this error: it holds no frame, or bytes that are none; one of its frames stops it by its kind,
-  -- or one of CRYPTO by its bytes; the session refused bytes that it was given, and is what it is behind them; or the peer's
-  -- parameters break a rule
+  -- or one of CRYPTO by its bytes; the session refused bytes that it was given, and is what it is behind them; the streams refused one of
+  -- its frames, which they were just handed; or the peer's parameters break a rule
   pub data Stops (m : Meaning t) (o : OpenPacket) (s : View t) (error : TransportError) : Type 0 where
     Empty : o.payload ≡ [] → error ≡ violation_at None → Stops m o s error
     Fault : (fault : InvalidFrame) → EndsWith fault (items_of o.payload) → error ≡ encoding_error_at fault.ty → Stops m o s error
     Kind : (read : TypedValue) → IsTypedOf o read → stop_in s.setup.fixed.side o.space (next_number s.numbers o.space) s.numbers.filter.last read.ty read.frame ≡ Some error → Stops m o s error
     Bytes : (offset : ℕ) → (body : List ℕ) → IsFrameOf o (frames.Crypto offset body) → crypto_stop s o.space offset body ≡ Some error → Stops m o s error
     Refusal : (bytes : List ℕ) → (session : t.S) → m.reads session bytes ≡ Err error → s.lower.session ≡ m.after_read session bytes → Stops m o s error
+    Streams : (f : FrameValue) → IsFrameOf o f → (before : View t) → s ≡ state_move (Hand f) before → streams_stop f before.lower.streams ≡ Some error → Stops m o s error
     Parameters : Breaks m s error → Stops m o s error
 
   -- this end closes at this time for an error of which this holds
@@ -211,6 +214,7 @@ module _ {t : Types} where
   IsInPacket m o (Read id count session) s = IsReadOf m o id count session s
   IsInPacket m o Ready s = Unit {0}
   IsInPacket m o (Tell d) s = IsToldOf o d s
+  IsInPacket m o (Hand f) s = IsFrameOf o f
   IsInPacket m o PeerClosesToo s = list_any is_close_item (items_of o.payload) ≡ true
   IsInPacket m o (PeerCloses time) s = (time ≡ o.coming.time) × ((why : ConnectionError) × IsReasonOf o why)
   IsInPacket m o Owe s = Unit {0}
@@ -237,6 +241,7 @@ module _ {t : Types} where
   in_packet_piece m o Confirm s h = tt
   in_packet_piece m o Establish s h = tt
   in_packet_piece m o (Tell d) s h = tt
+  in_packet_piece m o (Hand f) s h = tt
   in_packet_piece m o PeerClosesToo s h = tt
   in_packet_piece m o (PeerCloses time) s h = tt
   in_packet_piece m o Owe s h = tt

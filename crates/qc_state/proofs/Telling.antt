@@ -7,6 +7,7 @@ use Rattle.qc_base.specs.declared.side.SpaceId.TheVariants.{Initial, Handshake, 
 use Rattle.qc_frame.specs.Frame.{FrameValue}
 use Rattle.qc_state.specs.declared.deeds.Did.{Did}
 use Rattle.qc_state.specs.declared.deeds.Did.TheVariants as did
+use Rattle.qc_state.specs.declared.deeds.Layer.TheVariants as layer
 use Rattle.qc_state.specs.declared.life.ConnectionError.{ConnectionError}
 use Rattle.qc_state.specs.declared.life.State.{State}
 use Rattle.qc_state.specs.declared.life.State.TheVariants as state
@@ -16,7 +17,7 @@ use Rattle.qc_state.specs.Keys.{epoch_in}
 use Rattle.qc_state.specs.Forms.{is_early, number_space}
 use Rattle.qc_state.specs.Headline.{sealed_in, reasons_in, lives_in, entered_number, entered_in, EachNew, came_with, CloseFrom, RisesFrom, Kernel, kernel_of, kernel_after, IsBehind, IsRight, Tells}
 use Rattle.qc_state.specs.Life.{rank_of, is_open, is_closed, is_drained, reason_given, life_raised, life_closed, life_drained, life_established, data_ready, token_learned, identifiers_wanted, ready_reported, connected_reported, lost_reported, notice_reported, notices_reported, drained_reported}
-use Rattle.qc_state.specs.Moves.{Move, ClosesOnly, Clock, Ask, Take, Seal, Forget, Enter, Expect, Fail, Accept, Fix, Hear, Ack, Fire, Arm, Pace, Release, Begin, Skip, Come, Read, Write, Ready, Token, Learn, Want, Confirm, Establish, Tell, PeerClosesToo, PeerCloses, Owe, IsTold, enters, Shut, Raise, Give, Say, ReportReady, ReportConnected, ReportLost, ReportNotice, ReportNotices, ReportDrained, state_move, move_to, deeds_move, MayMove, told, arrival_of, numbers_move, life_move, timers_move, Finish}
+use Rattle.qc_state.specs.Moves.{Move, ClosesOnly, Clock, Ask, Take, Seal, Forget, Enter, Expect, Fail, Accept, Fix, Hear, Ack, Fire, Arm, Pace, Release, Begin, Skip, Come, Read, Write, Ready, Token, Learn, Want, Confirm, Establish, Tell, Hand, Call, PeerClosesToo, PeerCloses, Owe, IsTold, enters, Shut, Raise, Give, Say, ReportReady, ReportConnected, ReportStream, ReportStreams, ReportLost, ReportNotice, ReportNotices, ReportDrained, state_move, move_to, deeds_move, MayMove, told, arrival_of, numbers_move, life_move, timers_move, Finish}
 use Rattle.qc_state.specs.Numbers.{next_number, came_in, is_new_in, number_used, number_skipped, used_in, number_entered, number_accepted, number_acked}
 use Rattle.qc_state.specs.Numbers as numbers
 use Rattle.qc_state.specs.Recovering.{probe_timeout_now}
@@ -28,7 +29,8 @@ use Rattle.qc_state.specs.Waiting.{holds_back}
 use Rattle.qc_state.specs.Acks.{is_ack}
 use Rattle.qc_state.specs.Draws.{word}
 use Rattle.qc_state.specs.declared.timers.Timers.{Timers}
-use Rattle.qc_frame.specs.FrameSpelling.{elicits}
+use Rattle.qc_frame.specs.FrameSpelling.{elicits, spelling}
+use Rattle.qc_state.specs.Streams.{is_given_to_streams}
 use Rattle.qc_state.specs.Types.{Types}
 use Rattle.qc_state.specs.View.{View, At}
 
@@ -276,6 +278,12 @@ module _ {t : Types} where
   told_tells id (did.Gave layer body) s h = (tt, behind_here _)
   told_tells id _ s h = absurd h
 
+  -- a frame that the streams are handed is told of, or isn't
+  handed_tells : (id : SpaceId) (f : FrameValue) (b : Bool) (s : View t) → Tells id (kernel id s) (if b then did.Gave layer.Streams (spelling f) ∷ [] else []) (kernel id s)
+  unfolding Tells
+  handed_tells id f true s = (tt, behind_here _)
+  handed_tells id f false s = behind_here _
+
   give_tells : (id : SpaceId) (s : View t) (why : ConnectionError) → s.life.reason ≡ None → Tells id (kernel id s) (did.Lost why ∷ []) (kernel_of id s.numbers (reason_given s.life why))
   unfolding Tells reason_given
   give_tells id s why h = (h, rw h (behind_here _))
@@ -309,6 +317,8 @@ module _ {t : Types} where
   move_tells id Confirm s h = behind_here _
   move_tells id Establish s h = (h, behind_here _)
   move_tells id (Tell d) s h = told_tells id d s h
+  move_tells id (Hand f) s h = handed_tells id f (is_given_to_streams f) s
+  move_tells id (Call x) s h = behind_here _
   move_tells id PeerClosesToo s h = (closed_rank s.life.state h, behind_here _)
   move_tells id (PeerCloses time) s h = (h, behind_here _)
   move_tells id Owe s h = behind_here _
@@ -320,6 +330,8 @@ module _ {t : Types} where
   move_tells id (Say q) s h = (tt, behind_here _)
   move_tells id ReportReady s h = behind_here _
   move_tells id ReportConnected s h = behind_here _
+  move_tells id ReportStream s h = behind_here _
+  move_tells id ReportStreams s h = behind_here _
   move_tells id ReportLost s h = behind_here _
   move_tells id ReportNotice s h = behind_here _
   move_tells id ReportNotices s h = behind_here _
@@ -356,6 +368,8 @@ module _ {t : Types} where
   clock_kept Confirm s h = refl
   clock_kept Establish s h = refl
   clock_kept (Tell d) s h = refl
+  clock_kept (Hand f) s h = refl
+  clock_kept (Call x) s h = refl
   clock_kept PeerClosesToo s h = refl
   clock_kept (PeerCloses time) s h = refl
   clock_kept Owe s h = refl
@@ -370,6 +384,8 @@ module _ {t : Types} where
   clock_kept (Say q) s h = refl
   clock_kept ReportReady s h = refl
   clock_kept ReportConnected s h = refl
+  clock_kept ReportStream s h = refl
+  clock_kept ReportStreams s h = refl
   clock_kept ReportLost s h = refl
   clock_kept ReportNotice s h = refl
   clock_kept ReportNotices s h = refl

@@ -48,8 +48,8 @@ use Rattle.qc_state.specs.Paths.{is_blocked, path_idle, path_sent, path_received
 use Rattle.qc_state.specs.Recovering.{loss_time, probe_timeout_now}
 use Rattle.qc_state.specs.Setup.{idle_limit_now, packet_drawn, parameters_known, peer_delay, token_expected, word_drawn}
 use Rattle.qc_state.specs.Spaces.{is_space}
-use Rattle.qc_state.specs.Streams.{is_given_to_streams, stream_frame}
-use Rattle.qc_streams.specs.Steps.{Handed, MayStep, NamesStream}
+use Rattle.qc_state.specs.Streams.{is_given_to_streams}
+use Rattle.qc_streams.specs.Steps.{MayStep}
 use Rattle.qc_streams.specs.Waits as streams
 use Rattle.qc_state.specs.Timers.{timers_sealed, timers_acking, timers_stopped, timers_closing, timers_accepted, timers_holding, timers_paced, timers_released, timers_armed, clock_set}
 use Rattle.qc_state.specs.Types.{Types}
@@ -101,11 +101,6 @@ IsTold _ = ⊥
 -- what is told of a frame that the streams are handed
 abbrev pub told_to_streams : FrameValue → List Did
 told_to_streams frame = if is_given_to_streams frame then did.Gave layer.Streams (spelling frame) ∷ [] else []
-
--- A frame names a stream that there can be, where it names one (RFC 9000, section 2.1)
-abbrev pub NamesStreams : Option Handed → Type 0
-NamesStreams None = Unit {0}
-NamesStreams (Some f) = NamesStream f
 
 -- whether a step of the streams is a call of the application's
 abbrev pub is_call : streams.Step → Bool
@@ -333,7 +328,6 @@ module _ {t : Types} where
   MayMove (Write bytes keys session) s = AreNext keys s.keys.highest
   MayMove Establish s = rank_of s.life.state < 1
   MayMove (Tell d) s = IsTold d
-  MayMove (Hand frame) s = NamesStreams (stream_frame frame)
   MayMove (Call x) s = (is_call x ≡ true) × MayStep x s.lower.streams
   MayMove (Shut time close) s = rank_of s.life.state < 2
   MayMove (PeerCloses time) s = rank_of s.life.state < 3

@@ -1,6 +1,6 @@
 -- The streams of the application as a layer with steps of its own (RFC 9000, sections 2 to 4): which frames they are handed, why they
 -- refuse one, and which of their steps a call is. What a step makes of them stands with the streams, and is opened nowhere here.
-use Rattle.std.specs.Prelude.{◌≡◌, ℕ, zero, suc, ◌+◌, Bool, true, false, ◌&&◌, ◌||◌, not, if◌then◌else◌, List, [], ◌∷◌, ◌++◌, length, Option, None, Some, option_map, is_some, Result, Ok, Err}
+use Rattle.std.specs.Prelude.{◌≡◌, ℕ, zero, suc, ◌^◌, nat_lt, Bool, true, false, ◌&&◌, ◌||◌, not, if◌then◌else◌, List, [], ◌∷◌, ◌++◌, length, Option, None, Some, option_map, is_some, Result, Ok, Err}
 use Rattle.qc_base.specs.declared.side.Dir.TheVariants.{Bi, Uni}
 use Rattle.qc_base.specs.declared.side.Side.{Side}
 use Rattle.qc_base.specs.declared.transport_error.TransportError.{TransportError}
@@ -34,15 +34,19 @@ use Rattle.qc_state.specs.declared.trace.Refusal.TheVariants as refusal
 
 -- ---- frames
 
+-- a frame about the stream with an id, where there can be one: ids have 62 bits (RFC 9000, section 2.1), so each that is read is such an id
+abbrev pub of_stream : ℕ → Handed → Option Handed
+of_stream id frame = if nat_lt id (2 ^ 62) then Some frame else None
+
 -- a frame as the streams take it, if it is about them
 abbrev pub stream_frame : FrameValue → Option Handed
-stream_frame (frames.ResetStream id code size) = Some (ResetStream id code size)
-stream_frame (frames.StopSending id code) = Some (StopSending id code)
-stream_frame (frames.Stream id offset fin body) = Some (Stream id offset body fin)
+stream_frame (frames.ResetStream id code size) = of_stream id (ResetStream id code size)
+stream_frame (frames.StopSending id code) = of_stream id (StopSending id code)
+stream_frame (frames.Stream id offset fin body) = of_stream id (Stream id offset body fin)
 stream_frame (frames.MaxData limit) = Some (MaxData limit)
-stream_frame (frames.MaxStreamData id limit) = Some (MaxStreamData id limit)
+stream_frame (frames.MaxStreamData id limit) = of_stream id (MaxStreamData id limit)
 stream_frame (frames.MaxStreams dir count) = Some (MaxStreams dir count)
-stream_frame (frames.StreamDataBlocked id limit) = Some (StreamDataBlocked id)
+stream_frame (frames.StreamDataBlocked id limit) = of_stream id (StreamDataBlocked id)
 stream_frame (frames.StreamsBlocked dir limit) = Some (StreamsBlocked limit)
 stream_frame _ = None
 
