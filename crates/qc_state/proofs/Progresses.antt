@@ -15,7 +15,7 @@ use Rattle.qc_state.specs.declared.life.State.TheVariants as state
 use Rattle.qc_state.specs.declared.lower.Lower.{Lower}
 use Rattle.qc_state.specs.Life.{rank_of, is_handshake, token_learned, identifiers_wanted}
 use Rattle.qc_state.specs.Moves.{Move, Arm, Forget, Give, Shut, Write, Token, Learn, Want, Confirm, Establish, move_to, state_move, life_move, lower_move, paths_move, setup_move, MayMove, AreNext, armed_after, armed_with}
-use Rattle.qc_state.specs.Lower.{flight_dropped}
+use Rattle.qc_state.specs.Lower.{flight_dropped, limits_learned, streams_stepped}
 use Rattle.qc_state.specs.Paths.{is_blocked}
 use Rattle.qc_state.specs.Progress.{keys_behind, ring_with, session_behind, is_written, write_after, writes_after, written_after, ids_fit, ids_fit_for, token_after, learned_with, parameters_and, is_end, ended_after, progress_after, learned_after, over_after}
 use Rattle.qc_state.specs.Recovering.{loss_time}
@@ -87,9 +87,9 @@ module _ {t : Types} where
   wanted_lower time count a false = refl
 
   -- and so do parameters that count
-  known_lower : (time : ℕ) (p : TransportParameters) (a : At t) → (learned_with time p a).state.lower ≡ a.state.lower
-  unfolding learned_with move_to state_move lower_move
-  known_lower time p a = wanted_lower time (min p.active_connection_id_limit 8 - 1) (move_to (Learn p) a) (length a.state.setup.fixed.local_cid == 0)
+  known_session : (time : ℕ) (p : TransportParameters) (a : At t) → (learned_with time p a).state.lower.session ≡ a.state.lower.session
+  unfolding learned_with move_to state_move lower_move limits_learned streams_stepped
+  known_session time p a = ap (λ (l : Lower t.S). l.session) (wanted_lower time (min p.active_connection_id_limit 8 - 1) (move_to (Learn p) a) (length a.state.setup.fixed.local_cid == 0))
 
   known_state : (time : ℕ) (p : TransportParameters) (a : At t) → (learned_with time p a).state.life.state ≡ a.state.life.state
   unfolding learned_with move_to state_move life_move
@@ -192,7 +192,7 @@ module _ {t : Types} (m : Meaning t) (time : ℕ) (space : SpaceId) (R : At t �
       (λ p. let b : At t = token_after a.state.setup.fixed.side p.stateless_reset_token a in
       let c : At t = learned_with time p b in
       let life : c.state.life.state ≡ a.state.life.state = known_state time p b ∙ token_state a.state.setup.fixed.side p.stateless_reset_token a in
-      let session : c.state.lower.session ≡ a.state.lower.session = ap (λ (l : Lower t.S). l.session) (known_lower time p b ∙ token_lower a.state.setup.fixed.side p.stateless_reset_token a) in
+      let session : c.state.lower.session ≡ a.state.lower.session = known_session time p b ∙ ap (λ (l : Lower t.S). l.session) (token_lower a.state.setup.fixed.side p.stateless_reset_token a) in
       move Establish c (over_then a c life session over) (subst (λ (s : State). rank_of s < 1) (sym life) (handshake_rank a.state.life.state over.0)))
   holds_over Server a is over =
       let b : At t = move_to Confirm a in

@@ -75,6 +75,6 @@ module _ {S : Type 0} where
   unfoldable pub event_told : Lower S → Lower S
   event_told l = streams_stepped (asked_for 1) l
 
-  -- they were asked until none waits: once more than events wait
+  -- all that wait were told
   unfoldable pub events_told : Lower S → Lower S
-  events_told l = streams_stepped (asked_for (suc (length (events_of l.streams)))) l
+  events_told l = streams_stepped (asked_for (length (events_of l.streams))) l

@@ -11,6 +11,11 @@ use Rattle.qc_state.specs.View.{View}
 use Rattle.qc_streams.specs.Owed.{next_event}
 use Rattle.qc_streams.specs.declared.events.StreamEvent.{StreamEvent}
 
+-- the first event of the streams, or the reason of the end where none waits
+abbrev pub stream_first : Option StreamEvent → Option Event → Option Event
+stream_first None lost = lost
+stream_first (Some event) lost = Some (Stream event)
+
 module _ {t : Types} where
   -- the events that wait for the application, in their order: those of the handshake, those of streams, and the reason of the end last
   unfoldable pub waiting_events : View t → List Event
@@ -20,11 +25,6 @@ module _ {t : Types} where
   -- the events that wait for the endpoint, in the order of their causes, the end last
   unfoldable pub endpoint_events : View t → List EndpointEvent
   endpoint_events s = s.life.notices ++ option_to_list (drained_event s.life)
-
-  -- the first event of the streams, or the reason of the end where none waits
-  abbrev pub stream_first : Option StreamEvent → Option Event → Option Event
-  stream_first None lost = lost
-  stream_first (Some event) lost = Some (Stream event)
 
   -- the first event that waits for the application, if one does
   unfoldable pub first_event : View t → Option Event

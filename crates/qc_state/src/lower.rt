@@ -1,6 +1,6 @@
 //! The layers below: the session, the bytes of its CRYPTO streams that came, and loss recovery.
 
-ghost use Rattle.std.specs.Prelude.{◌≡◌, ◌+◌, ◌<◌, ◌≤◌, ◌^◌, ◌++◌, Err, length, map, suc, IfOk, OnOk, OnErr};
+ghost use Rattle.std.specs.Prelude.{◌≡◌, ◌+◌, ◌<◌, ◌≤◌, ◌^◌, ◌++◌, Err, length, map, IfOk, OnOk, OnErr};
 ghost use Rattle.qc_assembler.specs.Assembly.{advanced, inserted, part_count};
 ghost use Rattle.qc_frame.specs.Frame.{ack_map, borrowed};
 ghost use Rattle.qc_frame.specs.FrameFits.{Fits};
@@ -205,7 +205,7 @@ fn take_ready(stream: &mut Assembler, alloc: Global) -> Result<Vec<u8>, AllocErr
 /// All events that wait, which are told, behind the others. Want of memory is the only refusal.
 fn take_events(streams: &mut StreamsState, events: &mut Events) -> Result<(), AllocError>
     ensures events { OnOk result (events.new ≡ events.old ++ map Event.Stream (events_of streams.old)) }
-    ensures told { OnOk result (streams.new ≡ after (asked_for (suc (length (events_of streams.old)))) streams.old) }
+    ensures told { OnOk result (streams.new ≡ after (asked_for (length (events_of streams.old))) streams.old) }
 {
     loop {
         match streams.poll() {

@@ -31,7 +31,7 @@ fn error_of(refusal: Option<Refusal>) -> Option<TransportError>
 }
 
 /// A STREAM frame came (RFC 9000, 19.8).
-#[tactic(auto, unfolding(qc_streams::specs::Steps::refusal_of, qc_streams::specs::Steps::steps_of, qc_streams::specs::Waits::after, qc_streams::specs::Waits::after_step, qc_streams::specs::Refusals::IsRefusal, qc_streams::specs::Refusals::KeptOn))]
+#[tactic(auto, unfolding(qc_streams::specs::Steps::refusal_of, qc_streams::specs::Steps::steps_of, qc_streams::specs::Steps::came, qc_streams::specs::Waits::after, qc_streams::specs::Waits::after_step, qc_streams::specs::Refusals::IsRefusal, qc_streams::specs::Refusals::KeptOn))]
 fn hand_stream(
     streams: &mut StreamsState,
     id: StreamId,
@@ -51,7 +51,7 @@ fn hand_stream(
 }
 
 /// A RESET_STREAM frame came (RFC 9000, 19.4).
-#[tactic(auto, unfolding(qc_streams::specs::Steps::refusal_of, qc_streams::specs::Steps::steps_of, qc_streams::specs::Waits::after, qc_streams::specs::Waits::after_step, qc_streams::specs::Refusals::IsRefusal, qc_streams::specs::Refusals::KeptOn))]
+#[tactic(auto, unfolding(qc_streams::specs::Steps::refusal_of, qc_streams::specs::Steps::steps_of, qc_streams::specs::Steps::came, qc_streams::specs::Waits::after, qc_streams::specs::Waits::after_step, qc_streams::specs::Refusals::IsRefusal, qc_streams::specs::Refusals::KeptOn))]
 fn hand_reset(
     streams: &mut StreamsState,
     id: StreamId,
@@ -69,7 +69,7 @@ fn hand_reset(
 }
 
 /// A STOP_SENDING frame came (RFC 9000, 19.5).
-#[tactic(auto, unfolding(qc_streams::specs::Steps::refusal_of, qc_streams::specs::Steps::steps_of, qc_streams::specs::Waits::after, qc_streams::specs::Waits::after_step, qc_streams::specs::Refusals::IsRefusal, qc_streams::specs::Refusals::KeptOn))]
+#[tactic(auto, unfolding(qc_streams::specs::Steps::refusal_of, qc_streams::specs::Steps::steps_of, qc_streams::specs::Steps::came, qc_streams::specs::Waits::after, qc_streams::specs::Waits::after_step, qc_streams::specs::Refusals::IsRefusal, qc_streams::specs::Refusals::KeptOn))]
 fn hand_stop(
     streams: &mut StreamsState,
     id: StreamId,
@@ -86,7 +86,7 @@ fn hand_stop(
 }
 
 /// A MAX_STREAM_DATA frame came (RFC 9000, 19.10).
-#[tactic(auto, unfolding(qc_streams::specs::Steps::refusal_of, qc_streams::specs::Steps::steps_of, qc_streams::specs::Waits::after, qc_streams::specs::Waits::after_step, qc_streams::specs::Refusals::IsRefusal, qc_streams::specs::Refusals::KeptOn))]
+#[tactic(auto, unfolding(qc_streams::specs::Steps::refusal_of, qc_streams::specs::Steps::steps_of, qc_streams::specs::Steps::came, qc_streams::specs::Waits::after, qc_streams::specs::Waits::after_step, qc_streams::specs::Refusals::IsRefusal, qc_streams::specs::Refusals::KeptOn))]
 fn hand_stream_limit(
     streams: &mut StreamsState,
     id: StreamId,
@@ -103,7 +103,7 @@ fn hand_stream_limit(
 }
 
 /// A MAX_STREAMS frame came (RFC 9000, 19.11).
-#[tactic(auto, unfolding(qc_streams::specs::Steps::refusal_of, qc_streams::specs::Steps::steps_of, qc_streams::specs::Waits::after, qc_streams::specs::Waits::after_step, qc_streams::specs::Refusals::IsRefusal, qc_streams::specs::Refusals::KeptOn))]
+#[tactic(auto, unfolding(qc_streams::specs::Steps::refusal_of, qc_streams::specs::Steps::steps_of, qc_streams::specs::Steps::came, qc_streams::specs::Waits::after, qc_streams::specs::Waits::after_step, qc_streams::specs::Refusals::IsRefusal, qc_streams::specs::Refusals::KeptOn))]
 fn hand_streams_limit(
     streams: &mut StreamsState,
     dir: Dir,
@@ -120,7 +120,7 @@ fn hand_streams_limit(
 }
 
 /// A MAX_DATA frame came (RFC 9000, 19.9).
-#[tactic(auto, unfolding(qc_streams::specs::Steps::refusal_of, qc_streams::specs::Steps::steps_of, qc_streams::specs::Waits::after, qc_streams::specs::Waits::after_step, qc_streams::specs::Refusals::IsRefusal, qc_streams::specs::Refusals::KeptOn))]
+#[tactic(auto, unfolding(qc_streams::specs::Steps::refusal_of, qc_streams::specs::Steps::steps_of, qc_streams::specs::Steps::came, qc_streams::specs::Waits::after, qc_streams::specs::Waits::after_step, qc_streams::specs::Refusals::IsRefusal, qc_streams::specs::Refusals::KeptOn))]
 fn hand_limit(streams: &mut StreamsState, limit: VarInt)
     ensures refusal { refusal_of (MaxData limit) streams.old ≡ None }
     ensures leads { streams.new ≡ after (steps_of (MaxData limit) streams.old) streams.old }
@@ -130,7 +130,7 @@ fn hand_limit(streams: &mut StreamsState, limit: VarInt)
 
 /// The streams are handed a frame, if it is about them. Answers the error with which they refuse it, if they do. Want of memory
 /// is the only refusal of the call.
-#[tactic(auto, unfolding(crate::specs::Streams::streams_stop, crate::specs::Streams::steps_of_frame, qc_frame::specs::FrameFits::Fits, qc_streams::specs::Steps::refusal_of, qc_streams::specs::Steps::steps_of, qc_streams::specs::Waits::after))]
+#[tactic(auto, unfolding(crate::specs::Streams::streams_stop, crate::specs::Streams::steps_of_frame, qc_frame::specs::FrameFits::Fits, qc_streams::specs::Steps::refusal_of, qc_streams::specs::Steps::steps_of, qc_streams::specs::Steps::came, qc_streams::specs::Waits::after))]
 pub(crate) fn hand(
     streams: &mut StreamsState,
     alloc: Global,
