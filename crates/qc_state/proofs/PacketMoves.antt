@@ -36,7 +36,7 @@ use Rattle.qc_state.specs.Receiving.{crypto_stop, is_close_item, reason_of, sign
 use Rattle.qc_state.specs.Recovering.{loss_time, settled_by}
 use Rattle.qc_state.specs.Sending.{drops_initial}
 use Rattle.qc_state.specs.Stopping.{encoding_error_at, missing_parameters, parameter_error, violation_at}
-use Rattle.qc_state.specs.Streams.{is_given_to_streams, streams_stop}
+use Rattle.qc_state.specs.Streams.{streams_stop}
 use Rattle.qc_state.specs.Types.{Types, Meaning}
 use Rattle.qc_state.specs.Verdicts.{verdict_of}
 use Rattle.qc_state.specs.View.{View}
@@ -78,7 +78,6 @@ IsReasonOf o why = (f : FrameValue) × IsFrameOf o f × (reason_of f ≡ Some wh
 
 -- a frame of this kind is given to the layer as it is spelled
 abbrev pub IsGivenTo : Layer → FrameValue → Type 0
-IsGivenTo layer.Streams f = is_given_to_streams f ≡ true
 IsGivenTo layer.Recovery (frames.Ack ack) = Unit {0}
 IsGivenTo layer.Life frames.HandshakeDone = Unit {0}
 IsGivenTo layer.Life (frames.ConnectionClose code type reason) = Unit {0}

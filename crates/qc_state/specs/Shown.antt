@@ -56,7 +56,7 @@ stream_event_text (stream.Opened dir) = dir_text dir ++ codes " streams opened"
 stream_event_text (stream.Readable id) = codes "stream " ++ decimal id ++ codes " readable"
 stream_event_text (stream.Writable id) = codes "stream " ++ decimal id ++ codes " writable"
 stream_event_text (stream.Finished id) = codes "stream " ++ decimal id ++ codes " finished"
-stream_event_text (stream.Stopped id code) = codes "stream " ++ (decimal id ++ (codes " stopped: " ++ decimal code))
+stream_event_text (stream.Stopped id code) = codes "stream " ++ decimal id ++ codes " stopped"
 stream_event_text (stream.Available dir) = dir_text dir ++ codes " streams available"
 
 -- what the application is told

@@ -1,11 +1,11 @@
 //! How the reasons for a connection's end, and what it reports, are printed.
 
-ghost use Rattle.std.specs.Prelude.{Some, decimal};
+ghost use Rattle.std.specs.Prelude.{Some};
 ghost use Rattle.qc_state.specs.Shown.{shown_byte, shown_bytes, shown_reason, connection_close_text, application_close_text, error_text, dir_text, stream_event_text, event_text, endpoint_text};
 
 use crate::events::{EndpointEvent, Event};
 use crate::life::{ApplicationClose, ConnectionClose, ConnectionError};
-use qc_base::{Dir, VarInt};
+use qc_base::Dir;
 use qc_streams::StreamEvent;
 use std::fmt;
 
@@ -24,10 +24,6 @@ struct Reason<'a>(&'a [u8]);
 /// A kind of streams.
 #[derive(Drop)]
 struct Kind(Dir);
-
-/// An application's error code.
-#[derive(Drop)]
-struct Code(VarInt);
 
 /// What happened on a stream, or to how many there may be.
 #[derive(Drop)]
@@ -119,15 +115,6 @@ impl fmt::Display for Kind {
     }
 }
 
-impl fmt::Display for Code {
-    ghost output = { λ code. Some (decimal code.0) };
-
-    fn fmt<W: fmt::Write>(&self, f: &mut fmt::Formatter<W>) -> fmt::Result {
-        let code = self.0.into_inner();
-        write!(f, "{code}")
-    }
-}
-
 impl fmt::Display for OnStreams {
     ghost output = { λ event. Some (stream_event_text event.0) };
 
@@ -150,10 +137,9 @@ impl fmt::Display for OnStreams {
                 let id = id.value();
                 write!(f, "stream {id} finished")
             }
-            StreamEvent::Stopped { id, error_code } => {
+            StreamEvent::Stopped { id, .. } => {
                 let id = id.value();
-                let code = Code(error_code);
-                write!(f, "stream {id} stopped: {code}")
+                write!(f, "stream {id} stopped")
             }
             StreamEvent::Available { dir } => {
                 let kind = Kind(dir);
