@@ -141,11 +141,20 @@ pub(crate) fn hand(
     ensures leads { OnOk result (streams.new ≡ after (steps_of_frame (borrowed frame.now) streams.old) streams.old) }
 {
     let refusal = match frame {
-        FrameOf::Stream { id, offset, fin, body } => {
+        FrameOf::Stream {
+            id,
+            offset,
+            fin,
+            body,
+        } => {
             let body = Bytes::copy_from_slice(alloc, body)?;
             hand_stream(streams, *id, *offset, body, *fin)?
         }
-        FrameOf::ResetStream { id, error_code, final_size } => hand_reset(streams, *id, *error_code, *final_size)?,
+        FrameOf::ResetStream {
+            id,
+            error_code,
+            final_size,
+        } => hand_reset(streams, *id, *error_code, *final_size)?,
         FrameOf::StopSending { id, error_code } => hand_stop(streams, *id, *error_code)?,
         FrameOf::MaxStreamData { id, offset } => match VarInt::from_u64(*offset) {
             Ok(limit) => hand_stream_limit(streams, *id, limit)?,
