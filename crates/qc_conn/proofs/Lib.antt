@@ -7,3 +7,4 @@ pub mod Firsts
 mod NewEnds
 mod NewLaws
 mod Stores
+pub mod StreamCalls

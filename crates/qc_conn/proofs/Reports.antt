@@ -1,39 +1,44 @@
 -- The events that are reported behind a call, one after the other.
 use Rattle.std.proofs.Common.{◌≡◌, List, [], ◌∷◌, ◌++◌, refl, ap, sym, ◌∙◌, Bool, true, false, Option, Some, None, if◌then◌else◌}
 use Rattle.std.proofs.lemmas.List.{append_assoc}
-use Rattle.std.specs.Prelude.{is_some, option_map, option_to_list, slice_get}
+use Rattle.std.specs.Prelude.{is_some, map, option_to_list, slice_get}
 use Rattle.qc_state.specs.declared.events.Event.{Event}
-use Rattle.qc_state.specs.declared.events.Event.TheVariants as event
+use Rattle.qc_state.specs.declared.events.Event.TheVariants.{Stream}
 use Rattle.qc_state.specs.declared.events.EndpointEvent.{EndpointEvent}
 use Rattle.qc_state.specs.declared.events.EndpointEvent.TheVariants as endpoint
-use Rattle.qc_state.specs.declared.life.ConnectionError.{ConnectionError}
 use Rattle.qc_state.specs.declared.life.Life.{Life}
-use Rattle.qc_state.specs.Life.{connected_event, connected_reported, drained_event, drained_reported, event_if, lost_event, lost_reported, notices_reported, ready_event, ready_reported}
-use Rattle.qc_state.specs.Moves.{ReportReady, ReportConnected, ReportLost, ReportNotices, ReportDrained, keys_move, life_move, lower_move, numbers_move, paths_move, setup_move, state_move, timers_move, waiting_move}
-use Rattle.qc_state.specs.Polls.{endpoint_events, first_endpoint_event, first_event, waiting_events}
+use Rattle.qc_state.specs.Life.{connected_event, drained_event, drained_reported, lost_event, notices_reported, ready_event}
+use Rattle.qc_state.specs.Moves.{ReportReady, ReportConnected, ReportStreams, ReportLost, ReportNotices, ReportDrained, keys_move, life_move, lower_move, numbers_move, paths_move, setup_move, state_move, timers_move, waiting_move}
+use Rattle.qc_state.specs.Polls.{endpoint_events, first_endpoint_event, waiting_events}
+use Rattle.qc_state.specs.Streams.{events_of}
 use Rattle.qc_state.specs.Types.{Types}
 use Rattle.qc_state.specs.View.{View}
 use Rattle.qc_laws.proofs.Steps.{endpoint_wait, events_wait}
 
--- three lists behind one another
-joined : {A : Type 0} (e0 e1 e2 e3 : List A) (x y z : List A) → e0 ≡ [] → e1 ≡ e0 ++ x → e2 ≡ e1 ++ y → e3 ≡ e2 ++ z → e3 ≡ x ++ (y ++ z)
-joined {A} e0 e1 e2 e3 x y z h0 h1 h2 h3 =
-    h3 ∙ ap (λ (l : List A). l ++ z) (h2 ∙ ap (λ (l : List A). l ++ y) (h1 ∙ ap (λ (l : List A). l ++ x) h0)) ∙ append_assoc x y z
+-- four lists behind one another
+joined : {A : Type 0} (e0 e1 e2 e3 e4 : List A) (x y u z : List A) → e0 ≡ [] → e1 ≡ e0 ++ x → e2 ≡ e1 ++ y → e3 ≡ e2 ++ u → e4 ≡ e3 ++ z → e4 ≡ x ++ (y ++ (u ++ z))
+joined {A} e0 e1 e2 e3 e4 x y u z h0 h1 h2 h3 h4 =
+    h4 ∙ ap (λ (l : List A). l ++ z) (h3 ∙ ap (λ (l : List A). l ++ u) (h2 ∙ ap (λ (l : List A). l ++ y) (h1 ∙ ap (λ (l : List A). l ++ x) h0)))
+    ∙ append_assoc (x ++ y) u z ∙ append_assoc x y (u ++ z)
 
 module _ {t : Types} where
   -- the events that waited, each behind the report of the one before
-  pub events_told : (s2 s3 s4 : View t) (e0 e1 e2 e3 : List Event) (x y z : Option Event) → e0 ≡ [] → x ≡ ready_event s2.life → s3 ≡ state_move ReportReady s2 → e1 ≡ e0 ++ option_to_list x →
-      y ≡ connected_event s3.life → s4 ≡ state_move ReportConnected s3 → e2 ≡ e1 ++ option_to_list y → z ≡ lost_event s4.life → e3 ≡ e2 ++ option_to_list z → e3 ≡ waiting_events s2
-  events_told s2 s3 s4 e0 e1 e2 e3 x y z h0 is_x is_s3 h1 is_y is_s4 h2 is_z h3 =
-      joined e0 e1 e2 e3 (option_to_list x) (option_to_list y) (option_to_list z) h0 h1 h2 h3
-      ∙ ap (λ (o : Option Event). option_to_list o ++ (option_to_list y ++ option_to_list z)) is_x
-      ∙ ap (λ (o : Option Event). option_to_list (ready_event s2.life) ++ (option_to_list o ++ option_to_list z)) is_y
-      ∙ ap (λ (o : Option Event). option_to_list (ready_event s2.life) ++ (option_to_list (connected_event s3.life) ++ option_to_list o)) is_z
-      ∙ events_wait s2 s3 s4 is_s3 is_s4
+  pub events_told : (s2 s3 s4 s5 : View t) (e0 e1 e2 e3 e4 : List Event) (x y z : Option Event) → e0 ≡ [] → x ≡ ready_event s2.life → s3 ≡ state_move ReportReady s2 → e1 ≡ e0 ++ option_to_list x →
+      y ≡ connected_event s3.life → s4 ≡ state_move ReportConnected s3 → e2 ≡ e1 ++ option_to_list y → e3 ≡ e2 ++ map Stream (events_of s4.lower.streams) → s5 ≡ state_move ReportStreams s4 →
+      z ≡ lost_event s5.life → e4 ≡ e3 ++ option_to_list z → e4 ≡ waiting_events s2
+  events_told s2 s3 s4 s5 e0 e1 e2 e3 e4 x y z h0 is_x is_s3 h1 is_y is_s4 h2 h3 is_s5 is_z h4 =
+      let streams : List Event = map Stream (events_of s4.lower.streams) in
+      joined e0 e1 e2 e3 e4 (option_to_list x) (option_to_list y) streams (option_to_list z) h0 h1 h2 h3 h4
+      ∙ ap (λ (o : Option Event). option_to_list o ++ (option_to_list y ++ (streams ++ option_to_list z))) is_x
+      ∙ ap (λ (o : Option Event). option_to_list (ready_event s2.life) ++ (option_to_list o ++ (streams ++ option_to_list z))) is_y
+      ∙ ap (λ (o : Option Event). option_to_list (ready_event s2.life) ++ (option_to_list (connected_event s3.life) ++ (streams ++ option_to_list o))) is_z
+      ∙ events_wait s2 s3 s4 s5 is_s3 is_s4 is_s5
 
-  -- the three reports, one after the other
-  pub reports_lead : (s2 s3 s4 s5 : View t) → s3 ≡ state_move ReportReady s2 → s4 ≡ state_move ReportConnected s3 → s5 ≡ state_move ReportLost s4 → s5 ≡ state_move ReportLost (state_move ReportConnected (state_move ReportReady s2))
-  reports_lead s2 s3 s4 s5 is_s3 is_s4 is_s5 = is_s5 ∙ ap (λ (v : View t). state_move ReportLost v) (is_s4 ∙ ap (λ (v : View t). state_move ReportConnected v) is_s3)
+  -- the four reports, one after the other
+  pub reports_lead : (s2 s3 s4 s5 s6 : View t) → s3 ≡ state_move ReportReady s2 → s4 ≡ state_move ReportConnected s3 → s5 ≡ state_move ReportStreams s4 → s6 ≡ state_move ReportLost s5 →
+      s6 ≡ state_move ReportLost (state_move ReportStreams (state_move ReportConnected (state_move ReportReady s2)))
+  reports_lead s2 s3 s4 s5 s6 is_s3 is_s4 is_s5 is_s6 =
+      is_s6 ∙ ap (λ (v : View t). state_move ReportLost v) (is_s5 ∙ ap (λ (v : View t). state_move ReportStreams v) (is_s4 ∙ ap (λ (v : View t). state_move ReportConnected v) is_s3))
 
   -- the same of what the endpoint is told
   pub endpoint_told : (s5 s6 : View t) (e0 e1 : List EndpointEvent) (z : Option EndpointEvent) → e0 ≡ s5.life.notices → s6 ≡ state_move ReportNotices s5 →
@@ -44,54 +49,28 @@ module _ {t : Types} where
   pub endpoint_leads : (s5 s6 s7 : View t) → s6 ≡ state_move ReportNotices s5 → s7 ≡ state_move ReportDrained s6 → s7 ≡ state_move ReportDrained (state_move ReportNotices s5)
   endpoint_leads s5 s6 s7 is_s6 is_s7 = is_s7 ∙ ap (λ (v : View t). state_move ReportDrained v) is_s6
 
--- where no event waits first, none of the three does
-none_first : (a b : Bool) (o : Option ConnectionError) → is_some (if a then event_if a event.HandshakeDataReady else if b then event_if b event.Connected else option_map event.ConnectionLost o) ≡ false → (a ≡ false) × (b ≡ false) × (o ≡ None)
-none_first true b o h = cc
-none_first false true o h = cc
-none_first false false (Some why) h = cc
-none_first false false None h = (refl, refl, refl)
-
--- so it is with the endpoint's
+-- where no event waits first for the endpoint, none does
 none_told_first : (es : List EndpointEvent) (d : Bool) → is_some (slice_get (es ++ option_to_list (if d then Some endpoint.Drained else None)) 0) ≡ false → (es ≡ []) × (d ≡ false)
 none_told_first (e ∷ es) d h = cc
 none_told_first [] true h = cc
 none_told_first [] false h = (refl, refl)
 
 module _ {t : Types} where
-  -- no event waits
-  no_events : (s : View t) → is_some (first_event s) ≡ false → (s.life.ready ≡ false) × (s.life.connected ≡ false) × (s.life.lost ≡ None)
-  unfolding first_event ready_event connected_event lost_event
-  no_events s h = none_first s.life.ready s.life.connected s.life.lost h
-
   no_endpoint_events : (s : View t) → is_some (first_endpoint_event s) ≡ false → (s.life.notices ≡ []) × (s.life.drained ≡ false)
   unfolding first_endpoint_event endpoint_events drained_event
   no_endpoint_events s h = none_told_first s.life.notices s.life.drained h
-
-  pub none_waits : (s : View t) (has : Bool) (es : List Event) → has ≡ is_some (first_event s) → has ≡ false → es ≡ [] → es ≡ waiting_events s
-  unfolding waiting_events ready_event connected_event lost_event
-  none_waits s has es is none empty = let none = no_events s (sym is ∙ none) in rw (none.0, none.1, none.2) empty
 
   pub none_waits_endpoint : (s : View t) (has : Bool) (es : List EndpointEvent) → has ≡ is_some (first_endpoint_event s) → has ≡ false → es ≡ [] → es ≡ endpoint_events s
   unfolding endpoint_events drained_event
   none_waits_endpoint s has es is none empty = let none = no_endpoint_events s (sym is ∙ none) in rw (none.0, none.1) empty
 
 -- what was reported of a life for which nothing waits is that life
-life_kept : (v : Life) → (v.ready ≡ false) × (v.connected ≡ false) × (v.lost ≡ None) → v ≡ lost_reported (connected_reported (ready_reported v))
-unfolding lost_reported connected_reported ready_reported
-life_kept v none =
-    ap (λ (b : Bool). record v { ready = b }) none.0 ∙ ap (λ (b : Bool). record v { ready = false; connected = b }) none.1
-    ∙ ap (λ (o : Option ConnectionError). record v { ready = false; connected = false; lost = o }) none.2
-
 life_kept_endpoint : (v : Life) → (v.notices ≡ []) × (v.drained ≡ false) → v ≡ drained_reported (notices_reported v)
 unfolding drained_reported notices_reported
 life_kept_endpoint v none = ap (λ (es : List EndpointEvent). record v { notices = es }) none.0 ∙ ap (λ (b : Bool). record v { notices = []; drained = b }) none.1
 
 module _ {t : Types} where
   -- where no event waits, the reports change nothing
-  pub none_leads : (s : View t) (has : Bool) → has ≡ is_some (first_event s) → has ≡ false → s ≡ state_move ReportLost (state_move ReportConnected (state_move ReportReady s))
-  unfolding state_move numbers_move keys_move life_move paths_move timers_move waiting_move setup_move lower_move
-  none_leads s has is none = ap (λ (v : Life). record s { life = v }) (life_kept s.life (no_events s (sym is ∙ none)))
-
   pub none_leads_endpoint : (s : View t) (has : Bool) → has ≡ is_some (first_endpoint_event s) → has ≡ false → s ≡ state_move ReportDrained (state_move ReportNotices s)
   unfolding state_move numbers_move keys_move life_move paths_move timers_move waiting_move setup_move lower_move
   none_leads_endpoint s has is none = ap (λ (v : Life). record s { life = v }) (life_kept_endpoint s.life (no_endpoint_events s (sym is ∙ none)))

@@ -1,6 +1,6 @@
 -- The steps of a run leave nothing out of their text.
 use Rattle.std.specs.Prelude.{is_none, option_to_list}
-use Rattle.std.proofs.Common.{◌≡◌, ℕ, ◌+◌, ◌-◌, ◌<◌, ◌≤◌, ◌^◌, ◌==◌, ◌||◌, Bool, true, false, if◌then◌else◌, List, [], ◌∷◌, ◌++◌, length, replicate, take, zero, suc, Option, Some, None, refl, sym, ap, ◌∙◌, subst, arith}
+use Rattle.std.proofs.Common.{◌≡◌, ℕ, ◌+◌, ◌-◌, ◌<◌, ◌≤◌, ◌^◌, ◌==◌, ◌||◌, Bool, true, false, if◌then◌else◌, List, [], ◌∷◌, ◌++◌, length, replicate, take, zero, suc, Option, Some, None, Result, Ok, Err, refl, sym, ap, ◌∙◌, subst, arith}
 use Rattle.std.specs.Prelude.{nat_lt, nat_le}
 use Rattle.std.specs.List.{All, list_any}
 use Rattle.std.specs.declared.net.socket_addr.SocketAddr.{SocketAddr}
@@ -18,14 +18,26 @@ use Rattle.qc_frame.specs.FrameSpelling.{spelling, frames_spelling}
 use Rattle.qc_frame.specs.Sizes.{IsLongestReason}
 use Rattle.qc_frame.specs.declared.frames.FrameOf.TheVariants as frames
 use Rattle.qc_frame.proofs.Lengths.{length-application_close}
+use Rattle.qc_recv.specs.declared.recv.Chunk.{Chunk}
 use Rattle.qc_recovery.specs.TransportValues.{TransportValues}
 use Rattle.qc_recovery.specs.declared.calls.Fired.{Fired}
 use Rattle.qc_recovery.specs.declared.calls.Fired.TheVariants as fired
 use Rattle.qc_send_stream.specs.Buffer.{bytes_written, discarded, nothing, range_lost, range_sealed}
+use Rattle.qc_send_stream.specs.declared.fault.FinishError.{FinishError}
+use Rattle.qc_send_stream.specs.declared.fault.FinishError.TheVariants as finish
+use Rattle.qc_send_stream.specs.declared.fault.WriteError.{WriteError}
+use Rattle.qc_send_stream.specs.declared.fault.WriteError.TheVariants as write
+use Rattle.qc_streams.specs.Calls.{bars_reset, closed_to, finish_refusal, known_at, receiving_at, write_refusal}
+use Rattle.qc_streams.specs.Counts.{by_dir, has_accepted}
+use Rattle.qc_streams.specs.Streams.{may_open, next_accepted, next_own}
+use Rattle.qc_streams.specs.Waits as streams
+use Rattle.qc_streams.specs.declared.fault.ReadFault.{ReadFault}
+use Rattle.qc_streams.specs.declared.fault.ReadFault.TheVariants as fault
 use Rattle.qc_state.specs.declared.coming.Coming.{Coming}
 use Rattle.qc_state.specs.Acks.{AckPart, SaysAck, is_ack, may_acknowledge}
 use Rattle.qc_state.specs.declared.deeds.Did.{Did}
 use Rattle.qc_state.specs.declared.deeds.Did.TheVariants as deed
+use Rattle.qc_state.specs.declared.deeds.Layer.TheVariants as layer
 use Rattle.qc_state.specs.declared.input.Input.{Input}
 use Rattle.qc_state.specs.declared.input.Input.TheVariants as input
 use Rattle.qc_state.specs.declared.life.Close.{Close}
@@ -46,15 +58,16 @@ use Rattle.qc_state.specs.declared.trace.Answer.TheVariants as answer
 use Rattle.qc_state.specs.declared.waiting.SpaceWaiting.{SpaceWaiting}
 use Rattle.qc_state.specs.declared.waiting.Waiting.{Waiting}
 use Rattle.qc_state.specs.Life.{is_closed, is_open, data_ready, drained_event, identifiers_wanted, life_closed, life_drained, life_established, life_raised, reason_given, token_learned, notices_reported, drained_reported, lost_reported, connected_reported, ready_reported}
-use Rattle.qc_state.specs.Moves.{Move, Take, Seal, Forget, Raise, Say, Give, Enter, Fail, Accept, Fix, Hear, Ack, Fire, Arm, Pace, Release, Begin, Skip, Come, Read, Write, Ready, Learn, Establish, Tell, PeerClosesToo, PeerCloses, Owe, Shut, IsTold, MayMove, state_move, move_to, deeds_move, life_move, paths_move, waiting_move, keys_move, Expect, Confirm, Token, Want, Finish}
+use Rattle.qc_state.specs.Moves.{Move, Take, Seal, Forget, Raise, Say, Give, Enter, Fail, Accept, Fix, Hear, Ack, Fire, Arm, Pace, Release, Begin, Skip, Come, Read, Write, Ready, Learn, Establish, Tell, PeerClosesToo, PeerCloses, Owe, Shut, Hand, Call, IsTold, MayMove, told, state_move, move_to, deeds_move, life_move, paths_move, waiting_move, keys_move, Expect, Confirm, Token, Want, Finish}
 use Rattle.qc_state.specs.Forms.{is_early, number_space}
 use Rattle.qc_state.specs.Keys.{epoch_in}
 use Rattle.qc_state.specs.Numbers.{next_number, received_number}
 use Rattle.qc_state.specs.Paths.{path_idle, path_kept, path_sent, path_received, peer_fixed, path_accepted, path_spun, new_path, only_path}
 use Rattle.qc_state.specs.Receiving.{datagram_after, is_taken}
-use Rattle.qc_state.specs.Run.{time_of, began, close_after, input_after, called, reported, step_after, IsAllowed, out_of, answer_of, IsStep, Run, Ran}
+use Rattle.qc_state.specs.Run.{time_of, began, close_after, called_all, input_after, called, reported, step_after, IsAllowed, out_of, answer_of, IsStep, Run, Ran}
 use Rattle.qc_state.specs.Sending.{told_code, told_type, told_application_code, told_close, close_frame, closing_frame, IsKeptReason, Closes, padded, padding_of, packet_size, Carries, transmit_after, MayTransmit, transmit_bytes, transmit_of, transmit_with, Choice, Ending, Went, Hushed, Died, sent_out, gone_after}
 use Rattle.qc_state.specs.Spaces.{space_of, with_space, is_space}
+use Rattle.qc_state.specs.Streams.{calls_of, closed_answer, count_written, finish_answer, is_given_to_streams, read_answer, write_answer}
 use Rattle.qc_state.specs.Timeouts.{timeout_after}
 use Rattle.qc_state.specs.Types.{Types, Meaning}
 use Rattle.qc_state.specs.View.{Held, View, At, ideal}
@@ -317,9 +330,48 @@ told_plain (deed.Piece space number verdict) h = tt
 told_plain (deed.Gave layer body) h = tt
 told_plain _ h = absurd h
 
+-- a frame that the streams are handed is told of, or isn't
+handed_plain : (ds : List Did) (frame : FrameValue) (b : Bool) → All IsDeedPlain ds → All IsDeedPlain (told ds (if b then deed.Gave layer.Streams (spelling frame) ∷ [] else []))
+handed_plain ds frame true h = one_more ds _ tt h
+handed_plain ds frame false h = h
+
 done_plain : (b : Bool) → IsAnswerPlain (if b then answer.Done else answer.Dropped)
 done_plain true = tt
 done_plain false = tt
+
+-- what a call of the streams answers
+opened_plain : (b : Bool) (id : ℕ) → IsAnswerPlain (if b then answer.Opened id else answer.Nothing)
+opened_plain true id = tt
+opened_plain false id = tt
+
+accepted_plain : (b : Bool) (id : ℕ) → IsAnswerPlain (if b then answer.Nothing else answer.Accepted id)
+accepted_plain true id = tt
+accepted_plain false id = tt
+
+write_plain : (refusal : Option WriteError) (count : ℕ) → IsAnswerPlain (write_answer refusal count)
+write_plain None count = tt
+write_plain (Some write.Blocked) count = tt
+write_plain (Some write.ClosedStream) count = tt
+write_plain (Some (write.Stopped code)) count = tt
+write_plain (Some write.OutOfMemory) count = tt
+
+finish_plain : (refusal : Option FinishError) → IsAnswerPlain (finish_answer refusal)
+finish_plain None = tt
+finish_plain (Some finish.ClosedStream) = tt
+finish_plain (Some (finish.Stopped code)) = tt
+
+closed_plain : (refused : Bool) → IsAnswerPlain (closed_answer refused)
+closed_plain true = tt
+closed_plain false = tt
+
+read_plain : (read : Result (Option Chunk) ReadFault) → IsAnswerPlain (read_answer read)
+read_plain (Ok (Some chunk)) = tt
+read_plain (Ok None) = tt
+read_plain (Err fault.ClosedStream) = tt
+read_plain (Err fault.IllegalOrderedRead) = tt
+read_plain (Err (fault.Reset code)) = tt
+read_plain (Err fault.Blocked) = tt
+read_plain (Err fault.OutOfMemory) = tt
 
 -- accepting a packet leaves the address
 accepted_remote : {C : Type 0} → (p : Paths C) (id : SpaceId) (v : Verdict) → (path_accepted p id v).current.remote ≡ p.current.remote
@@ -430,6 +482,7 @@ module _ {t : Types} where
   keeps_move Confirm r a h = record { deeds = λ b p. p; crypto = set_below a.state.waiting «Data» (record (space_of a.state.waiting.spaces «Data») { done = true }) (λ p. p); path = refl; notices = λ p k. k }
   keeps_move Establish r a h = record { deeds = λ b. one_more a.did _ tt; crypto = λ p. p; path = refl; notices = λ p k. k }
   keeps_move (Tell d) r a h = record { deeds = λ b. one_more a.did d (told_plain d h); crypto = λ p. p; path = refl; notices = λ p k. k }
+  keeps_move (Hand frame) r a h = record { deeds = λ b. handed_plain a.did frame (is_given_to_streams frame); crypto = λ p. p; path = refl; notices = λ p k. k }
   keeps_move PeerClosesToo r a h = record { deeds = λ b. one_more a.did _ tt; crypto = λ p. p; path = refl; notices = λ p k. k }
   keeps_move (PeerCloses time) r a h = record { deeds = λ b. one_more a.did _ tt; crypto = λ p. p; path = refl; notices = λ p k. k }
   keeps_move Owe r a h = record { deeds = λ b p. p; crypto = begun_below a.state.waiting a.state.waiting.close_owed; path = refl; notices = λ p k. k }
@@ -492,14 +545,33 @@ module _ {t : Types} where
   keeps_closed time close a true = record { deeds = λ b. one_more a.did _ tt; crypto = begun_below a.state.waiting a.state.waiting.close_owed; path = refl; notices = λ p k. k }
   keeps_closed time close a false = keeps_here a
 
+  -- the application calls the streams
+  keeps_call : (x : streams.Step) (a : At t) → Keeps a (move_to (Call x) a)
+  unfolding move_to state_move deeds_move waiting_move paths_move life_move
+  keeps_call x a = record { deeds = λ b p. p; crypto = λ p. p; path = refl; notices = λ p k. k }
+
+  keeps_calls : (xs : List streams.Step) (a : At t) → Keeps a (called_all xs a)
+  keeps_calls [] a = keeps_here a
+  keeps_calls (x ∷ xs) a = keeps_next a (move_to (Call x) a) (called_all xs (move_to (Call x) a)) (keeps_call x a) (keeps_calls xs (move_to (Call x) a))
+
   -- what an input does
   keeps_input : (m : Meaning t) (i : Input) (choice : Choice) (a : At t) → IsAllowed m i choice a → Keeps a (input_after m i choice a)
   unfolding IsAllowed input_after close_after move_to state_move deeds_move waiting_move ping_asked paths_move life_move
   keeps_input m (input.Datagram time remote ecn bytes) choice a may = keeps_datagram m (record { time = time; remote = remote; mark = ecn }) bytes a
   keeps_input m (input.Timeout time) choice a may = keeps_timeout m time a
   keeps_input m (input.Transmit time max) choice a may = keeps_transmit m time choice a may
+  keeps_input m (input.Open time dir) choice a may = keeps_calls (calls_of (input.Open time dir) choice.read a.state.lower.streams) a
+  keeps_input m (input.Accept time dir) choice a may = keeps_calls (calls_of (input.Accept time dir) choice.read a.state.lower.streams) a
+  keeps_input m (input.Write time id body) choice a may = keeps_calls (calls_of (input.Write time id body) choice.read a.state.lower.streams) a
+  keeps_input m (input.Finish time id) choice a may = keeps_calls (calls_of (input.Finish time id) choice.read a.state.lower.streams) a
+  keeps_input m (input.ResetSend time id code) choice a may = keeps_calls (calls_of (input.ResetSend time id code) choice.read a.state.lower.streams) a
+  keeps_input m (input.StopRecv time id code) choice a may = keeps_calls (calls_of (input.StopRecv time id code) choice.read a.state.lower.streams) a
+  keeps_input m (input.Read time id max) choice a may = keeps_calls (calls_of (input.Read time id max) choice.read a.state.lower.streams) a
   keeps_input m (input.Close time code reason) choice a may = keeps_closed time _ a (is_open a.state.life.state)
   keeps_input m (input.Ping time) choice a may = record { deeds = λ b p. p; crypto = set_below a.state.waiting a.state.keys.highest _ (λ p. p); path = refl; notices = λ p k. k }
+  keeps_input m (input.MaxStreams time dir count) choice a may = keeps_calls (calls_of (input.MaxStreams time dir count) choice.read a.state.lower.streams) a
+  keeps_input m (input.SendWindow time size) choice a may = keeps_calls (calls_of (input.SendWindow time size) choice.read a.state.lower.streams) a
+  keeps_input m (input.ReceiveWindow time size) choice a may = keeps_calls (calls_of (input.ReceiveWindow time size) choice.read a.state.lower.streams) a
 
   -- what it answers
   out_plain : (e : Ending) (s : View t) (size : ℕ) (bytes : List ℕ) → IsPlainAddress s.paths.current.remote → IsAnswerPlain (out_of (sent_out e (transmit_with s size)) bytes)
@@ -513,8 +585,18 @@ module _ {t : Types} where
   answer_plain m (input.Datagram time remote ecn bytes) choice a h = done_plain (is_taken m a.state remote bytes)
   answer_plain m (input.Timeout time) choice a h = tt
   answer_plain m (input.Transmit time max) choice a h = out_plain choice.ending a.state (gone_after m time choice a).batch.total (transmit_bytes m time choice a) h
+  answer_plain m (input.Open time dir) choice a h = opened_plain (may_open dir a.state.lower.streams) (next_own dir a.state.lower.streams)
+  answer_plain m (input.Accept time dir) choice a h = accepted_plain (has_accepted (by_dir dir a.state.lower.streams.peer)) (next_accepted dir a.state.lower.streams)
+  answer_plain m (input.Write time id body) choice a h = write_plain (write_refusal id a.state.lower.streams) (count_written id body a.state.lower.streams)
+  answer_plain m (input.Finish time id) choice a h = finish_plain (finish_refusal (known_at id a.state.lower.streams))
+  answer_plain m (input.ResetSend time id code) choice a h = closed_plain (bars_reset (known_at id a.state.lower.streams))
+  answer_plain m (input.StopRecv time id code) choice a h = closed_plain (closed_to (receiving_at id a.state.lower.streams))
+  answer_plain m (input.Read time id max) choice a h = read_plain choice.read
   answer_plain m (input.Close time code reason) choice a h = tt
   answer_plain m (input.Ping time) choice a h = tt
+  answer_plain m (input.MaxStreams time dir count) choice a h = tt
+  answer_plain m (input.SendWindow time size) choice a h = tt
+  answer_plain m (input.ReceiveWindow time size) choice a h = tt
 
   -- what a step does before anything is reported
   keeps_step : (m : Meaning t) (k : ℕ) (s : View t) (i : Input) (x : Step) (s' : View t) (e : IsStep m k s i x s') → Keeps (began s (time_of i)) (called m s i e.choice)

@@ -6,7 +6,7 @@ use Rattle.qc_conn.specs.declared.driving.BadWhy.TheVariants.{ZeroDatagrams}
 use Rattle.qc_conn.specs.declared.driving.DriveKind.{DriveKind}
 use Rattle.qc_conn.specs.declared.driving.DriveKind.TheVariants.{OutOfMemory, TimeBack, BadCall, Failed}
 use Rattle.qc_state.specs.declared.input.Input.{Input}
-use Rattle.qc_state.specs.declared.input.Input.TheVariants.{Datagram, Timeout, Transmit, Close, Ping}
+use Rattle.qc_state.specs.declared.input.Input.TheVariants.{Datagram, Timeout, Transmit, Open, Accept, Write, Finish, ResetSend, StopRecv, Read, Close, Ping, MaxStreams, SendWindow, ReceiveWindow}
 use Rattle.qc_state.specs.declared.trace.Step.{Step}
 use Rattle.qc_state.specs.Run.{time_of, IsStep}
 use Rattle.qc_state.specs.Types.{Types, Meaning}
@@ -18,8 +18,18 @@ module _ {t : Types} where
   bad_call s (Transmit time max) = if max == 0 then Some ZeroDatagrams else None
   bad_call s (Datagram time remote ecn bytes) = None
   bad_call s (Timeout time) = None
+  bad_call s (Open time dir) = None
+  bad_call s (Accept time dir) = None
+  bad_call s (Write time id body) = None
+  bad_call s (Finish time id) = None
+  bad_call s (ResetSend time id code) = None
+  bad_call s (StopRecv time id code) = None
+  bad_call s (Read time id max) = None
   bad_call s (Close time code reason) = None
   bad_call s (Ping time) = None
+  bad_call s (MaxStreams time dir count) = None
+  bad_call s (SendWindow time size) = None
+  bad_call s (ReceiveWindow time size) = None
 
   -- why a connection refuses the input with the number k, if it does: its time lies before the greatest so far, or it asks for a call
   -- that can't be made

@@ -115,8 +115,20 @@ fn bad_call<U: Suite>(_connection: &Connection<U>, input: &Input) -> Option<BadW
             }
             None
         }
-        Input::Datagram { .. } | Input::Timeout { .. } | Input::Close { .. } | Input::Ping { .. } =>
-            None,
+        Input::Datagram { .. }
+        | Input::Timeout { .. }
+        | Input::Open { .. }
+        | Input::Accept { .. }
+        | Input::Write { .. }
+        | Input::Finish { .. }
+        | Input::ResetSend { .. }
+        | Input::StopRecv { .. }
+        | Input::Read { .. }
+        | Input::Close { .. }
+        | Input::Ping { .. }
+        | Input::MaxStreams { .. }
+        | Input::SendWindow { .. }
+        | Input::ReceiveWindow { .. } => None,
     }
 }
 

@@ -2,11 +2,12 @@
 
 ghost use Rattle.std.specs.Prelude.{◌≡◌, ◌<◌, ◌≤◌, ◌++◌, [], true, false, length, OnOk, IfOk, IfSome, option_to_list};
 ghost use Rattle.qc_conn.specs.Seen.{Sends};
+ghost use Rattle.qc_conn.specs.StreamCalls.{is_for_streams};
 ghost use Rattle.qc_receive.specs.Cutting.{rest_of};
 ghost use Rattle.qc_receive.specs.Events.{LeavesBytes, handed_after, time_of_event};
 ghost use Rattle.qc_receive.specs.FirstPacket.{first_reason, size_of};
 ghost use Rattle.qc_state.specs.Life.{is_drained};
-ghost use Rattle.qc_state.specs.Moves.{ReportReady, ReportConnected, ReportLost, ReportNotices, ReportDrained, state_move};
+ghost use Rattle.qc_state.specs.Moves.{ReportReady, ReportConnected, ReportStreams, ReportLost, ReportNotices, ReportDrained, state_move};
 ghost use Rattle.qc_state.specs.Polls.{endpoint_events, waiting_events};
 ghost use Rattle.qc_state.specs.Receiving.{datagram_after, first_packet_after, is_taken};
 ghost use Rattle.qc_state.specs.Setup.{is_first_awaited};
@@ -249,6 +250,22 @@ fn datagram_call<U: Suite>(
     Ok(Answer::Dropped)
 }
 
+/// A call on the streams.
+fn stream_call<U: Suite>(
+    core: &mut Core<U>,
+    alloc: Global,
+    input: &Input,
+    did: &Dids,
+) -> Result<Answer, AllocError>
+    requires streams { is_for_streams input.now ≡ true }
+    requires none { did.now ≡ [] }
+    ensures { IfOk result (λ answer. Calls ⟦<U as Means>⟧.meaning (ideal U.Random.stream core.old) input.now (held U.Random.stream core.new did.now) answer) }
+{
+    core.clock(time(input));
+    let answer = core.call_streams(alloc, input)?;
+    Ok(answer)
+}
+
 /// The call that an input is for.
 fn call<U: Suite>(
     core: &mut Core<U>,
@@ -276,6 +293,16 @@ fn call<U: Suite>(
         ),
         Input::Close { now, code, reason } => close_call(core, alloc, *now, *code, reason, did),
         Input::Ping { now } => Ok(ping_call(core, *now, did)),
+        Input::Open { .. }
+        | Input::Accept { .. }
+        | Input::Write { .. }
+        | Input::Finish { .. }
+        | Input::ResetSend { .. }
+        | Input::StopRecv { .. }
+        | Input::Read { .. }
+        | Input::MaxStreams { .. }
+        | Input::SendWindow { .. }
+        | Input::ReceiveWindow { .. } => stream_call(core, alloc, input, did),
     }
 }
 
@@ -289,32 +316,22 @@ fn report_next(event: Option<Event>, events: &mut Events) -> Result<(), AllocErr
             Event::HandshakeDataReady => events.push_ready(),
             Event::Connected => events.push_connected(),
             Event::ConnectionLost { reason } => events.push_lost(reason),
+            Event::Stream(event) => events.push_stream(event),
         },
     }
 }
 
 /// What waits to be reported to the application, one after the other.
-fn take_events<U: Suite>(core: &mut Core<U>, alloc: Global) -> Result<Events, AllocError>
+fn report_events<U: Suite>(core: &mut Core<U>, alloc: Global) -> Result<Events, AllocError>
     ensures events { IfOk result (λ events. events ≡ waiting_events (ideal U.Random.stream core.old)) }
-    ensures leads { OnOk result ((ideal U.Random.stream core.new) ≡ state_move ReportLost (state_move ReportConnected (state_move ReportReady (ideal U.Random.stream core.old)))) }
+    ensures leads { OnOk result ((ideal U.Random.stream core.new) ≡ state_move ReportLost (state_move ReportStreams (state_move ReportConnected (state_move ReportReady (ideal U.Random.stream core.old))))) }
 {
     let mut events = Events::new(alloc);
     report_next(core.poll_ready(), &mut events)?;
     report_next(core.poll_connected(), &mut events)?;
+    core.take_stream_events(&mut events)?;
     report_next(core.poll_lost(), &mut events)?;
     Ok(events)
-}
-
-/// What waits to be reported to the application; mostly nothing does.
-#[tactic(auto, using(crate::proofs::Reports::none_waits, crate::proofs::Reports::none_leads))]
-fn report_events<U: Suite>(core: &mut Core<U>, alloc: Global) -> Result<Events, AllocError>
-    ensures events { IfOk result (λ events. events ≡ waiting_events (ideal U.Random.stream core.old)) }
-    ensures leads { OnOk result ((ideal U.Random.stream core.new) ≡ state_move ReportLost (state_move ReportConnected (state_move ReportReady (ideal U.Random.stream core.old)))) }
-{
-    if core.has_events() {
-        return take_events(core, alloc);
-    }
-    Ok(Events::new(alloc))
 }
 
 /// What waits to be reported to the endpoint, one after the other.
@@ -353,8 +370,18 @@ fn word(input: &Input) -> Word
         Input::Datagram { .. } => Word::Datagram,
         Input::Timeout { .. } => Word::Timeout,
         Input::Transmit { .. } => Word::Transmit,
+        Input::Open { .. } => Word::Open,
+        Input::Accept { .. } => Word::Accept,
+        Input::Write { .. } => Word::Write,
+        Input::Finish { .. } => Word::Finish,
+        Input::ResetSend { .. } => Word::ResetSend,
+        Input::StopRecv { .. } => Word::StopRecv,
+        Input::Read { .. } => Word::Read,
         Input::Close { .. } => Word::Close,
         Input::Ping { .. } => Word::Ping,
+        Input::MaxStreams { .. } => Word::MaxStreams,
+        Input::SendWindow { .. } => Word::SendWindow,
+        Input::ReceiveWindow { .. } => Word::ReceiveWindow,
     }
 }
 
@@ -366,8 +393,18 @@ pub(crate) fn time(input: &Input) -> Instant
         Input::Datagram { now, .. } => *now,
         Input::Timeout { now } => *now,
         Input::Transmit { now, .. } => *now,
+        Input::Open { now, .. } => *now,
+        Input::Accept { now, .. } => *now,
+        Input::Write { now, .. } => *now,
+        Input::Finish { now, .. } => *now,
+        Input::ResetSend { now, .. } => *now,
+        Input::StopRecv { now, .. } => *now,
+        Input::Read { now, .. } => *now,
         Input::Close { now, .. } => *now,
         Input::Ping { now } => *now,
+        Input::MaxStreams { now, .. } => *now,
+        Input::SendWindow { now, .. } => *now,
+        Input::ReceiveWindow { now, .. } => *now,
     }
 }
 

@@ -2,3 +2,4 @@ pub mod Acknowledges
 pub mod EndpointPolls
 pub mod Expiring
 pub mod Skips
+pub mod StreamCalls

@@ -8,6 +8,7 @@ mod packets;
 mod recovering;
 pub mod state;
 pub mod stopping;
+mod streams;
 mod timeouts;
 
 pub use state::Core;

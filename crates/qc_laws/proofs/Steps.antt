@@ -1,11 +1,13 @@
 -- From a call and the reports after it to a step.
-use Rattle.std.proofs.Common.{◌≡◌, ℕ, ◌+◌, ◌≤◌, List, [], ◌∷◌, ◌++◌, length, take, get_or, ◌<◌, refl, ap, sym, ◌∙◌, subst, Bool, Option, if◌then◌else◌, arith, length-append}
+use Rattle.std.proofs.Common.{◌≡◌, ℕ, ◌+◌, ◌≤◌, List, [], ◌∷◌, ◌++◌, length, take, get_or, ◌<◌, refl, ap, sym, ◌∙◌, subst, Bool, Option, Result, Err, if◌then◌else◌, arith, length-append}
 use Rattle.std.proofs.lemmas.List.{take_more}
-use Rattle.std.specs.Prelude.{option_to_list}
+use Rattle.std.specs.Prelude.{map, option_to_list}
+use Rattle.qc_recv.specs.declared.recv.Chunk.{Chunk}
 use Rattle.qc_state.specs.declared.coming.Coming.{Coming}
 use Rattle.qc_state.specs.declared.deeds.Did.{Did}
 use Rattle.qc_state.specs.declared.events.EndpointEvent.{EndpointEvent}
 use Rattle.qc_state.specs.declared.events.Event.{Event}
+use Rattle.qc_state.specs.declared.events.Event.TheVariants.{Stream}
 use Rattle.qc_state.specs.declared.input.Input.{Input}
 use Rattle.qc_state.specs.declared.input.Input.TheVariants as input
 use Rattle.qc_state.specs.declared.trace.Answer.{Answer}
@@ -13,19 +15,28 @@ use Rattle.qc_state.specs.declared.trace.Answer.TheVariants.{Done, Dropped}
 use Rattle.qc_state.specs.declared.trace.Step.{Step}
 use Rattle.qc_state.specs.declared.transmit.Transmit.{Transmit}
 use Rattle.qc_state.specs.Life.{ready_event, connected_event, lost_event, ready_reported, connected_reported, lost_reported, drained_event, notices_reported}
-use Rattle.qc_state.specs.Moves.{Ask, Clock, ReportReady, ReportConnected, ReportLost, ReportNotices, ReportDrained, state_move, move_to, deeds_move, life_move}
+use Rattle.qc_state.specs.Moves.{Ask, Call, Clock, ReportReady, ReportConnected, ReportStreams, ReportLost, ReportNotices, ReportDrained, state_move, move_to, deeds_move, life_move, lower_move}
 use Rattle.qc_state.specs.Polls.{waiting_events, endpoint_events}
-use Rattle.qc_state.specs.Run.{time_of, word_of, began, close_after, input_after, called, reported, step_after, IsAllowed, out_of, answer_of, IsStep, Run, Calls, Ran, Adds}
+use Rattle.qc_state.specs.Run.{time_of, word_of, began, close_after, called_all, input_after, called, reported, step_after, IsAllowed, out_of, answer_of, IsStep, Run, Calls, Ran, Adds}
 use Rattle.qc_state.specs.Receiving.{is_taken, datagram_after}
 use Rattle.qc_state.specs.Sending.{transmit_of, Transmits, Choice, Went}
+use Rattle.qc_state.specs.Streams.{MayRead, call_answer, calls_of, events_of}
 use Rattle.qc_state.specs.Timeouts.{timeout_after}
 use Rattle.qc_state.specs.Timers.{next_timeout}
 use Rattle.qc_state.specs.Types.{Types, Meaning}
 use Rattle.qc_state.specs.View.{View, At, at}
+use Rattle.qc_streams.specs.declared.events.StreamEvent.{StreamEvent}
+use Rattle.qc_streams.specs.declared.fault.ReadFault.{ReadFault}
+use Rattle.qc_streams.specs.declared.fault.ReadFault.TheVariants.{Blocked}
+use Rattle.qc_streams.specs.Waits as streams
+
+-- the choice of an input of which only what a read answers is free
+abbrev choice_of : Result (Option Chunk) ReadFault → Choice
+choice_of read = record { packets = []; ending = Went; read = read }
 
 -- the choice of an input that reads none
 abbrev unread : Choice
-unread = record { packets = []; ending = Went }
+unread = choice_of (Err Blocked)
 
 module _ {t : Types} where
   pub calls_transmit : (m : Meaning t) (s : View t) (time max : ℕ) (b : At t) (sent : Option Transmit) (buffer : List ℕ) (answer : Answer) →
@@ -79,18 +90,50 @@ module _ {t : Types} where
     answers = e ∙ ap (λ (x : Bool). if x then Done else Dropped) (is_begins ∙ ap (is_taken m mid coming.remote) is_copy ∙ ap (λ (x : View t). is_taken m x coming.remote bytes) is_mid);
   }
 
+  -- calls of the streams tell no deeds
+  called_untold : (xs : List streams.Step) (a : At t) → called_all xs a ≡ at (called_all xs a).state a.did
+  unfolding move_to deeds_move
+  called_untold [] a = refl
+  called_untold (x ∷ xs) a = called_untold xs (move_to (Call x) a)
+
+  -- an input that is a call on the streams and nothing else
+  pub record IsForStreams (m : Meaning t) (i : Input) : Type 0 where
+    pub leads : (choice : Choice) (a : At t) → input_after m i choice a ≡ called_all (calls_of i choice.read a.state.lower.streams) a
+    pub allowed : (choice : Choice) (a : At t) → MayRead i choice.read a.state.lower.streams → IsAllowed m i choice a
+    pub answers : (choice : Choice) (a : At t) → answer_of m i choice a ≡ call_answer i choice.read a.state.lower.streams
+
+  -- a call on the streams
+  pub calls_streams : (m : Meaning t) (s mid : View t) (i : Input) (read : Result (Option Chunk) ReadFault) (b : View t) (ds : List Did) (answer : Answer) → IsForStreams m i →
+      mid ≡ state_move (Clock (time_of i)) s → ds ≡ [] → MayRead i read mid.lower.streams → b ≡ (called_all (calls_of i read mid.lower.streams) (at mid [])).state → answer ≡ call_answer i read mid.lower.streams →
+      Calls m s i (at b ds) answer
+  unfolding began called
+  calls_streams m s mid i read b ds answer h is_mid is_ds may is_b e =
+      let now : at mid [] ≡ began s (time_of i) = ap (λ (x : View t). at x []) is_mid in
+      record {
+        choice = choice_of read;
+        leads = ap (λ (x : List Did). at b x) is_ds ∙ ap (λ (x : View t). at x []) is_b ∙ sym (called_untold (calls_of i read mid.lower.streams) (at mid []))
+            ∙ sym (h.leads (choice_of read) (at mid [])) ∙ ap (λ (x : At t). input_after m i (choice_of read) x) now;
+        allowed = subst (λ (x : At t). IsAllowed m i (choice_of read) x) now (h.allowed (choice_of read) (at mid []) may);
+        answers = e ∙ sym (h.answers (choice_of read) (at mid [])) ∙ ap (λ (x : At t). answer_of m i (choice_of read) x) now;
+      }
+
   -- reporting one thing leaves the reports of the others as they were
   same_connected : (s : View t) → connected_event (state_move ReportReady s).life ≡ connected_event s.life
   unfolding connected_event state_move life_move ready_reported
   same_connected s = refl
 
-  -- so it is with the reason of the end
-  same_lost : (s : View t) → lost_event (state_move ReportConnected (state_move ReportReady s)).life ≡ lost_event s.life
+  -- so it is with the events of the streams
+  same_streams : (s : View t) → events_of (state_move ReportConnected (state_move ReportReady s)).lower.streams ≡ events_of s.lower.streams
+  unfolding state_move lower_move
+  same_streams s = refl
+
+  -- with the reason of the end
+  same_lost : (s : View t) → lost_event (state_move ReportStreams (state_move ReportConnected (state_move ReportReady s))).life ≡ lost_event s.life
   unfolding lost_event state_move life_move ready_reported connected_reported
   same_lost s = refl
 
   -- and with all that waits for the endpoint
-  same_end : (s : View t) → endpoint_events (state_move ReportLost (state_move ReportConnected (state_move ReportReady s))) ≡ endpoint_events s
+  same_end : (s : View t) → endpoint_events (state_move ReportLost (state_move ReportStreams (state_move ReportConnected (state_move ReportReady s)))) ≡ endpoint_events s
   unfolding endpoint_events drained_event state_move life_move ready_reported connected_reported lost_reported
   same_end s = refl
 
@@ -158,15 +201,18 @@ module _ {t : Types} where
       subst (λ (a : At t). Transmits m time a b sent buffer) (ap (λ (x : List Did). at mid x) is_ds ∙ ap (λ (x : View t). at x []) is_mid) h
 
   -- what is reported, one after the other, is all that waited
-  pub events_wait : (s2 s3 s4 : View t) → s3 ≡ state_move ReportReady s2 → s4 ≡ state_move ReportConnected s3 →
-      option_to_list (ready_event s2.life) ++ (option_to_list (connected_event s3.life) ++ option_to_list (lost_event s4.life)) ≡ waiting_events s2
+  pub events_wait : (s2 s3 s4 s5 : View t) → s3 ≡ state_move ReportReady s2 → s4 ≡ state_move ReportConnected s3 → s5 ≡ state_move ReportStreams s4 →
+      option_to_list (ready_event s2.life) ++ (option_to_list (connected_event s3.life) ++ (map Stream (events_of s4.lower.streams) ++ option_to_list (lost_event s5.life))) ≡ waiting_events s2
   unfolding waiting_events
-  events_wait s2 s3 s4 is_s3 is_s4 =
+  events_wait s2 s3 s4 s5 is_s3 is_s4 is_s5 =
       let e4 : s4 ≡ state_move ReportConnected (state_move ReportReady s2) = is_s4 ∙ ap (λ (v : View t). state_move ReportConnected v) is_s3 in
+      let e5 : s5 ≡ state_move ReportStreams (state_move ReportConnected (state_move ReportReady s2)) = is_s5 ∙ ap (λ (v : View t). state_move ReportStreams v) e4 in
       let connected : connected_event s3.life ≡ connected_event s2.life = ap (λ (v : View t). connected_event v.life) is_s3 ∙ same_connected s2 in
-      let lost : lost_event s4.life ≡ lost_event s2.life = ap (λ (v : View t). lost_event v.life) e4 ∙ same_lost s2 in
-      ap (λ (o : Option Event). option_to_list (ready_event s2.life) ++ (option_to_list o ++ option_to_list (lost_event s4.life))) connected
-      ∙ ap (λ (o : Option Event). option_to_list (ready_event s2.life) ++ (option_to_list (connected_event s2.life) ++ option_to_list o)) lost
+      let streams : events_of s4.lower.streams ≡ events_of s2.lower.streams = ap (λ (v : View t). events_of v.lower.streams) e4 ∙ same_streams s2 in
+      let lost : lost_event s5.life ≡ lost_event s2.life = ap (λ (v : View t). lost_event v.life) e5 ∙ same_lost s2 in
+      ap (λ (o : Option Event). option_to_list (ready_event s2.life) ++ (option_to_list o ++ (map Stream (events_of s4.lower.streams) ++ option_to_list (lost_event s5.life)))) connected
+      ∙ ap (λ (es : List StreamEvent). option_to_list (ready_event s2.life) ++ (option_to_list (connected_event s2.life) ++ (map Stream es ++ option_to_list (lost_event s5.life)))) streams
+      ∙ ap (λ (o : Option Event). option_to_list (ready_event s2.life) ++ (option_to_list (connected_event s2.life) ++ (map Stream (events_of s2.lower.streams) ++ option_to_list o))) lost
 
   -- so it is with what is reported to the endpoint
   pub endpoint_wait : (s5 s6 : View t) → s6 ≡ state_move ReportNotices s5 → s5.life.notices ++ option_to_list (drained_event s6.life) ≡ endpoint_events s5
@@ -176,25 +222,13 @@ module _ {t : Types} where
   -- a step of a call, of all reports to the application, and of those to the endpoint
   pub is_step_reported : (m : Meaning t) (k : ℕ) (s : View t) (i : Input) (x : Step) (ds : List Did) (s2 s5 s6 : View t) →
       s.timers.greatest ≤ time_of i → Calls m s i (at s2 ds) x.answer → x.did ≡ ds →
-      s5 ≡ state_move ReportLost (state_move ReportConnected (state_move ReportReady s2)) → s6 ≡ state_move ReportDrained (state_move ReportNotices s5) →
+      s5 ≡ state_move ReportLost (state_move ReportStreams (state_move ReportConnected (state_move ReportReady s2))) → s6 ≡ state_move ReportDrained (state_move ReportNotices s5) →
       x.events ≡ waiting_events s2 → x.endpoint ≡ endpoint_events s5 →
       x.timeout ≡ next_timeout s6.timers → x.at ≡ k → x.word ≡ word_of i → x.now ≡ time_of i → IsStep m k s i x s6
   unfolding reported
   is_step_reported m k s i x ds s2 s5 s6 forward h is_did is_s5 is_s6 is_events is_endpoint is_timeout is_at is_word is_now =
       is_step m k s i x (at s2 ds) s6 forward h is_did (is_s6 ∙ ap (λ (v : View t). state_move ReportDrained (state_move ReportNotices v)) is_s5) is_events
       (is_endpoint ∙ ap (λ (v : View t). endpoint_events v) is_s5 ∙ same_end s2) is_timeout is_at is_word is_now
-
-  -- a step of a call and of the reports behind it: that the handshake's data is ready, that the handshake is over, the reason of
-  -- the end, and what waits for the endpoint
-  pub is_step_by : (m : Meaning t) (k : ℕ) (s : View t) (i : Input) (x : Step) (ds : List Did) (s2 s3 s4 s5 s6 : View t) →
-      s.timers.greatest ≤ time_of i → Calls m s i (at s2 ds) x.answer → x.did ≡ ds →
-      s3 ≡ state_move ReportReady s2 → s4 ≡ state_move ReportConnected s3 → s5 ≡ state_move ReportLost s4 → s6 ≡ state_move ReportDrained (state_move ReportNotices s5) →
-      x.events ≡ waiting_events s2 → x.endpoint ≡ endpoint_events s5 →
-      x.timeout ≡ next_timeout s6.timers → x.at ≡ k → x.word ≡ word_of i → x.now ≡ time_of i → IsStep m k s i x s6
-  is_step_by m k s i x ds s2 s3 s4 s5 s6 forward h is_did is_s3 is_s4 is_s5 is_s6 is_events is_endpoint is_timeout is_at is_word is_now =
-      let e4 : s4 ≡ state_move ReportConnected (state_move ReportReady s2) = is_s4 ∙ ap (λ (v : View t). state_move ReportConnected v) is_s3 in
-      let e5 : s5 ≡ state_move ReportLost (state_move ReportConnected (state_move ReportReady s2)) = is_s5 ∙ ap (λ (v : View t). state_move ReportLost v) e4 in
-      is_step_reported m k s i x ds s2 s5 s6 forward h is_did e5 is_s6 is_events is_endpoint is_timeout is_at is_word is_now
 
   -- the empty trace
   pub ran_none : (m : Meaning t) (k : ℕ) (s : View t) (is : List Input) (xs : List Step) → xs ≡ [] → Ran m k s is xs

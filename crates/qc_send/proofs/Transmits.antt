@@ -1,5 +1,5 @@
 -- What a transmit sealed, or why it sealed nothing, is what it may do.
-use Rattle.std.proofs.Common.{◌≡◌, ℕ, List, [], ◌∷◌, length, refl, ap, sym, ◌∙◌, subst, false, Some, None, ◌<◌, arith}
+use Rattle.std.proofs.Common.{◌≡◌, ℕ, List, [], ◌∷◌, length, refl, ap, sym, ◌∙◌, subst, false, Some, None, Err, ◌<◌, arith}
 use Rattle.qc_base.specs.declared.side.SpaceId.{SpaceId}
 use Rattle.qc_state.specs.declared.transmit.Transmit.{Transmit}
 use Rattle.qc_state.specs.Keys.{form_in}
@@ -14,6 +14,7 @@ use Rattle.qc_state.specs.declared.deeds.Quiet.TheVariants.{Killed}
 use Rattle.qc_state.specs.Stopping.{killed_after}
 use Rattle.qc_state.specs.declared.transmit.Batch.{Batch}
 use Rattle.qc_state.proofs.Batches.{packet_made}
+use Rattle.qc_streams.specs.declared.fault.ReadFault.TheVariants.{Blocked}
 
 module _ {t : Types} where
   -- a transmit that seals a packet
@@ -31,7 +32,7 @@ module _ {t : Types} where
 
       one_by : SendsOne m time (going_from a) (going mid batch buffer) → Transmits m time a b (Some sent) buffer
       one_by s = record {
-        choice = record { packets = s.packet ∷ []; ending = Went };
+        choice = record { packets = s.packet ∷ []; ending = Went; read = Err Blocked };
         may = ((s.may, tt), some_made (packet_after m time s.packet (going_from a)).batch.made (packet_made m time s.packet (going_from a) s.may));
         leads = is_b ∙ ap (λ (g : Going t). finished_after time g.batch g.now) s.leads;
         answer = ap Some (is_sent ∙ ap (λ (n : ℕ). transmit_with a.state n) (size ∙ ap (λ (g : Going t). g.batch.total) s.leads));
@@ -42,14 +43,14 @@ module _ {t : Types} where
   -- a transmit that seals none, for a cause
   pub transmits_quiet : (m : Meaning t) (time : ℕ) (a b : At t) (quiet : Quiet) (buffer : List ℕ) → quiet_of a.state.waiting.close_owed a.state ≡ Some quiet → b ≡ move_to (Say quiet) a → buffer ≡ [] → Transmits m time a b None buffer
   unfolding MayTransmit transmit_after ending_after gone_after transmit_of transmit_bytes
-  transmits_quiet m time a b quiet buffer may l e = record { choice = record { packets = []; ending = Hushed quiet }; may = (tt, (refl, may)); leads = l; answer = refl; bytes = e; full = ap length e }
+  transmits_quiet m time a b quiet buffer may l e = record { choice = record { packets = []; ending = Hushed quiet; read = Err Blocked }; may = (tt, (refl, may)); leads = l; answer = refl; bytes = e; full = ap length e }
 
   -- a transmit that ends the connection
   pub transmits_killed : (m : Meaning t) (time : ℕ) (a mid b : At t) (space : SpaceId) (why : ConnectionError) (buffer : List ℕ) → HasTurn a.state.waiting.close_owed a.state space → is_blocked a.state.paths ≡ false → kill_in a.state (form_in a.state.keys space) ≡ Some why →
       mid ≡ killed_after why a → b ≡ move_to (Say Killed) mid → buffer ≡ [] → Transmits m time a b None buffer
   unfolding MayTransmit transmit_after ending_after gone_after transmit_of transmit_bytes
   transmits_killed m time a mid b space why buffer turn free kill is_mid is_b e = record {
-    choice = record { packets = []; ending = Died why };
+    choice = record { packets = []; ending = Died why; read = Err Blocked };
     may = (tt, (refl, record { space = space; turn = turn; free = free; kill = kill }));
     leads = is_b ∙ ap (λ (x : At t). move_to (Say Killed) x) is_mid;
     answer = refl;
