@@ -57,6 +57,9 @@ use Rattle.qc_state.proofs.PacketMoves.{OpenPacket}
 use Rattle.qc_laws.proofs.Receives.{holds_counted}
 use Rattle.qc_state.proofs.Telling.{told_appends}
 use Rattle.qc_state.specs.Sending.{Choice}
+use Rattle.qc_state.specs.declared.lower.Lower.{Lower}
+use Rattle.qc_state.specs.Lower.{events_told}
+use Rattle.qc_laws.proofs.EventsAsked.{told_again}
 
 -- of two tests that hold each holds
 first_holds : (a b : Bool) → (a && b) ≡ true → a ≡ true
@@ -201,7 +204,7 @@ module _ {t : Types} where
 
   pub same_counts : (s s' : View t) → Same s s' → OnlyCounts s s'
   unfolding reported state_move numbers_move keys_move life_move paths_move timers_move waiting_move setup_move lower_move
-  same_counts s s' h = record { numbers = h.numbers; keys = h.keys; life = ap life_reported h.life; paths = h.paths; ranged = h.ranged; more = h.more; timers = h.timers; still = h.still; waiting = h.waiting; setup = h.setup; lower = h.lower }
+  same_counts s s' h = record { numbers = h.numbers; keys = h.keys; life = ap life_reported h.life; paths = h.paths; ranged = h.ranged; more = h.more; timers = h.timers; still = h.still; waiting = h.waiting; setup = h.setup; lower = ap (λ (l : Lower t.S). events_told l) h.lower }
 
   counts_next : (r s u : View t) → OnlyCounts r s → OnlyCounts s u → OnlyCounts r u
   counts_next r s u g h = record {
@@ -569,10 +572,7 @@ module _ {t : Types} where
       let b : At t = datagram_after m (record { time = time; remote = remote; mark = ecn }) bytes a in
       let tame = tame_datagram m (record { time = time; remote = remote; mark = ecn }) bytes a in
       same_next s a.state b.state (same_clock time s) (tame.same (subst (λ (es : List Did). list_all is_harmless es ≡ true) (is_did ∙ tame.appended) h))
-  same_called m (input.Timeout time) s choice ds is_one is_did h = cc
-  same_called m (input.Transmit time max) s choice ds is_one is_did h = cc
-  same_called m (input.Close time code reason) s choice ds is_one is_did h = cc
-  same_called m (input.Ping time) s choice ds is_one is_did h = cc
+  same_called m _ s choice ds is_one is_did h = cc
 
   -- a step
   step_counts : (m : Meaning t) (k : ℕ) (s : View t) (i : Input) (x : Step) (s' : View t) → IsStep m k s i x s' → is_datagram i ≡ true → list_all is_harmless x.did ≡ true → OnlyCounts s s'
@@ -591,7 +591,7 @@ module _ {t : Types} where
         still = λ r free. ap (λ (y : Timers). y.loss_detection) h.timers ∙ same.still r free;
         waiting = h.waiting ∙ same.waiting;
         setup = h.setup ∙ same.setup;
-        lower = h.lower ∙ same.lower;
+        lower = ap (λ (l : Lower t.S). events_told l) h.lower ∙ told_again b.state.lower ∙ ap (λ (l : Lower t.S). events_told l) same.lower;
       }
 
   -- a run, one step after the other

@@ -11,7 +11,7 @@ use Rattle.qc_state.specs.declared.life.Close.{Close}
 use Rattle.qc_state.specs.declared.life.State.TheVariants.{Drained}
 use Rattle.qc_state.specs.Forms.{number_space}
 use Rattle.qc_state.specs.Life.{is_open}
-use Rattle.qc_state.specs.Moves.{Ack, Ask, Clock, Fire, MayMove, Move, Raise, ReportConnected, ReportDrained, ReportLost, ReportReady, ReportNotice, ReportNotices, Seal, Shut, Take, move_to}
+use Rattle.qc_state.specs.Moves.{Ack, Ask, Clock, Fire, MayMove, Move, Raise, ReportConnected, ReportDrained, ReportLost, ReportReady, ReportNotice, ReportNotices, Seal, Shut, Take, move_to, Call, ReportStream, ReportStreams, Tell}
 use Rattle.qc_state.specs.Numbers.{next_number}
 use Rattle.qc_state.specs.Receiving.{datagram_after}
 use Rattle.qc_state.specs.Recovering.{fired_by, settled_by}
@@ -21,13 +21,35 @@ use Rattle.qc_state.specs.Types.{Types, Meaning}
 use Rattle.qc_state.specs.View.{View, At}
 use Rattle.qc_state.proofs.Expired.{IsExpiry, holds_expired}
 use Rattle.qc_state.proofs.OpenPackets.{holds_packet}
-use Rattle.qc_state.proofs.PacketMoves.{IsInPacket, IsSettledOf, OpenPacket}
-use Rattle.qc_state.proofs.ReceivedMoves.{IsOutside}
+use Rattle.qc_state.proofs.PacketMoves.{IsInPacket, IsSettledOf, OpenPacket, IsGivenTo, IsToldOf}
+use Rattle.qc_state.proofs.ReceivedMoves.{IsOutside, IsUnread}
 use Rattle.qc_laws.proofs.Receives.{datagram_holds}
 use Rattle.qc_state.proofs.Telling.{open_rank}
 use Rattle.qc_state.proofs.Transmitted.{IsSealable, IsSending, holds_transmit}
+use Rattle.qc_laws.proofs.StreamCalls.{called_input}
+use Rattle.qc_state.specs.declared.deeds.Did.{Did}
+use Rattle.qc_state.specs.declared.deeds.Did.TheVariants as did
+use Rattle.qc_state.specs.declared.deeds.Layer.TheVariants as layer
+use Rattle.qc_frame.specs.declared.frames.FrameOf.TheVariants as frames
+
+-- a deed that tells of no gift to the streams: these are told of with the move that hands them a frame
+abbrev pub IsElsewhere : Did → Type 0
+IsElsewhere (did.Gave layer.Streams body) = ⊥
+IsElsewhere _ = Unit {0}
+
+unread_elsewhere : (d : Did) → IsUnread d → IsElsewhere d
+unread_elsewhere (did.Gave to body) h = absurd h
+unread_elsewhere _ h = tt
+
+none_to_streams : (f : FrameValue) → IsGivenTo layer.Streams f → ⊥
+none_to_streams (frames.Ack ack) h = h
+none_to_streams _ h = h
 
 module _ {t : Types} where
+  told_elsewhere : (o : OpenPacket) (d : Did) (s : View t) → IsToldOf o d s → IsElsewhere d
+  told_elsewhere o (did.Gave layer.Streams body) s h = none_to_streams h.0 h.2
+  told_elsewhere o _ s h = tt
+
   -- an acknowledgement settles what recovery makes of an ACK at a time
   pub record IsSettledBy (m : Meaning t) (id : SpaceId) (after : After t.C) (s : View t) : Type 0 where
     pub time : ℕ
@@ -40,7 +62,8 @@ module _ {t : Types} where
     pub is : after ≡ fired_by m time s
 
   -- what is known of a move that an input makes, beside those with which a packet is taken and sealed: it is no report, a life that rises
-  -- by itself rises to its end, and what acknowledgements and the loss timer leave is what recovery makes of them
+  -- by itself rises to its end, what acknowledgements and the loss timer leave is what recovery makes of them, and what is told by itself is
+  -- no gift to the streams
   abbrev pub IsKnownMove : Meaning t → Move t → View t → Type 0
   IsKnownMove m (Clock time) s = ⊥
   IsKnownMove m (Take id fs) s = ⊥
@@ -48,8 +71,11 @@ module _ {t : Types} where
   IsKnownMove m (Ack id n after) s = IsSettledBy m id after s
   IsKnownMove m (Fire after) s = IsFiredBy m after s
   IsKnownMove m (Raise to) s = to ≡ Drained
+  IsKnownMove m (Tell d) s = IsElsewhere d
   IsKnownMove m ReportReady s = ⊥
   IsKnownMove m ReportConnected s = ⊥
+  IsKnownMove m ReportStream s = ⊥
+  IsKnownMove m ReportStreams s = ⊥
   IsKnownMove m ReportLost s = ⊥
   IsKnownMove m ReportNotice s = ⊥
   IsKnownMove m ReportNotices s = ⊥
@@ -67,8 +93,11 @@ module _ {t : Types} where
   packet_known m o (Ack id n after) s h = settled_known m o id n after s h
   packet_known m o (Fire after) s h = absurd h
   packet_known m o (Raise to) s h = absurd h
+  packet_known m o (Tell d) s h = told_elsewhere o d s h
   packet_known m o ReportReady s h = absurd h
   packet_known m o ReportConnected s h = absurd h
+  packet_known m o ReportStream s h = absurd h
+  packet_known m o ReportStreams s h = absurd h
   packet_known m o ReportLost s h = absurd h
   packet_known m o ReportNotice s h = absurd h
   packet_known m o ReportNotices s h = absurd h
@@ -83,8 +112,11 @@ module _ {t : Types} where
   outside_known m at_time (Ack id n after) s h = absurd h
   outside_known m at_time (Fire after) s h = absurd h
   outside_known m at_time (Raise to) s h = h
+  outside_known m at_time (Tell d) s h = unread_elsewhere d h
   outside_known m at_time ReportReady s h = absurd h
   outside_known m at_time ReportConnected s h = absurd h
+  outside_known m at_time ReportStream s h = absurd h
+  outside_known m at_time ReportStreams s h = absurd h
   outside_known m at_time ReportLost s h = absurd h
   outside_known m at_time ReportNotice s h = absurd h
   outside_known m at_time ReportNotices s h = absurd h
@@ -99,8 +131,11 @@ module _ {t : Types} where
   expiry_known m (Ack id n after) s h = absurd h
   expiry_known m (Fire after) s h = absurd h
   expiry_known m (Raise to) s h = h
+  expiry_known m (Tell d) s h = absurd h
   expiry_known m ReportReady s h = absurd h
   expiry_known m ReportConnected s h = absurd h
+  expiry_known m ReportStream s h = absurd h
+  expiry_known m ReportStreams s h = absurd h
   expiry_known m ReportLost s h = absurd h
   expiry_known m ReportNotice s h = absurd h
   expiry_known m ReportNotices s h = absurd h
@@ -115,8 +150,11 @@ module _ {t : Types} where
   sending_known m (Ack id n after) s h = absurd h
   sending_known m (Fire after) s h = absurd h
   sending_known m (Raise to) s h = h
+  sending_known m (Tell d) s h = absurd h
   sending_known m ReportReady s h = absurd h
   sending_known m ReportConnected s h = absurd h
+  sending_known m ReportStream s h = absurd h
+  sending_known m ReportStreams s h = absurd h
   sending_known m ReportLost s h = absurd h
   sending_known m ReportNotice s h = absurd h
   sending_known m ReportNotices s h = absurd h
@@ -150,3 +188,4 @@ module _ {t : Types} (m : Meaning t) (R : At t → At t → Type 0) (here : (a :
   known_input (input.Transmit time max) choice a h = holds_transmit R here next (λ x r b may. move x b (sending_known m x b.state r) may) seal m time choice a h
   known_input (input.Close time code reason) choice a h = closed_by time _ a _ refl
   known_input (input.Ping time) choice a h = move (Ask a.state.keys.highest) a tt tt
+  known_input i choice a h = called_input R here next (λ x b may. move (Call x) b tt may) i choice.read a h

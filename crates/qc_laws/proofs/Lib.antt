@@ -5,6 +5,7 @@ pub mod AcksKnown
 pub mod Clocks
 pub mod DatagramLaws
 pub mod EventsTold
+pub mod EventsAsked
 pub mod Gifts
 pub mod HarmlessBytes
 pub mod IdsHold
@@ -32,6 +33,8 @@ pub mod CryptoPlaces
 pub mod CryptoBegins
 pub mod TimerFlights
 pub mod StreamSteps
+pub mod StreamCalls
+pub mod StreamsFold
 pub mod StreamHolds
 pub mod StreamBegins
 pub mod AckMarks

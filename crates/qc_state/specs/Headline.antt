@@ -241,7 +241,7 @@ module _ {t : Types} where
     pub still : s.paths.current.received ≤ 18446744073709551615 → is_blocked s.paths ≡ false → s'.timers.loss_detection ≡ s.timers.loss_detection
     pub waiting : s'.waiting ≡ s.waiting
     pub setup : s'.setup ≡ s.setup
-    pub lower : s'.lower ≡ s.lower
+    pub lower : (reported s').lower ≡ (reported s).lower
 
   -- datagrams none of whose packets opened change only counts
   unfoldable pub Harmless : View t → List Input → List Step → View t → Type 0
