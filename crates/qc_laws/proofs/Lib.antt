@@ -8,6 +8,7 @@ pub mod EventsTold
 pub mod EventsAsked
 pub mod Gifts
 pub mod HarmlessBytes
+pub mod HarmlessTests
 pub mod IdsHold
 pub mod Inputs
 pub mod Joins

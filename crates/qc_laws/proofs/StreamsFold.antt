@@ -260,7 +260,7 @@ module _ {t : Types} where
       let a : At t = began s (time_of i) in
       let b : At t = input_after m i h.choice a in
       let folds : Folds a b = known_input m Folds folds_here folds_next (λ y c known may. folds_by y c (move_folds m y c.state known may)) (λ time form fs c may. packet_folds time form fs c) i h.choice a h.allowed in
-      let n : ℕ = suc (length (events_of b.state.lower.streams)) in
+      let n : ℕ = length (events_of b.state.lower.streams) in
       let does : FoldsStreams folds.since s b.state = record { steps = folds.over.steps; may = folds.over.may; leads = folds.over.leads; handed = folds.over.handed } in
       let asks : FoldsStreams [] b.state s' = record { steps = asked_for n; may = asked_may n b.state.lower.streams; leads = ap (λ (l : Lower t.S). l.streams) h.lower; handed = asked_none n } in
       subst (λ (ds : List Did). FoldsStreams ds s s') (append-nil folds.since ∙ sym (h.deeds ∙ folds.appended)) (streams_next folds.since [] s b.state s' does asks)

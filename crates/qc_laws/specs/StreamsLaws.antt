@@ -1,5 +1,5 @@
 -- The streams of the application as the fold of their own steps: over moves, and over whole runs (RFC 9000, sections 2 to 4).
-use Rattle.std.specs.Prelude.{◌≡◌, suc, Bool, true, false, List, [], ◌∷◌, ◌++◌, length}
+use Rattle.std.specs.Prelude.{◌≡◌, Bool, true, false, List, [], ◌∷◌, ◌++◌, length}
 use Rattle.std.specs.List.{list_any}
 use Rattle.qc_frame.specs.Frame.{FrameValue}
 use Rattle.qc_frame.specs.FrameSpelling.{spelling}
@@ -54,7 +54,7 @@ module _ {t : Types} where
   streams_steps PeerClosesToo s = Closed ∷ []
   streams_steps (Raise to) s = Closed ∷ []
   streams_steps ReportStream s = asked_for 1
-  streams_steps ReportStreams s = asked_for (suc (length (events_of s.lower.streams)))
+  streams_steps ReportStreams s = asked_for (length (events_of s.lower.streams))
   streams_steps _ s = []
 
   -- From one view to another, between which these deeds were done, the streams made steps: each of them may be made as its turn comes, and
