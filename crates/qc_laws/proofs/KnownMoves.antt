@@ -31,6 +31,7 @@ use Rattle.qc_state.specs.declared.deeds.Did.{Did}
 use Rattle.qc_state.specs.declared.deeds.Did.TheVariants as did
 use Rattle.qc_state.specs.declared.deeds.Layer.TheVariants as layer
 use Rattle.qc_frame.specs.declared.frames.FrameOf.TheVariants as frames
+use Rattle.qc_laws.specs.StreamsLaws.{is_streams_call}
 
 -- a deed that tells of no gift to the streams: these are told of with the move that hands them a frame
 abbrev pub IsElsewhere : Did → Type 0
@@ -161,31 +162,68 @@ module _ {t : Types} where
   sending_known m ReportDrained s h = absurd h
   sending_known m _ s h = tt
 
--- what holds of no move, of two moves one after the other, of each move that is known so, where it may be made, and of the two with which
--- a packet is taken and sealed, holds of an input
+-- a move is no call of the streams; none is that an input makes which is none itself
+abbrev pub IsUncalled : {t : Types} → Move t → Type 0
+IsUncalled (Call x) = ⊥
+IsUncalled _ = Unit {0}
+
+packet_uncalled : {t : Types} (m : Meaning t) (o : OpenPacket) (x : Move t) (s : View t) → IsInPacket m o x s → IsUncalled x
+packet_uncalled m o (Call x) s h = absurd h
+packet_uncalled m o _ s h = tt
+
+outside_uncalled : {t : Types} (time : ℕ) (x : Move t) (s : View t) → IsOutside time x s → IsUncalled x
+outside_uncalled time (Call x) s h = absurd h
+outside_uncalled time _ s h = tt
+
+expiry_uncalled : {t : Types} (x : Move t) → IsExpiry x → IsUncalled x
+expiry_uncalled (Call x) h = absurd h
+expiry_uncalled _ h = tt
+
+sending_uncalled : {t : Types} (x : Move t) → IsSending x → IsUncalled x
+sending_uncalled (Call x) h = absurd h
+sending_uncalled _ h = tt
+
+-- what holds of no move, of two moves one after the other, of each move that is known so and is no call of the streams, where it may be
+-- made, and of the two with which a packet is taken and sealed, holds of an input that is no call of the streams
 module _ {t : Types} (m : Meaning t) (R : At t → At t → Type 0) (here : (a : At t) → R a a) (next : (a b c : At t) → R a b → R b c → R a c)
-    (move : (x : Move t) (a : At t) → IsKnownMove m x a.state → MayMove x a.state → R a (move_to x a))
+    (move : (x : Move t) (a : At t) → IsKnownMove m x a.state → IsUncalled x → MayMove x a.state → R a (move_to x a))
     (seal : (time : ℕ) (form : Form) (fs : List FrameValue) (a : At t) → IsSealable time a.state form fs → R a (move_to (Seal time form (next_number a.state.numbers (number_space form)) (packet_size a.state form fs) fs) (move_to (Take (number_space form) fs) a))) where
   -- a datagram
   known_datagram : (coming : Coming) (bytes : List ℕ) (a : At t) → R a (datagram_after m coming bytes a)
   known_datagram coming bytes a =
-      datagram_holds m coming (λ p. Unit {0}) R here next (λ x b h may. move x b (outside_known m coming.time x b.state h) may)
-      (λ p comes o b opened. holds_packet m o R here next (λ x c h may. move x c (packet_known m o x c.state h) may) b opened.lively)
+      datagram_holds m coming (λ p. Unit {0}) R here next (λ x b h may. move x b (outside_known m coming.time x b.state h) (outside_uncalled coming.time x b.state h) may)
+      (λ p comes o b opened. holds_packet m o R here next (λ x c h may. move x c (packet_known m o x c.state h) (packet_uncalled m o x c.state h) may) b opened.lively)
       bytes a (λ p among. tt)
 
   -- the application closes, or has closed before
   closed_by : (time : ℕ) (close : Close) (a : At t) (b : Bool) → is_open a.state.life.state ≡ b → R a (if b then move_to (Shut time close) a else a)
   unfolding MayMove
-  closed_by time close a true h = move (Shut time close) a tt (open_rank a.state.life.state h)
+  closed_by time close a true h = move (Shut time close) a tt tt (open_rank a.state.life.state h)
   closed_by time close a false h = here a
 
   -- each input
-  pub known_input : (i : Input) (choice : Choice) (a : At t) → IsAllowed m i choice a → R a (input_after m i choice a)
+  pub known_other : (i : Input) (choice : Choice) (a : At t) → is_streams_call i ≡ false → IsAllowed m i choice a → R a (input_after m i choice a)
   unfolding IsAllowed input_after close_after MayMove
-  known_input (input.Datagram time remote ecn bytes) choice a h = known_datagram (record { time = time; remote = remote; mark = ecn }) bytes a
-  known_input (input.Timeout time) choice a h =
-      holds_expired m R here next (λ at_time b. move (Fire (fired_by m at_time b.state)) b (record { time = at_time; is = refl }) tt) (λ x e b may. move x b (expiry_known m x b.state e) may) time a
-  known_input (input.Transmit time max) choice a h = holds_transmit R here next (λ x r b may. move x b (sending_known m x b.state r) may) seal m time choice a h
-  known_input (input.Close time code reason) choice a h = closed_by time _ a _ refl
-  known_input (input.Ping time) choice a h = move (Ask a.state.keys.highest) a tt tt
+  known_other (input.Datagram time remote ecn bytes) choice a none h = known_datagram (record { time = time; remote = remote; mark = ecn }) bytes a
+  known_other (input.Timeout time) choice a none h =
+      holds_expired m R here next (λ at_time b. move (Fire (fired_by m at_time b.state)) b (record { time = at_time; is = refl }) tt tt) (λ x e b may. move x b (expiry_known m x b.state e) (expiry_uncalled x e) may) time a
+  known_other (input.Transmit time max) choice a none h = holds_transmit R here next (λ x r b may. move x b (sending_known m x b.state r) (sending_uncalled x r) may) seal m time choice a h
+  known_other (input.Close time code reason) choice a none h = closed_by time _ a _ refl
+  known_other (input.Ping time) choice a none h = move (Ask a.state.keys.highest) a tt tt tt
+  known_other _ choice a none h = cc
+
+-- what holds of each move that is known so, too, holds of an input
+module _ {t : Types} (m : Meaning t) (R : At t → At t → Type 0) (here : (a : At t) → R a a) (next : (a b c : At t) → R a b → R b c → R a c)
+    (move : (x : Move t) (a : At t) → IsKnownMove m x a.state → MayMove x a.state → R a (move_to x a))
+    (seal : (time : ℕ) (form : Form) (fs : List FrameValue) (a : At t) → IsSealable time a.state form fs → R a (move_to (Seal time form (next_number a.state.numbers (number_space form)) (packet_size a.state form fs) fs) (move_to (Take (number_space form) fs) a))) where
+  other : (i : Input) (choice : Choice) (a : At t) → is_streams_call i ≡ false → IsAllowed m i choice a → R a (input_after m i choice a)
+  other i choice a none h = known_other m R here next (λ x b known uncalled may. move x b known may) seal i choice a none h
+
+  pub known_input : (i : Input) (choice : Choice) (a : At t) → IsAllowed m i choice a → R a (input_after m i choice a)
+  unfolding IsAllowed input_after
+  known_input (input.Datagram time remote ecn bytes) choice a h = other (input.Datagram time remote ecn bytes) choice a refl h
+  known_input (input.Timeout time) choice a h = other (input.Timeout time) choice a refl h
+  known_input (input.Transmit time max) choice a h = other (input.Transmit time max) choice a refl h
+  known_input (input.Close time code reason) choice a h = other (input.Close time code reason) choice a refl h
+  known_input (input.Ping time) choice a h = other (input.Ping time) choice a refl h
   known_input i choice a h = called_input R here next (λ x b may. move (Call x) b tt may) i choice.read a h

@@ -35,6 +35,7 @@ pub mod CryptoBegins
 pub mod TimerFlights
 pub mod StreamSteps
 pub mod StreamCalls
+pub mod StreamsMade
 pub mod StreamsFold
 pub mod StreamHolds
 pub mod StreamBegins

@@ -41,7 +41,7 @@ handed_told P frame none gave = told_by (is_given_to_streams frame)
 -- ---- calls
 
 -- each of these steps is a call that may be made, as its turn comes
-abbrev AreCalls : List streams.Step → StreamsState → Type 0
+abbrev pub AreCalls : List streams.Step → StreamsState → Type 0
 AreCalls [] s = Unit {0}
 AreCalls (x ∷ xs) s = ((is_call x ≡ true) × MayStep x s) × AreCalls xs (after_step x s)
 
@@ -59,7 +59,7 @@ write_calls None id body s = ((refl, record { possible = tt; taken = omega arith
 write_calls (Some e) id body s = ((refl, record { possible = tt; taken = tt; answered = tt; sealed = tt }), tt)
 
 -- so it is with those of an input
-calls_may : (i : Input) (read : Result (Option Chunk) ReadFault) (s : StreamsState) → MayRead i read s → AreCalls (calls_of i read s) s
+pub calls_may : (i : Input) (read : Result (Option Chunk) ReadFault) (s : StreamsState) → MayRead i read s → AreCalls (calls_of i read s) s
 unfolding IsPossible IsTaken IsAnswered IsSealedSo
 calls_may (input.Open time dir) read s h =
     unless_calls (not (may_open dir s)) (streams.Opened dir) s refl (λ e. record { possible = tt; taken = not_refused (may_open dir s) e; answered = tt; sealed = tt })
