@@ -30,7 +30,7 @@ use Rattle.qc_state.specs.Acks.{is_ack}
 use Rattle.qc_state.specs.Forms.{is_early, number_space}
 use Rattle.qc_state.specs.Keys.{epoch_in}
 use Rattle.qc_state.specs.Life.{connected_reported, drained_reported, is_drained, is_open, is_over, life_closed, life_drained, life_raised, lost_reported, notices_reported, ready_reported}
-use Rattle.qc_state.specs.Moves.{Accept, Ack, Arm, Ask, Begin, Confirm, Establish, Fire, Forget, Give, MayMove, Move, Owe, Pace, PeerCloses, Raise, Release, Seal, Shut, Take, Tell, Write, arrival_of, armed_after, armed_with, deeds_move, keys_move, life_move, move_to, state_move, timers_move, waiting_move}
+use Rattle.qc_state.specs.Moves.{Accept, Ack, Arm, Ask, Begin, Confirm, Establish, Fire, Forget, Give, MayMove, Move, Owe, Pace, PeerCloses, Raise, Release, Seal, Shut, Take, Tell, Write, arrival_of, armed_after, armed_with, deeds_move, keys_move, life_move, move_to, state_move, timers_move, waiting_move, Call}
 use Rattle.qc_state.specs.Numbers.{came_in, next_number}
 use Rattle.qc_state.specs.Offers.{packet_begun}
 use Rattle.qc_state.specs.Paths.{is_blocked}
@@ -57,6 +57,7 @@ use Rattle.qc_laws.proofs.Receives.{datagram_holds}
 use Rattle.qc_state.proofs.Telling.{told_appends}
 use Rattle.qc_laws.proofs.TimerMoves.{IsPlain, plain_open}
 use Rattle.qc_state.proofs.Transmitted.{IsSending, holds_transmit}
+use Rattle.qc_laws.proofs.StreamCalls.{called_input}
 
 module _ {t : Types} where
   -- what is told of an ACK that is held back, from one moment of an input at this time to another
@@ -402,6 +403,7 @@ module _ {t : Types} where
   input_result m (input.Transmit time max) choice a may = holding_result time a _ (transmit_holding m time choice a may)
   input_result m (input.Close time code reason) choice a may = holding_result time a _ (close_by m time _ a (is_open a.state.life.state))
   input_result m (input.Ping time) choice a may = holding_result time a _ (calm_holding m time (Ask a.state.keys.highest) a tt)
+  input_result m i choice a may = holding_result (time_of i) a _ (called_input (Holding (time_of i)) (holding_here (time_of i)) (holding_next (time_of i)) (λ x b h. calm_holding m (time_of i) (Call x) b tt) i choice.read a may)
 
   -- ---- steps and runs
 

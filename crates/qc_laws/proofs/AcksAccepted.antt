@@ -24,7 +24,7 @@ use Rattle.qc_state.specs.Keys.{epoch_in}
 use Rattle.qc_state.specs.Forms.{number_space, is_early}
 use Rattle.qc_state.specs.Headline.{deeds_of, KnownBehind, AcksOnly, SealsKnown, AcksKnown, IsKept, EachAcksKnown}
 use Rattle.qc_state.specs.Life.{is_open}
-use Rattle.qc_state.specs.Moves.{Move, Clock, Ask, Take, Seal, Forget, Enter, Expect, Fail, Accept, Fix, Hear, Ack, Fire, Arm, Pace, Release, Begin, Skip, Come, Read, Write, Ready, Token, Learn, Want, Confirm, Establish, Tell, PeerClosesToo, PeerCloses, Owe, Shut, Raise, Give, Say, ReportReady, ReportConnected, ReportLost, ReportNotice, ReportNotices, ReportDrained, accepts, state_move, move_to, deeds_move, waiting_move, numbers_move, keys_move, life_move, MayMove, IsTold, told, arrival_of, Finish}
+use Rattle.qc_state.specs.Moves.{Move, Clock, Ask, Take, Seal, Forget, Enter, Expect, Fail, Accept, Fix, Hear, Ack, Fire, Arm, Pace, Release, Begin, Skip, Come, Read, Write, Ready, Token, Learn, Want, Confirm, Establish, Tell, PeerClosesToo, PeerCloses, Owe, Shut, Raise, Give, Say, ReportReady, ReportConnected, ReportLost, ReportNotice, ReportNotices, ReportDrained, accepts, state_move, move_to, deeds_move, waiting_move, numbers_move, keys_move, life_move, MayMove, IsTold, told, arrival_of, Finish, Hand, Call, ReportStream, ReportStreams, told_to_streams}
 use Rattle.qc_state.specs.Numbers.{next_number}
 use Rattle.qc_state.specs.Offers.{packet_begun}
 use Rattle.qc_state.proofs.Probed.{begun_holds}
@@ -47,8 +47,9 @@ use Rattle.qc_state.specs.Setup.{peer_delay}
 use Rattle.qc_state.proofs.ReceivedMoves.{IsReceived}
 use Rattle.qc_laws.proofs.Receives.{holds_datagram}
 use Rattle.qc_state.proofs.Expired.{IsTimed, holds_timeout}
-use Rattle.qc_state.proofs.Telling.{open_rank}
+use Rattle.qc_state.proofs.Telling.{open_rank, told_appends}
 use Rattle.qc_state.proofs.Transmitted.{IsSealable, IsSending, holds_transmit}
+use Rattle.qc_laws.proofs.StreamCalls.{called_input, handed_told}
 
 -- ---- what is kept in a space, where one space changes
 
@@ -212,6 +213,16 @@ module _ {t : Types} where
   tell_knows id (did.Gave layer body) a h = deed_knows id (Tell (did.Gave layer body)) (did.Gave layer body) a refl tt (λ n m. m)
   tell_knows id _ a h = absurd h
 
+  -- a frame that the streams are handed
+  handed_knows : (id : SpaceId) (frame : FrameValue) (a : At t) → Knows id a (move_to (Hand frame) a)
+  unfolding move_to state_move deeds_move waiting_move
+  handed_knows id frame a = record {
+    since = told_to_streams frame;
+    appended = told_appends a.did (told_to_streams frame);
+    known = handed_told (λ ds. AcksKnown id (IsKept id a.state.waiting) ds) frame tt (λ body. (tt, tt));
+    kept = λ n m. handed_told (λ ds. KnownSince id (IsKept id a.state.waiting) ds n) frame m (λ body. m);
+  }
+
   -- over each move
   pub knows_move : (id : SpaceId) (x : Move t) (a : At t) → MayMove x a.state → IsKnowing x a.state → Knows id a (move_to x a)
   unfolding MayMove deeds_move waiting_move ping_asked waiting_without crypto_written done_asked space_left nothing_left close_begun
@@ -255,8 +266,12 @@ module _ {t : Types} where
   knows_move id (Give why) a h k = deed_knows id (Give why) _ a refl tt (λ n m. m)
   knows_move id (Finish bytes) a h k = silent_knows id (Finish bytes) a refl (λ n m. m)
   knows_move id (Say q) a h k = deed_knows id (Say q) _ a refl tt (λ n m. m)
+  knows_move id (Hand frame) a h k = handed_knows id frame a
+  knows_move id (Call x) a h k = silent_knows id (Call x) a refl (λ n m. m)
   knows_move id ReportReady a h k = silent_knows id ReportReady a refl (λ n m. m)
   knows_move id ReportConnected a h k = silent_knows id ReportConnected a refl (λ n m. m)
+  knows_move id ReportStream a h k = silent_knows id ReportStream a refl (λ n m. m)
+  knows_move id ReportStreams a h k = silent_knows id ReportStreams a refl (λ n m. m)
   knows_move id ReportLost a h k = silent_knows id ReportLost a refl (λ n m. m)
   knows_move id ReportNotice a h k = silent_knows id ReportNotice a refl (λ n m. m)
   knows_move id ReportNotices a h k = silent_knows id ReportNotices a refl (λ n m. m)
@@ -285,6 +300,7 @@ module _ {t : Types} where
   received_knows Confirm s r = tt
   received_knows Establish s r = tt
   received_knows (Tell d) s r = tt
+  received_knows (Hand frame) s r = tt
   received_knows PeerClosesToo s r = tt
   received_knows (PeerCloses time) s r = tt
   received_knows Owe s r = tt
@@ -357,6 +373,7 @@ module _ {t : Types} where
   knows_input id m (input.Transmit time max) choice a h = knows_transmit id m time choice a h
   knows_input id m (input.Close time code reason) choice a h = closed_by id time _ a _ refl
   knows_input id m (input.Ping time) choice a h = knows_move id (Ask a.state.keys.highest) a tt tt
+  knows_input id m i choice a h = called_input (Knows id) (knows_here id) (knows_next id) (λ x b may. knows_move id (Call x) b may tt) i choice.read a h
 
   -- ---- runs
 

@@ -37,8 +37,8 @@ use Rattle.qc_laws.specs.EndLaws.{Ends}
 use Rattle.qc_state.specs.Headline.{deeds_of}
 use Rattle.qc_state.specs.Keys.{NewKeys, failure_counted, has_keys, keys_given, epoch_in}
 use Rattle.qc_state.specs.Life.{connected_reported, data_ready, drained_reported, identifiers_wanted, is_open, life_closed, life_drained, life_established, life_raised, lost_reported, ready_reported, reason_given, token_learned, notice_reported, notices_reported}
-use Rattle.qc_state.specs.Lower.{bytes_came, flight_dropped, packet_flown, packets_settled, session_read, session_wrote, timer_fired}
-use Rattle.qc_state.specs.Moves.{Accept, Ack, AreNext, Ask, Begin, Clock, Confirm, PeerClosesToo, Establish, Fail, Fire, Forget, Give, PeerCloses, MayMove, Move, Owe, Raise, Release, ReportConnected, ReportDrained, ReportLost, ReportReady, ReportNotice, ReportNotices, Seal, Shut, Take, Write, arrival_of, deeds_move, keys_move, life_move, lower_move, move_to, paths_move, state_move, waiting_move}
+use Rattle.qc_state.specs.Lower.{bytes_came, flight_dropped, packet_flown, packets_settled, session_read, session_wrote, timer_fired, limits_learned, frame_handed, streams_closed, streams_stepped, event_told, events_told}
+use Rattle.qc_state.specs.Moves.{Accept, Ack, AreNext, Ask, Begin, Clock, Confirm, PeerClosesToo, Establish, Fail, Fire, Forget, Give, PeerCloses, MayMove, Move, Owe, Raise, Release, ReportConnected, ReportDrained, ReportLost, ReportReady, ReportNotice, ReportNotices, Seal, Shut, Take, Write, arrival_of, deeds_move, keys_move, life_move, lower_move, move_to, paths_move, state_move, waiting_move, ReportStream, ReportStreams}
 use Rattle.qc_state.specs.Numbers.{next_number}
 use Rattle.qc_state.specs.Numbers as numbers
 use Rattle.qc_state.specs.Offers.{packet_begun}
@@ -117,7 +117,7 @@ module _ {t : Types} where
   still_crypto _ s id h = refl
 
   still_lower : (x : Move t) (s : View t) → IsStill x → (lower_move x s).recovery ≡ s.lower.recovery
-  unfolding lower_move bytes_came session_read
+  unfolding lower_move bytes_came session_read limits_learned frame_handed streams_closed streams_stepped event_told events_told
   still_lower (Clock time) s h = absurd h
   still_lower (Take space fs) s h = absurd h
   still_lower (Seal time form n size fs) s h = absurd h
@@ -293,6 +293,8 @@ module _ {t : Types} where
   move_bytes m (Write bytes keys session) s k may id before h = nil_kept id before (state_move (Write bytes keys session) s) (write_by bytes keys session s id before may (same_or id s.keys.highest) h)
   move_bytes m ReportReady s k may id before h = absurd k
   move_bytes m ReportConnected s k may id before h = absurd k
+  move_bytes m ReportStream s k may id before h = absurd k
+  move_bytes m ReportStreams s k may id before h = absurd k
   move_bytes m ReportLost s k may id before h = absurd k
   move_bytes m ReportNotice s k may id before h = absurd k
   move_bytes m ReportNotices s k may id before h = absurd k
@@ -403,7 +405,7 @@ module _ {t : Types} where
   Keeps m a b = Ends a.state → Ends b.state × Keeping m a b
 
   step_keeps : (m : Meaning t) (k : ℕ) (s : View t) (i : Input) (x : Step) (s' : View t) → IsStep m k s i x s' → Ends s → KeepsBytes m x.did s s'
-  unfolding called began run.step_after reported state_move lower_move paths_move keys_move life_move waiting_move ready_reported connected_reported lost_reported notice_reported notices_reported drained_reported
+  unfolding called began run.step_after reported state_move lower_move events_told streams_stepped paths_move keys_move life_move waiting_move ready_reported connected_reported lost_reported notice_reported notices_reported drained_reported
   step_keeps m k s i x s' h ends =
       let a : At t = began s (time_of i) in
       let b : At t = input_after m i h.choice a in

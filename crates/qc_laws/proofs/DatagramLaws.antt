@@ -14,10 +14,11 @@ use Rattle.qc_state.specs.Paths.{same_address}
 use Rattle.qc_state.specs.Receiving.{datagram_after}
 use Rattle.qc_state.specs.Types.{Types, Meaning}
 use Rattle.qc_state.specs.View.{View, At, at}
-use Rattle.qc_laws.proofs.HarmlessBytes.{Tame, all_harmless, same_counts, tame_datagram}
+use Rattle.qc_laws.proofs.HarmlessBytes.{Tame, same_counts, tame_datagram}
 use Rattle.qc_laws.proofs.PathsHold.{path_datagram}
 use Rattle.qc_state.proofs.Telling.{Told, admits, kernel, lives, reasons}
 use Rattle.qc_laws.proofs.ToldReceiving.{told_datagram}
+use Rattle.qc_laws.proofs.HarmlessTests.{all_harmless}
 
 module _ {t : Types} where
   pub datagram_holds : (m : Meaning t) (coming : Coming) (bytes : List ℕ) (s : View t) →

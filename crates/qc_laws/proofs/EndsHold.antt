@@ -20,7 +20,7 @@ use Rattle.qc_state.specs.Acks.{is_ack}
 use Rattle.qc_laws.specs.EndLaws.{EndHolds, Ends, NoTimer}
 use Rattle.qc_state.specs.Forms.{number_space}
 use Rattle.qc_state.specs.Life.{connected_reported, data_ready, drained_reported, identifiers_wanted, is_closed, is_drained, is_open, life_closed, life_drained, life_established, life_raised, lost_reported, rank_of, ready_reported, reason_given, token_learned, notice_reported, notices_reported}
-use Rattle.qc_state.specs.Moves.{Accept, Ack, Arm, Ask, Begin, Clock, Come, Confirm, PeerClosesToo, Enter, Establish, Expect, Fail, Finish, Fire, Fix, Forget, Give, Hear, IsArmed, Learn, PeerCloses, MayMove, Move, Owe, Pace, Raise, Read, Ready, Release, ReportConnected, ReportDrained, ReportLost, ReportReady, ReportNotice, ReportNotices, Say, Seal, Shut, Skip, Take, Tell, Token, Want, Write, keys_move, life_move, move_to, numbers_move, state_move, timers_move, waiting_move}
+use Rattle.qc_state.specs.Moves.{Accept, Ack, Arm, Ask, Begin, Clock, Come, Confirm, PeerClosesToo, Enter, Establish, Expect, Fail, Finish, Fire, Fix, Forget, Give, Hear, IsArmed, Learn, PeerCloses, MayMove, Move, Owe, Pace, Raise, Read, Ready, Release, ReportConnected, ReportDrained, ReportLost, ReportReady, ReportNotice, ReportNotices, Say, Seal, Shut, Skip, Take, Tell, Token, Want, Write, keys_move, life_move, move_to, numbers_move, state_move, timers_move, waiting_move, Call, Hand, ReportStream, ReportStreams}
 use Rattle.qc_state.specs.Numbers.{next_number}
 use Rattle.qc_state.specs.Offers.{packet_begun}
 use Rattle.qc_state.specs.Recovering.{loss_time, probe_timeout_now}
@@ -209,6 +209,8 @@ module _ {t : Types} where
   move_keeps (Give why) r a may = λ h. same_holds _ _ _ _ _ _ (given_state a.state.life why (is_none a.state.life.reason)) refl refl h
   move_keeps (Finish bytes) r a may = λ h. h
   move_keeps (Say q) r a may = λ h. h
+  move_keeps (Hand frame) r a may = λ h. h
+  move_keeps (Call x) r a may = λ h. h
   move_keeps _ r a may = absurd r
 
   -- so do the moves that are known of an input, and those with which a packet is taken and sealed
@@ -217,6 +219,8 @@ module _ {t : Types} where
   known_made m (Raise to) s h = h
   known_made m ReportReady s h = h
   known_made m ReportConnected s h = h
+  known_made m ReportStream s h = h
+  known_made m ReportStreams s h = h
   known_made m ReportLost s h = h
   known_made m ReportNotice s h = h
   known_made m ReportNotices s h = h

@@ -1,14 +1,14 @@
 -- Over a run just what came to pass is told, and each thing once.
 use Rattle.std.proofs.Common.{◌≡◌, ℕ, ◌+◌, ◌<◌, ◌≤◌, List, [], ◌∷◌, ◌++◌, length, take, refl, ap, sym, ◌∙◌, subst, Bool, true, false, Option, Some, None, if◌then◌else◌, append_assoc, append-nil, length-append, arith}
 use Rattle.std.proofs.lemmas.Bool.Decides.{nat_tests}
-use Rattle.std.specs.Prelude.{◌&&◌, ◌==◌, not, nat_le, is_none, is_some, option_to_list}
+use Rattle.std.specs.Prelude.{◌&&◌, ◌==◌, not, nat_le, is_none, is_some, option_to_list, map}
 use Rattle.std.specs.Option.{option_map}
 use Rattle.qc_state.specs.declared.deeds.Did.{Did}
 use Rattle.qc_state.specs.declared.deeds.Did.TheVariants as did
 use Rattle.qc_state.specs.declared.events.EndpointEvent.{EndpointEvent}
 use Rattle.qc_state.specs.declared.events.EndpointEvent.TheVariants as endpoint
 use Rattle.qc_state.specs.declared.events.Event.{Event}
-use Rattle.qc_state.specs.declared.events.Event.TheVariants.{HandshakeDataReady, Connected, ConnectionLost}
+use Rattle.qc_state.specs.declared.events.Event.TheVariants.{HandshakeDataReady, Connected, Stream, ConnectionLost}
 use Rattle.qc_state.specs.declared.input.Input.{Input}
 use Rattle.qc_state.specs.declared.life.ConnectionError.{ConnectionError}
 use Rattle.qc_state.specs.declared.life.Life.{Life}
@@ -18,7 +18,7 @@ use Rattle.qc_state.specs.declared.trace.Step.{Step}
 use Rattle.qc_laws.specs.EventLaws.{EachTells, OnlyDoneWaits, TellsDone, TellsOnce, Untold, all_told, connections_in, endpoint_events_of, ends_in, events_of, losses_in, once, rises_to, untold_of}
 use Rattle.qc_state.specs.Headline.{LifeRises, LosesOnce, RisesFrom, deeds_of, lives_in, reasons_in}
 use Rattle.qc_state.specs.Life.{connected_event, connected_reported, data_ready, drained_event, drained_reported, event_if, identifiers_wanted, is_drained, life_closed, life_drained, life_established, life_raised, lost_event, lost_reported, rank_of, ready_event, ready_reported, reason_given, token_learned, notices_reported}
-use Rattle.qc_state.specs.Moves.{IsTold, MayMove, Move, Accept, Clock, PeerClosesToo, Enter, Establish, Give, PeerCloses, Raise, Ready, ReportConnected, ReportDrained, ReportLost, ReportReady, ReportNotice, ReportNotices, Say, Seal, Shut, Tell, Token, Want, deeds_move, life_move, move_to, state_move}
+use Rattle.qc_state.specs.Moves.{IsTold, MayMove, Move, Accept, Clock, PeerClosesToo, Enter, Establish, Give, PeerCloses, Raise, Ready, ReportConnected, ReportDrained, ReportLost, ReportReady, ReportNotice, ReportNotices, Say, Seal, Shut, Tell, Token, Want, deeds_move, life_move, move_to, state_move, Hand, ReportStream, ReportStreams}
 use Rattle.qc_state.specs.Polls.{endpoint_events, waiting_events}
 use Rattle.qc_state.specs.Run.{IsStep, Ran, Run, began, called, input_after, reported, step_after, time_of}
 use Rattle.qc_state.specs.Types.{Types, Meaning}
@@ -26,6 +26,10 @@ use Rattle.qc_state.specs.View.{View, At}
 use Rattle.qc_laws.proofs.Inputs.{IsMade, holds_input}
 use Rattle.qc_state.proofs.Telling.{closed_rank, told_appends}
 use Rattle.qc_laws.proofs.Told.{run_life_rises, run_loses_once}
+use Rattle.qc_laws.proofs.StreamCalls.{handed_told}
+use Rattle.qc_streams.specs.declared.events.StreamEvent.{StreamEvent}
+use Rattle.qc_state.specs.declared.deeds.Layer.TheVariants as layer
+use Rattle.qc_state.specs.Streams as streams_events
 
 -- ---- deeds and events, one list behind another
 
@@ -55,12 +59,14 @@ losses_append : (es fs : List Event) → losses_in (es ++ fs) ≡ losses_in es +
 losses_append [] fs = refl
 losses_append (HandshakeDataReady ∷ es) fs = losses_append es fs
 losses_append (Connected ∷ es) fs = losses_append es fs
+losses_append (Stream event ∷ es) fs = losses_append es fs
 losses_append (ConnectionLost why ∷ es) fs = ap (λ (x : List ConnectionError). why ∷ x) (losses_append es fs)
 
 connections_append : (es fs : List Event) → connections_in (es ++ fs) ≡ connections_in es + connections_in fs
 connections_append [] fs = omega arith
 connections_append (HandshakeDataReady ∷ es) fs = connections_append es fs
 connections_append (Connected ∷ es) fs = let more : connections_in (es ++ fs) ≡ connections_in es + connections_in fs = connections_append es fs in omega (arith, more)
+connections_append (Stream event ∷ es) fs = connections_append es fs
 connections_append (ConnectionLost why ∷ es) fs = connections_append es fs
 
 ends_append : (es fs : List EndpointEvent) → ends_in (es ++ fs) ≡ ends_in es + ends_in fs
@@ -169,6 +175,7 @@ module _ {t : Types} where
   life_waits (Accept time id n e g v) s r h w = same_waits _ s.life refl refl refl w
   life_waits (Say q) s r h w = same_waits _ s.life refl refl refl w
   life_waits (Tell d) s r h w = told_waits d s.life h w
+  life_waits (Hand frame) s r h w = handed_told (λ ds. Waits ds s.life s.life) frame (same_waits [] s.life refl refl refl w) (λ body. same_waits (did.Gave layer.Streams body ∷ []) s.life refl refl refl w)
   life_waits Ready s r h w = record { done = record { lost = w.lost; connected = w.connected; drained = w.drained; notices = w.notices }; lost = sym (append-nil (option_to_list s.life.lost)); connected = omega arith; drained = omega arith }
   life_waits (Token token) s r h w = record { done = record { lost = w.lost; connected = w.connected; drained = w.drained; notices = one_notice s.life.notices (endpoint.ResetToken s.paths.current.remote token) refl w.notices }; lost = sym (append-nil (option_to_list s.life.lost)); connected = omega arith; drained = omega arith }
   life_waits (Want time count) s r h w = record { done = record { lost = w.lost; connected = w.connected; drained = w.drained; notices = one_notice s.life.notices (endpoint.NeedIdentifiers time count) refl w.notices }; lost = sym (append-nil (option_to_list s.life.lost)); connected = omega arith; drained = omega arith }
@@ -181,6 +188,8 @@ module _ {t : Types} where
   life_waits (Give why) s r h w = given_waits s.life why h w
   life_waits ReportReady s r h w = absurd r
   life_waits ReportConnected s r h w = absurd r
+  life_waits ReportStream s r h w = absurd r
+  life_waits ReportStreams s r h w = absurd r
   life_waits ReportLost s r h w = absurd r
   life_waits ReportNotice s r h w = absurd r
   life_waits ReportNotices s r h w = absurd r
@@ -193,28 +202,37 @@ module _ {t : Types} where
 
 -- ---- steps
 
--- of the events that wait, those that tell a loss, and those that tell that the handshake is over
-waiting_losses : (r c : Bool) (o : Option ConnectionError) →
-    losses_in (option_to_list (event_if r HandshakeDataReady) ++ (option_to_list (event_if c Connected) ++ option_to_list (option_map ConnectionLost o))) ≡ option_to_list o
-waiting_losses true true (Some why) = refl
-waiting_losses true true None = refl
-waiting_losses true false (Some why) = refl
-waiting_losses true false None = refl
-waiting_losses false true (Some why) = refl
-waiting_losses false true None = refl
-waiting_losses false false (Some why) = refl
-waiting_losses false false None = refl
+-- events of streams tell neither a loss nor that the handshake is over
+stream_losses : (es : List StreamEvent) (fs : List Event) → losses_in (map Stream es ++ fs) ≡ losses_in fs
+stream_losses [] fs = refl
+stream_losses (e ∷ es) fs = stream_losses es fs
 
-waiting_connections : (r c : Bool) (o : Option ConnectionError) →
-    connections_in (option_to_list (event_if r HandshakeDataReady) ++ (option_to_list (event_if c Connected) ++ option_to_list (option_map ConnectionLost o))) ≡ once c
-waiting_connections true true (Some why) = refl
-waiting_connections true true None = refl
-waiting_connections true false (Some why) = refl
-waiting_connections true false None = refl
-waiting_connections false true (Some why) = refl
-waiting_connections false true None = refl
-waiting_connections false false (Some why) = refl
-waiting_connections false false None = refl
+stream_connections : (es : List StreamEvent) (fs : List Event) → connections_in (map Stream es ++ fs) ≡ connections_in fs
+stream_connections [] fs = refl
+stream_connections (e ∷ es) fs = stream_connections es fs
+
+-- of the events that wait, those that tell a loss, and those that tell that the handshake is over
+lost_losses : (o : Option ConnectionError) → losses_in (option_to_list (option_map ConnectionLost o)) ≡ option_to_list o
+lost_losses (Some why) = refl
+lost_losses None = refl
+
+waiting_losses : (r c : Bool) (es : List StreamEvent) (o : Option ConnectionError) →
+    losses_in (option_to_list (event_if r HandshakeDataReady) ++ (option_to_list (event_if c Connected) ++ (map Stream es ++ option_to_list (option_map ConnectionLost o)))) ≡ option_to_list o
+waiting_losses true true es o = stream_losses es _ ∙ lost_losses o
+waiting_losses true false es o = stream_losses es _ ∙ lost_losses o
+waiting_losses false true es o = stream_losses es _ ∙ lost_losses o
+waiting_losses false false es o = stream_losses es _ ∙ lost_losses o
+
+lost_connections : (o : Option ConnectionError) → connections_in (option_to_list (option_map ConnectionLost o)) ≡ 0
+lost_connections (Some why) = refl
+lost_connections None = refl
+
+waiting_connections : (r c : Bool) (es : List StreamEvent) (o : Option ConnectionError) →
+    connections_in (option_to_list (event_if r HandshakeDataReady) ++ (option_to_list (event_if c Connected) ++ (map Stream es ++ option_to_list (option_map ConnectionLost o)))) ≡ once c
+waiting_connections true true es o = ap (λ (n : ℕ). n + 1) (stream_connections es _ ∙ lost_connections o)
+waiting_connections true false es o = stream_connections es _ ∙ lost_connections o
+waiting_connections false true es o = ap (λ (n : ℕ). n + 1) (stream_connections es _ ∙ lost_connections o)
+waiting_connections false false es o = stream_connections es _ ∙ lost_connections o
 
 -- of those for the endpoint, those that tell of the end
 waiting_ends : (d : Bool) → ends_in (option_to_list (if d then Some endpoint.Drained else None)) ≡ once d
@@ -224,11 +242,11 @@ waiting_ends false = refl
 module _ {t : Types} where
   losses_wait : (s : View t) → losses_in (waiting_events s) ≡ option_to_list s.life.lost
   unfolding waiting_events ready_event connected_event lost_event
-  losses_wait s = waiting_losses s.life.ready s.life.connected s.life.lost
+  losses_wait s = waiting_losses s.life.ready s.life.connected (streams_events.events_of s.lower.streams) s.life.lost
 
   connections_wait : (s : View t) → connections_in (waiting_events s) ≡ once s.life.connected
   unfolding waiting_events ready_event connected_event lost_event
-  connections_wait s = waiting_connections s.life.ready s.life.connected s.life.lost
+  connections_wait s = waiting_connections s.life.ready s.life.connected (streams_events.events_of s.lower.streams) s.life.lost
 
   ends_wait : (s : View t) → ends_in s.life.notices ≡ 0 → ends_in (endpoint_events s) ≡ once s.life.drained
   unfolding endpoint_events drained_event

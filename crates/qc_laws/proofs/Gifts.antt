@@ -22,12 +22,12 @@ use Rattle.qc_state.specs.declared.lower.Lower.{Lower}
 use Rattle.qc_state.specs.declared.numbers.Numbers.{Numbers}
 use Rattle.qc_state.specs.Keys.{keys_dropped}
 use Rattle.qc_state.specs.Life.{is_established, is_open, data_ready}
-use Rattle.qc_state.specs.Lower.{bytes_came, flight_dropped, packets_settled, ready_bytes, session_read, stream_of}
-use Rattle.qc_state.specs.Moves.{Move, Ack, Arm, Come, Confirm, Establish, Forget, Give, Learn, PeerCloses, Owe, Read, Ready, Shut, Tell, Token, Want, Write, MayMove, armed_after, armed_with, deeds_move, keys_move, life_move, lower_move, move_to, numbers_move, setup_move, state_move}
+use Rattle.qc_state.specs.Lower.{bytes_came, flight_dropped, packets_settled, ready_bytes, session_read, stream_of, frame_handed, streams_stepped}
+use Rattle.qc_state.specs.Moves.{Move, Ack, Arm, Come, Confirm, Establish, Forget, Give, Learn, PeerCloses, Owe, Read, Ready, Shut, Tell, Token, Want, Write, MayMove, armed_after, armed_with, deeds_move, keys_move, life_move, lower_move, move_to, numbers_move, setup_move, state_move, Hand, told_to_streams}
 use Rattle.qc_state.specs.Numbers.{next_number, number_accepted, number_acked}
 use Rattle.qc_state.specs.Numbers as numbers
-use Rattle.qc_laws.specs.PieceLaws.{Goes, Last, Outcome, Reading, Refused, applied_in, applied_with, close_outcome, gift_of, gifts_of, given_in, kind_outcome, outcome_of, pieces_in, read_behind, read_outcome, reading_behind, refused_or, session_gift, unless_refused}
-use Rattle.qc_state.specs.Receiving.{acked_after, applied_after, close_given, closed_in_data, confirmed_after, crypto_stop, crypto_stop_of, end_after, expected_below, expected_space, items_after, left_after, payload_after, rearmed_after, settled_after, stop_in, Behind, close_after, ended_by, answered_after, bytes_given, kept_after, frame_after, course_with}
+use Rattle.qc_laws.specs.PieceLaws.{Goes, Last, Outcome, Reading, Refused, applied_in, applied_with, close_outcome, gift_of, gifts_of, given_in, kind_outcome, outcome_of, pieces_in, read_behind, read_outcome, reading_behind, refused_or, session_gift, unless_refused, unless_stopped}
+use Rattle.qc_state.specs.Receiving.{acked_after, applied_after, close_given, closed_in_data, confirmed_after, crypto_stop, crypto_stop_of, end_after, expected_below, expected_space, items_after, left_after, payload_after, rearmed_after, settled_after, stop_in, Behind, close_after, ended_by, answered_after, bytes_given, kept_after, frame_after, course_with, handed_after, refused_after}
 use Rattle.qc_state.specs.Receiving as receiving
 use Rattle.qc_state.specs.Recovering.{settled_by}
 use Rattle.qc_state.specs.Stopping.{encoding_error_at, given_after, stopped_after}
@@ -39,6 +39,10 @@ use Rattle.qc_state.proofs.Progresses.{holds_progress}
 use Rattle.qc_state.proofs.PacketMoves.{IsProgress}
 use Rattle.qc_state.proofs.ReceivedMoves.{IsEnding}
 use Rattle.qc_state.proofs.Telling.{told_appends}
+use Rattle.qc_state.specs.Streams.{steps_of_frame, streams_stop}
+use Rattle.qc_streams.specs.Waits as steps
+use Rattle.qc_streams.specs.declared.state.StreamsState.{StreamsState}
+use Rattle.qc_laws.proofs.StreamCalls.{handed_told}
 
 -- ---- lists of deeds
 
@@ -95,6 +99,14 @@ read_stream Data l count session = refl
 came_session : {S : Type 0} (id : SpaceId) (l : Lower S) (offset : ℕ) (body : List ℕ) → (bytes_came l id offset body).session ≡ l.session
 unfolding bytes_came
 came_session id l offset body = refl
+
+came_streams : {S : Type 0} (id : SpaceId) (l : Lower S) (offset : ℕ) (body : List ℕ) → (bytes_came l id offset body).streams ≡ l.streams
+unfolding bytes_came
+came_streams id l offset body = refl
+
+read_streams : {S : Type 0} (id : SpaceId) (l : Lower S) (count : ℕ) (session : S) → (session_read l id count session).streams ≡ l.streams
+unfolding session_read
+read_streams id l count session = refl
 
 session_now : {S : Type 0} (id : SpaceId) (l : Lower S) (count : ℕ) (session : S) → (session_read l id count session).session ≡ session
 unfolding session_read
@@ -196,29 +208,30 @@ module _ {t : Types} where
     pub skipped : v.numbers.filter ≡ s.numbers.filter
     pub stream : stream_of v.lower id ≡ r.stream
     pub session : v.lower.session ≡ r.session
+    pub streams : v.lower.streams ≡ r.streams
 
   along_tell : (s : View t) (id : SpaceId) (r : Reading t.S) (d : Did) (a : At t) → Along s id r a.state → Along s id r (move_to (Tell d) a).state
   unfolding move_to state_move setup_move keys_move life_move numbers_move lower_move
-  along_tell s id r d a h = record { fixed = h.fixed; highest = h.highest; life = h.life; next = h.next; skipped = h.skipped; stream = h.stream; session = h.session }
+  along_tell s id r d a h = record { fixed = h.fixed; highest = h.highest; life = h.life; next = h.next; skipped = h.skipped; stream = h.stream; session = h.session; streams = h.streams }
 
   along_arm : (s : View t) (id : SpaceId) (r : Reading t.S) (time : ℕ) (a : At t) → Along s id r a.state → Along s id r (armed_after time a).state
   unfolding armed_after armed_with move_to state_move setup_move keys_move life_move numbers_move lower_move
-  along_arm s id r time a h = record { fixed = h.fixed; highest = h.highest; life = h.life; next = h.next; skipped = h.skipped; stream = h.stream; session = h.session }
+  along_arm s id r time a h = record { fixed = h.fixed; highest = h.highest; life = h.life; next = h.next; skipped = h.skipped; stream = h.stream; session = h.session; streams = h.streams }
 
   along_forget : (s : View t) (id : SpaceId) (r : Reading t.S) (space : SpaceId) (a : At t) → Along s id r a.state → Along s id r (move_to (Forget space) a).state
   unfolding move_to state_move setup_move keys_move life_move numbers_move lower_move flight_dropped stream_of
-  along_forget s id r space a h = record { fixed = h.fixed; highest = dropped_highest space a.state.keys ∙ h.highest; life = h.life; next = h.next; skipped = h.skipped; stream = h.stream; session = h.session }
+  along_forget s id r space a h = record { fixed = h.fixed; highest = dropped_highest space a.state.keys ∙ h.highest; life = h.life; next = h.next; skipped = h.skipped; stream = h.stream; session = h.session; streams = h.streams }
 
   along_ack : (s : View t) (id : SpaceId) (r : Reading t.S) (n : ℕ) (after : After t.C) (a : At t) → Along s id r a.state → Along s id r (move_to (Ack id n after) a).state
   unfolding move_to state_move setup_move keys_move life_move numbers_move lower_move packets_settled stream_of number_acked
-  along_ack s id r n after a h = record { fixed = h.fixed; highest = h.highest; life = h.life; next = acked_next id a.state.numbers n ∙ h.next; skipped = h.skipped; stream = h.stream; session = h.session }
+  along_ack s id r n after a h = record { fixed = h.fixed; highest = h.highest; life = h.life; next = acked_next id a.state.numbers n ∙ h.next; skipped = h.skipped; stream = h.stream; session = h.session; streams = h.streams }
 
   along_ready : (s : View t) (id : SpaceId) (r : Reading t.S) (a : At t) → Along s id r a.state → Along s id r (move_to Ready a).state
   unfolding move_to state_move setup_move keys_move life_move numbers_move lower_move data_ready
-  along_ready s id r a h = record { fixed = h.fixed; highest = h.highest; life = h.life; next = h.next; skipped = h.skipped; stream = h.stream; session = h.session }
+  along_ready s id r a h = record { fixed = h.fixed; highest = h.highest; life = h.life; next = h.next; skipped = h.skipped; stream = h.stream; session = h.session; streams = h.streams }
 
   along_come : (s : View t) (id : SpaceId) (r : Reading t.S) (offset : ℕ) (body : List ℕ) (a : At t) → Along s id r a.state →
-      Along s id (record { stream = inserted offset body r.stream; session = r.session }) (move_to (Come id offset body) a).state
+      Along s id (record r { stream = inserted offset body r.stream }) (move_to (Come id offset body) a).state
   unfolding move_to state_move setup_move keys_move life_move numbers_move lower_move
   along_come s id r offset body a h = record {
     fixed = h.fixed;
@@ -228,10 +241,11 @@ module _ {t : Types} where
     skipped = h.skipped;
     stream = came_stream id a.state.lower offset body ∙ ap (λ (w : Assembly). inserted offset body w) h.stream;
     session = came_session id a.state.lower offset body ∙ h.session;
+    streams = came_streams id a.state.lower offset body ∙ h.streams;
   }
 
   along_read : (s : View t) (id : SpaceId) (r : Reading t.S) (count : ℕ) (session : t.S) (a : At t) → Along s id r a.state →
-      Along s id (record { stream = advanced count r.stream; session = session }) (move_to (Read id count session) a).state
+      Along s id (record r { stream = advanced count r.stream; session = session }) (move_to (Read id count session) a).state
   unfolding move_to state_move setup_move keys_move life_move numbers_move lower_move
   along_read s id r count session a h = record {
     fixed = h.fixed;
@@ -241,6 +255,21 @@ module _ {t : Types} where
     skipped = h.skipped;
     stream = read_stream id a.state.lower count session ∙ ap (λ (w : Assembly). advanced count w) h.stream;
     session = session_now id a.state.lower count session;
+    streams = read_streams id a.state.lower count session ∙ h.streams;
+  }
+
+  along_hand : (s : View t) (id : SpaceId) (r : Reading t.S) (f : FrameValue) (a : At t) → Along s id r a.state →
+      Along s id (record r { streams = steps.after (steps_of_frame f r.streams) r.streams }) (move_to (Hand f) a).state
+  unfolding move_to state_move setup_move keys_move life_move numbers_move lower_move frame_handed streams_stepped stream_of
+  along_hand s id r f a h = record {
+    fixed = h.fixed;
+    highest = h.highest;
+    life = h.life;
+    next = h.next;
+    skipped = h.skipped;
+    stream = h.stream;
+    session = h.session;
+    streams = ap (λ (x : StreamsState). steps.after (steps_of_frame f x) x) h.streams;
   }
 
   -- a frame stops by its kind as the packet began
@@ -286,38 +315,52 @@ module _ {t : Types} (m : Meaning t) (coming : Coming) (s : View t) (id : SpaceI
   answered_leaves gifts r (Ok false) a c gave along = (gave, along)
 
   -- the session is given these bytes, if there are any
-  bytes_leave : (w : Assembly) (session : t.S) (bytes : List ℕ) (a : At t) → Along s id (record { stream = w; session = session }) a.state →
-      Leaves (session_gift bytes) (read_behind m w session bytes) (read_outcome m session bytes) a (bytes_given m coming id bytes a)
+  bytes_leave : (r : Reading t.S) (bytes : List ℕ) (a : At t) → Along s id r a.state → Leaves (session_gift bytes) (read_behind m r bytes) (read_outcome m r.session bytes) a (bytes_given m coming id bytes a)
   unfolding deeds_move
-  bytes_leave w session [] a along = (gives_here a, along)
-  bytes_leave w session (x ∷ bytes) a along =
-      let r : Reading t.S = record { stream = w; session = session } in
+  bytes_leave r [] a along = (gives_here a, along)
+  bytes_leave r (x ∷ bytes) a along =
       let gave : Did = did.Gave layer.Session (x ∷ bytes) in
       let b : At t = move_to (Tell gave) a in
       let c : At t = move_to (Read id (length (x ∷ bytes)) (m.after_read a.state.lower.session (x ∷ bytes))) b in
       let told : Gives (gave ∷ []) a b = gives_move (gave ∷ []) (Tell gave) a refl refl in
       let read : Gives [] b c = gives_move [] (Read id (length (x ∷ bytes)) (m.after_read a.state.lower.session (x ∷ bytes))) b refl refl in
-      let there : Along s id (record { stream = advanced (length (x ∷ bytes)) w; session = m.after_read a.state.lower.session (x ∷ bytes) }) c.state =
+      let there : Along s id (record r { stream = advanced (length (x ∷ bytes)) r.stream; session = m.after_read a.state.lower.session (x ∷ bytes) }) c.state =
       along_read s id r (length (x ∷ bytes)) (m.after_read a.state.lower.session (x ∷ bytes)) b (along_tell s id r gave a along) in
-      let behind : Along s id (read_behind m w session (x ∷ bytes)) c.state =
-      subst (λ (q : t.S). Along s id (record { stream = advanced (length (x ∷ bytes)) w; session = m.after_read q (x ∷ bytes) }) c.state) along.session there in
-      subst (λ (q : t.S). Leaves (gave ∷ []) (read_behind m w session (x ∷ bytes)) (unless_refused (m.reads q (x ∷ bytes))) a (answered_after coming (m.reads a.state.lower.session (x ∷ bytes)) c)) along.session
-      (answered_leaves (gave ∷ []) (read_behind m w session (x ∷ bytes)) (m.reads a.state.lower.session (x ∷ bytes)) a c (gives_quiet (gave ∷ []) a b c told read) behind)
+      let behind : Along s id (read_behind m r (x ∷ bytes)) c.state =
+      subst (λ (q : t.S). Along s id (record r { stream = advanced (length (x ∷ bytes)) r.stream; session = m.after_read q (x ∷ bytes) }) c.state) along.session there in
+      subst (λ (q : t.S). Leaves (gave ∷ []) (read_behind m r (x ∷ bytes)) (unless_refused (m.reads q (x ∷ bytes))) a (answered_after coming (m.reads a.state.lower.session (x ∷ bytes)) c)) along.session
+      (answered_leaves (gave ∷ []) (read_behind m r (x ∷ bytes)) (m.reads a.state.lower.session (x ∷ bytes)) a c (gives_quiet (gave ∷ []) a b c told read) behind)
 
   -- bytes of a CRYPTO frame that stops nothing
   kept_leaves : (r : Reading t.S) (offset : ℕ) (body : List ℕ) (a : At t) → Along s id r a.state →
-      let w : Assembly = inserted offset body r.stream in
-      Leaves (session_gift (ready_bytes w)) (read_behind m w r.session (ready_bytes w)) (read_outcome m r.session (ready_bytes w)) a (kept_after m coming id offset body a)
+      let w : Reading t.S = record r { stream = inserted offset body r.stream } in
+      Leaves (session_gift (ready_bytes w.stream)) (read_behind m w (ready_bytes w.stream)) (read_outcome m r.session (ready_bytes w.stream)) a (kept_after m coming id offset body a)
   unfolding kept_after deeds_move
   kept_leaves r offset body a along =
-      let w : Assembly = inserted offset body r.stream in
-      let gifts : List Did = session_gift (ready_bytes w) in
-      let behind : Reading t.S = read_behind m w r.session (ready_bytes w) in
-      let o : Outcome = read_outcome m r.session (ready_bytes w) in
+      let w : Reading t.S = record r { stream = inserted offset body r.stream } in
+      let gifts : List Did = session_gift (ready_bytes w.stream) in
+      let behind : Reading t.S = read_behind m w (ready_bytes w.stream) in
+      let o : Outcome = read_outcome m r.session (ready_bytes w.stream) in
       let b : At t = move_to (Come id offset body) a in
-      let there : Along s id (record { stream = w; session = r.session }) b.state = along_come s id r offset body a along in
+      let there : Along s id w b.state = along_come s id r offset body a along in
       leaves_next gifts behind o a b (bytes_given m coming id (ready_bytes (stream_of b.state.lower id)) b) (gives_move [] (Come id offset body) a refl refl)
-      (subst (λ (bytes : List ℕ). Leaves gifts behind o b (bytes_given m coming id bytes b)) (ap ready_bytes (sym there.stream)) (bytes_leave w r.session (ready_bytes w) b there))
+      (subst (λ (bytes : List ℕ). Leaves gifts behind o b (bytes_given m coming id bytes b)) (ap ready_bytes (sym there.stream)) (bytes_leave w (ready_bytes w.stream) b there))
+
+  -- the streams take a frame, or refuse it
+  stopped_leaves : (gifts : List Did) (r : Reading t.S) (stop : Option TransportError) (a b : At t) → Gives gifts a b → Along s id r b.state → Leaves gifts r (unless_stopped stop) a (refused_after coming.time stop b)
+  stopped_leaves gifts r None a b gave along = (gave, along)
+  stopped_leaves gifts r (Some error) a b gave along = gives_quiet gifts a b _ gave (stopped_quiet coming.time error b)
+
+  handed_leaves : (r : Reading t.S) (f : FrameValue) (a : At t) → Along s id r a.state →
+      Leaves (told_to_streams f) (record r { streams = steps.after (steps_of_frame f r.streams) r.streams }) (unless_stopped (streams_stop f r.streams)) a (handed_after coming.time f a)
+  unfolding handed_after deeds_move
+  handed_leaves r f a along =
+      let gifts : List Did = told_to_streams f in
+      let behind : Reading t.S = record r { streams = steps.after (steps_of_frame f r.streams) r.streams } in
+      let b : At t = move_to (Hand f) a in
+      let gave : Gives gifts a b = gives_move gifts (Hand f) a (handed_told (λ ds. pieces_in ds ≡ []) f refl (λ body. refl)) (handed_told (λ ds. given_in ds ≡ ds) f refl (λ body. refl)) in
+      subst (λ (x : StreamsState). Leaves gifts behind (unless_stopped (streams_stop f x)) a (refused_after coming.time (streams_stop f a.state.lower.streams) b)) along.streams
+      (stopped_leaves gifts behind (streams_stop f a.state.lower.streams) a b gave (along_hand s id r f a along))
 
   -- an acknowledgement
   rearmed_quiet : (r : Reading t.S) (acked : List Entry) (a : At t) → Along s id r a.state → Gives [] a (rearmed_after coming.time acked a) × Along s id r (rearmed_after coming.time acked a).state
@@ -364,18 +407,26 @@ module _ {t : Types} (m : Meaning t) (coming : Coming) (s : View t) (id : SpaceI
 
   -- a frame that its kind doesn't stop
   kind_leaves : (r : Reading t.S) (f : FrameValue) (a : At t) → Along s id r a.state → Leaves (gift_of r.stream f) (reading_behind m r f) (kind_outcome m s id r f) a (applied_after m coming id f a)
-  unfolding applied_after
+  unfolding applied_after streams_stop steps_of_frame steps.after
   kind_leaves r (frames.Crypto offset body) a along =
-      let w : Assembly = inserted offset body r.stream in
-      let gifts : List Did = session_gift (ready_bytes w) in
-      let behind : Reading t.S = read_behind m w r.session (ready_bytes w) in
-      let o : Outcome = read_outcome m r.session (ready_bytes w) in
+      let w : Reading t.S = record r { stream = inserted offset body r.stream } in
+      let gifts : List Did = session_gift (ready_bytes w.stream) in
+      let behind : Reading t.S = read_behind m w (ready_bytes w.stream) in
+      let o : Outcome = read_outcome m r.session (ready_bytes w.stream) in
       subst (λ (stop : Option TransportError). Leaves gifts behind (refused_or stop o) a (ended_by coming.time (crypto_stop a.state id offset body) (kept_after m coming id offset body) a)) (crypto_same s id r a.state offset body along)
       (ended_leaves gifts behind o (crypto_stop a.state id offset body) (kept_after m coming id offset body) a (kept_leaves r offset body a along))
   kind_leaves r (frames.Ack ack) a along = ack_leaves r ack a along
   kind_leaves r frames.HandshakeDone a along = done_leaves r a along
   kind_leaves r (frames.ConnectionClose code type reason) a along = close_leaves id r (frames.ConnectionClose code type reason) (lost.ConnectionClosed (record { error_code = code; frame_type = type; reason = reason })) a along
   kind_leaves r (frames.ApplicationClose code reason) a along = close_leaves id r (frames.ApplicationClose code reason) (lost.ApplicationClosed (record { error_code = code; reason = reason })) a along
+  kind_leaves r (frames.ResetStream stream code size) a along = handed_leaves r (frames.ResetStream stream code size) a along
+  kind_leaves r (frames.StopSending stream code) a along = handed_leaves r (frames.StopSending stream code) a along
+  kind_leaves r (frames.Stream stream offset fin body) a along = handed_leaves r (frames.Stream stream offset fin body) a along
+  kind_leaves r (frames.MaxData limit) a along = handed_leaves r (frames.MaxData limit) a along
+  kind_leaves r (frames.MaxStreamData stream limit) a along = handed_leaves r (frames.MaxStreamData stream limit) a along
+  kind_leaves r (frames.MaxStreams dir count) a along = handed_leaves r (frames.MaxStreams dir count) a along
+  kind_leaves r (frames.StreamDataBlocked stream limit) a along = handed_leaves r (frames.StreamDataBlocked stream limit) a along
+  kind_leaves r (frames.StreamsBlocked dir limit) a along = handed_leaves r (frames.StreamsBlocked dir limit) a along
   kind_leaves r _ a along = (gives_here a, along)
 
   -- a frame

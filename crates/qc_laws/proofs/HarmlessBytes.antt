@@ -1,9 +1,8 @@
 -- Datagrams none of whose packets opened change only counts.
-use Rattle.std.proofs.Common.{◌≡◌, ℕ, ◌+◌, ◌*◌, ◌<◌, ◌≤◌, List, [], ◌∷◌, ◌++◌, length, refl, ap, sym, ◌∙◌, subst, Bool, true, false, Option, Some, None, if◌then◌else◌, append_assoc, append-nil, arith}
-use Rattle.std.proofs.lemmas.Bool.Decides.{nat_tests}
+use Rattle.std.proofs.Common.{◌≡◌, ℕ, ◌+◌, ◌≤◌, List, [], ◌∷◌, ◌++◌, length, refl, ap, sym, ◌∙◌, subst, Bool, true, false, Option, Some, None, if◌then◌else◌, append_assoc, append-nil, arith}
 use Rattle.std.proofs.lemmas.List.Elements.{All-head, All-tail}
 use Rattle.std.proofs.lemmas.List.Folds.{list_all-append}
-use Rattle.std.specs.Prelude.{zero, suc, ◌&&◌, not, nat_le, is_ok, Result, Ok, Err}
+use Rattle.std.specs.Prelude.{◌&&◌, not, nat_le, Ok, Err}
 use Rattle.std.specs.List.{All, list_all, list_any}
 use Rattle.std.specs.declared.net.SocketAddr.{SocketAddr}
 use Rattle.qc_base.specs.declared.side.Side.TheVariants.{Server}
@@ -11,12 +10,8 @@ use Rattle.qc_base.specs.declared.side.SpaceId.{SpaceId}
 use Rattle.qc_base.specs.declared.side.SpaceId.TheVariants as space
 use Rattle.qc_frame.specs.Payload.{items_of}
 use Rattle.qc_header.specs.HeaderGrammar.{DatagramItem}
-use Rattle.qc_header.specs.HeaderReading.{piece_at}
-use Rattle.qc_header.specs.declared.protected.PacketDecodeError.{PacketDecodeError}
-use Rattle.qc_header.specs.declared.protected.ProtectedHeader.{ProtectedHeader}
-use Rattle.qc_header.specs.declared.protected.ProtectedHeader.TheVariants as protected
 use Rattle.qc_header.specs.Piece.{Piece, space_of}
-use Rattle.qc_header.specs.Pieces.{pieces_and, pieces_of, pieces_within}
+use Rattle.qc_header.specs.Pieces.{pieces_of}
 use Rattle.qc_state.specs.declared.coming.Coming.{Coming}
 use Rattle.qc_state.specs.declared.deeds.Did.{Did}
 use Rattle.qc_state.specs.declared.deeds.Did.TheVariants as did
@@ -27,8 +22,6 @@ use Rattle.qc_state.specs.declared.input.Input.TheVariants as input
 use Rattle.qc_state.specs.declared.keys.KeyGroup.{KeyGroup}
 use Rattle.qc_state.specs.declared.life.ConnectionError.{ConnectionError}
 use Rattle.qc_state.specs.declared.life.ConnectionError.TheVariants as lost
-use Rattle.qc_state.specs.declared.life.Life.{Life}
-use Rattle.qc_state.specs.declared.life.State.{State}
 use Rattle.qc_state.specs.declared.life.State.TheVariants as state
 use Rattle.qc_state.specs.declared.opening.Opening.{Opening}
 use Rattle.qc_state.specs.declared.opening.Opening.TheVariants.{Unreadable, Unopened, Reserved, Opened}
@@ -38,17 +31,17 @@ use Rattle.qc_state.specs.declared.trace.Step.{Step}
 use Rattle.qc_state.specs.declared.transmit.TheConstants.{DATAGRAM_SIZE}
 use Rattle.qc_state.specs.Headline.{deeds_of, is_harmless, is_datagram, OnlyCounts, Harmless}
 use Rattle.qc_state.specs.Keys.{fails_too_often, failure_counted}
-use Rattle.qc_state.specs.Life.{is_handshake, is_over, ready_reported, connected_reported, lost_reported, notices_reported, drained_reported}
+use Rattle.qc_state.specs.Life.{is_handshake, is_over}
 use Rattle.qc_state.specs.Moves.{Move, Accept, Clock, PeerClosesToo, Enter, Expect, Fail, Hear, Owe, Raise, Tell, deeds_move, keys_move, life_move, lower_move, move_to, numbers_move, paths_move, setup_move, state_move, timers_move, waiting_move, armed_after, armed_with}
 use Rattle.qc_state.specs.Opening.{opening_of}
 use Rattle.qc_state.specs.Paths.{is_blocked, path_received, same_address}
-use Rattle.qc_state.specs.Receiving.{accepted_after, admitted_after, counted_after, cut_of, datagram_after, failed_after, first_after, first_token, fixed_after, has_first_ids, heard_after, is_close_item, is_eliciting_item, is_initial_with, is_readable, lets_in, opened_token, opening_after, piece_after, piece_told, pieces_after, read_for_close, received_after, signs_of, token_in_first, token_in_items, verdict_after}
+use Rattle.qc_state.specs.Receiving.{accepted_after, admitted_after, counted_after, cut_of, datagram_after, failed_after, first_after, first_token, fixed_after, has_first_ids, heard_after, is_close_item, is_eliciting_item, is_readable, lets_in, opened_token, opening_after, piece_after, piece_told, pieces_after, read_for_close, received_after, signs_of, token_in_first, token_in_items, verdict_after}
 use Rattle.qc_state.specs.Run.{IsStep, Run, began, called, input_after, reported, step_after}
 use Rattle.qc_state.specs.Setup.{is_first_awaited, token_expected}
 use Rattle.qc_state.specs.Stopping.{key_limit_error, killed_after, stopped_after, violation_at}
 use Rattle.qc_state.specs.Timers.{clock_set, timers_armed}
 use Rattle.qc_state.specs.Types.{Types, Meaning}
-use Rattle.qc_state.specs.Verdicts.{first_row, verdict_of}
+use Rattle.qc_state.specs.Verdicts.{verdict_of}
 use Rattle.qc_state.specs.View.{View, At}
 use Rattle.qc_state.specs.Recovering.{loss_time}
 use Rattle.qc_state.proofs.Ends.{holds_given, holds_initial, holds_stopped}
@@ -57,110 +50,10 @@ use Rattle.qc_state.proofs.PacketMoves.{OpenPacket}
 use Rattle.qc_laws.proofs.Receives.{holds_counted}
 use Rattle.qc_state.proofs.Telling.{told_appends}
 use Rattle.qc_state.specs.Sending.{Choice}
-
--- of two tests that hold each holds
-first_holds : (a b : Bool) → (a && b) ≡ true → a ≡ true
-first_holds true b h = refl
-first_holds false b h = cc
-
-second_holds : (a b : Bool) → (a && b) ≡ true → b ≡ true
-second_holds true b h = h
-second_holds false b h = cc
-
--- two tests hold, and so both do
-both : (a b : Bool) → a ≡ true → b ≡ true → (a && b) ≡ true
-both true b h k = k
-both false b h k = h
-
--- what the tests of a server's first datagram say
-pub tests_hold : (going long same : Bool) (o : Option (List ℕ)) (token : List ℕ) → (if going && (long && same) then o else None) ≡ Some token → (going ≡ true) × (same ≡ true) × (o ≡ Some token)
-tests_hold true true true o token h = (refl, refl, h)
-tests_hold true true false o token h = cc
-tests_hold true false same o token h = cc
-tests_hold false long same o token h = cc
-
--- of two tests one fails
-first_fails : (a b : Bool) → a ≡ false → (a && b) ≡ false
-first_fails true b h = cc
-first_fails false b h = refl
-
-second_fails : (a b : Bool) → b ≡ false → (a && b) ≡ false
-second_fails true b h = h
-second_fails false b h = refl
-
--- each deed of a list is harmless
-pub all_harmless : (ds : List Did) → All (λ d. is_harmless d ≡ true) ds → list_all is_harmless ds ≡ true
-all_harmless [] h = refl
-all_harmless (d ∷ ds) h =
-    let first : is_harmless d ≡ true = All-head (λ d. is_harmless d ≡ true) d ds h in
-    rw first (all_harmless ds (All-tail (λ d. is_harmless d ≡ true) d ds h))
-
--- where joined lists of deeds are harmless, each one is
-front_harmless : (ds es : List Did) → list_all is_harmless (ds ++ es) ≡ true → list_all is_harmless ds ≡ true
-front_harmless ds es h = first_holds (list_all is_harmless ds) (list_all is_harmless es) (sym (list_all-append is_harmless ds es) ∙ h)
-
-back_harmless : (ds es : List Did) → list_all is_harmless (ds ++ es) ≡ true → list_all is_harmless es ≡ true
-back_harmless ds es h = second_holds (list_all is_harmless ds) (list_all is_harmless es) (sym (list_all-append is_harmless ds es) ∙ h)
-
--- a packet that opened has one of five verdicts
-abbrev is_opened : Verdict → Bool
-is_opened verdict.Ignored = false
-is_opened verdict.Failure = false
-is_opened verdict.BadBits = false
-is_opened _ = true
-
-opened_by_row : (new closed early other : Bool) → is_opened (first_row ((not new, verdict.Seen) ∷ (closed, verdict.ReadForClose) ∷ (early, verdict.NumberOnly) ∷ (other, verdict.AckOnly) ∷ []) verdict.Admitted) ≡ true
-opened_by_row true true early other = refl
-opened_by_row true false true other = refl
-opened_by_row true false false true = refl
-opened_by_row true false false false = refl
-opened_by_row false closed early other = refl
-
--- the handshake goes on, so the connection isn't over
-pub not_over : (s : State) → is_handshake s ≡ true → is_over s ≡ false
-not_over state.Handshake h = refl
-not_over state.Established h = cc
-not_over state.Closed h = cc
-not_over state.Draining h = cc
-not_over state.Drained h = cc
-
--- a server's first packet is an Initial one
-initial_space : (dst src : List ℕ) (header : ProtectedHeader) → is_initial_with dst src header ≡ true → space_of header ≡ Some space.Initial
-initial_space dst src (protected.Initial dst_cid src_cid token_start token_len version) h = refl
-initial_space dst src _ h = cc
-
--- where a datagram's first packet is cut, it begins with a packet
-front_read : (r : Result (Piece × List ℕ) PacketDecodeError) (others : List ℕ → List DatagramItem) (p : Piece) (items : List DatagramItem) → pieces_and r others ≡ Ok p ∷ items → is_ok r ≡ true
-front_read (Ok piece) others p items e = refl
-front_read (Err fault) others p items e = cc
-
-within_read : (most len : ℕ) (versions : List ℕ) (grease : Bool) (bytes : List ℕ) (p : Piece) (items : List DatagramItem) → pieces_within most len versions grease bytes ≡ Ok p ∷ items → is_ok (piece_at len versions grease bytes) ≡ true
-within_read zero len versions grease bytes p items e = cc
-within_read (suc most) len versions grease [] p items e = cc
-within_read (suc most) len versions grease (b ∷ bytes) p items e = front_read (piece_at len versions grease (b ∷ bytes)) (pieces_within most len versions grease) p items e
-
--- what is reported of a life
-abbrev life_reported : Life → Life
-life_reported v = drained_reported (notices_reported (lost_reported (connected_reported (ready_reported v))))
-
--- what was reported isn't reported again
-reported_again : (v : Life) → life_reported (life_reported v) ≡ life_reported v
-unfolding drained_reported notices_reported lost_reported connected_reported ready_reported
-reported_again v = refl
-
--- a path that isn't blocked isn't blocked either once more bytes came
-freed_by : (v b c : Bool) (sent less more : ℕ) → less ≤ more → nat_le (3 * less) sent ≡ b → nat_le (3 * more) sent ≡ c → (not v && b) ≡ false → (not v && c) ≡ false
-freed_by true b c sent less more up is_b is_c f = refl
-freed_by false true c sent less more up is_b is_c f = cc f
-freed_by false false c sent less more up is_b is_c f =
-    let few : sent < 3 * less = grind (arith, nat_tests) in
-    grind (arith, nat_tests)
-
-stays_free : {C : Type 0} → (p q : Paths C) → q ≡ record p { current = record p.current { received = q.current.received } } → p.current.received ≤ q.current.received → is_blocked p ≡ false → is_blocked q ≡ false
-unfolding is_blocked
-stays_free p q is more free =
-    ap (λ x. not x.current.validated && nat_le (3 * x.current.received) x.current.sent) is
-    ∙ freed_by p.current.validated (nat_le (3 * p.current.received) p.current.sent) (nat_le (3 * q.current.received) p.current.sent) p.current.sent p.current.received q.current.received more refl refl free
+use Rattle.qc_state.specs.declared.lower.Lower.{Lower}
+use Rattle.qc_state.specs.Lower.{events_told}
+use Rattle.qc_laws.proofs.EventsAsked.{told_again}
+use Rattle.qc_laws.proofs.HarmlessTests.{all_harmless, back_harmless, both, first_fails, first_holds, front_harmless, initial_space, is_opened, life_reported, not_over, opened_by_row, reported_again, second_fails, stays_free, tests_hold, within_read}
 
 module _ {t : Types} where
   -- only counts changed, and nothing was reported
@@ -201,7 +94,7 @@ module _ {t : Types} where
 
   pub same_counts : (s s' : View t) → Same s s' → OnlyCounts s s'
   unfolding reported state_move numbers_move keys_move life_move paths_move timers_move waiting_move setup_move lower_move
-  same_counts s s' h = record { numbers = h.numbers; keys = h.keys; life = ap life_reported h.life; paths = h.paths; ranged = h.ranged; more = h.more; timers = h.timers; still = h.still; waiting = h.waiting; setup = h.setup; lower = h.lower }
+  same_counts s s' h = record { numbers = h.numbers; keys = h.keys; life = ap life_reported h.life; paths = h.paths; ranged = h.ranged; more = h.more; timers = h.timers; still = h.still; waiting = h.waiting; setup = h.setup; lower = ap (λ (l : Lower t.S). events_told l) h.lower }
 
   counts_next : (r s u : View t) → OnlyCounts r s → OnlyCounts s u → OnlyCounts r u
   counts_next r s u g h = record {
@@ -569,10 +462,7 @@ module _ {t : Types} where
       let b : At t = datagram_after m (record { time = time; remote = remote; mark = ecn }) bytes a in
       let tame = tame_datagram m (record { time = time; remote = remote; mark = ecn }) bytes a in
       same_next s a.state b.state (same_clock time s) (tame.same (subst (λ (es : List Did). list_all is_harmless es ≡ true) (is_did ∙ tame.appended) h))
-  same_called m (input.Timeout time) s choice ds is_one is_did h = cc
-  same_called m (input.Transmit time max) s choice ds is_one is_did h = cc
-  same_called m (input.Close time code reason) s choice ds is_one is_did h = cc
-  same_called m (input.Ping time) s choice ds is_one is_did h = cc
+  same_called m _ s choice ds is_one is_did h = cc
 
   -- a step
   step_counts : (m : Meaning t) (k : ℕ) (s : View t) (i : Input) (x : Step) (s' : View t) → IsStep m k s i x s' → is_datagram i ≡ true → list_all is_harmless x.did ≡ true → OnlyCounts s s'
@@ -591,7 +481,7 @@ module _ {t : Types} where
         still = λ r free. ap (λ (y : Timers). y.loss_detection) h.timers ∙ same.still r free;
         waiting = h.waiting ∙ same.waiting;
         setup = h.setup ∙ same.setup;
-        lower = h.lower ∙ same.lower;
+        lower = ap (λ (l : Lower t.S). events_told l) h.lower ∙ told_again b.state.lower ∙ ap (λ (l : Lower t.S). events_told l) same.lower;
       }
 
   -- a run, one step after the other

@@ -21,7 +21,7 @@ use Rattle.qc_state.specs.Forms.{number_space}
 use Rattle.qc_laws.specs.KeyLaws.{IsWithinLimit, KeysHold}
 use Rattle.qc_state.specs.Keys.{NewKeys, NoKeys, HandshakeKeys, DataKeys, count_one, failure_counted, key_used, keys_dropped, keys_given, plain_usage, reaches_limit, ring_usage, ring_used, usage_of}
 use Rattle.qc_state.specs.Life.{is_open}
-use Rattle.qc_state.specs.Moves.{Move, Ask, Fail, Forget, Seal, Shut, Take, Write, keys_move, move_to, state_move}
+use Rattle.qc_state.specs.Moves.{Move, Ask, Fail, Forget, Seal, Shut, Take, Write, keys_move, move_to, state_move, Call}
 use Rattle.qc_state.specs.Numbers.{next_number}
 use Rattle.qc_state.specs.Run.{IsAllowed, IsStep, Run, began, called, close_after, input_after, reported, step_after, time_of}
 use Rattle.qc_state.specs.Sending.{MayTransmit, packet_size, transmit_after, Choice}
@@ -31,6 +31,7 @@ use Rattle.qc_state.proofs.Expired.{IsTimed, holds_timeout}
 use Rattle.qc_state.proofs.ReceivedMoves.{AreUnused, IsReceived}
 use Rattle.qc_laws.proofs.Receives.{holds_datagram}
 use Rattle.qc_state.proofs.Transmitted.{IsSealable, IsSending, holds_transmit}
+use Rattle.qc_laws.proofs.StreamCalls.{called_input}
 
 -- a key that may seal one packet more has sealed no more than it may behind it
 once_more : (sealed limit : ℕ) → nat_le limit (sealed + 0) ≡ false → plus sealed 1 ≤ limit
@@ -170,6 +171,7 @@ module _ {t : Types} where
   input_keeps m (input.Transmit time max) choice a may = transmit_keeps m time choice a may
   input_keeps m (input.Close time code reason) choice a may = closed_by time _ a (is_open a.state.life.state)
   input_keeps m (input.Ping time) choice a may = move_keeps (Ask a.state.keys.highest) a tt
+  input_keeps m i choice a may = called_input Keeps here next (λ x d k. move_keeps (Call x) d tt) i choice.read a may
 
   -- a step
   step_keeps : (m : Meaning t) (k : ℕ) (s : View t) (i : Input) (x : Step) (s' : View t) → IsStep m k s i x s' → KeysHold s.keys → KeysHold s'.keys

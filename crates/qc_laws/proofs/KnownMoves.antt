@@ -11,7 +11,7 @@ use Rattle.qc_state.specs.declared.life.Close.{Close}
 use Rattle.qc_state.specs.declared.life.State.TheVariants.{Drained}
 use Rattle.qc_state.specs.Forms.{number_space}
 use Rattle.qc_state.specs.Life.{is_open}
-use Rattle.qc_state.specs.Moves.{Ack, Ask, Clock, Fire, MayMove, Move, Raise, ReportConnected, ReportDrained, ReportLost, ReportReady, ReportNotice, ReportNotices, Seal, Shut, Take, move_to}
+use Rattle.qc_state.specs.Moves.{Ack, Ask, Clock, Fire, MayMove, Move, Raise, ReportConnected, ReportDrained, ReportLost, ReportReady, ReportNotice, ReportNotices, Seal, Shut, Take, move_to, Call, ReportStream, ReportStreams, Tell}
 use Rattle.qc_state.specs.Numbers.{next_number}
 use Rattle.qc_state.specs.Receiving.{datagram_after}
 use Rattle.qc_state.specs.Recovering.{fired_by, settled_by}
@@ -21,13 +21,36 @@ use Rattle.qc_state.specs.Types.{Types, Meaning}
 use Rattle.qc_state.specs.View.{View, At}
 use Rattle.qc_state.proofs.Expired.{IsExpiry, holds_expired}
 use Rattle.qc_state.proofs.OpenPackets.{holds_packet}
-use Rattle.qc_state.proofs.PacketMoves.{IsInPacket, IsSettledOf, OpenPacket}
-use Rattle.qc_state.proofs.ReceivedMoves.{IsOutside}
+use Rattle.qc_state.proofs.PacketMoves.{IsInPacket, IsSettledOf, OpenPacket, IsGivenTo, IsToldOf}
+use Rattle.qc_state.proofs.ReceivedMoves.{IsOutside, IsUnread}
 use Rattle.qc_laws.proofs.Receives.{datagram_holds}
 use Rattle.qc_state.proofs.Telling.{open_rank}
 use Rattle.qc_state.proofs.Transmitted.{IsSealable, IsSending, holds_transmit}
+use Rattle.qc_laws.proofs.StreamCalls.{called_input}
+use Rattle.qc_state.specs.declared.deeds.Did.{Did}
+use Rattle.qc_state.specs.declared.deeds.Did.TheVariants as did
+use Rattle.qc_state.specs.declared.deeds.Layer.TheVariants as layer
+use Rattle.qc_frame.specs.declared.frames.FrameOf.TheVariants as frames
+use Rattle.qc_laws.specs.StreamsLaws.{is_streams_call}
+
+-- a deed that tells of no gift to the streams: these are told of with the move that hands them a frame
+abbrev pub IsElsewhere : Did → Type 0
+IsElsewhere (did.Gave layer.Streams body) = ⊥
+IsElsewhere _ = Unit {0}
+
+unread_elsewhere : (d : Did) → IsUnread d → IsElsewhere d
+unread_elsewhere (did.Gave to body) h = absurd h
+unread_elsewhere _ h = tt
+
+none_to_streams : (f : FrameValue) → IsGivenTo layer.Streams f → ⊥
+none_to_streams (frames.Ack ack) h = h
+none_to_streams _ h = h
 
 module _ {t : Types} where
+  told_elsewhere : (o : OpenPacket) (d : Did) (s : View t) → IsToldOf o d s → IsElsewhere d
+  told_elsewhere o (did.Gave layer.Streams body) s h = none_to_streams h.0 h.2
+  told_elsewhere o _ s h = tt
+
   -- an acknowledgement settles what recovery makes of an ACK at a time
   pub record IsSettledBy (m : Meaning t) (id : SpaceId) (after : After t.C) (s : View t) : Type 0 where
     pub time : ℕ
@@ -40,7 +63,8 @@ module _ {t : Types} where
     pub is : after ≡ fired_by m time s
 
   -- what is known of a move that an input makes, beside those with which a packet is taken and sealed: it is no report, a life that rises
-  -- by itself rises to its end, and what acknowledgements and the loss timer leave is what recovery makes of them
+  -- by itself rises to its end, what acknowledgements and the loss timer leave is what recovery makes of them, and what is told by itself is
+  -- no gift to the streams
   abbrev pub IsKnownMove : Meaning t → Move t → View t → Type 0
   IsKnownMove m (Clock time) s = ⊥
   IsKnownMove m (Take id fs) s = ⊥
@@ -48,8 +72,11 @@ module _ {t : Types} where
   IsKnownMove m (Ack id n after) s = IsSettledBy m id after s
   IsKnownMove m (Fire after) s = IsFiredBy m after s
   IsKnownMove m (Raise to) s = to ≡ Drained
+  IsKnownMove m (Tell d) s = IsElsewhere d
   IsKnownMove m ReportReady s = ⊥
   IsKnownMove m ReportConnected s = ⊥
+  IsKnownMove m ReportStream s = ⊥
+  IsKnownMove m ReportStreams s = ⊥
   IsKnownMove m ReportLost s = ⊥
   IsKnownMove m ReportNotice s = ⊥
   IsKnownMove m ReportNotices s = ⊥
@@ -67,8 +94,11 @@ module _ {t : Types} where
   packet_known m o (Ack id n after) s h = settled_known m o id n after s h
   packet_known m o (Fire after) s h = absurd h
   packet_known m o (Raise to) s h = absurd h
+  packet_known m o (Tell d) s h = told_elsewhere o d s h
   packet_known m o ReportReady s h = absurd h
   packet_known m o ReportConnected s h = absurd h
+  packet_known m o ReportStream s h = absurd h
+  packet_known m o ReportStreams s h = absurd h
   packet_known m o ReportLost s h = absurd h
   packet_known m o ReportNotice s h = absurd h
   packet_known m o ReportNotices s h = absurd h
@@ -83,8 +113,11 @@ module _ {t : Types} where
   outside_known m at_time (Ack id n after) s h = absurd h
   outside_known m at_time (Fire after) s h = absurd h
   outside_known m at_time (Raise to) s h = h
+  outside_known m at_time (Tell d) s h = unread_elsewhere d h
   outside_known m at_time ReportReady s h = absurd h
   outside_known m at_time ReportConnected s h = absurd h
+  outside_known m at_time ReportStream s h = absurd h
+  outside_known m at_time ReportStreams s h = absurd h
   outside_known m at_time ReportLost s h = absurd h
   outside_known m at_time ReportNotice s h = absurd h
   outside_known m at_time ReportNotices s h = absurd h
@@ -99,8 +132,11 @@ module _ {t : Types} where
   expiry_known m (Ack id n after) s h = absurd h
   expiry_known m (Fire after) s h = absurd h
   expiry_known m (Raise to) s h = h
+  expiry_known m (Tell d) s h = absurd h
   expiry_known m ReportReady s h = absurd h
   expiry_known m ReportConnected s h = absurd h
+  expiry_known m ReportStream s h = absurd h
+  expiry_known m ReportStreams s h = absurd h
   expiry_known m ReportLost s h = absurd h
   expiry_known m ReportNotice s h = absurd h
   expiry_known m ReportNotices s h = absurd h
@@ -115,38 +151,79 @@ module _ {t : Types} where
   sending_known m (Ack id n after) s h = absurd h
   sending_known m (Fire after) s h = absurd h
   sending_known m (Raise to) s h = h
+  sending_known m (Tell d) s h = absurd h
   sending_known m ReportReady s h = absurd h
   sending_known m ReportConnected s h = absurd h
+  sending_known m ReportStream s h = absurd h
+  sending_known m ReportStreams s h = absurd h
   sending_known m ReportLost s h = absurd h
   sending_known m ReportNotice s h = absurd h
   sending_known m ReportNotices s h = absurd h
   sending_known m ReportDrained s h = absurd h
   sending_known m _ s h = tt
 
--- what holds of no move, of two moves one after the other, of each move that is known so, where it may be made, and of the two with which
--- a packet is taken and sealed, holds of an input
+-- a move is no call of the streams; none is that an input makes which is none itself
+abbrev pub IsUncalled : {t : Types} → Move t → Type 0
+IsUncalled (Call x) = ⊥
+IsUncalled _ = Unit {0}
+
+packet_uncalled : {t : Types} (m : Meaning t) (o : OpenPacket) (x : Move t) (s : View t) → IsInPacket m o x s → IsUncalled x
+packet_uncalled m o (Call x) s h = absurd h
+packet_uncalled m o _ s h = tt
+
+outside_uncalled : {t : Types} (time : ℕ) (x : Move t) (s : View t) → IsOutside time x s → IsUncalled x
+outside_uncalled time (Call x) s h = absurd h
+outside_uncalled time _ s h = tt
+
+expiry_uncalled : {t : Types} (x : Move t) → IsExpiry x → IsUncalled x
+expiry_uncalled (Call x) h = absurd h
+expiry_uncalled _ h = tt
+
+sending_uncalled : {t : Types} (x : Move t) → IsSending x → IsUncalled x
+sending_uncalled (Call x) h = absurd h
+sending_uncalled _ h = tt
+
+-- what holds of no move, of two moves one after the other, of each move that is known so and is no call of the streams, where it may be
+-- made, and of the two with which a packet is taken and sealed, holds of an input that is no call of the streams
 module _ {t : Types} (m : Meaning t) (R : At t → At t → Type 0) (here : (a : At t) → R a a) (next : (a b c : At t) → R a b → R b c → R a c)
-    (move : (x : Move t) (a : At t) → IsKnownMove m x a.state → MayMove x a.state → R a (move_to x a))
+    (move : (x : Move t) (a : At t) → IsKnownMove m x a.state → IsUncalled x → MayMove x a.state → R a (move_to x a))
     (seal : (time : ℕ) (form : Form) (fs : List FrameValue) (a : At t) → IsSealable time a.state form fs → R a (move_to (Seal time form (next_number a.state.numbers (number_space form)) (packet_size a.state form fs) fs) (move_to (Take (number_space form) fs) a))) where
   -- a datagram
   known_datagram : (coming : Coming) (bytes : List ℕ) (a : At t) → R a (datagram_after m coming bytes a)
   known_datagram coming bytes a =
-      datagram_holds m coming (λ p. Unit {0}) R here next (λ x b h may. move x b (outside_known m coming.time x b.state h) may)
-      (λ p comes o b opened. holds_packet m o R here next (λ x c h may. move x c (packet_known m o x c.state h) may) b opened.lively)
+      datagram_holds m coming (λ p. Unit {0}) R here next (λ x b h may. move x b (outside_known m coming.time x b.state h) (outside_uncalled coming.time x b.state h) may)
+      (λ p comes o b opened. holds_packet m o R here next (λ x c h may. move x c (packet_known m o x c.state h) (packet_uncalled m o x c.state h) may) b opened.lively)
       bytes a (λ p among. tt)
 
   -- the application closes, or has closed before
   closed_by : (time : ℕ) (close : Close) (a : At t) (b : Bool) → is_open a.state.life.state ≡ b → R a (if b then move_to (Shut time close) a else a)
   unfolding MayMove
-  closed_by time close a true h = move (Shut time close) a tt (open_rank a.state.life.state h)
+  closed_by time close a true h = move (Shut time close) a tt tt (open_rank a.state.life.state h)
   closed_by time close a false h = here a
 
   -- each input
-  pub known_input : (i : Input) (choice : Choice) (a : At t) → IsAllowed m i choice a → R a (input_after m i choice a)
+  pub known_other : (i : Input) (choice : Choice) (a : At t) → is_streams_call i ≡ false → IsAllowed m i choice a → R a (input_after m i choice a)
   unfolding IsAllowed input_after close_after MayMove
-  known_input (input.Datagram time remote ecn bytes) choice a h = known_datagram (record { time = time; remote = remote; mark = ecn }) bytes a
-  known_input (input.Timeout time) choice a h =
-      holds_expired m R here next (λ at_time b. move (Fire (fired_by m at_time b.state)) b (record { time = at_time; is = refl }) tt) (λ x e b may. move x b (expiry_known m x b.state e) may) time a
-  known_input (input.Transmit time max) choice a h = holds_transmit R here next (λ x r b may. move x b (sending_known m x b.state r) may) seal m time choice a h
-  known_input (input.Close time code reason) choice a h = closed_by time _ a _ refl
-  known_input (input.Ping time) choice a h = move (Ask a.state.keys.highest) a tt tt
+  known_other (input.Datagram time remote ecn bytes) choice a none h = known_datagram (record { time = time; remote = remote; mark = ecn }) bytes a
+  known_other (input.Timeout time) choice a none h =
+      holds_expired m R here next (λ at_time b. move (Fire (fired_by m at_time b.state)) b (record { time = at_time; is = refl }) tt tt) (λ x e b may. move x b (expiry_known m x b.state e) (expiry_uncalled x e) may) time a
+  known_other (input.Transmit time max) choice a none h = holds_transmit R here next (λ x r b may. move x b (sending_known m x b.state r) (sending_uncalled x r) may) seal m time choice a h
+  known_other (input.Close time code reason) choice a none h = closed_by time _ a _ refl
+  known_other (input.Ping time) choice a none h = move (Ask a.state.keys.highest) a tt tt tt
+  known_other _ choice a none h = cc
+
+-- what holds of each move that is known so, too, holds of an input
+module _ {t : Types} (m : Meaning t) (R : At t → At t → Type 0) (here : (a : At t) → R a a) (next : (a b c : At t) → R a b → R b c → R a c)
+    (move : (x : Move t) (a : At t) → IsKnownMove m x a.state → MayMove x a.state → R a (move_to x a))
+    (seal : (time : ℕ) (form : Form) (fs : List FrameValue) (a : At t) → IsSealable time a.state form fs → R a (move_to (Seal time form (next_number a.state.numbers (number_space form)) (packet_size a.state form fs) fs) (move_to (Take (number_space form) fs) a))) where
+  other : (i : Input) (choice : Choice) (a : At t) → is_streams_call i ≡ false → IsAllowed m i choice a → R a (input_after m i choice a)
+  other i choice a none h = known_other m R here next (λ x b known uncalled may. move x b known may) seal i choice a none h
+
+  pub known_input : (i : Input) (choice : Choice) (a : At t) → IsAllowed m i choice a → R a (input_after m i choice a)
+  unfolding IsAllowed input_after
+  known_input (input.Datagram time remote ecn bytes) choice a h = other (input.Datagram time remote ecn bytes) choice a refl h
+  known_input (input.Timeout time) choice a h = other (input.Timeout time) choice a refl h
+  known_input (input.Transmit time max) choice a h = other (input.Transmit time max) choice a refl h
+  known_input (input.Close time code reason) choice a h = other (input.Close time code reason) choice a refl h
+  known_input (input.Ping time) choice a h = other (input.Ping time) choice a refl h
+  known_input i choice a h = called_input R here next (λ x b may. move (Call x) b tt may) i choice.read a h

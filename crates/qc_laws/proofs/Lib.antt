@@ -5,8 +5,10 @@ pub mod AcksKnown
 pub mod Clocks
 pub mod DatagramLaws
 pub mod EventsTold
+pub mod EventsAsked
 pub mod Gifts
 pub mod HarmlessBytes
+pub mod HarmlessTests
 pub mod IdsHold
 pub mod Inputs
 pub mod Joins
@@ -32,6 +34,9 @@ pub mod CryptoPlaces
 pub mod CryptoBegins
 pub mod TimerFlights
 pub mod StreamSteps
+pub mod StreamCalls
+pub mod StreamsMade
+pub mod StreamsFold
 pub mod StreamHolds
 pub mod StreamBegins
 pub mod AckMarks

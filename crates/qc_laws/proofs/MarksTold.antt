@@ -30,7 +30,7 @@ use Rattle.qc_state.specs.Acks.{is_ack, told_counts}
 use Rattle.qc_state.specs.Forms.{number_space}
 use Rattle.qc_state.specs.Life.{is_open, is_over}
 use Rattle.qc_laws.specs.MarkLaws.{AcksTell, DeedsTell, EachTold, SealsTold, StepsTell, Tally, carried_mark, nothing_tallied, tally_accepted, tally_behind, tally_judged, tally_of, tally_since, tally_told}
-use Rattle.qc_state.specs.Moves.{Move, Clock, Ask, Take, Seal, Forget, Enter, Expect, Fail, Accept, Fix, Hear, Ack, Fire, Arm, Pace, Release, Begin, Skip, Come, Read, Write, Ready, Token, Learn, Want, Confirm, Establish, Tell, PeerClosesToo, PeerCloses, Owe, Shut, Raise, Give, Say, Finish, ReportReady, ReportConnected, ReportLost, ReportNotice, ReportNotices, ReportDrained, accepts, enters, state_move, move_to, deeds_move, waiting_move, numbers_move, keys_move, life_move, MayMove, IsTold, told}
+use Rattle.qc_state.specs.Moves.{Move, Clock, Ask, Take, Seal, Forget, Enter, Expect, Fail, Accept, Fix, Hear, Ack, Fire, Arm, Pace, Release, Begin, Skip, Come, Read, Write, Ready, Token, Learn, Want, Confirm, Establish, Tell, PeerClosesToo, PeerCloses, Owe, Shut, Raise, Give, Say, Finish, ReportReady, ReportConnected, ReportLost, ReportNotice, ReportNotices, ReportDrained, accepts, enters, state_move, move_to, deeds_move, waiting_move, numbers_move, keys_move, life_move, MayMove, IsTold, told, Hand, Call, ReportStream, ReportStreams, told_to_streams}
 use Rattle.qc_state.specs.Numbers.{next_number}
 use Rattle.qc_state.specs.Offers.{packet_begun}
 use Rattle.qc_state.proofs.Probed.{begun_holds}
@@ -47,8 +47,9 @@ use Rattle.qc_state.proofs.OpenPackets.{holds_packet, packet_received}
 use Rattle.qc_state.proofs.PacketMoves.{IsInPacket, OpenPacket}
 use Rattle.qc_state.proofs.ReceivedMoves.{IsOutside}
 use Rattle.qc_laws.proofs.Receives.{datagram_holds}
-use Rattle.qc_state.proofs.Telling.{open_rank}
+use Rattle.qc_state.proofs.Telling.{open_rank, told_appends}
 use Rattle.qc_state.proofs.Transmitted.{IsSealable, IsSending, holds_transmit}
+use Rattle.qc_laws.proofs.StreamCalls.{called_input, handed_told}
 
 -- ---- the counts of a space, as they are known
 
@@ -298,6 +299,16 @@ module _ {t : Types} where
       (subst (λ (z : Tally). Fits z (MarksOf id (packet_came a.state.waiting space seen arrival came))) (sym (judged_one id space mark v y takes))
       (subst (λ (m : Option EcnCodepoint). Fits (tally_accepted (is_space id space) m y) (MarksOf id (packet_came a.state.waiting space seen arrival came))) is (came_fits id space a.state.waiting seen arrival came y h))))
 
+  -- a frame that the streams are handed
+  handed_counted : (id : SpaceId) (mark : Option EcnCodepoint) (frame : FrameValue) (a : At t) → Counted id mark a (move_to (Hand frame) a)
+  unfolding move_to state_move deeds_move waiting_move
+  handed_counted id mark frame a = record {
+    since = told_to_streams frame;
+    appended = told_appends a.did (told_to_streams frame);
+    told = λ y f. handed_told (λ ds. DeedsTell id mark y ds) frame tt (λ body. (tt, tt));
+    kept = λ y f. handed_told (λ ds. Fits (tally_since id mark y ds) (MarksOf id a.state.waiting)) frame f (λ body. f);
+  }
+
   -- over each move
   counted_move : (id : SpaceId) (mark : Option EcnCodepoint) (x : Move t) (a : At t) → MayMove x a.state → IsTelling mark x a.state → Counted id mark a (move_to x a)
   unfolding MayMove deeds_move waiting_move ping_asked crypto_written done_asked space_left nothing_left close_begun
@@ -340,8 +351,12 @@ module _ {t : Types} where
   counted_move id mark (Give why) a h k = plain_counted id mark (Give why) _ a refl (λ y. tt) (λ y. refl) refl
   counted_move id mark (Finish bytes) a h k = silent_counted id mark (Finish bytes) a refl refl
   counted_move id mark (Say q) a h k = plain_counted id mark (Say q) _ a refl (λ y. tt) (λ y. refl) refl
+  counted_move id mark (Hand frame) a h k = handed_counted id mark frame a
+  counted_move id mark (Call x) a h k = silent_counted id mark (Call x) a refl refl
   counted_move id mark ReportReady a h k = silent_counted id mark ReportReady a refl refl
   counted_move id mark ReportConnected a h k = silent_counted id mark ReportConnected a refl refl
+  counted_move id mark ReportStream a h k = silent_counted id mark ReportStream a refl refl
+  counted_move id mark ReportStreams a h k = silent_counted id mark ReportStreams a refl refl
   counted_move id mark ReportLost a h k = silent_counted id mark ReportLost a refl refl
   counted_move id mark ReportNotice a h k = silent_counted id mark ReportNotice a refl refl
   counted_move id mark ReportNotices a h k = silent_counted id mark ReportNotices a refl refl
@@ -424,6 +439,7 @@ module _ {t : Types} where
   counted_input id m (input.Transmit time max) choice a h = counted_transmit id m time choice a h
   counted_input id m (input.Close time code reason) choice a h = closed_by id time _ a _ refl
   counted_input id m (input.Ping time) choice a h = counted_move id None (Ask a.state.keys.highest) a tt tt
+  counted_input id m i choice a h = called_input (Counted id None) (counted_here id None) (counted_next id None) (λ x b may. counted_move id None (Call x) b may tt) i choice.read a h
 
   -- ---- runs
 

@@ -33,13 +33,13 @@ use Rattle.qc_state.specs.declared.trace.Step.{Step}
 use Rattle.qc_state.specs.declared.transmit.TheConstants.{DATAGRAM_SIZE}
 use Rattle.qc_state.specs.Forms.{number_space}
 use Rattle.qc_state.specs.Life.{is_open}
-use Rattle.qc_state.specs.Moves.{Accept, Ack, Arm, Come, Confirm, PeerClosesToo, Enter, Establish, Expect, Fail, Fire, Fix, Forget, Give, Hear, Learn, PeerCloses, MayMove, Move, Owe, Pace, Raise, Read, Ready, Release, Say, Seal, Shut, Take, Tell, Token, Want, Write, armed_after, armed_with, deeds_move, move_to, paths_move, state_move, told, Begin, Skip}
+use Rattle.qc_state.specs.Moves.{Accept, Ack, Arm, Come, Confirm, PeerClosesToo, Enter, Establish, Expect, Fail, Fire, Fix, Forget, Give, Hear, Learn, PeerCloses, MayMove, Move, Owe, Pace, Raise, Read, Ready, Release, Say, Seal, Shut, Take, Tell, Token, Want, Write, armed_after, armed_with, deeds_move, move_to, paths_move, state_move, told, Begin, Skip, Hand, told_to_streams}
 use Rattle.qc_state.specs.Numbers.{next_number, received_number}
 use Rattle.qc_state.specs.Headline.{deeds_of}
 use Rattle.qc_laws.specs.PathLaws.{PathHolds, all_from, bytes_from, is_handshake_admitted}
 use Rattle.qc_state.specs.Paths.{is_blocked, path_accepted, path_idle, path_kept, path_received, path_sent, path_spun, peer_fixed, same_address, spun_by}
 use Rattle.qc_state.specs.Receiving.{counted_after, cut_of, datagram_after, first_after, first_token, heard_after, is_readable, lets_in, pieces_after}
-use Rattle.qc_state.specs.Run.{IsAllowed, IsStep, Run, began, called, close_after, input_after, reported, step_after, time_of}
+use Rattle.qc_state.specs.Run.{IsAllowed, IsStep, Run, began, called, close_after, input_after, reported, step_after, time_of, called_all}
 use Rattle.qc_state.specs.Sending.{MayTransmit, drops_initial, initial_left, packet_size, spared_after, transmit_after, Choice, Sent, Ending, Went, Hushed, Died, ending_after, packets_after, Going, going_from, MayAll, MayEnd, handshake_left, finished_after, gone_after}
 use Rattle.qc_state.specs.Stopping.{given_after, key_limit_error, killed_after, stopped_after}
 use Rattle.qc_state.specs.Setup.{is_first_awaited}
@@ -53,6 +53,9 @@ use Rattle.qc_state.specs.declared.deeds.Quiet.{Quiet}
 use Rattle.qc_state.specs.declared.transmit.Batch.{Batch}
 use Rattle.qc_state.proofs.Transmitted.{IsPacketMove, IsSealable, holds_packets}
 use Rattle.qc_state.proofs.Batches.{packet_made, packet_total}
+use Rattle.qc_laws.proofs.StreamCalls.{called_input}
+use Rattle.qc_state.proofs.Telling.{told_appends}
+use Rattle.qc_state.specs.Streams.{MayRead, calls_of}
 
 -- the path in use holds, from some paths to others
 abbrev KeepsPath : {C : Type 0} → (came : ℕ) → List Did → Paths C → Paths C → Type 0
@@ -239,6 +242,16 @@ module _ {t : Types} where
   unfolding move_to state_move
   deed_at x d a one still shown = record { since = d ∷ []; appended = ap (λ (ds : List Did). told a.did ds) one; still = still; shown = shown }
 
+  -- a frame that the streams are handed
+  handed_at : (frame : FrameValue) (a : At t) → StillAt a (move_to (Hand frame) a)
+  unfolding move_to state_move deeds_move paths_move
+  handed_at frame a = record {
+    since = told_to_streams frame;
+    appended = told_appends a.did (told_to_streams frame);
+    still = still_here a.state.paths;
+    shown = λ v. inl v;
+  }
+
   -- the moves of a packet that came
   still_move : (x : Move t) → IsOfPiece x → (a : At t) → MayMove x a.state → StillAt a (move_to x a)
   unfolding paths_move deeds_move path_kept peer_fixed
@@ -268,6 +281,7 @@ module _ {t : Types} where
   still_move (Shut time close) r a h = deed_at (Shut time close) _ a refl (still_here a.state.paths) (λ v. inl v)
   still_move (Raise to) r a h = deed_at (Raise to) _ a refl (still_here a.state.paths) (λ v. inl v)
   still_move (Give why) r a h = deed_at (Give why) _ a refl (still_here a.state.paths) (λ v. inl v)
+  still_move (Hand frame) r a h = handed_at frame a
   still_move _ r a h = absurd r
 
   -- the packets of a datagram
@@ -450,6 +464,14 @@ module _ {t : Types} where
       holds_timeout Rests (λ b. (still_here b.state.paths, refl)) (λ b c d g h. (still_next b.state.paths c.state.paths d.state.paths g.0 h.0, h.1 ∙ g.1)) timed_paths m time a in
       still_holds 0 ds a.state.paths (timeout_after m time a).state.paths rests.0 (λ v. inl (sym rests.1 ∙ v))
 
+  -- the application makes calls of the streams
+  path_called : (i : Input) (choice : Choice) (s : View t) → MayRead i choice.read s.lower.streams → let r : At t = called_all (calls_of i choice.read s.lower.streams) (at s []) in KeepsPath 0 r.did s.paths r.state.paths
+  unfolding move_to state_move paths_move
+  path_called i choice s may =
+      let r : At t = called_all (calls_of i choice.read s.lower.streams) (at s []) in
+      let same : r.state.paths ≡ s.paths = called_input (λ (a b : At t). b.state.paths ≡ a.state.paths) (λ a. refl) (λ a b c g h. h ∙ g) (λ x a h. refl) i choice.read (at s []) may in
+      subst (λ (p : Paths t.C). KeepsPath 0 r.did s.paths p) (sym same) (unchanged 0 r.did s.paths)
+
   -- each input
   path_input : (m : Meaning t) (i : Input) (choice : Choice) (s : View t) → IsAllowed m i choice (at s []) → let r : At t = input_after m i choice (at s []) in KeepsPath (bytes_from s.paths.current.remote i) r.did s.paths r.state.paths
   unfolding IsAllowed input_after close_after move_to state_move paths_move
@@ -458,6 +480,7 @@ module _ {t : Types} where
   path_input m (input.Transmit time max) choice s may = path_transmit m time choice _ (at s []) may
   path_input m (input.Close time code reason) choice s may = path_close time _ _ (at s []) (is_open s.life.state)
   path_input m (input.Ping time) choice s may = unchanged 0 _ s.paths
+  path_input m i choice s may = path_called i choice s may
 
   -- a step
   path_step : (m : Meaning t) (k : ℕ) (s : View t) (i : Input) (x : Step) (s' : View t) → IsStep m k s i x s' → KeepsPath (bytes_from s.paths.current.remote i) x.did s.paths s'.paths

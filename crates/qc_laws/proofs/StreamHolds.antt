@@ -18,8 +18,8 @@ use Rattle.qc_state.specs.declared.trace.Step.{Step}
 use Rattle.qc_state.specs.Forms.{number_space}
 use Rattle.qc_state.specs.Headline.{deeds_of}
 use Rattle.qc_state.specs.Life.{is_open, is_over}
-use Rattle.qc_state.specs.Lower.{bytes_came, flight_dropped, packets_settled, ready_bytes, session_read, session_wrote, stream_of, timer_fired}
-use Rattle.qc_state.specs.Moves.{Accept, Ack, Ask, Come, Enter, Fire, Forget, Move, Read, Seal, Shut, Take, Tell, Write, deeds_move, lower_move, move_to, state_move}
+use Rattle.qc_state.specs.Lower.{bytes_came, flight_dropped, packets_settled, ready_bytes, session_read, session_wrote, stream_of, timer_fired, limits_learned, frame_handed, streams_closed, streams_stepped, events_told, event_told}
+use Rattle.qc_state.specs.Moves.{Accept, Ack, Ask, Come, Enter, Fire, Forget, Move, Read, Seal, Shut, Take, Tell, Write, deeds_move, lower_move, move_to, state_move, Hand, Call}
 use Rattle.qc_state.specs.Numbers.{next_number}
 use Rattle.qc_state.specs.Receiving.{datagram_after}
 use Rattle.qc_state.specs.Run.{IsAllowed, IsStep, Run, began, called, close_after, input_after, reported, step_after, time_of}
@@ -38,6 +38,7 @@ use Rattle.qc_laws.proofs.Receives.{datagram_holds}
 use Rattle.qc_laws.proofs.StreamSteps.{after_append, bytes_append, came_apart, came_here, flown_stream, front_of, is_same, last_append, last_of, read_apart, read_append, read_here, ready_read, reads_append, same_since}
 use Rattle.qc_state.proofs.Telling.{told_appends}
 use Rattle.qc_state.proofs.Transmitted.{IsSending, holds_transmit}
+use Rattle.qc_laws.proofs.StreamCalls.{called_input, handed_told}
 
 module _ {t : Types} (id : SpaceId) where
   -- ---- within a packet
@@ -78,6 +79,7 @@ module _ {t : Types} (id : SpaceId) where
   told_stays o (did.Gave layer.Session body) s h beside = absurd beside
   told_stays o (did.Gave layer.Recovery body) s h beside = (refl, refl)
   told_stays o (did.Gave layer.Life body) s h beside = (refl, refl)
+  told_stays o (did.Gave layer.Streams body) s h beside = (refl, refl)
   told_stays o (did.Piece space number v) s h beside = (ap (λ (x : Option SpaceId). is_of id x) h.0, refl)
   told_stays o _ s h beside = absurd h
 
@@ -121,7 +123,7 @@ module _ {t : Types} (id : SpaceId) where
 
   -- each other move of a packet
   move_within : (m : Meaning t) (o : OpenPacket) (x : Move t) (a : At t) → IsInPacket m o x a.state → IsBeside x → Within (is_space id o.space) a (move_to x a)
-  unfolding lower_move deeds_move flight_dropped packets_settled session_wrote stream_of
+  unfolding lower_move deeds_move flight_dropped packets_settled session_wrote limits_learned frame_handed streams_closed event_told events_told streams_stepped stream_of
   move_within m o (Read space count session) a h beside = absurd beside
   move_within m o (Seal time form n size fs) a h beside = absurd h
   move_within m o (Fire after) a h beside = absurd h
@@ -129,6 +131,9 @@ module _ {t : Types} (id : SpaceId) where
   move_within m o (Tell d) a h beside = let both = told_stays o d a.state h beside in still_within (is_space id o.space) (Tell d) a refl both.0 both.1
   move_within m o (Enter space n v) a h beside = still_within (is_space id o.space) (Enter space n v) a refl (ap (λ (y : SpaceId). is_space id y) h.1.space) refl
   move_within m o (Accept time space n e g v) a h beside = still_within (is_space id o.space) (Accept time space n e g v) a refl (ap (λ (y : SpaceId). is_space id y) h.3.space) refl
+  move_within m o (Hand frame) a h beside =
+      let now : Bool = is_space id o.space in
+      still_within now (Hand frame) a refl (handed_told (λ ds. last_of id now ds ≡ now) frame refl (λ body. refl)) (handed_told (λ ds. session_bytes id now ds ≡ []) frame refl (λ body. refl))
   move_within m o x a h beside = still_within (is_space id o.space) x a refl refl refl
 
   -- ---- from one moment to another
@@ -179,7 +184,7 @@ module _ {t : Types} (id : SpaceId) where
   -- ---- inputs
 
   outside_kept : (time : ℕ) (x : Move t) (a : At t) → IsOutside time x a.state → Kept a (move_to x a)
-  unfolding lower_move deeds_move
+  unfolding lower_move deeds_move limits_learned streams_closed event_told events_told streams_stepped stream_of
   outside_kept time (Seal at form n size fs) a h = absurd h
   outside_kept time (Come space offset bytes) a h = absurd h
   outside_kept time (Read space count session) a h = absurd h
@@ -187,6 +192,7 @@ module _ {t : Types} (id : SpaceId) where
   outside_kept time (Ack space n after) a h = absurd h
   outside_kept time (Fire after) a h = absurd h
   outside_kept time (Write bytes keys session) a h = absurd h
+  outside_kept time (Hand frame) a h = absurd h
   outside_kept time (Tell (did.Piece space number v)) a h = still_kept (Tell (did.Piece space number v)) a refl (λ now. refl)
   outside_kept time (Tell d) a h = absurd h
   outside_kept time x a h = still_kept x a refl (λ now. refl)
@@ -196,7 +202,7 @@ module _ {t : Types} (id : SpaceId) where
       datagram_holds m coming (λ p. Unit {0}) Kept kept_here kept_next (λ x b h may. outside_kept coming.time x b h) (λ p comes o b opened. packet_kept m o b opened.lively) bytes a (λ p among. tt)
 
   timed_kept : (x : Move t) → IsTimed x → (a : At t) → Kept a (move_to x a)
-  unfolding lower_move deeds_move timer_fired stream_of
+  unfolding lower_move deeds_move timer_fired limits_learned streams_closed event_told events_told streams_stepped stream_of
   timed_kept (Seal at form n size fs) h a = absurd h
   timed_kept (Come space offset bytes) h a = absurd h
   timed_kept (Read space count session) h a = absurd h
@@ -206,10 +212,11 @@ module _ {t : Types} (id : SpaceId) where
   timed_kept (Forget space) h a = absurd h
   timed_kept (Ack space n after) h a = absurd h
   timed_kept (Write bytes keys session) h a = absurd h
+  timed_kept (Hand frame) h a = absurd h
   timed_kept x h a = still_kept x a refl (λ now. refl)
 
   sending_kept : (x : Move t) → IsSending x → (a : At t) → Kept a (move_to x a)
-  unfolding lower_move deeds_move flight_dropped stream_of
+  unfolding lower_move deeds_move flight_dropped limits_learned streams_closed event_told events_told streams_stepped stream_of
   sending_kept (Seal at form n size fs) h a = absurd h
   sending_kept (Come space offset bytes) h a = absurd h
   sending_kept (Read space count session) h a = absurd h
@@ -219,6 +226,7 @@ module _ {t : Types} (id : SpaceId) where
   sending_kept (Ack space n after) h a = absurd h
   sending_kept (Fire after) h a = absurd h
   sending_kept (Write bytes keys session) h a = absurd h
+  sending_kept (Hand frame) h a = absurd h
   sending_kept x h a = still_kept x a refl (λ now. refl)
 
   seal_kept : (time : ℕ) (form : Form) (fs : List FrameValue) (a : At t) → Kept a (move_to (Seal time form (next_number a.state.numbers (number_space form)) (packet_size a.state form fs) fs) (move_to (Take (number_space form) fs) a))
@@ -229,17 +237,18 @@ module _ {t : Types} (id : SpaceId) where
       (still_kept (Seal time form (next_number a.state.numbers (number_space form)) (packet_size a.state form fs) fs) b (flown_stream id b.state.waiting.close_owed b.state.lower form _ time _ fs) (λ now. refl))
 
   shut_kept : (time : ℕ) (close : Close) (a : At t) (b : Bool) → Kept a (if b then move_to (Shut time close) a else a)
-  unfolding lower_move deeds_move
+  unfolding lower_move deeds_move streams_closed streams_stepped stream_of
   shut_kept time close a true = still_kept (Shut time close) a refl (λ now. refl)
   shut_kept time close a false = kept_here a
 
   input_kept : (m : Meaning t) (i : Input) (choice : Choice) (a : At t) → IsAllowed m i choice a → Kept a (input_after m i choice a)
-  unfolding IsAllowed input_after close_after lower_move deeds_move
+  unfolding IsAllowed input_after close_after lower_move deeds_move streams_stepped stream_of
   input_kept m (input.Datagram time remote ecn bytes) choice a may = datagram_kept m (record { time = time; remote = remote; mark = ecn }) bytes a
   input_kept m (input.Timeout time) choice a may = holds_timeout Kept kept_here kept_next (λ x h b may_be. timed_kept x h b) m time a
   input_kept m (input.Transmit time max) choice a may = holds_transmit Kept kept_here kept_next (λ x r b h. sending_kept x r b) (λ at form fs b h. seal_kept at form fs b) m time choice a may
   input_kept m (input.Close time code reason) choice a may = shut_kept time _ a (is_open a.state.life.state)
   input_kept m (input.Ping time) choice a may = still_kept (Ask a.state.keys.highest) a refl (λ now. refl)
+  input_kept m i choice a may = called_input Kept kept_here kept_next (λ x b h. still_kept (Call x) b refl (λ now. refl)) i choice.read a may
 
   -- ---- steps and runs
 
@@ -250,7 +259,7 @@ module _ {t : Types} (id : SpaceId) where
     pub given : (now : Bool) → session_bytes id now ds ≡ all_read steps
 
   step_over : (m : Meaning t) (k : ℕ) (s : View t) (i : Input) (x : Step) (s' : View t) → IsStep m k s i x s' → Over x.did s s'
-  unfolding called began step_after reported state_move lower_move
+  unfolding called began step_after reported state_move lower_move events_told streams_stepped stream_of
   step_over m k s i x s' h =
       let kept : Kept (began s (time_of i)) (input_after m i h.choice (began s (time_of i))) = input_kept m i h.choice (began s (time_of i)) h.allowed in
       let deeds : x.did ≡ kept.since = h.deeds ∙ kept.appended in

@@ -31,8 +31,8 @@ use Rattle.qc_state.specs.Acks.{is_ack}
 use Rattle.qc_state.specs.Flight.{counts_in_flight, flown_packet, is_padding}
 use Rattle.qc_state.specs.Forms.{number_space}
 use Rattle.qc_state.specs.Life.{connected_reported, data_ready, drained_reported, identifiers_wanted, is_established, is_handshake, is_open, life_closed, life_drained, life_established, life_raised, lost_reported, notice_reported, notices_reported, rank_of, ready_reported, reason_given, token_learned}
-use Rattle.qc_state.specs.Lower.{bytes_came, flight_dropped, packet_flown, packets_settled, session_read, session_wrote, timer_fired}
-use Rattle.qc_state.specs.Moves.{Accept, Ack, AreNext, Arm, Establish, Fail, Finish, Fire, Forget, Give, Hear, IsTold, Move, PeerCloses, PeerClosesToo, Raise, Seal, Shut, Take, Tell, Write, armed_with, deeds_move, keys_move, life_move, lower_move, move_to, paths_move, setup_move, state_move, timers_move, waiting_move}
+use Rattle.qc_state.specs.Lower.{bytes_came, flight_dropped, packet_flown, packets_settled, session_read, session_wrote, timer_fired, limits_learned, frame_handed, streams_closed, streams_stepped, event_told, events_told}
+use Rattle.qc_state.specs.Moves.{Accept, Ack, AreNext, Arm, Establish, Fail, Finish, Fire, Forget, Give, Hear, IsTold, Move, PeerCloses, PeerClosesToo, Raise, Seal, Shut, Take, Tell, Write, armed_with, deeds_move, keys_move, life_move, lower_move, move_to, paths_move, setup_move, state_move, timers_move, waiting_move, Hand}
 use Rattle.qc_state.specs.Paths.{is_blocked, path_accepted, path_idle, path_kept, path_spun, peer_fixed}
 use Rattle.qc_state.specs.Recovering.{around_of, fired_by, is_validated_by_peer, loss_time, settled_by}
 use Rattle.qc_state.specs.Sending.{flown_after, is_flown, packet_size, sealed_in}
@@ -55,6 +55,7 @@ use Rattle.qc_laws.proofs.CryptoBuffers.{or_either, or_left, or_right}
 use Rattle.qc_laws.proofs.EndsHold.{low_open}
 use Rattle.qc_laws.proofs.KnownMoves.{IsFiredBy, IsSettledBy}
 use Rattle.qc_laws.proofs.TimerFlights.{Less, ack_less, armed_alone, armed_some, dropped_each, fire_less, kept_asked, kept_greatest, less_holds, sent_each}
+use Rattle.qc_laws.proofs.StreamCalls.{handed_told}
 
 -- ---- deeds
 
@@ -305,10 +306,11 @@ module _ {t : Types} where
   plain_since m (Raise to) s since k h = never (sealed_since since (did.Rose (rank_of to) ∷ [])) (is_established to) _ (ap is_established k) h
   plain_since m (Give why) s since k h = ap (λ (x : State). since && is_established x) (sym (given_same s.life why (is_none s.life.reason))) ∙ h
   plain_since m (Tell d) s since k h = ap (λ (b : Bool). b && is_established s.life.state) (sym (told_since since d k)) ∙ h
+  plain_since m (Hand frame) s since k h = ap (λ (b : Bool). b && is_established s.life.state) (sym (handed_told (λ ds. sealed_since since ds ≡ since) frame refl (λ body. refl))) ∙ h
   plain_since m _ s since k h = h
 
   plain_elicits : (m : Meaning t) (x : Move t) (s : View t) (id : SpaceId) → IsPlain m x s → elicits_in (state_move x s) id ≡ true → elicits_in s id ≡ true
-  unfolding elicits_in state_move lower_move packets_settled timer_fired flight_dropped bytes_came session_read session_wrote settled_by fired_by dropped_after space_dropped
+  unfolding elicits_in state_move lower_move packets_settled timer_fired flight_dropped bytes_came session_read session_wrote limits_learned frame_handed streams_closed streams_stepped event_told events_told settled_by fired_by dropped_after space_dropped
   plain_elicits m (Seal time form n size fs) s id k h = absurd k
   plain_elicits m (Ack space n after) s id k h =
       (ack_less m.control _ id space _ _ _ _ _ s.lower.recovery s.paths.current.kept).any (λ (e : Entry). e.1.ack_eliciting) (subst (λ (a : After t.C). has_eliciting (recovery.space_of id a.recovery).flight ≡ true) k.is h)
@@ -351,7 +353,7 @@ module _ {t : Types} where
   fail_space s id h = record { flight = h.flight; keyed = λ e. failed_same s.keys id ∙ h.keyed e; below = λ e. h.below (sym (failed_same s.keys id) ∙ e) }
 
   plain_spaces : (m : Meaning t) (x : Move t) (s : View t) → IsPlain m x s → Spaces s → Spaces (state_move x s)
-  unfolding state_move lower_move keys_move bytes_came session_read
+  unfolding state_move lower_move keys_move bytes_came session_read limits_learned frame_handed streams_closed streams_stepped event_told events_told
   plain_spaces m (Seal time form n size fs) s k h = absurd k
   plain_spaces m (Ack space n after) s k h = λ id. less_space s (state_move (Ack space n after) s) id refl (settled_less m space id n after s k) (h id)
   plain_spaces m (Fire after) s k h = λ id. less_space s (state_move (Fire after) s) id refl (fired_less m id after s k) (h id)
@@ -400,7 +402,7 @@ module _ {t : Types} where
   fired_before m after s k = less_before s (state_move (Fire after) s) refl refl (λ id. fired_less m id after s k)
 
   plain_probe : (m : Meaning t) (x : Move t) (s : View t) → IsPlain m x s → Spaces s → must_probe (state_move x s) ≡ true → must_probe s ≡ true
-  unfolding must_probe is_validated_by_peer has_probe_keys has_asked state_move lower_move keys_move setup_move bytes_came session_read failure_counted has_keys has_keys_for form_in token_expected parameters_known word_drawn
+  unfolding must_probe is_validated_by_peer has_probe_keys has_asked state_move lower_move keys_move setup_move bytes_came session_read limits_learned frame_handed streams_closed streams_stepped event_told events_told failure_counted has_keys has_keys_for form_in token_expected parameters_known word_drawn
   plain_probe m (Seal time form n size fs) s k h e = absurd k
   plain_probe m (Ack space n after) s k h e = before_probes s (state_move (Ack space n after) s) (settled_before m space n after s k) e
   plain_probe m (Fire after) s k h e = before_probes s (state_move (Fire after) s) (fired_before m after s k) e

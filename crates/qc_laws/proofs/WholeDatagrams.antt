@@ -39,7 +39,8 @@ use Rattle.qc_state.specs.Receiving.{counted_after, cut_of, datagram_after, even
 use Rattle.qc_state.specs.Setup.{is_first_awaited, token_expected}
 use Rattle.qc_state.specs.Types.{Types, Meaning}
 use Rattle.qc_state.specs.View.{View, At}
-use Rattle.qc_laws.proofs.HarmlessBytes.{expected_lets, first_ids, first_space, let_in, not_over, same_opening, tests_hold}
+use Rattle.qc_laws.proofs.HarmlessBytes.{expected_lets, first_ids, first_space, let_in, same_opening}
+use Rattle.qc_laws.proofs.HarmlessTests.{not_over, tests_hold}
 
 -- ---- a packet, and the bytes behind it, have as many bytes as the datagram
 

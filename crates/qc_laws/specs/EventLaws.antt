@@ -5,7 +5,7 @@ use Rattle.qc_state.specs.declared.deeds.Did.TheVariants.{Piece, Gave, Sealed, R
 use Rattle.qc_state.specs.declared.events.EndpointEvent.{EndpointEvent}
 use Rattle.qc_state.specs.declared.events.EndpointEvent.TheVariants.{ResetToken, NeedIdentifiers, Drained}
 use Rattle.qc_state.specs.declared.events.Event.{Event}
-use Rattle.qc_state.specs.declared.events.Event.TheVariants.{HandshakeDataReady, Connected, ConnectionLost}
+use Rattle.qc_state.specs.declared.events.Event.TheVariants.{HandshakeDataReady, Connected, Stream, ConnectionLost}
 use Rattle.qc_state.specs.declared.life.ConnectionError.{ConnectionError}
 use Rattle.qc_state.specs.declared.life.Life.{Life}
 use Rattle.qc_state.specs.declared.trace.Step.{Step}
@@ -17,6 +17,7 @@ abbrev pub losses_in : List Event → List ConnectionError
 losses_in [] = []
 losses_in (HandshakeDataReady ∷ es) = losses_in es
 losses_in (Connected ∷ es) = losses_in es
+losses_in (Stream event ∷ es) = losses_in es
 losses_in (ConnectionLost why ∷ es) = why ∷ losses_in es
 
 -- how many events tell that the handshake is over
@@ -24,6 +25,7 @@ abbrev pub connections_in : List Event → ℕ
 connections_in [] = 0
 connections_in (HandshakeDataReady ∷ es) = connections_in es
 connections_in (Connected ∷ es) = connections_in es + 1
+connections_in (Stream event ∷ es) = connections_in es
 connections_in (ConnectionLost why ∷ es) = connections_in es
 
 -- how many events tell the endpoint that the connection has drained

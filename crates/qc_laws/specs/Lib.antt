@@ -10,4 +10,5 @@ pub mod PathLaws
 pub mod PieceLaws
 pub mod RecoveryLaws
 pub mod StreamLaws
+pub mod StreamsLaws
 pub mod TimerLaws

@@ -7,7 +7,7 @@ use Rattle.qc_state.specs.declared.deeds.Did.{Did}
 use Rattle.qc_state.specs.declared.deeds.Did.TheVariants.{Piece}
 use Rattle.qc_state.specs.declared.deeds.Verdict.TheVariants.{Admitted}
 use Rattle.qc_state.specs.declared.input.Input.{Input}
-use Rattle.qc_state.specs.declared.input.Input.TheVariants.{Datagram, Timeout, Transmit, Close, Ping}
+use Rattle.qc_state.specs.declared.input.Input.TheVariants.{Datagram}
 use Rattle.qc_state.specs.declared.paths.Path.{Path}
 use Rattle.qc_state.specs.declared.paths.Paths.{Paths}
 use Rattle.qc_state.specs.declared.transmit.TheConstants.{DATAGRAM_SIZE}
@@ -16,10 +16,7 @@ use Rattle.qc_state.specs.Paths.{same_address}
 -- how many bytes an input brings that come from this address
 abbrev pub bytes_from : SocketAddr → Input → ℕ
 bytes_from remote (Datagram time from ecn bytes) = if same_address remote from then length bytes else 0
-bytes_from remote (Timeout time) = 0
-bytes_from remote (Transmit time max) = 0
-bytes_from remote (Close time code reason) = 0
-bytes_from remote (Ping time) = 0
+bytes_from remote _ = 0
 
 -- how many bytes these inputs bring that come from this address
 abbrev pub all_from : SocketAddr → List Input → ℕ

@@ -20,13 +20,16 @@ use Rattle.qc_state.specs.declared.opening.Opening.{Opening}
 use Rattle.qc_state.specs.declared.opening.Opening.TheVariants.{Unreadable, Unopened, Reserved, Opened}
 use Rattle.qc_state.specs.Life.{is_over}
 use Rattle.qc_state.specs.Lower.{ready_bytes, stream_of}
-use Rattle.qc_state.specs.Moves.{Expect, move_to}
+use Rattle.qc_state.specs.Moves.{Expect, move_to, told_to_streams}
 use Rattle.qc_state.specs.Numbers.{next_number}
 use Rattle.qc_state.specs.Opening.{opening_of}
 use Rattle.qc_state.specs.Receiving.{crypto_stop_of, cut_of, expected_space, piece_after, pieces_after, stop_in}
 use Rattle.qc_state.specs.Types.{Types, Meaning}
 use Rattle.qc_state.specs.Verdicts.{verdict_of}
 use Rattle.qc_state.specs.View.{View, At}
+use Rattle.qc_state.specs.Streams.{steps_of_frame, streams_stop}
+use Rattle.qc_streams.specs.Waits.{after}
+use Rattle.qc_streams.specs.declared.state.StreamsState.{StreamsState}
 
 -- the deeds that tell of packets which came, in order
 abbrev pub pieces_in : List Did → List Did
@@ -55,10 +58,11 @@ pub data Outcome : Type 0 where
   Goes : Outcome  -- it is applied, and the frames behind it come next
 
 -- what the frames of a packet change, as far as it decides what becomes of those behind them: what came of the space's CRYPTO stream,
--- and the session
+-- the session, and the streams of the application
 pub record Reading (S : Type 0) : Type 0 where
   pub stream : Assembly
   pub session : S
+  pub streams : StreamsState
 
 -- an error refuses a frame
 abbrev pub refused_or : Option TransportError → Outcome → Outcome
@@ -69,6 +73,11 @@ refused_or None other = other
 abbrev pub unless_refused : Result Bool TransportError → Outcome
 unless_refused (Err error) = Last
 unless_refused (Ok ready) = Goes
+
+-- a frame that the streams refuse is the last one
+abbrev pub unless_stopped : Option TransportError → Outcome
+unless_stopped (Some error) = Last
+unless_stopped None = Goes
 
 -- a close is the last frame, but in a 1-RTT packet
 abbrev pub close_outcome : SpaceId → Outcome
@@ -88,29 +97,29 @@ session_gift [] = []
 session_gift (b ∷ bytes) = did.Gave layer.Session (b ∷ bytes) ∷ []
 
 -- what a frame gives to a layer: the session is given the bytes that can be read in order from then on, any other layer the frame as it
--- is spelled
+-- is spelled; so are the streams, whether they refuse it or not
 abbrev pub gift_of : Assembly → FrameValue → List Did
 gift_of stream (frames.Crypto offset body) = session_gift (ready_bytes (inserted offset body stream))
 gift_of stream (frames.Ack ack) = did.Gave layer.Recovery (spelling (frames.Ack ack)) ∷ []
 gift_of stream frames.HandshakeDone = did.Gave layer.Life (spelling frames.HandshakeDone) ∷ []
 gift_of stream (frames.ConnectionClose code type reason) = did.Gave layer.Life (spelling (frames.ConnectionClose code type reason)) ∷ []
 gift_of stream (frames.ApplicationClose code reason) = did.Gave layer.Life (spelling (frames.ApplicationClose code reason)) ∷ []
-gift_of stream _ = []
+gift_of stream frame = told_to_streams frame
 
 module _ {t : Types} where
-  -- what came of the space's CRYPTO stream, and the session, as they are
+  -- what came of the space's CRYPTO stream, the session, and the streams, as they are
   abbrev pub reading_of : View t → SpaceId → Reading t.S
-  reading_of s id = record { stream = stream_of s.lower id; session = s.lower.session }
+  reading_of s id = record { stream = stream_of s.lower id; session = s.lower.session; streams = s.lower.streams }
 
   -- the session reads bytes, if there are any
-  abbrev pub read_behind : Meaning t → Assembly → t.S → List ℕ → Reading t.S
-  read_behind m stream session [] = record { stream = stream; session = session }
-  read_behind m stream session (b ∷ bytes) = record { stream = advanced (length (b ∷ bytes)) stream; session = m.after_read session (b ∷ bytes) }
+  abbrev pub read_behind : Meaning t → Reading t.S → List ℕ → Reading t.S
+  read_behind m r [] = r
+  read_behind m r (b ∷ bytes) = record r { stream = advanced (length (b ∷ bytes)) r.stream; session = m.after_read r.session (b ∷ bytes) }
 
-  -- both behind a frame
+  -- all three behind a frame: of any other frame than CRYPTO the streams make the steps that it is, if it is any
   abbrev pub reading_behind : Meaning t → Reading t.S → FrameValue → Reading t.S
-  reading_behind m r (frames.Crypto offset body) = let stream : Assembly = inserted offset body r.stream in read_behind m stream r.session (ready_bytes stream)
-  reading_behind m r _ = r
+  reading_behind m r (frames.Crypto offset body) = let came : Reading t.S = record r { stream = inserted offset body r.stream } in read_behind m came (ready_bytes came.stream)
+  reading_behind m r frame = record r { streams = after (steps_of_frame frame r.streams) r.streams }
 
   -- whether the session refuses bytes
   abbrev pub read_outcome : Meaning t → t.S → List ℕ → Outcome
@@ -123,15 +132,15 @@ module _ {t : Types} where
       refused_or (crypto_stop_of s.setup.fixed.crypto_buffer_size (expected_space s) r.stream id offset body) (read_outcome m r.session (ready_bytes (inserted offset body r.stream)))
   kind_outcome m s id r (frames.ConnectionClose code type reason) = close_outcome id
   kind_outcome m s id r (frames.ApplicationClose code reason) = close_outcome id
-  kind_outcome m s id r _ = Goes
+  kind_outcome m s id r frame = unless_stopped (streams_stop frame r.streams)
 
   -- what becomes of a frame
   abbrev pub outcome_of : Meaning t → View t → SpaceId → Reading t.S → TypedValue → Outcome
   outcome_of m s id r read =
       refused_or (stop_in s.setup.fixed.side id (next_number s.numbers id) s.numbers.filter.last read.ty read.frame) (kind_outcome m s id r read.frame)
 
-  -- the frames of an admitted packet that are applied: those in front of the first that stops it or can't be read, or outside of 1-RTT
-  -- packets up to and with the first close
+  -- the frames of an admitted packet that are applied: those in front of the first that stops it by its kind or can't be read; but where
+  -- the session refuses bytes of a frame, or the streams refuse one, that one is the last, and outside of 1-RTT packets the first close is
   abbrev pub applied_in : Meaning t → View t → SpaceId → Reading t.S → List Item → List FrameValue
   applied_in m s id r [] = []
   applied_in m s id r (Err fault ∷ items) = []

@@ -24,6 +24,7 @@ ghost use Rattle.qc_laws.specs.RecoveryLaws.{EachSettlesOnce, Recovers};
 ghost use Rattle.qc_state.specs.Run.{IsStep, Run, began, placed_behind};
 ghost use Rattle.qc_state.specs.Setup.{is_first_awaited};
 ghost use Rattle.qc_laws.specs.StreamLaws.{GivesStream};
+ghost use Rattle.qc_laws.specs.StreamsLaws.{FoldsStreams};
 ghost use Rattle.qc_laws.specs.TimerLaws.{KeepsTimer};
 ghost use Rattle.qc_state.specs.View.{View, At, at};
 ghost use Rattle.qc_state.specs.declared.coming.Coming.{Coming};
@@ -97,6 +98,15 @@ pub fn recovery_is_folded<U: Suite>()
     ensures settled { (s last : View ⟦<U as Means>⟧.types) (k : ℕ) (is : List Input) (xs : List Step) → Run ⟦<U as Means>⟧.meaning k s is xs last → Ends s → EachSettlesOnce (deeds_of xs) s last }
 {}
 
+/// A law, which runs no code. Over a run the streams of the application are what their own steps leave, one after the other, and each step
+/// may be made as its turn comes: it is a frame that came, a call of the application's, that the peer's limits are known, that the
+/// connection isn't open any more, or that an event is asked for. Those of the steps that frames make are the ones of the frames that were
+/// given to the streams, in order, none left out and none made up; a frame that they refuse makes none. So it is with those that calls make,
+/// which answer as the streams are then. So every law over the steps of the streams holds of a run (RFC 9000, 2 to 4).
+pub fn streams_are_folded<U: Suite>()
+    ensures { (s last : View ⟦<U as Means>⟧.types) (k : ℕ) (is : List Input) (xs : List Step) → Run ⟦<U as Means>⟧.meaning k s is xs last → FoldsStreams is xs s last }
+{}
+
 /// A law, which runs no code. Over a run, while the connection is open, each byte that the session wrote in a space with keys waits to be
 /// sealed, is in flight, or was acknowledged: a packet that has it in a CRYPTO frame is in flight, or is one of those that recovery's
 /// steps acknowledged, or was acknowledged before (RFC 9000, 13.3).
@@ -165,7 +175,8 @@ pub fn datagrams_keep<U: Suite>()
 /// payload give, in order, if it is admitted, and nothing else: those are its frames up to the first that stops it,
 /// or outside of 1-RTT packets up to and with the first close (RFC 9000, 10.2.2 and 12.4). The session is given, in
 /// one call a CRYPTO frame, the bytes of the space's stream that can be read in order once that frame's came; any
-/// other layer the frame as it is spelled.
+/// other layer the frame as it is spelled. The streams are given one that they refuse too, which is the last one;
+/// only of frames that say where the peer is blocked nothing is told.
 pub fn packets_tell<U: Suite>()
     ensures { (a : At ⟦<U as Means>⟧.types) (coming : Coming) (p : Piece) → TellsPiece (piece_deed ⟦<U as Means>⟧.meaning a.state p) (piece_gifts ⟦<U as Means>⟧.meaning a.state p) a (piece_after ⟦<U as Means>⟧.meaning coming p a) }
 {}
@@ -183,8 +194,8 @@ pub fn steps_tell<U: Suite>()
     ensures { (s s' : View ⟦<U as Means>⟧.types) (k : ℕ) (coming : Coming) (bytes : List ℕ) (x : Step) → IsStep ⟦<U as Means>⟧.meaning k s (input.Datagram coming.time coming.remote coming.mark bytes) x s' → TellsDatagram ⟦<U as Means>⟧.meaning coming bytes (began s coming.time) (at s' x.did) }
 {}
 
-/// A law, which runs no code. Only a datagram does so: a step over another input, a transmit, a timeout, a close or a ping, tells
-/// of no packet that came (`pieces`), and that nothing was given to a layer (`given`).
+/// A law, which runs no code. Only a datagram does so: a step over another input, a transmit, a timeout, a close, a ping or a call of
+/// the streams, tells of no packet that came (`pieces`), and that nothing was given to a layer (`given`).
 pub fn datagrams_alone_tell<U: Suite>()
     ensures pieces { (s s' : View ⟦<U as Means>⟧.types) (k : ℕ) (i : Input) (x : Step) → is_datagram i ≡ false → IsStep ⟦<U as Means>⟧.meaning k s i x s' → pieces_in x.did ≡ [] }
     ensures given { (s s' : View ⟦<U as Means>⟧.types) (k : ℕ) (i : Input) (x : Step) → is_datagram i ≡ false → IsStep ⟦<U as Means>⟧.meaning k s i x s' → given_in x.did ≡ [] }

@@ -8,5 +8,5 @@ pub use laws::{
     ends_hold, events_are_datagrams, events_told, first_packets_are_datagrams, harmless_bytes,
     held_acks_wait, ids_hold, initial_is_left, keys_hold, loss_timer_stands, marks_are_told,
     numbers_count_once, packets_tell, paths_hold, recovery_is_folded, runs_join,
-    session_is_given_its_stream, steps_tell,
+    session_is_given_its_stream, steps_tell, streams_are_folded,
 };
