@@ -2,6 +2,7 @@
 #![tactic(auto)]
 
 mod connection;
+mod directions;
 mod driving;
 mod laws;
 mod steps;
@@ -13,8 +14,8 @@ pub use laws::text_tells_run;
 // What the calls name, with all that stands in it.
 pub use bytes::{Bytes, BytesMut};
 pub use qc_base::{
-    ConnectionId, Duration, EcnCodepoint, Fault, Instant, PacketNumber, ResetToken, Side, SpaceId,
-    TransportError, TransportErrorCode, VarInt,
+    ConnectionId, Dir, Duration, EcnCodepoint, Fault, Instant, PacketNumber, ResetToken, Side,
+    SpaceId, StreamId, TransportError, TransportErrorCode, VarInt,
 };
 pub use qc_config::TokenStore;
 pub use qc_core::Core;
@@ -27,7 +28,8 @@ pub use qc_receive::ConnectionEvent;
 pub use qc_recovery::TransportConfig;
 pub use qc_state::{
     Answer, ApplicationClose, Body, ConnectionClose, ConnectionError, Did, Dids, EndpointEvent,
-    EndpointEvents, Event, Events, Input, Layer, Means, Quiet, Step, Suite, Trace, Transmit,
-    Verdict, Word, negotiate_max_idle_timeout,
+    EndpointEvents, Event, Events, Input, Layer, Means, Quiet, Refusal, Step, Suite, Trace,
+    Transmit, Verdict, Word, negotiate_max_idle_timeout,
 };
+pub use qc_streams::StreamEvent;
 pub use rand_core::Rng;
