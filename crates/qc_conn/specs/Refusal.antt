@@ -2,29 +2,35 @@
 use Rattle.std.specs.Prelude.{◌≡◌, ℕ, ◌+◌, Bool, false, nat_lt, if◌then◌else◌, ◌==◌, List, [], ◌∷◌, length, take, drop, Option, Some, None}
 use Rattle.std.specs.Option.{option_map}
 use Rattle.qc_conn.specs.declared.driving.BadWhy.{BadWhy}
-use Rattle.qc_conn.specs.declared.driving.BadWhy.TheVariants.{ZeroDatagrams}
+use Rattle.qc_conn.specs.declared.driving.BadWhy.TheVariants.{ZeroDatagrams, Direction}
 use Rattle.qc_conn.specs.declared.driving.DriveKind.{DriveKind}
 use Rattle.qc_conn.specs.declared.driving.DriveKind.TheVariants.{OutOfMemory, TimeBack, BadCall, Failed}
 use Rattle.qc_state.specs.declared.input.Input.{Input}
 use Rattle.qc_state.specs.declared.input.Input.TheVariants.{Datagram, Timeout, Transmit, Open, Accept, Write, Finish, ResetSend, StopRecv, Read, Close, Ping, MaxStreams, SendWindow, ReceiveWindow}
 use Rattle.qc_state.specs.declared.trace.Step.{Step}
 use Rattle.qc_state.specs.Run.{time_of, IsStep}
+use Rattle.qc_state.specs.Streams.{sends_on, receives_on}
 use Rattle.qc_state.specs.Types.{Types, Meaning}
 use Rattle.qc_state.specs.View.{View}
 
+-- what is wrong with a call of the stream with this id, whose direction allows it or not
+abbrev pub bad_direction : (allowed : Bool) → (id : ℕ) → Option BadWhy
+bad_direction allowed id = if allowed then None else Some (Direction id)
+
 module _ {t : Types} where
-  -- what is wrong with the call that an input asks for of a connection: a transmit has to be allowed at least one datagram
+  -- what is wrong with the call that an input asks for of a connection: a transmit has to be allowed at least one datagram, and a call
+  -- of a stream has to be one that the stream's direction allows this end (RFC 9000, section 2.1)
   abbrev pub bad_call : View t → Input → Option BadWhy
   bad_call s (Transmit time max) = if max == 0 then Some ZeroDatagrams else None
   bad_call s (Datagram time remote ecn bytes) = None
   bad_call s (Timeout time) = None
   bad_call s (Open time dir) = None
   bad_call s (Accept time dir) = None
-  bad_call s (Write time id body) = None
-  bad_call s (Finish time id) = None
-  bad_call s (ResetSend time id code) = None
-  bad_call s (StopRecv time id code) = None
-  bad_call s (Read time id max) = None
+  bad_call s (Write time id body) = bad_direction (sends_on s.setup.fixed.side id) id
+  bad_call s (Finish time id) = bad_direction (sends_on s.setup.fixed.side id) id
+  bad_call s (ResetSend time id code) = bad_direction (sends_on s.setup.fixed.side id) id
+  bad_call s (StopRecv time id code) = bad_direction (receives_on s.setup.fixed.side id) id
+  bad_call s (Read time id max) = bad_direction (receives_on s.setup.fixed.side id) id
   bad_call s (Close time code reason) = None
   bad_call s (Ping time) = None
   bad_call s (MaxStreams time dir count) = None

@@ -499,6 +499,13 @@ impl<U: Suite> Connection<U> {
         self.core.greatest()
     }
 
+    /// This end's side.
+    pub(crate) fn side(&self) -> Side
+        ensures { result ≡ self.now.core.setup.fixed.side }
+    {
+        self.core.setup.fixed.side
+    }
+
     /// Whether a call met want of memory: each call that can want memory then answers `Failed`.
     pub fn is_failed(&self) -> bool
         ensures { result ≡ self.now.failed }

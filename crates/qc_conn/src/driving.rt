@@ -3,7 +3,7 @@
 ghost use Rattle.std.specs.Prelude.{◌≡◌, ◌≢◌, ◌≤◌, ◌<◌, ℕ, List, [], length, true, false, None, OnOk, OnErr, IfOk, IfErr, IsErr};
 ghost use Rattle.std.specs.List.{All};
 ghost use Rattle.qc_text.specs.OneText.{IsPlain, IsPlainStart};
-ghost use Rattle.qc_conn.specs.Refusal.{bad_call, refusal_of, NamesInput, RefusedAt, TakesAll};
+ghost use Rattle.qc_conn.specs.Refusal.{bad_call, bad_direction, refusal_of, NamesInput, RefusedAt, TakesAll};
 ghost use Rattle.qc_conn.specs.Seen.{counted};
 ghost use Rattle.qc_base.specs.declared.side.SpaceId.{SpaceId};
 ghost use Rattle.qc_laws.specs.AckLaws.{AckHolds, EachHoldsAck};
@@ -23,8 +23,9 @@ ghost use Rattle.qc_laws.specs.TimerLaws.{KeepsTimer};
 ghost use Rattle.qc_state.specs.View.{ideal};
 
 use crate::connection::Connection;
+use crate::directions::{receives_on, sends_on};
 use crate::steps::time;
-use qc_base::Instant;
+use qc_base::{Instant, StreamId};
 use qc_config::TokenStore;
 use qc_state::{Input, Means, Suite, Trace};
 use std::alloc::{AllocError, Global};
@@ -34,6 +35,11 @@ use std::alloc::{AllocError, Global};
 pub enum BadWhy {
     /// A transmit that may send no datagram.
     ZeroDatagrams,
+    /// A call of a stream whose direction doesn't allow it to this end (RFC 9000, 2.1).
+    Direction {
+        /// The stream.
+        id: StreamId,
+    },
 }
 
 /// Why `drive` stopped.
@@ -104,10 +110,22 @@ fn add_step<U: Suite>(
     }
 }
 
-/// What is wrong with the call that the input asks for of the connection, if anything is. So far it is of no connection.
-fn bad_call<U: Suite>(_connection: &Connection<U>, input: &Input) -> Option<BadWhy>
-    ensures { result ≡ bad_call (ideal U.Random.stream _connection.now.core) input.now }
+/// What is wrong with a call of this stream, whose direction allows it or not.
+fn bad_direction(allowed: bool, id: StreamId) -> Option<BadWhy>
+    ensures { result ≡ bad_direction allowed id }
 {
+    if allowed {
+        None
+    } else {
+        Some(BadWhy::Direction { id })
+    }
+}
+
+/// What is wrong with the call that the input asks for of the connection, if anything is.
+fn bad_call<U: Suite>(connection: &Connection<U>, input: &Input) -> Option<BadWhy>
+    ensures { result ≡ bad_call (ideal U.Random.stream connection.now.core) input.now }
+{
+    let side = connection.side();
     match input {
         Input::Transmit { max_datagrams, .. } => {
             if *max_datagrams == 0 {
@@ -115,20 +133,12 @@ fn bad_call<U: Suite>(_connection: &Connection<U>, input: &Input) -> Option<BadW
             }
             None
         }
-        Input::Datagram { .. }
-        | Input::Timeout { .. }
-        | Input::Open { .. }
-        | Input::Accept { .. }
-        | Input::Write { .. }
-        | Input::Finish { .. }
-        | Input::ResetSend { .. }
-        | Input::StopRecv { .. }
-        | Input::Read { .. }
-        | Input::Close { .. }
-        | Input::Ping { .. }
-        | Input::MaxStreams { .. }
-        | Input::SendWindow { .. }
-        | Input::ReceiveWindow { .. } => None,
+        Input::Write { id, .. } | Input::Finish { id, .. } | Input::ResetSend { id, .. } =>
+            bad_direction(sends_on(side, *id), *id),
+        Input::StopRecv { id, .. } | Input::Read { id, .. } =>
+            bad_direction(receives_on(side, *id), *id),
+        Input::Datagram { .. } | Input::Timeout { .. } | Input::Open { .. } | Input::Accept { .. } | Input::Close { .. }
+        | Input::Ping { .. } | Input::MaxStreams { .. } | Input::SendWindow { .. } | Input::ReceiveWindow { .. } => None,
     }
 }
 

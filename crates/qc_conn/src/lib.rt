@@ -2,6 +2,7 @@
 #![tactic(auto)]
 
 mod connection;
+mod directions;
 mod driving;
 mod laws;
 mod steps;

@@ -60,15 +60,19 @@ fn put_bad_call(out: &mut Vec<u8>, at: u64, why: BadWhy) -> Result<(), AllocErro
     out.extend_from_slice(b"input ")?;
     put_number(out, at)?;
     out.extend_from_slice(b" bad call ")?;
-    out.extend_from_slice(why_of(why))?;
+    put_why(out, why)?;
     out.extend_from_slice(b"\n")
 }
 
 #[tactic(auto, unfolding(crate::specs::RefusedText::why_text))]
-fn why_of(why: BadWhy) -> &'static [u8]
-    ensures { result.now ≡ why_text why }
+fn put_why(out: &mut Vec<u8>, why: BadWhy) -> Result<(), AllocError>
+    ensures { OnOk result (out.new.items ≡ out.old.items ++ why_text why) }
 {
     match why {
-        BadWhy::ZeroDatagrams => b"zero datagrams",
+        BadWhy::ZeroDatagrams => out.extend_from_slice(b"zero datagrams"),
+        BadWhy::Direction { id } => {
+            out.extend_from_slice(b"direction ")?;
+            put_number(out, id.value())
+        }
     }
 }

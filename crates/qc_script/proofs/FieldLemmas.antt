@@ -15,14 +15,12 @@ use Rattle.hex.proofs.HexLemmas.{decode_of-encode_lower, decode_of-same, length-
 use Rattle.qc_base.specs.Grammar.{IsBytes}
 use Rattle.qc_base.specs.declared.ecn.EcnCodepoint.{EcnCodepoint}
 use Rattle.qc_base.specs.declared.ecn.EcnCodepoint.TheVariants.{Ect0, Ect1, Ce}
-use Rattle.qc_script.specs.Fields.{Lacks, IsNumberText, hex_field, ip_octets, ip_text, address_text, ecn_text, IsIpInRange, IsAddress, AreFields}
+use Rattle.qc_base.specs.declared.side.Dir.{Dir}
+use Rattle.qc_base.specs.declared.side.Dir.TheVariants.{Bi, Uni}
+use Rattle.qc_script.specs.Fields.{Lacks, hex_field, ip_octets, ip_text, address_text, dir_text, ecn_text, IsIpInRange, IsAddress, AreFields, Begins}
 use Rattle.qc_script.proofs.NumberLemmas.{Lacks-append, Lacks-decimal, first_split, no_split}
 
 -- ---- numbers
-
--- the digits of a number below 2^64
-pub number_text : (digits : List ℕ) (n : ℕ) → n < 2 ^ 64 → digits ≡ decimal n → IsNumberText digits n
-number_text digits n small e = record { spelled = e; small = small }
 
 -- a number of 2^62 or more is no code
 pub code_too_great : (digits : List ℕ) (code : ℕ) → digits ≡ decimal code → code < 2 ^ 64 → 2 ^ 62 ≤ code → (n : ℕ) → n < 2 ^ 62 → digits ≢ decimal n
@@ -297,6 +295,60 @@ mark_other digit none one two three mark e = other digit none one two three mark
 
 pub mark_injective : (a b : Option EcnCodepoint) → ecn_text a ≡ ecn_text b → a ≡ b
 mark_injective a b e = digits_apart a b (ap (λ (z : List ℕ). get_or z 0 0) (sym (ecn_is_digit a) ∙ e ∙ ecn_is_digit b))
+
+-- ---- directions
+
+pub Lacks-dir : (d : Dir) → Lacks 32 (dir_text d)
+Lacks-dir Bi = ((λ e. omega (arith, e)), (λ e. omega (arith, e)), tt)
+Lacks-dir Uni = ((λ e. omega (arith, e)), (λ e. omega (arith, e)), (λ e. omega (arith, e)), tt)
+
+pub dir_injective : (a b : Dir) → dir_text a ≡ dir_text b → a ≡ b
+dir_injective Bi Bi e = refl
+dir_injective Uni Uni e = refl
+dir_injective _ _ e = absurd (omega (arith, ap (λ (z : List ℕ). get_or z 0 0) e))
+
+-- a text that is the word of neither
+pub dir_other : (field : List ℕ) → field ≢ codes "bi" → field ≢ codes "uni" → (d : Dir) → field ≢ dir_text d
+dir_other field bi uni Bi e = bi e
+dir_other field bi uni Uni e = uni e
+
+-- one in front of a space
+pub dir_split : (a b : Dir) (r s : List ℕ) → dir_text a ++ 32 ∷ r ≡ dir_text b ++ 32 ∷ s → (a ≡ b) × (r ≡ s)
+dir_split a b r s e =
+    let parts = first_split 32 (dir_text a) (dir_text b) r s (Lacks-dir a) (Lacks-dir b) e in
+    (dir_injective a b parts.0, parts.1)
+
+-- a text without a space, or with another field in front of it
+pub dir_no_split : (text : List ℕ) → Lacks 32 text → (d : Dir) (rest : List ℕ) → text ≢ dir_text d ++ 32 ∷ rest
+dir_no_split text lacks d rest e = no_split 32 text (dir_text d) rest lacks e
+
+pub dir_no_word : (text field more : List ℕ) → text ≡ field ++ 32 ∷ more → Lacks 32 field → ((d : Dir) → field ≢ dir_text d) → (d : Dir) (rest : List ℕ) → text ≢ dir_text d ++ 32 ∷ rest
+dir_no_word text field more e lacks none d rest h = none d (first_split 32 field (dir_text d) more rest lacks (Lacks-dir d) (sym e ∙ h)).0
+
+-- ---- a number in front of a space
+
+-- a text begins with one number, and has one rest
+pub begins_same : (bound : ℕ) (text : List ℕ) (m : ℕ) (r : List ℕ) (n : ℕ) (s : List ℕ) → bound ≤ 2 ^ 64 → Begins bound text m r → Begins bound text n s → (m ≡ n) × (r ≡ s)
+begins_same bound text m r n s le h k =
+    let first : m < 2 ^ 64 = omega (arith, h.small, le) in
+    let second : n < 2 ^ 64 = omega (arith, k.small, le) in
+    let parts = first_split 32 (decimal m) (decimal n) r s (Lacks-decimal 32 m (omega arith) first) (Lacks-decimal 32 n (omega arith) second) (sym h.spelled ∙ k.spelled) in
+    (decimal_injective m n first second parts.0, parts.1)
+
+-- a text without a space, or with another field in front of it
+pub begins_no_split : (bound : ℕ) (text : List ℕ) → Lacks 32 text → (n : ℕ) (rest : List ℕ) → Begins bound text n rest → ⊥
+begins_no_split bound text lacks n rest h = no_split 32 text (decimal n) rest lacks h.spelled
+
+pub begins_no_number : (bound : ℕ) (text digits more : List ℕ) → bound ≤ 2 ^ 64 → text ≡ digits ++ 32 ∷ more → Lacks 32 digits → ((n : ℕ) → n < bound → digits ≢ decimal n) → (n : ℕ) (rest : List ℕ) → Begins bound text n rest → ⊥
+begins_no_number bound text digits more le e lacks none n rest h =
+    none n h.small (first_split 32 digits (decimal n) more rest lacks (Lacks-decimal 32 n (omega arith) (omega (arith, h.small, le))) (sym e ∙ h.spelled)).0
+
+-- what is said of a text, where another one is the same
+pub begins_at : {bound : ℕ} {text other : List ℕ} {n : ℕ} {rest : List ℕ} → text ≡ other → Begins bound other n rest → Begins bound text n rest
+begins_at e h = record { spelled = e ∙ h.spelled; small = h.small }
+
+pub begins_read : (bound : ℕ) (text digits rest : List ℕ) (n : ℕ) → text ≡ digits ++ 32 ∷ rest → digits ≡ decimal n → n < bound → Begins bound text n rest
+begins_read bound text digits rest n e number small = record { spelled = e ∙ ap (λ (z : List ℕ). z ++ 32 ∷ rest) number; small = small }
 
 -- ---- four fields
 

@@ -5,7 +5,6 @@ use Rattle.std.specs.Fmt.{decimal}
 use Rattle.std.specs.declared.net.socket_addr.SocketAddr.{SocketAddr}
 use Rattle.qc_base.specs.declared.side.Side.{Side}
 use Rattle.qc_state.specs.declared.input.Input.{Input}
-use Rattle.qc_state.specs.declared.input.Input.TheVariants.{Datagram, Timeout, Transmit, Close, Ping}
 use Rattle.qc_script.specs.declared.settings.RandomWords.{RandomWords}
 use Rattle.qc_script.specs.declared.settings.Settings.{Settings}
 use Rattle.qc_script.specs.declared.settings.Setting.{Setting}
@@ -15,7 +14,7 @@ use Rattle.qc_script.specs.declared.items.Item.TheVariants as It
 use Rattle.qc_script.specs.Fields.{hex_field, address_text, IsAddress}
 use Rattle.qc_script.specs.Script.{random_text, line_if, side_line, set_lines, input_line, IsWithin, AllWithin, IsRandom, IsId, IsRemote, IsFirst, IsToken, IsSecret, AreSettings}
 use Rattle.qc_script.specs.Items.{setting_line, IsSetting, IsNextSetting, IsNextItem, setting_place, with_setting, side_alone, item_line, IsItem, item_place, Follows, settings_after, inputs_after}
-use Rattle.qc_script.proofs.LineLemmas.{input_line_injective, datagram_fields, datagram_line, timeout_line, transmit_line, close_line, ping_line}
+use Rattle.qc_script.proofs.LineLemmas.{input_line_injective, word_of, fields_of, line_parts}
 use Rattle.qc_script.proofs.SettingLemmas.{setting_line_injective, setting_no_input, setting_ends}
 
 -- ---- one item
@@ -35,11 +34,7 @@ not_behind side before text x h k (It.Input i) n = setting_no_input x i (sym h.s
 -- an item's line is a text, and LF
 pub item_ends : (item : Item) → (text : List ℕ) × (item_line item ≡ text ++ 10 ∷ [])
 item_ends (It.Set x) = setting_ends x
-item_ends (It.Input (Datagram now remote ecn bytes)) = (codes "datagram " ++ datagram_fields now remote ecn bytes, datagram_line now remote ecn bytes)
-item_ends (It.Input (Timeout now)) = (codes "timeout " ++ decimal now, timeout_line now)
-item_ends (It.Input (Transmit now n)) = (codes "transmit " ++ (decimal now ++ 32 ∷ decimal n), transmit_line now n)
-item_ends (It.Input (Close now code reason)) = (codes "close " ++ (decimal now ++ 32 ∷ (decimal code ++ 32 ∷ hex_field reason)), close_line now code reason)
-item_ends (It.Input (Ping now)) = (codes "ping " ++ decimal now, ping_line now)
+item_ends (It.Input i) = (word_of i ++ 32 ∷ fields_of i, line_parts i)
 
 -- what may follow a line may follow one of a lesser place
 follows_less : (before less : ℕ) (item : Item) → less ≤ before → Follows before item → Follows less item

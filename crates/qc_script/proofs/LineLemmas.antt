@@ -1,232 +1,436 @@
--- The line of an input: its parts, and that no other input has it.
-use Rattle.std.proofs.Common.{◌≡◌, ◌≢◌, ℕ, ◌^◌, ◌<◌, List, [], ◌∷◌, ◌++◌, get_or, Option, refl, sym, ◌∙◌, ap, arith, codes}
+-- The line of an input: its word, its fields, and that no other input has it.
+use Rattle.std.proofs.Common.{◌≡◌, ◌≢◌, ℕ, ◌+◌, ◌^◌, ◌<◌, ◌≤◌, List, [], ◌∷◌, ◌++◌, drop, get_or, Option, Some, None, Result, Ok, Err, IfOk, refl, sym, ◌∙◌, ap, arith, codes}
 use Rattle.std.proofs.lemmas.List.{append_assoc, append_cancel_left, append_cancel_right}
 use Rattle.std.specs.Fmt.{decimal}
 use Rattle.std.proofs.lemmas.Fmt.{decimal_injective}
 use Rattle.std.specs.declared.net.socket_addr.SocketAddr.{SocketAddr}
 use Rattle.qc_base.specs.Grammar.{IsBytes}
 use Rattle.qc_base.specs.declared.ecn.EcnCodepoint.{EcnCodepoint}
+use Rattle.qc_base.specs.declared.side.Dir.{Dir}
 use Rattle.qc_state.specs.declared.input.Input.{Input}
-use Rattle.qc_state.specs.declared.input.Input.TheVariants.{Datagram, Timeout, Transmit, Close, Ping}
-use Rattle.qc_script.specs.Fields.{Lacks, IsNumberText, hex_field, address_text, ecn_text, IsAddress, AreFields}
-use Rattle.qc_script.specs.Script.{input_line, IsWithin, IsTransmit, IsClose, IsDatagram, IsNext}
+use Rattle.qc_state.specs.declared.input.Input.TheVariants.{Datagram, Timeout, Transmit, Open, Accept, Write, Finish, ResetSend, StopRecv, Read, Close, Ping, MaxStreams, SendWindow, ReceiveWindow}
+use Rattle.qc_script.specs.Fields.{hex_field, address_text, dir_text, ecn_text, IsAddress, AreFields, Begins}
+use Rattle.qc_script.specs.Script.{input_line, IsWithin, IsNext, IsLineRead, IsOfStreams, IsCallRead}
 use Rattle.qc_script.proofs.NumberLemmas.{Lacks-decimal, first_split}
-use Rattle.qc_script.proofs.FieldLemmas.{hex_field_injective, Lacks-address, address_injective, Lacks-mark, mark_injective, fields_same}
+use Rattle.qc_script.proofs.FieldLemmas.{hex_field_injective, Lacks-address, address_injective, Lacks-mark, mark_injective, dir_injective, dir_split, begins_same, fields_same}
 
--- ---- lines as the reader takes them apart
+-- ---- words and fields
 
--- a datagram's fields
-abbrev pub datagram_fields : ℕ → SocketAddr → Option EcnCodepoint → List ℕ → List ℕ
-datagram_fields now remote ecn bytes = decimal now ++ 32 ∷ (address_text remote ++ 32 ∷ (ecn_text ecn ++ 32 ∷ hex_field bytes))
+-- the word of an input's line
+abbrev pub word_of : Input → List ℕ
+word_of (Datagram now remote ecn bytes) = codes "datagram"
+word_of (Timeout now) = codes "timeout"
+word_of (Transmit now count) = codes "transmit"
+word_of (Open now dir) = codes "open"
+word_of (Accept now dir) = codes "accept"
+word_of (Write now id body) = codes "write"
+word_of (Finish now id) = codes "finish"
+word_of (ResetSend now id code) = codes "reset"
+word_of (StopRecv now id code) = codes "stop"
+word_of (Read now id max) = codes "read"
+word_of (Close now code reason) = codes "close"
+word_of (Ping now) = codes "ping"
+word_of (MaxStreams now dir count) = codes "streams"
+word_of (SendWindow now size) = codes "sendwindow"
+word_of (ReceiveWindow now size) = codes "recvwindow"
 
-pub datagram_line : (now : ℕ) (remote : SocketAddr) (ecn : Option EcnCodepoint) (bytes : List ℕ) → input_line (Datagram now remote ecn bytes) ≡ (codes "datagram " ++ datagram_fields now remote ecn bytes) ++ 10 ∷ []
+-- and its fields
+abbrev pub fields_of : Input → List ℕ
+fields_of (Datagram now remote ecn bytes) = decimal now ++ 32 ∷ (address_text remote ++ 32 ∷ (ecn_text ecn ++ 32 ∷ hex_field bytes))
+fields_of (Timeout now) = decimal now
+fields_of (Transmit now count) = decimal now ++ 32 ∷ decimal count
+fields_of (Open now dir) = decimal now ++ 32 ∷ dir_text dir
+fields_of (Accept now dir) = decimal now ++ 32 ∷ dir_text dir
+fields_of (Write now id body) = decimal now ++ 32 ∷ (decimal id ++ 32 ∷ hex_field body)
+fields_of (Finish now id) = decimal now ++ 32 ∷ decimal id
+fields_of (ResetSend now id code) = decimal now ++ 32 ∷ (decimal id ++ 32 ∷ decimal code)
+fields_of (StopRecv now id code) = decimal now ++ 32 ∷ (decimal id ++ 32 ∷ decimal code)
+fields_of (Read now id max) = decimal now ++ 32 ∷ (decimal id ++ 32 ∷ decimal max)
+fields_of (Close now code reason) = decimal now ++ 32 ∷ (decimal code ++ 32 ∷ hex_field reason)
+fields_of (Ping now) = decimal now
+fields_of (MaxStreams now dir count) = decimal now ++ 32 ∷ (dir_text dir ++ 32 ∷ decimal count)
+fields_of (SendWindow now size) = decimal now ++ 32 ∷ decimal size
+fields_of (ReceiveWindow now size) = decimal now ++ 32 ∷ decimal size
+
+-- a space stands between them, and LF behind them
+pub line_parts : (i : Input) → input_line i ≡ (word_of i ++ 32 ∷ fields_of i) ++ 10 ∷ []
 unfolding input_line
-datagram_line now remote ecn bytes = simp append_assoc
+line_parts (Datagram now remote ecn bytes) = simp append_assoc
+line_parts (Timeout now) = simp append_assoc
+line_parts (Transmit now count) = simp append_assoc
+line_parts (Open now dir) = simp append_assoc
+line_parts (Accept now dir) = simp append_assoc
+line_parts (Write now id body) = simp append_assoc
+line_parts (Finish now id) = simp append_assoc
+line_parts (ResetSend now id code) = simp append_assoc
+line_parts (StopRecv now id code) = simp append_assoc
+line_parts (Read now id max) = simp append_assoc
+line_parts (Close now code reason) = simp append_assoc
+line_parts (Ping now) = simp append_assoc
+line_parts (MaxStreams now dir count) = simp append_assoc
+line_parts (SendWindow now size) = simp append_assoc
+line_parts (ReceiveWindow now size) = simp append_assoc
 
-pub timeout_line : (now : ℕ) → input_line (Timeout now) ≡ (codes "timeout " ++ decimal now) ++ 10 ∷ []
+-- the sum of the first and the fifth letter of an input's line, by which its word is told from the other ones
+abbrev letters_of : List ℕ → ℕ
+letters_of line = get_or line 0 0 + get_or line 4 0
+
+abbrev letters : Input → ℕ
+letters (Datagram now remote ecn bytes) = 203
+letters (Timeout now) = 227
+letters (Transmit now count) = 231
+letters (Open now dir) = 143
+letters (Accept now dir) = 209
+letters (Write now id body) = 220
+letters (Finish now id) = 217
+letters (ResetSend now id code) = 230
+letters (StopRecv now id code) = 147
+letters (Read now id max) = 146
+letters (Close now code reason) = 200
+letters (Ping now) = 144
+letters (MaxStreams now dir count) = 212
+letters (SendWindow now size) = 234
+letters (ReceiveWindow now size) = 233
+
+line_letters : (i : Input) → letters_of (input_line i) ≡ letters i
 unfolding input_line
-timeout_line now = simp append_assoc
+line_letters (Datagram now remote ecn bytes) = refl
+line_letters (Timeout now) = refl
+line_letters (Transmit now count) = refl
+line_letters (Open now dir) = refl
+line_letters (Accept now dir) = refl
+line_letters (Write now id body) = refl
+line_letters (Finish now id) = refl
+line_letters (ResetSend now id code) = refl
+line_letters (StopRecv now id code) = refl
+line_letters (Read now id max) = refl
+line_letters (Close now code reason) = refl
+line_letters (Ping now) = refl
+line_letters (MaxStreams now dir count) = refl
+line_letters (SendWindow now size) = refl
+line_letters (ReceiveWindow now size) = refl
 
-pub transmit_line : (now n : ℕ) → input_line (Transmit now n) ≡ (codes "transmit " ++ (decimal now ++ 32 ∷ decimal n)) ++ 10 ∷ []
+-- no word has three letters, with a space behind them
+pub no_space : (i : Input) → get_or (input_line i) 3 0 ≢ 32
 unfolding input_line
-transmit_line now n = simp append_assoc
+no_space (Datagram now remote ecn bytes) e = omega (arith, e)
+no_space (Timeout now) e = omega (arith, e)
+no_space (Transmit now count) e = omega (arith, e)
+no_space (Open now dir) e = omega (arith, e)
+no_space (Accept now dir) e = omega (arith, e)
+no_space (Write now id body) e = omega (arith, e)
+no_space (Finish now id) e = omega (arith, e)
+no_space (ResetSend now id code) e = omega (arith, e)
+no_space (StopRecv now id code) e = omega (arith, e)
+no_space (Read now id max) e = omega (arith, e)
+no_space (Close now code reason) e = omega (arith, e)
+no_space (Ping now) e = omega (arith, e)
+no_space (MaxStreams now dir count) e = omega (arith, e)
+no_space (SendWindow now size) e = omega (arith, e)
+no_space (ReceiveWindow now size) e = omega (arith, e)
 
-pub close_line : (now code : ℕ) (reason : List ℕ) → input_line (Close now code reason) ≡ (codes "close " ++ (decimal now ++ 32 ∷ (decimal code ++ 32 ∷ hex_field reason))) ++ 10 ∷ []
-unfolding input_line
-close_line now code reason = simp append_assoc
+-- a text that is an input's line without LF
+next_text : (text : List ℕ) (i : Input) → IsNext text i → text ≡ word_of i ++ 32 ∷ fields_of i
+next_text text i h = append_cancel_right text (word_of i ++ 32 ∷ fields_of i) (10 ∷ []) (h.spelled ∙ line_parts i)
 
-pub ping_line : (now : ℕ) → input_line (Ping now) ≡ (codes "ping " ++ decimal now) ++ 10 ∷ []
-unfolding input_line
-ping_line now = simp append_assoc
+text_letters : (text : List ℕ) (i : Input) → IsNext text i → letters_of (text ++ 10 ∷ []) ≡ letters i
+text_letters text i h = ap letters_of h.spelled ∙ line_letters i
 
--- the fourth letter of an input's line, by which its word is told from the other ones
-abbrev pub letter : Input → ℕ
-letter (Datagram now remote ecn bytes) = 97
-letter (Timeout now) = 101
-letter (Transmit now n) = 110
-letter (Close now code reason) = 115
-letter (Ping now) = 103
+-- such a text, where its word is known
+next_fields : (word fields : List ℕ) (i : Input) → word ≡ word_of i → IsNext (word ++ 32 ∷ fields) i → fields ≡ fields_of i
+next_fields word fields i e h =
+    let whole : word ++ 32 ∷ fields ≡ word ++ 32 ∷ fields_of i = next_text (word ++ 32 ∷ fields) i h ∙ ap (λ (z : List ℕ). z ++ 32 ∷ fields_of i) (sym e) in
+    ap (drop 1) (append_cancel_left word (32 ∷ fields) (32 ∷ fields_of i) whole)
 
-pub fourth_letter : (input : Input) → get_or (input_line input) 3 0 ≡ letter input
-unfolding input_line
-fourth_letter (Datagram now remote ecn bytes) = refl
-fourth_letter (Timeout now) = refl
-fourth_letter (Transmit now n) = refl
-fourth_letter (Close now code reason) = refl
-fourth_letter (Ping now) = refl
-
-letter_of_text : (text : List ℕ) (input : Input) → IsNext text input → get_or (text ++ 10 ∷ []) 3 0 ≡ letter input
-letter_of_text text input h = ap (λ (z : List ℕ). get_or z 3 0) h.spelled ∙ fourth_letter input
-
--- ---- the reader's lines
-
-pub datagram_next : (fields : List ℕ) (now : ℕ) (remote : SocketAddr) (ecn : Option EcnCodepoint) (bytes : List ℕ) → IsDatagram fields now remote ecn bytes → IsNext (codes "datagram " ++ fields) (Datagram now remote ecn bytes)
-datagram_next fields now remote ecn bytes t = record {
-  spelled = ap (λ (r : List ℕ). (codes "datagram " ++ r) ++ 10 ∷ []) t.spelled ∙ sym (datagram_line now remote ecn bytes);
-  within = (t.small, t.address, t.are_bytes);
+pub is_next : (fields : List ℕ) (i : Input) → fields ≡ fields_of i → IsWithin i → IsNext (word_of i ++ 32 ∷ fields) i
+is_next fields i e within = record {
+  spelled = ap (λ (z : List ℕ). (word_of i ++ 32 ∷ z) ++ 10 ∷ []) e ∙ sym (line_parts i);
+  within = within;
 }
 
-pub timeout_next : (digits : List ℕ) (now : ℕ) → IsNumberText digits now → IsNext (codes "timeout " ++ digits) (Timeout now)
-timeout_next digits now t = record {
-  spelled = ap (λ (r : List ℕ). (codes "timeout " ++ r) ++ 10 ∷ []) t.spelled ∙ sym (timeout_line now);
-  within = t.small;
-}
+-- ---- lines that are no input's: those that begin with a word, and whose fields are none of its inputs
 
-pub transmit_next : (fields : List ℕ) (now n : ℕ) → IsTransmit fields now n → IsNext (codes "transmit " ++ fields) (Transmit now n)
-transmit_next fields now n t = record {
-  spelled = ap (λ (r : List ℕ). (codes "transmit " ++ r) ++ 10 ∷ []) t.spelled ∙ sym (transmit_line now n);
-  within = (t.small, t.within);
-}
+pub no_datagram : (fields : List ℕ) → ((now : ℕ) (remote : SocketAddr) (ecn : Option EcnCodepoint) (bytes : List ℕ) → IsWithin (Datagram now remote ecn bytes) → fields ≡ fields_of (Datagram now remote ecn bytes) → ⊥) → (i : Input) → IsNext (codes "datagram " ++ fields) i → ⊥
+no_datagram fields none (Datagram now remote ecn bytes) h = none now remote ecn bytes h.within (next_fields (codes "datagram") fields (Datagram now remote ecn bytes) refl h)
+no_datagram fields none i h = let e : 203 ≡ letters i = text_letters (codes "datagram " ++ fields) i h in omega (arith, e)
 
-pub close_next : (fields : List ℕ) (now code : ℕ) (reason : List ℕ) → IsClose fields now code reason → IsNext (codes "close " ++ fields) (Close now code reason)
-close_next fields now code reason t = record {
-  spelled = ap (λ (r : List ℕ). (codes "close " ++ r) ++ 10 ∷ []) t.spelled ∙ sym (close_line now code reason);
-  within = (t.small, t.within, t.bytes);
-}
+pub no_timeout : (digits : List ℕ) → ((now : ℕ) → now < 2 ^ 64 → digits ≢ decimal now) → (i : Input) → IsNext (codes "timeout " ++ digits) i → ⊥
+no_timeout digits none (Timeout now) h = none now h.within (next_fields (codes "timeout") digits (Timeout now) refl h)
+no_timeout digits none i h = let e : 227 ≡ letters i = text_letters (codes "timeout " ++ digits) i h in omega (arith, e)
 
-pub ping_next : (digits : List ℕ) (now : ℕ) → IsNumberText digits now → IsNext (codes "ping " ++ digits) (Ping now)
-ping_next digits now t = record {
-  spelled = ap (λ (r : List ℕ). (codes "ping " ++ r) ++ 10 ∷ []) t.spelled ∙ sym (ping_line now);
-  within = t.small;
-}
+pub no_transmit : (fields : List ℕ) → ((now : ℕ) (rest : List ℕ) → Begins (2 ^ 64) fields now rest → (count : ℕ) → count < 2 ^ 64 → rest ≢ decimal count) → (i : Input) → IsNext (codes "transmit " ++ fields) i → ⊥
+no_transmit fields none (Transmit now count) h = none now _ (record { spelled = next_fields (codes "transmit") fields (Transmit now count) refl h; small = h.within.0 }) count h.within.1 refl
+no_transmit fields none i h = let e : 231 ≡ letters i = text_letters (codes "transmit " ++ fields) i h in omega (arith, e)
 
--- a line that is an input's, as a text
-pub next_datagram : (text : List ℕ) (now : ℕ) (remote : SocketAddr) (ecn : Option EcnCodepoint) (bytes : List ℕ) → IsNext text (Datagram now remote ecn bytes) → text ≡ codes "datagram " ++ datagram_fields now remote ecn bytes
-next_datagram text now remote ecn bytes h = append_cancel_right text (codes "datagram " ++ datagram_fields now remote ecn bytes) (10 ∷ []) (h.spelled ∙ datagram_line now remote ecn bytes)
+pub no_open : (fields : List ℕ) → ((now : ℕ) (rest : List ℕ) → Begins (2 ^ 64) fields now rest → (dir : Dir) → rest ≢ dir_text dir) → (i : Input) → IsNext (codes "open " ++ fields) i → ⊥
+no_open fields none (Open now dir) h = none now _ (record { spelled = next_fields (codes "open") fields (Open now dir) refl h; small = h.within }) dir refl
+no_open fields none i h = let e : 143 ≡ letters i = text_letters (codes "open " ++ fields) i h in omega (arith, e)
 
-pub next_timeout : (text : List ℕ) (now : ℕ) → IsNext text (Timeout now) → text ≡ codes "timeout " ++ decimal now
-next_timeout text now h = append_cancel_right text (codes "timeout " ++ decimal now) (10 ∷ []) (h.spelled ∙ timeout_line now)
+pub no_accept : (fields : List ℕ) → ((now : ℕ) (rest : List ℕ) → Begins (2 ^ 64) fields now rest → (dir : Dir) → rest ≢ dir_text dir) → (i : Input) → IsNext (codes "accept " ++ fields) i → ⊥
+no_accept fields none (Accept now dir) h = none now _ (record { spelled = next_fields (codes "accept") fields (Accept now dir) refl h; small = h.within }) dir refl
+no_accept fields none i h = let e : 209 ≡ letters i = text_letters (codes "accept " ++ fields) i h in omega (arith, e)
 
-pub next_transmit : (text : List ℕ) (now n : ℕ) → IsNext text (Transmit now n) → text ≡ codes "transmit " ++ (decimal now ++ 32 ∷ decimal n)
-next_transmit text now n h = append_cancel_right text (codes "transmit " ++ (decimal now ++ 32 ∷ decimal n)) (10 ∷ []) (h.spelled ∙ transmit_line now n)
+pub no_write : (fields : List ℕ) → ((now : ℕ) (rest : List ℕ) → Begins (2 ^ 64) fields now rest → (id : ℕ) (more : List ℕ) → Begins (2 ^ 62) rest id more → (body : List ℕ) → IsBytes body → more ≢ hex_field body) → (i : Input) → IsNext (codes "write " ++ fields) i → ⊥
+no_write fields none (Write now id body) h = none now _ (record { spelled = next_fields (codes "write") fields (Write now id body) refl h; small = h.within.0 }) id _ (record { spelled = refl; small = h.within.1 }) body h.within.2 refl
+no_write fields none i h = let e : 220 ≡ letters i = text_letters (codes "write " ++ fields) i h in omega (arith, e)
 
-pub next_close : (text : List ℕ) (now code : ℕ) (reason : List ℕ) → IsNext text (Close now code reason) → text ≡ codes "close " ++ (decimal now ++ 32 ∷ (decimal code ++ 32 ∷ hex_field reason))
-next_close text now code reason h = append_cancel_right text (codes "close " ++ (decimal now ++ 32 ∷ (decimal code ++ 32 ∷ hex_field reason))) (10 ∷ []) (h.spelled ∙ close_line now code reason)
+pub no_finish : (fields : List ℕ) → ((now : ℕ) (rest : List ℕ) → Begins (2 ^ 64) fields now rest → (id : ℕ) → id < 2 ^ 62 → rest ≢ decimal id) → (i : Input) → IsNext (codes "finish " ++ fields) i → ⊥
+no_finish fields none (Finish now id) h = none now _ (record { spelled = next_fields (codes "finish") fields (Finish now id) refl h; small = h.within.0 }) id h.within.1 refl
+no_finish fields none i h = let e : 217 ≡ letters i = text_letters (codes "finish " ++ fields) i h in omega (arith, e)
 
-pub next_ping : (text : List ℕ) (now : ℕ) → IsNext text (Ping now) → text ≡ codes "ping " ++ decimal now
-next_ping text now h = append_cancel_right text (codes "ping " ++ decimal now) (10 ∷ []) (h.spelled ∙ ping_line now)
+pub no_reset : (fields : List ℕ) → ((now : ℕ) (rest : List ℕ) → Begins (2 ^ 64) fields now rest → (id : ℕ) (more : List ℕ) → Begins (2 ^ 62) rest id more → (code : ℕ) → code < 2 ^ 62 → more ≢ decimal code) → (i : Input) → IsNext (codes "reset " ++ fields) i → ⊥
+no_reset fields none (ResetSend now id code) h = none now _ (record { spelled = next_fields (codes "reset") fields (ResetSend now id code) refl h; small = h.within.0 }) id _ (record { spelled = refl; small = h.within.1 }) code h.within.2 refl
+no_reset fields none i h = let e : 230 ≡ letters i = text_letters (codes "reset " ++ fields) i h in omega (arith, e)
 
--- a line that begins with `datagram ` is that of no other input
-pub no_datagram : (fields : List ℕ) → ((t : ℕ) (a : SocketAddr) (m : Option EcnCodepoint) (bs : List ℕ) → IsDatagram fields t a m bs → ⊥) → (input : Input) → IsNext (codes "datagram " ++ fields) input → ⊥
-no_datagram fields none (Datagram now remote ecn bytes) h =
-    let same = append_cancel_left (codes "datagram ") fields (datagram_fields now remote ecn bytes) (next_datagram (codes "datagram " ++ fields) now remote ecn bytes h) in
-    none now remote ecn bytes (record { spelled = same; small = h.within.0; address = h.within.1; are_bytes = h.within.2 })
-no_datagram fields none input h = let e : 97 ≡ letter input = letter_of_text (codes "datagram " ++ fields) input h in omega (arith, e)
+pub no_stop : (fields : List ℕ) → ((now : ℕ) (rest : List ℕ) → Begins (2 ^ 64) fields now rest → (id : ℕ) (more : List ℕ) → Begins (2 ^ 62) rest id more → (code : ℕ) → code < 2 ^ 62 → more ≢ decimal code) → (i : Input) → IsNext (codes "stop " ++ fields) i → ⊥
+no_stop fields none (StopRecv now id code) h = none now _ (record { spelled = next_fields (codes "stop") fields (StopRecv now id code) refl h; small = h.within.0 }) id _ (record { spelled = refl; small = h.within.1 }) code h.within.2 refl
+no_stop fields none i h = let e : 147 ≡ letters i = text_letters (codes "stop " ++ fields) i h in omega (arith, e)
 
-pub no_timeout : (digits : List ℕ) → ((t : ℕ) → t < 2 ^ 64 → digits ≢ decimal t) → (input : Input) → IsNext (codes "timeout " ++ digits) input → ⊥
-no_timeout digits none (Timeout now) h = none now h.within (append_cancel_left (codes "timeout ") digits (decimal now) (next_timeout (codes "timeout " ++ digits) now h))
-no_timeout digits none input h = let e : 101 ≡ letter input = letter_of_text (codes "timeout " ++ digits) input h in omega (arith, e)
+pub no_read : (fields : List ℕ) → ((now : ℕ) (rest : List ℕ) → Begins (2 ^ 64) fields now rest → (id : ℕ) (more : List ℕ) → Begins (2 ^ 62) rest id more → (max : ℕ) → max < 2 ^ 64 → more ≢ decimal max) → (i : Input) → IsNext (codes "read " ++ fields) i → ⊥
+no_read fields none (Read now id max) h = none now _ (record { spelled = next_fields (codes "read") fields (Read now id max) refl h; small = h.within.0 }) id _ (record { spelled = refl; small = h.within.1 }) max h.within.2 refl
+no_read fields none i h = let e : 146 ≡ letters i = text_letters (codes "read " ++ fields) i h in omega (arith, e)
 
-pub no_transmit : (fields : List ℕ) → ((t n : ℕ) → IsTransmit fields t n → ⊥) → (input : Input) → IsNext (codes "transmit " ++ fields) input → ⊥
-no_transmit fields none (Transmit now n) h =
-    let same = append_cancel_left (codes "transmit ") fields (decimal now ++ 32 ∷ decimal n) (next_transmit (codes "transmit " ++ fields) now n h) in
-    none now n (record { spelled = same; small = h.within.0; within = h.within.1 })
-no_transmit fields none input h = let e : 110 ≡ letter input = letter_of_text (codes "transmit " ++ fields) input h in omega (arith, e)
+pub no_close : (fields : List ℕ) → ((now : ℕ) (rest : List ℕ) → Begins (2 ^ 64) fields now rest → (code : ℕ) (more : List ℕ) → Begins (2 ^ 62) rest code more → (reason : List ℕ) → IsBytes reason → more ≢ hex_field reason) → (i : Input) → IsNext (codes "close " ++ fields) i → ⊥
+no_close fields none (Close now code reason) h = none now _ (record { spelled = next_fields (codes "close") fields (Close now code reason) refl h; small = h.within.0 }) code _ (record { spelled = refl; small = h.within.1 }) reason h.within.2 refl
+no_close fields none i h = let e : 200 ≡ letters i = text_letters (codes "close " ++ fields) i h in omega (arith, e)
 
-pub no_close : (fields : List ℕ) → ((t c : ℕ) (r : List ℕ) → IsClose fields t c r → ⊥) → (input : Input) → IsNext (codes "close " ++ fields) input → ⊥
-no_close fields none (Close now code reason) h =
-    let same = append_cancel_left (codes "close ") fields (decimal now ++ 32 ∷ (decimal code ++ 32 ∷ hex_field reason)) (next_close (codes "close " ++ fields) now code reason h) in
-    none now code reason (record { spelled = same; small = h.within.0; within = h.within.1; bytes = h.within.2 })
-no_close fields none input h = let e : 115 ≡ letter input = letter_of_text (codes "close " ++ fields) input h in omega (arith, e)
+pub no_ping : (digits : List ℕ) → ((now : ℕ) → now < 2 ^ 64 → digits ≢ decimal now) → (i : Input) → IsNext (codes "ping " ++ digits) i → ⊥
+no_ping digits none (Ping now) h = none now h.within (next_fields (codes "ping") digits (Ping now) refl h)
+no_ping digits none i h = let e : 144 ≡ letters i = text_letters (codes "ping " ++ digits) i h in omega (arith, e)
 
-pub no_ping : (digits : List ℕ) → ((t : ℕ) → t < 2 ^ 64 → digits ≢ decimal t) → (input : Input) → IsNext (codes "ping " ++ digits) input → ⊥
-no_ping digits none (Ping now) h = none now h.within (append_cancel_left (codes "ping ") digits (decimal now) (next_ping (codes "ping " ++ digits) now h))
-no_ping digits none input h = let e : 103 ≡ letter input = letter_of_text (codes "ping " ++ digits) input h in omega (arith, e)
+pub no_streams : (fields : List ℕ) → ((now : ℕ) (rest : List ℕ) → Begins (2 ^ 64) fields now rest → (dir : Dir) (more : List ℕ) → rest ≡ dir_text dir ++ 32 ∷ more → (count : ℕ) → count < 2 ^ 62 → more ≢ decimal count) → (i : Input) → IsNext (codes "streams " ++ fields) i → ⊥
+no_streams fields none (MaxStreams now dir count) h = none now _ (record { spelled = next_fields (codes "streams") fields (MaxStreams now dir count) refl h; small = h.within.0 }) dir _ refl count h.within.1 refl
+no_streams fields none i h = let e : 212 ≡ letters i = text_letters (codes "streams " ++ fields) i h in omega (arith, e)
 
--- a text with none of the words is the line of no input
-pub no_word : (text : List ℕ) → ((rest : List ℕ) → text ≢ codes "datagram " ++ rest) → ((rest : List ℕ) → text ≢ codes "timeout " ++ rest) → ((rest : List ℕ) → text ≢ codes "transmit " ++ rest) → ((rest : List ℕ) → text ≢ codes "close " ++ rest) → ((rest : List ℕ) → text ≢ codes "ping " ++ rest)
-    → (input : Input) → IsNext text input → ⊥
-no_word text datagrams timeouts transmits closes pings (Datagram now remote ecn bytes) h = datagrams _ (next_datagram text now remote ecn bytes h)
-no_word text datagrams timeouts transmits closes pings (Timeout now) h = timeouts _ (next_timeout text now h)
-no_word text datagrams timeouts transmits closes pings (Transmit now n) h = transmits _ (next_transmit text now n h)
-no_word text datagrams timeouts transmits closes pings (Close now code reason) h = closes _ (next_close text now code reason h)
-no_word text datagrams timeouts transmits closes pings (Ping now) h = pings _ (next_ping text now h)
+pub no_sendwindow : (fields : List ℕ) → ((now : ℕ) (rest : List ℕ) → Begins (2 ^ 64) fields now rest → (size : ℕ) → size < 2 ^ 64 → rest ≢ decimal size) → (i : Input) → IsNext (codes "sendwindow " ++ fields) i → ⊥
+no_sendwindow fields none (SendWindow now size) h = none now _ (record { spelled = next_fields (codes "sendwindow") fields (SendWindow now size) refl h; small = h.within.0 }) size h.within.1 refl
+no_sendwindow fields none i h = let e : 234 ≡ letters i = text_letters (codes "sendwindow " ++ fields) i h in omega (arith, e)
 
--- ---- fields
+pub no_recvwindow : (fields : List ℕ) → ((now : ℕ) (rest : List ℕ) → Begins (2 ^ 64) fields now rest → (size : ℕ) → size < 2 ^ 62 → rest ≢ decimal size) → (i : Input) → IsNext (codes "recvwindow " ++ fields) i → ⊥
+no_recvwindow fields none (ReceiveWindow now size) h = none now _ (record { spelled = next_fields (codes "recvwindow") fields (ReceiveWindow now size) refl h; small = h.within.0 }) size h.within.1 refl
+no_recvwindow fields none i h = let e : 233 ≡ letters i = text_letters (codes "recvwindow " ++ fields) i h in omega (arith, e)
 
--- the parts of a transmit's fields
-pub transmit_parts : (fields a b : List ℕ) (t n : ℕ) → fields ≡ a ++ 32 ∷ b → Lacks 32 a → IsTransmit fields t n → (a ≡ decimal t) × (b ≡ decimal n)
-transmit_parts fields a b t n e lacks h = first_split 32 a (decimal t) b (decimal n) lacks (Lacks-decimal 32 t (omega arith) h.small) (sym e ∙ h.spelled)
+-- a text with none of the words of calls of the streams is the line of no such call
+pub no_call : (text : List ℕ) → ((rest : List ℕ) → text ≢ codes "open " ++ rest) → ((rest : List ℕ) → text ≢ codes "accept " ++ rest) → ((rest : List ℕ) → text ≢ codes "write " ++ rest) → ((rest : List ℕ) → text ≢ codes "finish " ++ rest) → ((rest : List ℕ) → text ≢ codes "reset " ++ rest) → ((rest : List ℕ) → text ≢ codes "stop " ++ rest) → ((rest : List ℕ) → text ≢ codes "read " ++ rest) → ((rest : List ℕ) → text ≢ codes "streams " ++ rest) → ((rest : List ℕ) → text ≢ codes "sendwindow " ++ rest) → ((rest : List ℕ) → text ≢ codes "recvwindow " ++ rest)
+    → (i : Input) → IsOfStreams i → IsNext text i → ⊥
+no_call text opens accepts writes finishes resets stops reads streams sendwindows recvwindows (Open now dir) of h = opens _ (next_text text (Open now dir) h)
+no_call text opens accepts writes finishes resets stops reads streams sendwindows recvwindows (Accept now dir) of h = accepts _ (next_text text (Accept now dir) h)
+no_call text opens accepts writes finishes resets stops reads streams sendwindows recvwindows (Write now id body) of h = writes _ (next_text text (Write now id body) h)
+no_call text opens accepts writes finishes resets stops reads streams sendwindows recvwindows (Finish now id) of h = finishes _ (next_text text (Finish now id) h)
+no_call text opens accepts writes finishes resets stops reads streams sendwindows recvwindows (ResetSend now id code) of h = resets _ (next_text text (ResetSend now id code) h)
+no_call text opens accepts writes finishes resets stops reads streams sendwindows recvwindows (StopRecv now id code) of h = stops _ (next_text text (StopRecv now id code) h)
+no_call text opens accepts writes finishes resets stops reads streams sendwindows recvwindows (Read now id max) of h = reads _ (next_text text (Read now id max) h)
+no_call text opens accepts writes finishes resets stops reads streams sendwindows recvwindows (MaxStreams now dir count) of h = streams _ (next_text text (MaxStreams now dir count) h)
+no_call text opens accepts writes finishes resets stops reads streams sendwindows recvwindows (SendWindow now size) of h = sendwindows _ (next_text text (SendWindow now size) h)
+no_call text opens accepts writes finishes resets stops reads streams sendwindows recvwindows (ReceiveWindow now size) of h = recvwindows _ (next_text text (ReceiveWindow now size) h)
+no_call text opens accepts writes finishes resets stops reads streams sendwindows recvwindows _ of h = absurd of
 
--- the parts of a close's fields
-pub close_parts : (fields a b c : List ℕ) (t code : ℕ) (reason rest : List ℕ) → fields ≡ a ++ 32 ∷ rest → Lacks 32 a → rest ≡ b ++ 32 ∷ c → Lacks 32 b → IsClose fields t code reason → (a ≡ decimal t) × (b ≡ decimal code) × (c ≡ hex_field reason)
-close_parts fields a b c t code reason rest e lacks f lacks' h =
-    let first = first_split 32 a (decimal t) rest (decimal code ++ 32 ∷ hex_field reason) lacks (Lacks-decimal 32 t (omega arith) h.small) (sym e ∙ h.spelled) in
-    let second = first_split 32 b (decimal code) c (hex_field reason) lacks' (Lacks-decimal 32 code (omega arith) (omega (arith, h.within))) (sym f ∙ first.1) in
-    (first.0, second.0, second.1)
+-- and what is no such call, with none of the other words either, is the line of no input
+no_word : (text : List ℕ) → ((rest : List ℕ) → text ≢ codes "datagram " ++ rest) → ((rest : List ℕ) → text ≢ codes "timeout " ++ rest) → ((rest : List ℕ) → text ≢ codes "transmit " ++ rest) → ((rest : List ℕ) → text ≢ codes "close " ++ rest) → ((rest : List ℕ) → text ≢ codes "ping " ++ rest) → ((i : Input) → IsOfStreams i → IsNext text i → ⊥)
+    → (i : Input) → IsNext text i → ⊥
+no_word text datagrams timeouts transmits closes pings calls (Datagram now remote ecn bytes) h = datagrams _ (next_text text (Datagram now remote ecn bytes) h)
+no_word text datagrams timeouts transmits closes pings calls (Timeout now) h = timeouts _ (next_text text (Timeout now) h)
+no_word text datagrams timeouts transmits closes pings calls (Transmit now count) h = transmits _ (next_text text (Transmit now count) h)
+no_word text datagrams timeouts transmits closes pings calls (Close now code reason) h = closes _ (next_text text (Close now code reason) h)
+no_word text datagrams timeouts transmits closes pings calls (Ping now) h = pings _ (next_text text (Ping now) h)
+no_word text datagrams timeouts transmits closes pings calls (Open now dir) h = calls (Open now dir) tt h
+no_word text datagrams timeouts transmits closes pings calls (Accept now dir) h = calls (Accept now dir) tt h
+no_word text datagrams timeouts transmits closes pings calls (Write now id body) h = calls (Write now id body) tt h
+no_word text datagrams timeouts transmits closes pings calls (Finish now id) h = calls (Finish now id) tt h
+no_word text datagrams timeouts transmits closes pings calls (ResetSend now id code) h = calls (ResetSend now id code) tt h
+no_word text datagrams timeouts transmits closes pings calls (StopRecv now id code) h = calls (StopRecv now id code) tt h
+no_word text datagrams timeouts transmits closes pings calls (Read now id max) h = calls (Read now id max) tt h
+no_word text datagrams timeouts transmits closes pings calls (MaxStreams now dir count) h = calls (MaxStreams now dir count) tt h
+no_word text datagrams timeouts transmits closes pings calls (SendWindow now size) h = calls (SendWindow now size) tt h
+no_word text datagrams timeouts transmits closes pings calls (ReceiveWindow now size) h = calls (ReceiveWindow now size) tt h
 
-pub close_rest : (fields a rest : List ℕ) (t code : ℕ) (reason : List ℕ) → fields ≡ a ++ 32 ∷ rest → Lacks 32 a → IsClose fields t code reason → (a ≡ decimal t) × (rest ≡ decimal code ++ 32 ∷ hex_field reason)
-close_rest fields a rest t code reason e lacks h = first_split 32 a (decimal t) rest (decimal code ++ 32 ∷ hex_field reason) lacks (Lacks-decimal 32 t (omega arith) h.small) (sym e ∙ h.spelled)
+-- what a reader of such calls found is what a reader of all inputs finds, where none of the other words stands in front
+pub call_read : {E : Type 0} (text : List ℕ) → ((rest : List ℕ) → text ≢ codes "datagram " ++ rest) → ((rest : List ℕ) → text ≢ codes "timeout " ++ rest) → ((rest : List ℕ) → text ≢ codes "transmit " ++ rest) → ((rest : List ℕ) → text ≢ codes "close " ++ rest) → ((rest : List ℕ) → text ≢ codes "ping " ++ rest) → (r : Result (Option Input) E) → IfOk r (IsCallRead text) → IfOk r (IsLineRead text)
+call_read text datagrams timeouts transmits closes pings (Ok None) h = no_word text datagrams timeouts transmits closes pings h
+call_read text datagrams timeouts transmits closes pings (Ok (Some i)) h = h
+call_read text datagrams timeouts transmits closes pings (Err e) h = tt
 
--- fields that spell a close's parts
-pub close_read : (fields a rest b c : List ℕ) (t code : ℕ) (reason : List ℕ) → fields ≡ a ++ 32 ∷ rest → rest ≡ b ++ 32 ∷ c → t < 2 ^ 64 → a ≡ decimal t → code < 2 ^ 62 → b ≡ decimal code → c ≡ hex_field reason → IsBytes reason
-    → IsNext (codes "close " ++ fields) (Close t code reason)
-close_read fields a rest b c t code reason e f small time within number hex are_bytes =
-    close_next fields t code reason (record { spelled = e ∙ ap (λ (z : List ℕ). a ++ 32 ∷ z) f ∙ rw (time, number, hex) refl; small = small; within = within; bytes = are_bytes })
+-- what a reader of all inputs found is what one of such calls finds
+pub read_call : (text : List ℕ) (r : Option Input) → IsLineRead text r → IsCallRead text r
+read_call text None h = λ i of. h i
+read_call text (Some i) h = h
+
+-- so where want of memory may stop it
+pub read_call_if : {E : Type 0} (text : List ℕ) (r : Result (Option Input) E) → IfOk r (IsLineRead text) → IfOk r (IsCallRead text)
+read_call_if text (Ok r) h = read_call text r h
+read_call_if text (Err e) h = tt
+
+-- ---- datagrams
 
 -- a datagram's fields are four
-pub datagram_four : (fields : List ℕ) (t : ℕ) (a : SocketAddr) (m : Option EcnCodepoint) (bs : List ℕ) → IsDatagram fields t a m bs → AreFields fields (decimal t) (address_text a) (ecn_text m) (hex_field bs)
-datagram_four fields t a m bs h = record {
-  spelled = h.spelled;
-  first = Lacks-decimal 32 t (omega arith) h.small;
-  second = Lacks-address 32 a (omega arith) h.address;
+pub datagram_four : (fields : List ℕ) (t : ℕ) (a : SocketAddr) (m : Option EcnCodepoint) (bs : List ℕ) → IsWithin (Datagram t a m bs) → fields ≡ fields_of (Datagram t a m bs) → AreFields fields (decimal t) (address_text a) (ecn_text m) (hex_field bs)
+datagram_four fields t a m bs h e = record {
+  spelled = e;
+  first = Lacks-decimal 32 t (omega arith) h.0;
+  second = Lacks-address 32 a (omega arith) h.1;
   third = Lacks-mark 32 m (omega arith);
 }
 
 -- and these are the parts of them
-pub datagram_parts : (fields a b c d : List ℕ) (t : ℕ) (r : SocketAddr) (m : Option EcnCodepoint) (bs : List ℕ) → AreFields fields a b c d → IsDatagram fields t r m bs → (a ≡ decimal t) × (b ≡ address_text r) × (c ≡ ecn_text m) × (d ≡ hex_field bs)
-datagram_parts fields a b c d t r m bs h k = fields_same fields a b c d (decimal t) (address_text r) (ecn_text m) (hex_field bs) h (datagram_four fields t r m bs k)
+pub datagram_parts : (fields a b c d : List ℕ) (t : ℕ) (r : SocketAddr) (m : Option EcnCodepoint) (bs : List ℕ) → AreFields fields a b c d → IsWithin (Datagram t r m bs) → fields ≡ fields_of (Datagram t r m bs) → (a ≡ decimal t) × (b ≡ address_text r) × (c ≡ ecn_text m) × (d ≡ hex_field bs)
+datagram_parts fields a b c d t r m bs h k e = fields_same fields a b c d (decimal t) (address_text r) (ecn_text m) (hex_field bs) h (datagram_four fields t r m bs k e)
 
 -- four fields that spell a datagram's parts
 pub datagram_read : (fields a b c d : List ℕ) (t : ℕ) (r : SocketAddr) (m : Option EcnCodepoint) (bs : List ℕ) → AreFields fields a b c d → t < 2 ^ 64 → a ≡ decimal t → b ≡ address_text r → IsAddress r → c ≡ ecn_text m → d ≡ hex_field bs → IsBytes bs
     → IsNext (codes "datagram " ++ fields) (Datagram t r m bs)
 datagram_read fields a b c d t r m bs h small time address within mark hex are_bytes =
-    datagram_next fields t r m bs (record { spelled = h.spelled ∙ rw (time, address, mark, hex) refl; small = small; address = within; are_bytes = are_bytes })
+    is_next fields (Datagram t r m bs) (h.spelled ∙ rw (time, address, mark, hex) refl) (small, within, are_bytes)
+
+-- ---- other fields
+
+-- a time, and a field that spells something
+pub two_read : (fields rest last : List ℕ) (now : ℕ) → Begins (2 ^ 64) fields now rest → rest ≡ last → fields ≡ decimal now ++ 32 ∷ last
+two_read fields rest last now h e = h.spelled ∙ ap (λ (z : List ℕ). decimal now ++ 32 ∷ z) e
+
+-- so with a field between them
+pub three_read : (fields rest middle more last : List ℕ) (now : ℕ) → Begins (2 ^ 64) fields now rest → rest ≡ middle ++ 32 ∷ more → more ≡ last → fields ≡ decimal now ++ 32 ∷ (middle ++ 32 ∷ last)
+three_read fields rest middle more last now h f e = two_read fields rest (middle ++ 32 ∷ last) now h (f ∙ ap (λ (z : List ℕ). middle ++ 32 ∷ z) e)
 
 -- ---- lines and inputs
 
-letters : (i j : Input) → input_line i ≡ input_line j → letter i ≡ letter j
-letters i j e = sym (fourth_letter i) ∙ ap (λ (z : List ℕ). get_or z 3 0) e ∙ fourth_letter j
+-- the fields of one line are those of another one with its word
+one_fields : (i j : Input) → word_of i ≡ word_of j → input_line i ≡ input_line j → fields_of i ≡ fields_of j
+one_fields i j w e =
+    let whole : word_of i ++ 32 ∷ fields_of i ≡ word_of j ++ 32 ∷ fields_of j = append_cancel_right _ _ (10 ∷ []) (sym (line_parts i) ∙ e ∙ line_parts j) in
+    let same : word_of i ++ 32 ∷ fields_of i ≡ word_of i ++ 32 ∷ fields_of j = whole ∙ ap (λ (z : List ℕ). z ++ 32 ∷ fields_of j) (sym w) in
+    ap (drop 1) (append_cancel_left (word_of i) (32 ∷ fields_of i) (32 ∷ fields_of j) same)
 
-datagram_injective : (t t' : ℕ) (a a' : SocketAddr) (m m' : Option EcnCodepoint) (bs bs' : List ℕ) → IsWithin (Datagram t a m bs) → IsWithin (Datagram t' a' m' bs') → input_line (Datagram t a m bs) ≡ input_line (Datagram t' a' m' bs') → Datagram t a m bs ≡ Datagram t' a' m' bs'
+-- a number in front of a space
+number_split : (m n : ℕ) (r s : List ℕ) → m < 2 ^ 64 → n < 2 ^ 64 → decimal m ++ 32 ∷ r ≡ decimal n ++ 32 ∷ s → (m ≡ n) × (r ≡ s)
+number_split m n r s h k e = begins_same (2 ^ 64) (decimal m ++ 32 ∷ r) m r n s (omega arith) (record { spelled = refl; small = h }) (record { spelled = e; small = k })
+
+code_split : (m n : ℕ) (r s : List ℕ) → m < 2 ^ 62 → n < 2 ^ 62 → decimal m ++ 32 ∷ r ≡ decimal n ++ 32 ∷ s → (m ≡ n) × (r ≡ s)
+code_split m n r s h k e = number_split m n r s (omega arith) (omega arith) e
+
+code_injective : (m n : ℕ) → m < 2 ^ 62 → n < 2 ^ 62 → decimal m ≡ decimal n → m ≡ n
+code_injective m n h k e = decimal_injective m n (omega arith) (omega arith) e
+
+datagram_injective : (t t' : ℕ) (a a' : SocketAddr) (m m' : Option EcnCodepoint) (bs bs' : List ℕ) → IsWithin (Datagram t a m bs) → IsWithin (Datagram t' a' m' bs') → fields_of (Datagram t a m bs) ≡ fields_of (Datagram t' a' m' bs') → Datagram t a m bs ≡ Datagram t' a' m' bs'
 datagram_injective t t' a a' m m' bs bs' h k e =
-    let fields = append_cancel_left (codes "datagram ") (datagram_fields t a m bs) (datagram_fields t' a' m' bs') (append_cancel_right _ _ (10 ∷ []) (sym (datagram_line t a m bs) ∙ e ∙ datagram_line t' a' m' bs')) in
-    let parts = datagram_parts (datagram_fields t a m bs) (decimal t) (address_text a) (ecn_text m) (hex_field bs) t' a' m' bs'
-    (datagram_four (datagram_fields t a m bs) t a m bs (record { spelled = refl; small = h.0; address = h.1; are_bytes = h.2 }))
-    (record { spelled = fields; small = k.0; address = k.1; are_bytes = k.2 }) in
+    let parts = datagram_parts (fields_of (Datagram t a m bs)) (decimal t) (address_text a) (ecn_text m) (hex_field bs) t' a' m' bs'
+    (datagram_four (fields_of (Datagram t a m bs)) t a m bs h refl) k e in
     let times = decimal_injective t t' h.0 k.0 parts.0 in
     let addresses = address_injective a a' h.1 k.1 parts.1 in
     let marks = mark_injective m m' parts.2 in
     let bodies = hex_field_injective bs bs' h.2 k.2 parts.3 in
     cc
 
-transmit_injective : (t t' n n' : ℕ) → IsWithin (Transmit t n) → IsWithin (Transmit t' n') → input_line (Transmit t n) ≡ input_line (Transmit t' n') → Transmit t n ≡ Transmit t' n'
-transmit_injective t t' n n' h k e =
-    let fields = append_cancel_left (codes "transmit ") (decimal t ++ 32 ∷ decimal n) (decimal t' ++ 32 ∷ decimal n') (append_cancel_right _ _ (10 ∷ []) (sym (transmit_line t n) ∙ e ∙ transmit_line t' n')) in
-    let parts = first_split 32 (decimal t) (decimal t') (decimal n) (decimal n') (Lacks-decimal 32 t (omega arith) h.0) (Lacks-decimal 32 t' (omega arith) k.0) fields in
-    let times = decimal_injective t t' h.0 k.0 parts.0 in
-    let counts = decimal_injective n n' h.1 k.1 parts.1 in
+transmit_injective : (now now' : ℕ) (count count' : ℕ) → IsWithin (Transmit now count) → IsWithin (Transmit now' count') → fields_of (Transmit now count) ≡ fields_of (Transmit now' count') → Transmit now count ≡ Transmit now' count'
+transmit_injective now now' count count' h k e =
+    let first = number_split now now' _ _ h.0 k.0 e in
+    let times = first.0 in
+    let last = decimal_injective count count' h.1 k.1 first.1 in
     cc
 
-close_injective : (t t' c c' : ℕ) (r r' : List ℕ) → IsWithin (Close t c r) → IsWithin (Close t' c' r') → input_line (Close t c r) ≡ input_line (Close t' c' r') → Close t c r ≡ Close t' c' r'
-close_injective t t' c c' r r' h k e =
-    let fields = append_cancel_left (codes "close ") (decimal t ++ 32 ∷ (decimal c ++ 32 ∷ hex_field r)) (decimal t' ++ 32 ∷ (decimal c' ++ 32 ∷ hex_field r')) (append_cancel_right _ _ (10 ∷ []) (sym (close_line t c r) ∙ e ∙ close_line t' c' r')) in
-    let parts = first_split 32 (decimal t) (decimal t') (decimal c ++ 32 ∷ hex_field r) (decimal c' ++ 32 ∷ hex_field r') (Lacks-decimal 32 t (omega arith) h.0) (Lacks-decimal 32 t' (omega arith) k.0) fields in
-    let last = first_split 32 (decimal c) (decimal c') (hex_field r) (hex_field r') (Lacks-decimal 32 c (omega arith) (omega (arith, h.1))) (Lacks-decimal 32 c' (omega arith) (omega (arith, k.1))) parts.1 in
-    let times = decimal_injective t t' h.0 k.0 parts.0 in
-    let codes = decimal_injective c c' (omega (arith, h.1)) (omega (arith, k.1)) last.0 in
-    let reasons = hex_field_injective r r' h.2 k.2 last.1 in
+open_injective : (now now' : ℕ) (dir dir' : Dir) → IsWithin (Open now dir) → IsWithin (Open now' dir') → fields_of (Open now dir) ≡ fields_of (Open now' dir') → Open now dir ≡ Open now' dir'
+open_injective now now' dir dir' h k e =
+    let first = number_split now now' _ _ h k e in
+    let times = first.0 in
+    let last = dir_injective dir dir' first.1 in
+    cc
+
+accept_injective : (now now' : ℕ) (dir dir' : Dir) → IsWithin (Accept now dir) → IsWithin (Accept now' dir') → fields_of (Accept now dir) ≡ fields_of (Accept now' dir') → Accept now dir ≡ Accept now' dir'
+accept_injective now now' dir dir' h k e =
+    let first = number_split now now' _ _ h k e in
+    let times = first.0 in
+    let last = dir_injective dir dir' first.1 in
+    cc
+
+write_injective : (now now' : ℕ) (id id' : ℕ) (body body' : List ℕ) → IsWithin (Write now id body) → IsWithin (Write now' id' body') → fields_of (Write now id body) ≡ fields_of (Write now' id' body') → Write now id body ≡ Write now' id' body'
+write_injective now now' id id' body body' h k e =
+    let first = number_split now now' _ _ h.0 k.0 e in
+    let times = first.0 in
+    let second = code_split id id' _ _ h.1 k.1 first.1 in
+    let ids = second.0 in
+    let last = hex_field_injective body body' h.2 k.2 second.1 in
+    cc
+
+finish_injective : (now now' : ℕ) (id id' : ℕ) → IsWithin (Finish now id) → IsWithin (Finish now' id') → fields_of (Finish now id) ≡ fields_of (Finish now' id') → Finish now id ≡ Finish now' id'
+finish_injective now now' id id' h k e =
+    let first = number_split now now' _ _ h.0 k.0 e in
+    let times = first.0 in
+    let last = code_injective id id' h.1 k.1 first.1 in
+    cc
+
+reset_injective : (now now' : ℕ) (id id' : ℕ) (code code' : ℕ) → IsWithin (ResetSend now id code) → IsWithin (ResetSend now' id' code') → fields_of (ResetSend now id code) ≡ fields_of (ResetSend now' id' code') → ResetSend now id code ≡ ResetSend now' id' code'
+reset_injective now now' id id' code code' h k e =
+    let first = number_split now now' _ _ h.0 k.0 e in
+    let times = first.0 in
+    let second = code_split id id' _ _ h.1 k.1 first.1 in
+    let ids = second.0 in
+    let last = code_injective code code' h.2 k.2 second.1 in
+    cc
+
+stop_injective : (now now' : ℕ) (id id' : ℕ) (code code' : ℕ) → IsWithin (StopRecv now id code) → IsWithin (StopRecv now' id' code') → fields_of (StopRecv now id code) ≡ fields_of (StopRecv now' id' code') → StopRecv now id code ≡ StopRecv now' id' code'
+stop_injective now now' id id' code code' h k e =
+    let first = number_split now now' _ _ h.0 k.0 e in
+    let times = first.0 in
+    let second = code_split id id' _ _ h.1 k.1 first.1 in
+    let ids = second.0 in
+    let last = code_injective code code' h.2 k.2 second.1 in
+    cc
+
+read_injective : (now now' : ℕ) (id id' : ℕ) (max max' : ℕ) → IsWithin (Read now id max) → IsWithin (Read now' id' max') → fields_of (Read now id max) ≡ fields_of (Read now' id' max') → Read now id max ≡ Read now' id' max'
+read_injective now now' id id' max max' h k e =
+    let first = number_split now now' _ _ h.0 k.0 e in
+    let times = first.0 in
+    let second = code_split id id' _ _ h.1 k.1 first.1 in
+    let ids = second.0 in
+    let last = decimal_injective max max' h.2 k.2 second.1 in
+    cc
+
+close_injective : (now now' : ℕ) (code code' : ℕ) (reason reason' : List ℕ) → IsWithin (Close now code reason) → IsWithin (Close now' code' reason') → fields_of (Close now code reason) ≡ fields_of (Close now' code' reason') → Close now code reason ≡ Close now' code' reason'
+close_injective now now' code code' reason reason' h k e =
+    let first = number_split now now' _ _ h.0 k.0 e in
+    let times = first.0 in
+    let second = code_split code code' _ _ h.1 k.1 first.1 in
+    let ids = second.0 in
+    let last = hex_field_injective reason reason' h.2 k.2 second.1 in
+    cc
+
+streams_injective : (now now' : ℕ) (dir dir' : Dir) (count count' : ℕ) → IsWithin (MaxStreams now dir count) → IsWithin (MaxStreams now' dir' count') → fields_of (MaxStreams now dir count) ≡ fields_of (MaxStreams now' dir' count') → MaxStreams now dir count ≡ MaxStreams now' dir' count'
+streams_injective now now' dir dir' count count' h k e =
+    let first = number_split now now' _ _ h.0 k.0 e in
+    let times = first.0 in
+    let second = dir_split dir dir' _ _ first.1 in
+    let dirs = second.0 in
+    let last = code_injective count count' h.1 k.1 second.1 in
+    cc
+
+sendwindow_injective : (now now' : ℕ) (size size' : ℕ) → IsWithin (SendWindow now size) → IsWithin (SendWindow now' size') → fields_of (SendWindow now size) ≡ fields_of (SendWindow now' size') → SendWindow now size ≡ SendWindow now' size'
+sendwindow_injective now now' size size' h k e =
+    let first = number_split now now' _ _ h.0 k.0 e in
+    let times = first.0 in
+    let last = decimal_injective size size' h.1 k.1 first.1 in
+    cc
+
+recvwindow_injective : (now now' : ℕ) (size size' : ℕ) → IsWithin (ReceiveWindow now size) → IsWithin (ReceiveWindow now' size') → fields_of (ReceiveWindow now size) ≡ fields_of (ReceiveWindow now' size') → ReceiveWindow now size ≡ ReceiveWindow now' size'
+recvwindow_injective now now' size size' h k e =
+    let first = number_split now now' _ _ h.0 k.0 e in
+    let times = first.0 in
+    let last = code_injective size size' h.1 k.1 first.1 in
     cc
 
 -- an input's line is that of no other input
 pub input_line_injective : (i j : Input) → IsWithin i → IsWithin j → input_line i ≡ input_line j → i ≡ j
-input_line_injective (Datagram t a m bs) (Datagram t' a' m' bs') h k e = datagram_injective t t' a a' m m' bs bs' h k e
-input_line_injective (Timeout t) (Timeout t') h k e =
-    let digits = append_cancel_left (codes "timeout ") (decimal t) (decimal t') (append_cancel_right _ _ (10 ∷ []) (sym (timeout_line t) ∙ e ∙ timeout_line t')) in
-    ap Timeout (decimal_injective t t' h k digits)
-input_line_injective (Transmit t n) (Transmit t' n') h k e = transmit_injective t t' n n' h k e
-input_line_injective (Close t c r) (Close t' c' r') h k e = close_injective t t' c c' r r' h k e
-input_line_injective (Ping t) (Ping t') h k e =
-    let digits = append_cancel_left (codes "ping ") (decimal t) (decimal t') (append_cancel_right _ _ (10 ∷ []) (sym (ping_line t) ∙ e ∙ ping_line t')) in
-    ap Ping (decimal_injective t t' h k digits)
-input_line_injective i j h k e = absurd (omega (arith, letters i j e))
+input_line_injective (Datagram now remote ecn bytes) (Datagram now' remote' ecn' bytes') h k e = datagram_injective now now' remote remote' ecn ecn' bytes bytes' h k (one_fields (Datagram now remote ecn bytes) (Datagram now' remote' ecn' bytes') refl e)
+input_line_injective (Timeout now) (Timeout now') h k e = ap Timeout (decimal_injective now now' h k (one_fields (Timeout now) (Timeout now') refl e))
+input_line_injective (Transmit now count) (Transmit now' count') h k e = transmit_injective now now' count count' h k (one_fields (Transmit now count) (Transmit now' count') refl e)
+input_line_injective (Open now dir) (Open now' dir') h k e = open_injective now now' dir dir' h k (one_fields (Open now dir) (Open now' dir') refl e)
+input_line_injective (Accept now dir) (Accept now' dir') h k e = accept_injective now now' dir dir' h k (one_fields (Accept now dir) (Accept now' dir') refl e)
+input_line_injective (Write now id body) (Write now' id' body') h k e = write_injective now now' id id' body body' h k (one_fields (Write now id body) (Write now' id' body') refl e)
+input_line_injective (Finish now id) (Finish now' id') h k e = finish_injective now now' id id' h k (one_fields (Finish now id) (Finish now' id') refl e)
+input_line_injective (ResetSend now id code) (ResetSend now' id' code') h k e = reset_injective now now' id id' code code' h k (one_fields (ResetSend now id code) (ResetSend now' id' code') refl e)
+input_line_injective (StopRecv now id code) (StopRecv now' id' code') h k e = stop_injective now now' id id' code code' h k (one_fields (StopRecv now id code) (StopRecv now' id' code') refl e)
+input_line_injective (Read now id max) (Read now' id' max') h k e = read_injective now now' id id' max max' h k (one_fields (Read now id max) (Read now' id' max') refl e)
+input_line_injective (Close now code reason) (Close now' code' reason') h k e = close_injective now now' code code' reason reason' h k (one_fields (Close now code reason) (Close now' code' reason') refl e)
+input_line_injective (Ping now) (Ping now') h k e = ap Ping (decimal_injective now now' h k (one_fields (Ping now) (Ping now') refl e))
+input_line_injective (MaxStreams now dir count) (MaxStreams now' dir' count') h k e = streams_injective now now' dir dir' count count' h k (one_fields (MaxStreams now dir count) (MaxStreams now' dir' count') refl e)
+input_line_injective (SendWindow now size) (SendWindow now' size') h k e = sendwindow_injective now now' size size' h k (one_fields (SendWindow now size) (SendWindow now' size') refl e)
+input_line_injective (ReceiveWindow now size) (ReceiveWindow now' size') h k e = recvwindow_injective now now' size size' h k (one_fields (ReceiveWindow now size) (ReceiveWindow now' size') refl e)
+input_line_injective i j h k e = absurd (omega (arith, sym (line_letters i) ∙ ap letters_of e ∙ line_letters j))

@@ -10,7 +10,6 @@ use Rattle.qc_base.specs.Grammar.{IsBytes}
 use Rattle.qc_base.specs.declared.side.Side.{Side}
 use Rattle.qc_base.specs.declared.side.Side.TheVariants.{Client, Server}
 use Rattle.qc_state.specs.declared.input.Input.{Input}
-use Rattle.qc_state.specs.declared.input.Input.TheVariants.{Datagram, Timeout, Transmit, Close, Ping}
 use Rattle.qc_script.specs.declared.settings.RandomWords.{RandomWords}
 use Rattle.qc_script.specs.declared.settings.RandomWords.TheVariants.{Zeros, Seed}
 use Rattle.qc_script.specs.declared.settings.Setting.{Setting}
@@ -19,7 +18,7 @@ use Rattle.qc_script.specs.Fields.{hex_field, address_text, IsAddress}
 use Rattle.qc_script.specs.Script.{random_text, side_line, input_line, IsRandom, IsSeed, IsId, IsRemote, IsFirst, IsToken, IsSecret}
 use Rattle.qc_script.specs.Items.{setting_line, IsSetting, IsNextSetting}
 use Rattle.qc_script.proofs.FieldLemmas.{hex_field_injective, address_injective}
-use Rattle.qc_script.proofs.LineLemmas.{letter, fourth_letter}
+use Rattle.qc_script.proofs.LineLemmas.{no_space}
 
 -- ---- words and fields
 
@@ -293,15 +292,8 @@ setting_word (LimitHandshake packets) = refl
 setting_word (LimitFailures packets) = refl
 setting_word (Idle limit) = refl
 
-no_space : (i : Input) → letter i ≢ 32
-no_space (Datagram now remote ecn bytes) e = omega (arith, e)
-no_space (Timeout now) e = omega (arith, e)
-no_space (Transmit now n) e = omega (arith, e)
-no_space (Close now code reason) e = omega (arith, e)
-no_space (Ping now) e = omega (arith, e)
-
 pub setting_no_input : (x : Setting) (i : Input) → setting_line x ≢ input_line i
-setting_no_input x i e = no_space i (sym (fourth_letter i) ∙ ap (λ (z : List ℕ). get_or z 3 0) (sym e) ∙ setting_word x)
+setting_no_input x i e = no_space i (ap (λ (z : List ℕ). get_or z 3 0) (sym e) ∙ setting_word x)
 
 -- a setting's line is a text, and LF
 pub setting_ends : (x : Setting) → (text : List ℕ) × (setting_line x ≡ text ++ 10 ∷ [])

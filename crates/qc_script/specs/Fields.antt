@@ -10,16 +10,13 @@ use Rattle.hex.specs.Hex.{encode_lower}
 use Rattle.qc_base.specs.Ecn.{ecn_bits}
 use Rattle.qc_base.specs.Grammar.{IsBytes}
 use Rattle.qc_base.specs.declared.ecn.EcnCodepoint.{EcnCodepoint}
+use Rattle.qc_base.specs.declared.side.Dir.{Dir}
+use Rattle.qc_base.specs.declared.side.Dir.TheVariants.{Bi, Uni}
 
 -- no byte of the text is this one
 abbrev pub Lacks : ℕ → List ℕ → Type 0
 Lacks b [] = Unit {0}
 Lacks b (c ∷ text) = (c ≢ b) × Lacks b text
-
--- these digits are the decimal of this number
-pub record IsNumberText (digits : List ℕ) (number : ℕ) : Type 0 where
-  pub spelled : digits ≡ decimal number
-  pub small : number < 2 ^ 64
 
 -- bytes as a field: lower-case hex, or `-` where there are none
 abbrev pub hex_field : List ℕ → List ℕ
@@ -55,6 +52,16 @@ pub record IsAddress (address : SocketAddr) : Type 0 where
 abbrev pub ecn_text : Option EcnCodepoint → List ℕ
 ecn_text None = codes "-"
 ecn_text (Some mark) = decimal (ecn_bits mark)
+
+-- the word of a direction
+abbrev pub dir_text : Dir → List ℕ
+dir_text Bi = codes "bi"
+dir_text Uni = codes "uni"
+
+-- the text is the decimal of a number below this bound, a space, and the rest
+pub record Begins (bound : ℕ) (text : List ℕ) (number : ℕ) (rest : List ℕ) : Type 0 where
+  pub spelled : text ≡ decimal number ++ 32 ∷ rest
+  pub small : number < bound
 
 -- the text is these four fields, with a space between each two; only the last may have more
 pub record AreFields (text a b c d : List ℕ) : Type 0 where

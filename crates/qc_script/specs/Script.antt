@@ -20,26 +20,35 @@
 --     datagram T A E H  a datagram H came at time T from the address A with the mark E of congestion
 --     timeout T         timers may have come at time T
 --     transmit T N      a transmit at time T of at most N datagrams
+--     open T D          the application opens a stream of direction D at time T
+--     accept T D        it accepts a stream of direction D that the peer opened
+--     write T I H       it writes H on the stream I
+--     finish T I        it finishes the stream I
+--     reset T I C       it resets the stream I, with the code C
+--     stop T I C        it wants no more of the stream I, with the code C
+--     read T I N        it reads at most N bytes of the stream I in order
 --     close T C H       the application closes at time T, with the code C and the reason H
 --     ping T            a ping at time T
--- with one space between fields. Numbers are decimal, below 2^64, without leading zeros; a code and a limit on idle time are below
--- 2^62. Bytes are lower-case hex, and `-` where there are none; an id has at most 20. An address is its octets in hex, `/` and a
--- port. A mark is its two bits as a digit, or `-`. Times are in nanoseconds.
+--     streams T D N     the application sets that the peer may have N streams of direction D open at a time
+--     sendwindow T N    it sets that N bytes may be kept until they are acknowledged
+--     recvwindow T N    it sets that N bytes may be underway or unread
+-- with one space between fields. Numbers are decimal, below 2^64, without leading zeros; a code, a stream's id, a limit on idle time,
+-- and the N of `streams` and `recvwindow` are below 2^62. Bytes are lower-case hex, and `-` where there are none; an id of a
+-- connection has at most 20. A direction is `bi` or `uni`. An address is its octets in hex, `/` and a port. A mark is its two bits
+-- as a digit, or `-`. Times are in nanoseconds.
 use Rattle.std.specs.Prelude.{◌≡◌, ℕ, ◌+◌, ◌-◌, ◌^◌, ◌<◌, ◌≤◌, List, [], ◌∷◌, ◌++◌, length, take, map, codes, Bool, true, false, ◌==◌, Option, Some, None, IfSome}
 use Rattle.std.specs.Fmt.{decimal}
-use Rattle.std.specs.declared.net.socket_addr.SocketAddr.{SocketAddr}
 use Rattle.qc_base.specs.Grammar.{IsBytes}
-use Rattle.qc_base.specs.declared.ecn.EcnCodepoint.{EcnCodepoint}
 use Rattle.qc_base.specs.declared.side.Side.{Side}
 use Rattle.qc_base.specs.declared.side.Side.TheVariants.{Client, Server}
 use Rattle.qc_state.specs.declared.input.Input.{Input}
-use Rattle.qc_state.specs.declared.input.Input.TheVariants.{Datagram, Timeout, Transmit, Close, Ping}
+use Rattle.qc_state.specs.declared.input.Input.TheVariants.{Datagram, Timeout, Transmit, Open, Accept, Write, Finish, ResetSend, StopRecv, Read, Close, Ping, MaxStreams, SendWindow, ReceiveWindow}
 use Rattle.qc_script.specs.declared.settings.RandomWords.{RandomWords}
 use Rattle.qc_script.specs.declared.settings.RandomWords.TheVariants.{Zeros, Seed}
 use Rattle.qc_script.specs.declared.settings.Settings.{Settings}
 use Rattle.qc_script.specs.declared.script.ScriptError.{ScriptError}
 use Rattle.qc_script.specs.declared.script.ScriptError.TheVariants.{BadLine, OutOfMemory}
-use Rattle.qc_script.specs.Fields.{hex_field, address_text, ecn_text, IsAddress}
+use Rattle.qc_script.specs.Fields.{hex_field, address_text, dir_text, ecn_text, IsAddress}
 
 -- a byte in front of these lines; a byte that ends a line is a line of its own
 abbrev pub with_byte : (ends : Bool) → ℕ → List (List ℕ) → List (List ℕ)
@@ -136,47 +145,48 @@ pub record AreSettings (s : Settings) : Type 0 where
   pub idle : IfSome s.idle (λ n. n < 2 ^ 62)
 
 -- the line of an input: its word, its time, for a datagram where it came from, its mark and its bytes, for a transmit how
--- many datagrams it may send, and for a close its code and its reason
+-- many datagrams it may send, for a close its code and its reason, and for a call of the streams which one it is of, of which
+-- direction, or how many
 unfoldable pub input_line : Input → List ℕ
 input_line (Datagram now remote ecn bytes) = codes "datagram " ++ (decimal now ++ 32 ∷ (address_text remote ++ 32 ∷ (ecn_text ecn ++ 32 ∷ (hex_field bytes ++ 10 ∷ []))))
 input_line (Timeout now) = codes "timeout " ++ (decimal now ++ 10 ∷ [])
 input_line (Transmit now max_datagrams) = codes "transmit " ++ (decimal now ++ 32 ∷ (decimal max_datagrams ++ 10 ∷ []))
+input_line (Open now dir) = codes "open " ++ (decimal now ++ 32 ∷ (dir_text dir ++ 10 ∷ []))
+input_line (Accept now dir) = codes "accept " ++ (decimal now ++ 32 ∷ (dir_text dir ++ 10 ∷ []))
+input_line (Write now id body) = codes "write " ++ (decimal now ++ 32 ∷ (decimal id ++ 32 ∷ (hex_field body ++ 10 ∷ [])))
+input_line (Finish now id) = codes "finish " ++ (decimal now ++ 32 ∷ (decimal id ++ 10 ∷ []))
+input_line (ResetSend now id code) = codes "reset " ++ (decimal now ++ 32 ∷ (decimal id ++ 32 ∷ (decimal code ++ 10 ∷ [])))
+input_line (StopRecv now id code) = codes "stop " ++ (decimal now ++ 32 ∷ (decimal id ++ 32 ∷ (decimal code ++ 10 ∷ [])))
+input_line (Read now id max) = codes "read " ++ (decimal now ++ 32 ∷ (decimal id ++ 32 ∷ (decimal max ++ 10 ∷ [])))
 input_line (Close now code reason) = codes "close " ++ (decimal now ++ 32 ∷ (decimal code ++ 32 ∷ (hex_field reason ++ 10 ∷ [])))
 input_line (Ping now) = codes "ping " ++ (decimal now ++ 10 ∷ [])
+input_line (MaxStreams now dir count) = codes "streams " ++ (decimal now ++ 32 ∷ (dir_text dir ++ 32 ∷ (decimal count ++ 10 ∷ [])))
+input_line (SendWindow now size) = codes "sendwindow " ++ (decimal now ++ 32 ∷ (decimal size ++ 10 ∷ []))
+input_line (ReceiveWindow now size) = codes "recvwindow " ++ (decimal now ++ 32 ∷ (decimal size ++ 10 ∷ []))
 
--- the input's numbers are below 2^64, a code is below 2^62, a datagram and a reason are bytes, and an address has neither a
--- flow label nor a scope
+-- the input's numbers are below 2^64; a code, a stream's id, a count of streams and a receive window are below 2^62; a datagram,
+-- what is written and a reason are bytes; and an address has neither a flow label nor a scope
 abbrev pub IsWithin : Input → Type 0
 IsWithin (Datagram now remote ecn bytes) = (now < 2 ^ 64) × IsAddress remote × IsBytes bytes
 IsWithin (Timeout now) = now < 2 ^ 64
 IsWithin (Transmit now max_datagrams) = (now < 2 ^ 64) × (max_datagrams < 2 ^ 64)
+IsWithin (Open now dir) = now < 2 ^ 64
+IsWithin (Accept now dir) = now < 2 ^ 64
+IsWithin (Write now id body) = (now < 2 ^ 64) × (id < 2 ^ 62) × IsBytes body
+IsWithin (Finish now id) = (now < 2 ^ 64) × (id < 2 ^ 62)
+IsWithin (ResetSend now id code) = (now < 2 ^ 64) × (id < 2 ^ 62) × (code < 2 ^ 62)
+IsWithin (StopRecv now id code) = (now < 2 ^ 64) × (id < 2 ^ 62) × (code < 2 ^ 62)
+IsWithin (Read now id max) = (now < 2 ^ 64) × (id < 2 ^ 62) × (max < 2 ^ 64)
 IsWithin (Close now code reason) = (now < 2 ^ 64) × (code < 2 ^ 62) × IsBytes reason
 IsWithin (Ping now) = now < 2 ^ 64
+IsWithin (MaxStreams now dir count) = (now < 2 ^ 64) × (count < 2 ^ 62)
+IsWithin (SendWindow now size) = (now < 2 ^ 64) × (size < 2 ^ 64)
+IsWithin (ReceiveWindow now size) = (now < 2 ^ 64) × (size < 2 ^ 62)
 
 -- so is each of these inputs
 abbrev pub AllWithin : List Input → Type 0
 AllWithin [] = Unit {0}
 AllWithin (input ∷ inputs) = IsWithin input × AllWithin inputs
-
--- these fields, without LF, are those of a transmit at this time of so many datagrams
-pub record IsTransmit (fields : List ℕ) (now max_datagrams : ℕ) : Type 0 where
-  pub spelled : fields ≡ decimal now ++ 32 ∷ decimal max_datagrams
-  pub small : now < 2 ^ 64
-  pub within : max_datagrams < 2 ^ 64
-
--- and those of a close at this time with this code and reason
-pub record IsClose (fields : List ℕ) (now code : ℕ) (reason : List ℕ) : Type 0 where
-  pub spelled : fields ≡ decimal now ++ 32 ∷ (decimal code ++ 32 ∷ hex_field reason)
-  pub small : now < 2 ^ 64
-  pub within : code < 2 ^ 62
-  pub bytes : IsBytes reason
-
--- and those of a datagram that came at this time from this address, with this mark and these bytes
-pub record IsDatagram (fields : List ℕ) (now : ℕ) (remote : SocketAddr) (ecn : Option EcnCodepoint) (bytes : List ℕ) : Type 0 where
-  pub spelled : fields ≡ decimal now ++ 32 ∷ (address_text remote ++ 32 ∷ (ecn_text ecn ++ 32 ∷ hex_field bytes))
-  pub small : now < 2 ^ 64
-  pub address : IsAddress remote
-  pub are_bytes : IsBytes bytes
 
 -- this text and LF is the line of this input
 pub record IsNext (text : List ℕ) (input : Input) : Type 0 where
@@ -187,6 +197,25 @@ pub record IsNext (text : List ℕ) (input : Input) : Type 0 where
 abbrev pub IsLineRead : List ℕ → Option Input → Type 0
 IsLineRead text None = (input : Input) → IsNext text input → ⊥
 IsLineRead text (Some input) = IsNext text input
+
+-- an input that is a call of the streams
+abbrev pub IsOfStreams : Input → Type 0
+IsOfStreams (Open now dir) = Unit {0}
+IsOfStreams (Accept now dir) = Unit {0}
+IsOfStreams (Write now id body) = Unit {0}
+IsOfStreams (Finish now id) = Unit {0}
+IsOfStreams (ResetSend now id code) = Unit {0}
+IsOfStreams (StopRecv now id code) = Unit {0}
+IsOfStreams (Read now id max) = Unit {0}
+IsOfStreams (MaxStreams now dir count) = Unit {0}
+IsOfStreams (SendWindow now size) = Unit {0}
+IsOfStreams (ReceiveWindow now size) = Unit {0}
+IsOfStreams _ = ⊥
+
+-- what a reader of such calls may find of this text: its input, or nothing where it and LF are the line of none of them
+abbrev pub IsCallRead : List ℕ → Option Input → Type 0
+IsCallRead text None = (input : Input) → IsOfStreams input → IsNext text input → ⊥
+IsCallRead text (Some input) = IsNext text input
 
 -- these lines are a script of these settings and inputs
 pub record IsScript (lines : List (List ℕ)) (settings : Settings) (inputs : List Input) : Type 0 where

@@ -2,13 +2,14 @@
 
 ghost use Rattle.hex.specs.Hex.{encode_lower, lower_digits};
 ghost use Rattle.qc_base.specs.Grammar.{IsBytes};
-ghost use Rattle.qc_script.specs.Fields.{AreFields, Lacks, hex_field};
+ghost use Rattle.qc_base.specs.declared.side.Dir.{Dir};
+ghost use Rattle.qc_script.specs.Fields.{AreFields, Begins, Lacks, dir_text, hex_field};
 ghost use Rattle.std.specs.Bool.{MatchBool, OnFalse, OnTrue};
 ghost use Rattle.std.specs.Fmt.{decimal};
 ghost use Rattle.std.specs.Int.{IsInRange};
 ghost use Rattle.std.specs.Prelude.{◌≡◌, ◌≢◌, ℕ, ◌+◌, ◌-◌, ◌*◌, ◌^◌, ◌<◌, ◌≤◌, List, ◌∷◌, ◌++◌, length, take, slice_index, IfOk, MatchOption, IfSome, IfNone};
 
-use qc_base::VarInt;
+use qc_base::{Dir, VarInt};
 use qc_state::Body;
 use std::alloc::{AllocError, Global};
 
@@ -63,6 +64,19 @@ pub fn read_port(digits: &[u8]) -> Option<u16>
     }
 }
 
+/// The direction that a field names.
+pub fn read_dir(field: &[u8]) -> Option<Dir>
+    ensures { MatchOption result ((dir : Dir) → field.now ≢ dir_text dir) (λ dir. field.now ≡ dir_text dir) }
+{
+    if field == b"bi".as_slice() {
+        return Some(Dir::Bi);
+    }
+    if field == b"uni".as_slice() {
+        return Some(Dir::Uni);
+    }
+    None
+}
+
 /// The text after this word.
 pub fn after_word<'a>(text: &'a [u8], word: &[u8]) -> Option<&'a [u8]>
     ensures { MatchOption result ((rest : List ℕ) → text.now ≢ word.now ++ rest) (λ rest. text.now ≡ word.now ++ rest.now) }
@@ -112,6 +126,33 @@ pub fn split_at_byte(text: &[u8], byte: u8) -> Option<(&[u8], &[u8])>
         }
     }
     None
+}
+
+/// The number below 2^64 that is the first field of a text, and what is behind it.
+pub fn first_number(text: &[u8]) -> Option<(u64, &[u8])>
+    ensures { MatchOption result ((n : ℕ) → (rest : List ℕ) → Begins (2 ^ 64) text.now n rest → ⊥) (λ x. Begins (2 ^ 64) text.now x.0 x.1.now) }
+{
+    let (digits, rest) = split_at_byte(text, b' ')?;
+    let number = read_number(digits)?;
+    Some((number, rest))
+}
+
+/// The code, below 2^62, that is the first field of a text, and what is behind it.
+pub fn first_code(text: &[u8]) -> Option<(VarInt, &[u8])>
+    ensures { MatchOption result ((n : ℕ) → (rest : List ℕ) → Begins (2 ^ 62) text.now n rest → ⊥) (λ x. Begins (2 ^ 62) text.now x.0 x.1.now) }
+{
+    let (digits, rest) = split_at_byte(text, b' ')?;
+    let code = read_code(digits)?;
+    Some((code, rest))
+}
+
+/// The direction that is the first field of a text, and what is behind it.
+pub fn first_dir(text: &[u8]) -> Option<(Dir, &[u8])>
+    ensures { MatchOption result ((dir : Dir) → (rest : List ℕ) → text.now ≢ dir_text dir ++ 32 ∷ rest) (λ x. text.now ≡ dir_text x.0 ++ 32 ∷ x.1.now) }
+{
+    let (field, rest) = split_at_byte(text, b' ')?;
+    let dir = read_dir(field)?;
+    Some((dir, rest))
 }
 
 /// The first three fields of a text and what is behind them, with a space between each two.

@@ -23,6 +23,7 @@ mod lines;
 mod script;
 mod set_lines;
 mod settings;
+mod stream_lines;
 
 pub use script::{Script, ScriptError, read_script};
 pub use settings::{RandomWords, Settings};

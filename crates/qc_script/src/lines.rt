@@ -1,23 +1,14 @@
 //! The lines of inputs.
 
-ghost use Rattle.qc_script.specs.Script.{IsLineRead, IsTransmit};
-ghost use Rattle.std.specs.Prelude.{ℕ, codes, ◌++◌, IfOk, MatchOption};
+ghost use Rattle.qc_script.specs.Script.{IsLineRead};
+ghost use Rattle.std.specs.Prelude.{codes, ◌++◌, IfOk};
 
 use crate::address::{read_address, read_mark};
-use crate::fields::{after_word, four_fields, read_code, read_hex, read_number, split_at_byte};
+use crate::fields::{after_word, first_code, first_number, four_fields, read_hex, read_number};
+use crate::stream_lines::stream_line;
 use qc_base::Instant;
 use qc_state::Input;
 use std::alloc::{AllocError, Global};
-
-/// The time and the count of datagrams of a transmit with these fields.
-fn read_transmit(fields: &[u8]) -> Option<(u64, u64)>
-    ensures { MatchOption result ((t n : ℕ) → IsTransmit fields.now t n → ⊥) (λ x. IsTransmit fields.now x.0 x.1) }
-{
-    let (time, count) = split_at_byte(fields, b' ')?;
-    let now = read_number(time)?;
-    let max_datagrams = read_number(count)?;
-    Some((now, max_datagrams))
-}
 
 /// The datagram of a line with these fields.
 fn datagram_line(alloc: Global, fields: &[u8]) -> Result<Option<Input>, AllocError>
@@ -62,29 +53,22 @@ fn timeout_line(digits: &[u8]) -> Option<Input>
 fn transmit_line(fields: &[u8]) -> Option<Input>
     ensures { IsLineRead (codes "transmit " ++ fields.now) result }
 {
-    match read_transmit(fields) {
-        Some((now, max_datagrams)) => Some(Input::Transmit {
-            now: Instant::from_nanos(now),
-            max_datagrams: max_datagrams as usize,
-        }),
-        None => None,
-    }
+    let (now, count) = first_number(fields)?;
+    let max_datagrams = read_number(count)?;
+    Some(Input::Transmit {
+        now: Instant::from_nanos(now),
+        max_datagrams: max_datagrams as usize,
+    })
 }
 
 /// The close of a line with these fields.
 fn close_line(alloc: Global, fields: &[u8]) -> Result<Option<Input>, AllocError>
     ensures { IfOk result (IsLineRead (codes "close " ++ fields.now)) }
 {
-    let Some((time, rest)) = split_at_byte(fields, b' ') else {
+    let Some((now, rest)) = first_number(fields) else {
         return Ok(None);
     };
-    let Some((code, reason)) = split_at_byte(rest, b' ') else {
-        return Ok(None);
-    };
-    let Some(now) = read_number(time) else {
-        return Ok(None);
-    };
-    let Some(code) = read_code(code) else {
+    let Some((code, reason)) = first_code(rest) else {
         return Ok(None);
     };
     let Some(reason) = read_hex(alloc, reason)? else {
@@ -125,8 +109,8 @@ pub fn read_line(alloc: Global, text: &[u8]) -> Result<Option<Input>, AllocError
     if let Some(fields) = after_word(text, b"close ") {
         return close_line(alloc, fields);
     }
-    match after_word(text, b"ping ") {
-        Some(digits) => Ok(ping_line(digits)),
-        None => Ok(None),
+    if let Some(digits) = after_word(text, b"ping ") {
+        return Ok(ping_line(digits));
     }
+    stream_line(alloc, text)
 }

@@ -1,5 +1,5 @@
 -- The text of an answer tells the answer, where the call is known.
-use Rattle.std.proofs.Common.{◌≡◌, ℕ, ◌/◌, ◌%◌, ◌<◌, Bool, true, ◌==◌, List, [], ◌∷◌, ◌++◌, length, drop, get_or, Option, Some, None, refl, sym, ap, ◌∙◌, append_assoc, arith}
+use Rattle.std.proofs.Common.{◌≡◌, ℕ, ◌+◌, ◌*◌, ◌/◌, ◌%◌, ◌<◌, Bool, true, false, ◌==◌, List, [], ◌∷◌, ◌++◌, length, drop, get_or, Option, Some, None, refl, sym, ap, ◌∙◌, append_assoc, arith}
 use Rattle.std.specs.Prelude.{decimal, codes, ◌||◌}
 use Rattle.std.proofs.lemmas.Bool.Decides.{nat_tests}
 use Rattle.std.specs.Net.Addr.{ipv4_octets, ipv6_octets, octets_of}
@@ -15,10 +15,12 @@ use Rattle.qc_state.specs.declared.input.Word.{Word}
 use Rattle.qc_state.specs.declared.input.Word.TheVariants as word
 use Rattle.qc_state.specs.declared.trace.Answer.{Answer}
 use Rattle.qc_state.specs.declared.trace.Answer.TheVariants as answer
-use Rattle.qc_text.specs.TraceText.{number_or_dash, ip_text, address_text, ecn_text, target_text, marks_text, out_text, answer_text}
-use Rattle.qc_text.specs.OneText.{IsOptionInRange, IsAddressInRange, IsPlainAddress, IsAnswerInRange, IsAnswerPlain}
+use Rattle.qc_state.specs.declared.trace.Refusal.{Refusal}
+use Rattle.qc_state.specs.declared.trace.Refusal.TheVariants as refusal
+use Rattle.qc_text.specs.TraceText.{number_or_dash, bytes_or_dash, ip_text, address_text, ecn_text, target_text, marks_text, out_text, refusal_text, read_text, answer_text}
+use Rattle.qc_text.specs.OneText.{IsOptionInRange, IsAddressInRange, IsPlainAddress, IsRefusalInRange, IsAnswerInRange, IsAnswerPlain}
 use Rattle.qc_text.proofs.Tokens.{number_back, bytes_back}
-use Rattle.qc_text.proofs.FieldsBack.{option_back}
+use Rattle.qc_text.proofs.FieldsBack.{option_back, body_back}
 
 -- ---- addresses
 
@@ -148,35 +150,116 @@ out_back a b x y u v bs cs r s p q k l e =
     same : a ≡ b → x ≡ y → u ≡ v → bs ≡ cs → answer.Out a x u bs ≡ answer.Out b y v cs
     same i j k l = cc
 
+-- ---- calls on streams
+
+-- why a call was refused, up to the line's end; the first letters differ
+refusal_back : (a b : Refusal) (r s : List ℕ) → IsRefusalInRange a → IsRefusalInRange b → refusal_text a ++ 10 ∷ r ≡ refusal_text b ++ 10 ∷ s → (a ≡ b) × (r ≡ s)
+unfolding refusal_text
+refusal_back refusal.Blocked refusal.Blocked r s p q e = (refl, ap (drop 8) e)
+refusal_back refusal.ClosedStream refusal.ClosedStream r s p q e = (refl, ap (drop 13) e)
+refusal_back (refusal.Stopped m) (refusal.Stopped n) r s p q e =
+    let parts = simp append_assoc at e in
+    let code = number_back m n 10 10 r s (omega arith) (omega arith) refl refl (ap (drop 8) parts) in
+    (ap refusal.Stopped code.0, ap (drop 1) code.1)
+refusal_back refusal.IllegalOrderedRead refusal.IllegalOrderedRead r s p q e = (refl, ap (drop 19) e)
+refusal_back (refusal.Reset m) (refusal.Reset n) r s p q e =
+    let parts = simp append_assoc at e in
+    let code = number_back m n 10 10 r s (omega arith) (omega arith) refl refl (ap (drop 6) parts) in
+    (ap refusal.Reset code.0, ap (drop 1) code.1)
+refusal_back _ _ r s p q e = absurd (omega (arith, ap (λ (a : List ℕ). get_or a 0 0) e))
+
+read_parts : (offset : ℕ) (body r : List ℕ) → read_text offset body ++ r ≡ codes "answer read " ++ (decimal offset ++ 32 ∷ (bytes_or_dash body ++ 10 ∷ r))
+unfolding read_text
+read_parts offset body r = simp append_assoc
+
+read_back : (m n : ℕ) (a b r s : List ℕ) → IsAnswerInRange (answer.Read m a) → IsAnswerInRange (answer.Read n b)
+    → read_text m a ++ r ≡ read_text n b ++ s → (answer.Read m a ≡ answer.Read n b) × (r ≡ s)
+read_back m n a b r s p q e =
+    let parts = sym (read_parts m a r) ∙ e ∙ read_parts n b s in
+    let offset = number_back m n 32 32 _ _ (omega arith) (omega arith) refl refl (ap (drop 12) parts) in
+    let body = body_back a b 10 10 r s p.1 q.1 refl refl (ap (drop 1) offset.1) in
+    (same offset.0 body.0, ap (drop 1) body.1)
+  where
+    same : m ≡ n → a ≡ b → answer.Read m a ≡ answer.Read n b
+    same i j = cc
+
 -- ---- answers
 
 -- what follows an answer: events, endpoint events or the timer
 abbrev pub is_after_answer : List ℕ → Bool
 is_after_answer r = (get_or r 0 0 == 101) || (get_or r 0 0 == 116)
 
+-- By this number the texts of two answers are told apart: where a text begins with `a`, as `answer` does, it is that of the two letters
+-- behind `answer `; where it begins with `o`, as `out` does, it is 1, and else that of `answer none`.
+abbrev mark_by : (is_answer is_out : Bool) → List ℕ → ℕ
+mark_by true is_out text = 2 * get_or text 7 0 + get_or text 8 0
+mark_by false true text = 1
+mark_by false false text = 331
+
+mark : List ℕ → ℕ
+mark text = mark_by (get_or text 0 0 == 97) (get_or text 0 0 == 111) text
+
+abbrev number : Answer → ℕ
+number answer.Done = 311
+number answer.Dropped = 314
+number answer.Nothing = 331
+number (answer.Opened id) = 334
+number (answer.Accepted id) = 293
+number (answer.Wrote count) = 352
+number (answer.Read offset body) = 329
+number answer.Ended = 312
+number (answer.Error why) = 316
+number (answer.Out destination segment ecn bytes) = 1
+
+no_answer_after : (r : List ℕ) → is_after_answer r ≡ true → mark r ≡ 331
+unfolding mark
+no_answer_after r h =
+    let answer : (get_or r 0 0 == 97) ≡ false = grind (arith, nat_tests) in
+    let out : (get_or r 0 0 == 111) ≡ false = grind (arith, nat_tests) in
+    rw (answer, out) refl
+
+marked : (w : Word) (a : Answer) (r : List ℕ) → is_after_answer r ≡ true → mark (answer_text w a ++ r) ≡ number a
+unfolding mark answer_text read_text out_text target_text
+marked w answer.Done r h = refl
+marked w answer.Dropped r h = refl
+marked word.Transmit answer.Nothing r h = no_answer_after r h
+marked _ answer.Nothing r h = refl
+marked w (answer.Opened id) r h = refl
+marked w (answer.Accepted id) r h = refl
+marked w (answer.Wrote count) r h = refl
+marked w (answer.Read offset body) r h = refl
+marked w answer.Ended r h = refl
+marked w (answer.Error why) r h = refl
+marked w (answer.Out destination segment ecn bytes) r h = refl
+
+-- two answers with one text have one mark
+one_mark : (w : Word) (a b : Answer) (r s : List ℕ) → is_after_answer r ≡ true → is_after_answer s ≡ true → answer_text w a ++ r ≡ answer_text w b ++ s → number a ≡ number b
+one_mark w a b r s g h e = sym (marked w a r g) ∙ ap mark e ∙ marked w b s h
+
 pub answer_back : (w : Word) (a b : Answer) (r s : List ℕ) → IsAnswerInRange a → IsAnswerInRange b → IsAnswerPlain a → IsAnswerPlain b
     → is_after_answer r ≡ true → is_after_answer s ≡ true → answer_text w a ++ r ≡ answer_text w b ++ s → (a ≡ b) × (r ≡ s)
-unfolding answer_text out_text target_text
+unfolding answer_text
 answer_back w answer.Done answer.Done r s p q k l g h e = (refl, ap (drop 12) e)
 answer_back w answer.Dropped answer.Dropped r s p q k l g h e = (refl, ap (drop 15) e)
 answer_back word.Transmit answer.Nothing answer.Nothing r s p q k l g h e = (refl, e)
 answer_back _ answer.Nothing answer.Nothing r s p q k l g h e = (refl, ap (drop 12) e)
+answer_back w (answer.Opened m) (answer.Opened n) r s p q k l g h e =
+    let parts = simp append_assoc at e in
+    let id = number_back m n 10 10 r s (omega arith) (omega arith) refl refl (ap (drop 14) parts) in
+    (ap answer.Opened id.0, ap (drop 1) id.1)
+answer_back w (answer.Accepted m) (answer.Accepted n) r s p q k l g h e =
+    let parts = simp append_assoc at e in
+    let id = number_back m n 10 10 r s (omega arith) (omega arith) refl refl (ap (drop 16) parts) in
+    (ap answer.Accepted id.0, ap (drop 1) id.1)
+answer_back w (answer.Wrote m) (answer.Wrote n) r s p q k l g h e =
+    let parts = simp append_assoc at e in
+    let count = number_back m n 10 10 r s (omega arith) (omega arith) refl refl (ap (drop 13) parts) in
+    (ap answer.Wrote count.0, ap (drop 1) count.1)
+answer_back w (answer.Read m a) (answer.Read n b) r s p q k l g h e = read_back m n a b r s p q e
+answer_back w answer.Ended answer.Ended r s p q k l g h e = (refl, ap (drop 13) e)
+answer_back w (answer.Error a) (answer.Error b) r s p q k l g h e =
+    let parts = simp append_assoc at e in
+    let why = refusal_back a b r s p q (ap (drop 13) parts) in
+    (ap answer.Error why.0, why.1)
 answer_back w (answer.Out a x u bs) (answer.Out b y v cs) r s p q k l g h e = out_back a b x y u v bs cs r s p q k l e
-answer_back w answer.Done answer.Dropped r s p q k l g h e = absurd (omega (arith, ap (λ (a : List ℕ). get_or a 8 0) e))
-answer_back w answer.Dropped answer.Done r s p q k l g h e = absurd (omega (arith, ap (λ (a : List ℕ). get_or a 8 0) e))
-answer_back word.Transmit answer.Done answer.Nothing r s p q k l g h e = let first : 97 ≡ get_or s 0 0 = ap (λ (a : List ℕ). get_or a 0 0) e in grind (arith, nat_tests)
-answer_back _ answer.Done answer.Nothing r s p q k l g h e = absurd (omega (arith, ap (λ (a : List ℕ). get_or a 7 0) e))
-answer_back word.Transmit answer.Nothing answer.Done r s p q k l g h e = let first : get_or r 0 0 ≡ 97 = ap (λ (a : List ℕ). get_or a 0 0) e in grind (arith, nat_tests)
-answer_back _ answer.Nothing answer.Done r s p q k l g h e = absurd (omega (arith, ap (λ (a : List ℕ). get_or a 7 0) e))
-answer_back word.Transmit answer.Dropped answer.Nothing r s p q k l g h e = let first : 97 ≡ get_or s 0 0 = ap (λ (a : List ℕ). get_or a 0 0) e in grind (arith, nat_tests)
-answer_back _ answer.Dropped answer.Nothing r s p q k l g h e = absurd (omega (arith, ap (λ (a : List ℕ). get_or a 7 0) e))
-answer_back word.Transmit answer.Nothing answer.Dropped r s p q k l g h e = let first : get_or r 0 0 ≡ 97 = ap (λ (a : List ℕ). get_or a 0 0) e in grind (arith, nat_tests)
-answer_back _ answer.Nothing answer.Dropped r s p q k l g h e = absurd (omega (arith, ap (λ (a : List ℕ). get_or a 7 0) e))
-answer_back word.Transmit answer.Nothing (answer.Out b y v cs) r s p q k l g h e = let first : get_or r 0 0 ≡ 111 = ap (λ (a : List ℕ). get_or a 0 0) e in grind (arith, nat_tests)
-answer_back _ answer.Nothing (answer.Out b y v cs) r s p q k l g h e = absurd (omega (arith, ap (λ (a : List ℕ). get_or a 0 0) e))
-answer_back word.Transmit (answer.Out a x u bs) answer.Nothing r s p q k l g h e = let first : 111 ≡ get_or s 0 0 = ap (λ (a : List ℕ). get_or a 0 0) e in grind (arith, nat_tests)
-answer_back _ (answer.Out a x u bs) answer.Nothing r s p q k l g h e = absurd (omega (arith, ap (λ (a : List ℕ). get_or a 0 0) e))
-answer_back w answer.Done (answer.Out b y v cs) r s p q k l g h e = absurd (omega (arith, ap (λ (a : List ℕ). get_or a 0 0) e))
-answer_back w (answer.Out a x u bs) answer.Done r s p q k l g h e = absurd (omega (arith, ap (λ (a : List ℕ). get_or a 0 0) e))
-answer_back w answer.Dropped (answer.Out b y v cs) r s p q k l g h e = absurd (omega (arith, ap (λ (a : List ℕ). get_or a 0 0) e))
-answer_back w (answer.Out a x u bs) answer.Dropped r s p q k l g h e = absurd (omega (arith, ap (λ (a : List ℕ). get_or a 0 0) e))
+answer_back w a b r s p q k l g h e = absurd (omega (arith, one_mark w a b r s g h e))

@@ -10,7 +10,7 @@ use Rattle.qc_frame.specs.Frame.{FrameValue}
 use Rattle.qc_state.specs.declared.deeds.Did.{Did}
 use Rattle.qc_state.specs.declared.deeds.Did.TheVariants as deed
 use Rattle.qc_state.specs.declared.deeds.Layer.{Layer}
-use Rattle.qc_state.specs.declared.deeds.Layer.TheVariants.{Recovery, Session, Life}
+use Rattle.qc_state.specs.declared.deeds.Layer.TheVariants.{Streams, Recovery, Session, Life}
 use Rattle.qc_state.specs.declared.deeds.Quiet.{Quiet}
 use Rattle.qc_state.specs.declared.deeds.Quiet.TheVariants.{NothingOwed, Silent, Amplification, Killed}
 use Rattle.qc_state.specs.declared.deeds.Verdict.{Verdict}
@@ -96,28 +96,48 @@ verdict_injective _ _ e = absurd (omega (arith, ap (λ (a : List ℕ). get_or a 
 
 layer_is_token : (layer : Layer) → is_token (layer_name layer) ≡ true
 unfolding layer_name
+layer_is_token Streams = refl
 layer_is_token Recovery = refl
 layer_is_token Session = refl
 layer_is_token Life = refl
 
+-- the third letters differ
 layer_injective : (a b : Layer) → layer_name a ≡ layer_name b → a ≡ b
 unfolding layer_name
+layer_injective Streams Streams e = refl
 layer_injective Recovery Recovery e = refl
 layer_injective Session Session e = refl
 layer_injective Life Life e = refl
-layer_injective _ _ e = absurd (omega (arith, ap (λ (a : List ℕ). get_or a 0 0) e))
+layer_injective _ _ e = absurd (omega (arith, ap (λ (a : List ℕ). get_or a 2 0) e))
 
-type_by : (a b c d : Bool) → is_token (if a then codes "ACK" else if b then codes "CONNECTION_CLOSE" else if c then codes "APPLICATION_CLOSE" else if d then codes "HANDSHAKE_DONE" else codes "-") ≡ true
-type_by true b c d = refl
-type_by false true c d = refl
-type_by false false true d = refl
-type_by false false false true = refl
-type_by false false false false = refl
+type_by : (a b c d e f g h i j : Bool) → is_token
+    (if a then codes "ACK"
+    else if b then codes "RESET_STREAM"
+    else if c then codes "STOP_SENDING"
+    else if d then codes "STREAM"
+    else if e then codes "MAX_DATA"
+    else if f then codes "MAX_STREAM_DATA"
+    else if g then codes "MAX_STREAMS"
+    else if h then codes "CONNECTION_CLOSE"
+    else if i then codes "APPLICATION_CLOSE"
+    else if j then codes "HANDSHAKE_DONE"
+    else codes "-") ≡ true
+type_by true b c d e f g h i j = refl
+type_by false true c d e f g h i j = refl
+type_by false false true d e f g h i j = refl
+type_by false false false true e f g h i j = refl
+type_by false false false false true f g h i j = refl
+type_by false false false false false true g h i j = refl
+type_by false false false false false false true h i j = refl
+type_by false false false false false false false true i j = refl
+type_by false false false false false false false false true j = refl
+type_by false false false false false false false false false true = refl
+type_by false false false false false false false false false false = refl
 
 given_is_token : (body : List ℕ) → is_token (given_name body) ≡ true
 unfolding given_name type_name
 given_is_token [] = refl
-given_is_token (type ∷ _) = type_by _ _ _ _
+given_is_token (type ∷ _) = type_by _ _ _ _ _ _ _ _ _ _
 
 -- ---- sealed packets
 
@@ -202,6 +222,7 @@ named_back a b r s p q e =
 -- where the layer is known
 given_back : (layer : Layer) (a b r s : List ℕ) → IsBytes a → IsBytes b → given_text layer a ++ 10 ∷ r ≡ given_text layer b ++ 10 ∷ s → (a ≡ b) × (r ≡ s)
 unfolding given_text
+given_back Streams a b r s p q e = named_back a b r s p q e
 given_back Recovery a b r s p q e = named_back a b r s p q e
 given_back Session a b r s p q e =
     let body = bytes_back a b 10 10 r s p q refl refl e in

@@ -1,22 +1,26 @@
 -- The text of a trace tells the trace.
-use Rattle.std.proofs.Common.{◌≡◌, ℕ, ◌<◌, ◌^◌, Bool, true, false, ◌==◌, List, ◌∷◌, ◌++◌, drop, get_or, Option, refl, sym, ap, ◌∙◌, append_assoc, arith}
+use Rattle.std.proofs.Common.{◌≡◌, ℕ, ◌+◌, ◌<◌, ◌^◌, Bool, true, false, ◌==◌, List, ◌∷◌, ◌++◌, drop, get_or, Option, refl, sym, ap, ◌∙◌, append_assoc, arith}
 use Rattle.std.specs.Prelude.{decimal, codes, ◌||◌}
 use Rattle.std.specs.List.{All, flat_map}
 use Rattle.std.proofs.lemmas.Bool.Decides.{nat_tests}
 use Rattle.std.specs.declared.net.socket_addr.SocketAddr.{SocketAddr}
+use Rattle.qc_base.specs.declared.side.Dir.{Dir}
+use Rattle.qc_base.specs.declared.side.Dir.TheVariants.{Bi, Uni}
 use Rattle.qc_state.specs.declared.deeds.Did.{Did}
 use Rattle.qc_state.specs.declared.deeds.Did.TheVariants as deed
 use Rattle.qc_state.specs.declared.events.EndpointEvent.{EndpointEvent}
 use Rattle.qc_state.specs.declared.events.EndpointEvent.TheVariants.{ResetToken, NeedIdentifiers, Drained}
 use Rattle.qc_state.specs.declared.events.Event.{Event}
-use Rattle.qc_state.specs.declared.events.Event.TheVariants.{HandshakeDataReady, Connected, ConnectionLost}
+use Rattle.qc_state.specs.declared.events.Event.TheVariants.{HandshakeDataReady, Connected, ConnectionLost, Stream}
 use Rattle.qc_state.specs.declared.input.Word.{Word}
 use Rattle.qc_state.specs.declared.input.Word.TheVariants as word
 use Rattle.qc_state.specs.declared.trace.Answer.{Answer}
 use Rattle.qc_state.specs.declared.trace.Answer.TheVariants as answer
 use Rattle.qc_state.specs.declared.trace.Step.{Step}
-use Rattle.qc_text.specs.TraceText.{sealed_text, piece_text, gave_text, did_text, bytes_or_dash, address_text, target_text, out_text, answer_text, event_text, reset_token_text, need_text, endpoint_text, timer_text, word_name, step_head, step_text, trace_text}
-use Rattle.qc_text.specs.OneText.{IsOptionInRange, IsDeedInRange, IsDeedPlain, IsEventInRange, IsEndpointInRange, IsEndpointPlain, IsInRange, IsPlain}
+use Rattle.qc_streams.specs.declared.events.StreamEvent.{StreamEvent}
+use Rattle.qc_streams.specs.declared.events.StreamEvent.TheVariants as streamed
+use Rattle.qc_text.specs.TraceText.{sealed_text, piece_text, gave_text, did_text, bytes_or_dash, address_text, target_text, out_text, read_text, answer_text, dir_name, stream_event_text, event_text, reset_token_text, need_text, endpoint_text, timer_text, word_name, step_head, step_text, trace_text}
+use Rattle.qc_text.specs.OneText.{IsOptionInRange, IsDeedInRange, IsDeedPlain, IsStreamEventInRange, IsEventInRange, IsEndpointInRange, IsEndpointPlain, IsInRange, IsPlain}
 use Rattle.qc_text.proofs.Tokens.{is_token, token_back, number_back, lines_back, lines_begin}
 use Rattle.qc_text.proofs.DeedsBack.{did_back}
 use Rattle.qc_text.proofs.FieldsBack.{option_back, body_back}
@@ -30,18 +34,38 @@ unfolding word_name
 word_is_token word.Datagram = refl
 word_is_token word.Timeout = refl
 word_is_token word.Transmit = refl
+word_is_token word.Open = refl
+word_is_token word.Accept = refl
+word_is_token word.Write = refl
+word_is_token word.Finish = refl
+word_is_token word.ResetSend = refl
+word_is_token word.StopRecv = refl
+word_is_token word.Read = refl
 word_is_token word.Close = refl
 word_is_token word.Ping = refl
+word_is_token word.MaxStreams = refl
+word_is_token word.SendWindow = refl
+word_is_token word.ReceiveWindow = refl
 
--- the third letters differ
+-- the sums of the first and the fifth letter differ
 word_injective : (v w : Word) → word_name v ≡ word_name w → v ≡ w
 unfolding word_name
 word_injective word.Datagram word.Datagram e = refl
 word_injective word.Timeout word.Timeout e = refl
 word_injective word.Transmit word.Transmit e = refl
+word_injective word.Open word.Open e = refl
+word_injective word.Accept word.Accept e = refl
+word_injective word.Write word.Write e = refl
+word_injective word.Finish word.Finish e = refl
+word_injective word.ResetSend word.ResetSend e = refl
+word_injective word.StopRecv word.StopRecv e = refl
+word_injective word.Read word.Read e = refl
 word_injective word.Close word.Close e = refl
 word_injective word.Ping word.Ping e = refl
-word_injective _ _ e = absurd (omega (arith, ap (λ (a : List ℕ). get_or a 2 0) e))
+word_injective word.MaxStreams word.MaxStreams e = refl
+word_injective word.SendWindow word.SendWindow e = refl
+word_injective word.ReceiveWindow word.ReceiveWindow e = refl
+word_injective _ _ e = absurd (omega (arith, ap (λ (a : List ℕ). get_or a 0 0 + get_or a 4 0) e))
 
 head_parts : (at : ℕ) (w : Word) (now : ℕ) (r : List ℕ) → step_head at w now ++ r ≡ codes "step " ++ (decimal at ++ 32 ∷ (word_name w ++ 32 ∷ (decimal now ++ 10 ∷ r)))
 unfolding step_head
@@ -58,6 +82,55 @@ head_back m n v w x y r s p q k l e =
 
 -- ---- events and the timer
 
+dir_is_token : (dir : Dir) → is_token (dir_name dir) ≡ true
+unfolding dir_name
+dir_is_token Bi = refl
+dir_is_token Uni = refl
+
+dir_injective : (a b : Dir) → dir_name a ≡ dir_name b → a ≡ b
+unfolding dir_name
+dir_injective Bi Bi e = refl
+dir_injective Uni Uni e = refl
+dir_injective _ _ e = absurd (omega (arith, ap (λ (a : List ℕ). get_or a 0 0) e))
+
+dir_back : (a b : Dir) (r s : List ℕ) → dir_name a ++ 10 ∷ r ≡ dir_name b ++ 10 ∷ s → (a ≡ b) × (r ≡ s)
+dir_back a b r s e =
+    let dir = token_back (dir_name a) (dir_name b) 10 10 r s (dir_is_token a) (dir_is_token b) refl refl e in
+    (dir_injective a b dir.0, ap (drop 1) dir.1)
+
+-- what happened on a stream, up to the line's end; the first letters differ
+stream_event_back : (a b : StreamEvent) (r s : List ℕ) → IsStreamEventInRange a → IsStreamEventInRange b → stream_event_text a ++ 10 ∷ r ≡ stream_event_text b ++ 10 ∷ s → (a ≡ b) × (r ≡ s)
+unfolding stream_event_text
+stream_event_back (streamed.Opened a) (streamed.Opened b) r s p q e =
+    let parts = simp append_assoc at e in
+    let dir = dir_back a b r s (ap (drop 7) parts) in
+    (ap streamed.Opened dir.0, dir.1)
+stream_event_back (streamed.Readable m) (streamed.Readable n) r s p q e =
+    let parts = simp append_assoc at e in
+    let id = number_back m n 10 10 r s (omega arith) (omega arith) refl refl (ap (drop 9) parts) in
+    (ap streamed.Readable id.0, ap (drop 1) id.1)
+stream_event_back (streamed.Writable m) (streamed.Writable n) r s p q e =
+    let parts = simp append_assoc at e in
+    let id = number_back m n 10 10 r s (omega arith) (omega arith) refl refl (ap (drop 9) parts) in
+    (ap streamed.Writable id.0, ap (drop 1) id.1)
+stream_event_back (streamed.Stopped m x) (streamed.Stopped n y) r s p q e =
+    let parts = simp append_assoc at e in
+    let id = number_back m n 32 32 _ _ (omega arith) (omega arith) refl refl (ap (drop 8) parts) in
+    let code = number_back x y 10 10 r s (omega arith) (omega arith) refl refl (ap (drop 1) id.1) in
+    (same id.0 code.0, ap (drop 1) code.1)
+  where
+    same : m ≡ n → x ≡ y → streamed.Stopped m x ≡ streamed.Stopped n y
+    same i j = cc
+stream_event_back (streamed.Finished m) (streamed.Finished n) r s p q e =
+    let parts = simp append_assoc at e in
+    let id = number_back m n 10 10 r s (omega arith) (omega arith) refl refl (ap (drop 9) parts) in
+    (ap streamed.Finished id.0, ap (drop 1) id.1)
+stream_event_back (streamed.Available a) (streamed.Available b) r s p q e =
+    let parts = simp append_assoc at e in
+    let dir = dir_back a b r s (ap (drop 10) parts) in
+    (ap streamed.Available dir.0, dir.1)
+stream_event_back _ _ r s p q e = absurd (omega (arith, ap (λ (a : List ℕ). get_or a 0 0) e))
+
 event_back : (a b : Event) (r s : List ℕ) → IsEventInRange a → IsEventInRange b → event_text a ++ r ≡ event_text b ++ s → (a ≡ b) × (r ≡ s)
 unfolding event_text
 event_back HandshakeDataReady HandshakeDataReady r s p q e = (refl, ap (drop 21) e)
@@ -66,6 +139,10 @@ event_back (ConnectionLost a) (ConnectionLost b) r s p q e =
     let parts = simp append_assoc at e in
     let reason = reason_back a b r s p q (ap (drop 11) parts) in
     (ap ConnectionLost reason.0, reason.1)
+event_back (Stream a) (Stream b) r s p q e =
+    let parts = simp append_assoc at e in
+    let event = stream_event_back a b r s p q (ap (drop 13) parts) in
+    (ap Stream event.0, event.1)
 event_back _ _ r s p q e = absurd (omega (arith, ap (λ (a : List ℕ). get_or a 6 0) e))
 
 -- a report to the endpoint that its text tells
@@ -144,11 +221,17 @@ unfolding is_deed
 no_deed_after r h = grind (arith, nat_tests)
 
 answer_is_no_deed : (w : Word) (a : Answer) (r : List ℕ) → is_after_answer r ≡ true → is_deed (answer_text w a ++ r) ≡ false
-unfolding is_deed answer_text out_text target_text
+unfolding is_deed answer_text read_text out_text target_text
 answer_is_no_deed w answer.Done r h = refl
 answer_is_no_deed w answer.Dropped r h = refl
 answer_is_no_deed word.Transmit answer.Nothing r h = no_deed_after r h
 answer_is_no_deed _ answer.Nothing r h = refl
+answer_is_no_deed w (answer.Opened id) r h = refl
+answer_is_no_deed w (answer.Accepted id) r h = refl
+answer_is_no_deed w (answer.Wrote count) r h = refl
+answer_is_no_deed w (answer.Read offset body) r h = refl
+answer_is_no_deed w answer.Ended r h = refl
+answer_is_no_deed w (answer.Error why) r h = refl
 answer_is_no_deed w (answer.Out destination segment ecn bytes) r h = refl
 
 event_begins : (a : Event) (r : List ℕ) → (is_event (event_text a ++ r) ≡ true) × (is_after_answer (event_text a ++ r) ≡ true)
@@ -156,6 +239,7 @@ unfolding is_event event_text
 event_begins HandshakeDataReady r = (refl, refl)
 event_begins Connected r = (refl, refl)
 event_begins (ConnectionLost reason) r = (refl, refl)
+event_begins (Stream event) r = (refl, refl)
 
 endpoint_begins : (a : EndpointEvent) (r : List ℕ) → (is_event (endpoint_text a ++ r) ≡ false) × (is_endpoint (endpoint_text a ++ r) ≡ true) × (is_after_answer (endpoint_text a ++ r) ≡ true)
 unfolding is_event is_endpoint endpoint_text reset_token_text need_text

@@ -17,12 +17,14 @@ use Rattle.qc_state.specs.declared.deeds.Did.TheVariants as deed
 use Rattle.qc_state.specs.declared.events.EndpointEvent.{EndpointEvent}
 use Rattle.qc_state.specs.declared.events.EndpointEvent.TheVariants.{ResetToken, NeedIdentifiers, Drained}
 use Rattle.qc_state.specs.declared.events.Event.{Event}
-use Rattle.qc_state.specs.declared.events.Event.TheVariants.{HandshakeDataReady, Connected, ConnectionLost}
+use Rattle.qc_state.specs.declared.events.Event.TheVariants.{HandshakeDataReady, Connected, ConnectionLost, Stream}
 use Rattle.qc_state.specs.declared.life.ConnectionError.{ConnectionError}
 use Rattle.qc_state.specs.declared.life.ConnectionError.TheVariants.{TransportError, ConnectionClosed, ApplicationClosed, TimedOut}
 use Rattle.qc_state.specs.declared.life.Life.{Life}
 use Rattle.qc_state.specs.declared.trace.Answer.{Answer}
 use Rattle.qc_state.specs.declared.trace.Answer.TheVariants as answer
+use Rattle.qc_state.specs.declared.trace.Refusal.{Refusal}
+use Rattle.qc_state.specs.declared.trace.Refusal.TheVariants as refusal
 use Rattle.qc_state.specs.declared.trace.Step.{Step}
 use Rattle.qc_state.specs.Run.{Run}
 use Rattle.qc_state.specs.Types.{Types, Meaning}
@@ -31,6 +33,8 @@ use Rattle.qc_state.specs.declared.input.Input.{Input}
 use Rattle.qc_state.specs.declared.paths.Paths.{Paths}
 use Rattle.qc_state.specs.declared.waiting.SpaceWaiting.{SpaceWaiting}
 use Rattle.qc_state.specs.declared.waiting.Waiting.{Waiting}
+use Rattle.qc_streams.specs.declared.events.StreamEvent.{StreamEvent}
+use Rattle.qc_streams.specs.declared.events.StreamEvent.TheVariants as streamed
 
 -- ---- values that their types hold
 
@@ -75,18 +79,44 @@ IsIpInRange (V6 ip) = (length (ipv6_octets ip) ≡ 16) × IsBytes (ipv6_octets i
 abbrev pub IsAddressInRange : SocketAddr → Type 0
 IsAddressInRange address = IsIpInRange (socket_ip address) × (socket_port address < 2 ^ 16)
 
--- datagrams to be sent are bytes, with sizes of 64 bits and an address in range; other answers hold nothing
+-- the code with which the peer stopped or reset a stream lies below 2^62
+abbrev pub IsRefusalInRange : Refusal → Type 0
+IsRefusalInRange refusal.Blocked = Unit {0}
+IsRefusalInRange refusal.ClosedStream = Unit {0}
+IsRefusalInRange (refusal.Stopped code) = code < 2 ^ 62
+IsRefusalInRange refusal.IllegalOrderedRead = Unit {0}
+IsRefusalInRange (refusal.Reset code) = code < 2 ^ 62
+
+-- datagrams to be sent are bytes, with sizes of 64 bits and an address in range; a stream's id lies below 2^62 (RFC 9000,
+-- section 2.1); what was read is bytes, whose offset has 64 bits, as how many were written has; other answers hold nothing
 abbrev pub IsAnswerInRange : Answer → Type 0
 IsAnswerInRange answer.Done = Unit {0}
 IsAnswerInRange answer.Dropped = Unit {0}
 IsAnswerInRange answer.Nothing = Unit {0}
+IsAnswerInRange (answer.Opened id) = id < 2 ^ 62
+IsAnswerInRange (answer.Accepted id) = id < 2 ^ 62
+IsAnswerInRange (answer.Wrote count) = count < 2 ^ 64
+IsAnswerInRange (answer.Read offset body) = (offset < 2 ^ 64) × IsBytes body
+IsAnswerInRange answer.Ended = Unit {0}
+IsAnswerInRange (answer.Error why) = IsRefusalInRange why
 IsAnswerInRange (answer.Out destination segment ecn bytes) = IsAddressInRange destination × IsOptionInRange segment × (length bytes < 2 ^ 64) × IsBytes bytes
 
--- a report that the connection was lost has a reason in range; the other ones hold nothing
+-- a stream's id and a code of the peer's application lie below 2^62
+abbrev pub IsStreamEventInRange : StreamEvent → Type 0
+IsStreamEventInRange (streamed.Opened dir) = Unit {0}
+IsStreamEventInRange (streamed.Readable id) = id < 2 ^ 62
+IsStreamEventInRange (streamed.Writable id) = id < 2 ^ 62
+IsStreamEventInRange (streamed.Stopped id code) = (id < 2 ^ 62) × (code < 2 ^ 62)
+IsStreamEventInRange (streamed.Finished id) = id < 2 ^ 62
+IsStreamEventInRange (streamed.Available dir) = Unit {0}
+
+-- a report that the connection was lost has a reason in range, and one of the streams what it tells; the other ones hold
+-- nothing
 abbrev pub IsEventInRange : Event → Type 0
 IsEventInRange HandshakeDataReady = Unit {0}
 IsEventInRange Connected = Unit {0}
 IsEventInRange (ConnectionLost reason) = IsReasonInRange reason
+IsEventInRange (Stream event) = IsStreamEventInRange event
 
 -- a token is bytes, and holds for an address in range; the time at which identifiers are wanted and how many they are have
 -- 64 bits; that the connection's state can be dropped holds nothing

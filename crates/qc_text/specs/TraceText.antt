@@ -1,5 +1,5 @@
 -- The text of a trace.
-use Rattle.std.specs.Prelude.{ℕ, ◌+◌, List, [], ◌∷◌, ◌++◌, Bool, true, false, ◌||◌, length, if◌then◌else◌, ◌==◌, Option, Some, None, codes, decimal}
+use Rattle.std.specs.Prelude.{ℕ, ◌+◌, List, [], ◌∷◌, ◌++◌, Bool, true, false, ◌||◌, length, if◌then◌else◌, ◌==◌, ◌/◌, Option, Some, None, codes, decimal}
 use Rattle.std.specs.List.{flat_map}
 use Rattle.std.specs.Net.Addr.{ipv4_octets, ipv6_octets}
 use Rattle.std.specs.Net.Socket.{socket_ip, socket_port}
@@ -10,6 +10,8 @@ use Rattle.hex.specs.Hex.{encode_lower}
 use Rattle.qc_base.specs.Ecn.{ecn_bits}
 use Rattle.qc_base.specs.declared.ecn.EcnCodepoint.{EcnCodepoint}
 use Rattle.qc_base.specs.declared.transport_error.TransportError.{TransportError as TransportFault}
+use Rattle.qc_base.specs.declared.side.Dir.{Dir}
+use Rattle.qc_base.specs.declared.side.Dir.TheVariants.{Bi, Uni}
 use Rattle.qc_base.specs.declared.side.SpaceId.{SpaceId}
 use Rattle.qc_base.specs.declared.side.SpaceId.TheVariants.{Initial, Handshake, Data}
 use Rattle.qc_frame.specs.Frame.{FrameValue}
@@ -18,7 +20,7 @@ use Rattle.qc_frame.specs.declared.frames.FrameOf.TheVariants as frames
 use Rattle.qc_state.specs.declared.deeds.Did.{Did}
 use Rattle.qc_state.specs.declared.deeds.Did.TheVariants as deed
 use Rattle.qc_state.specs.declared.deeds.Layer.{Layer}
-use Rattle.qc_state.specs.declared.deeds.Layer.TheVariants.{Recovery, Session, Life}
+use Rattle.qc_state.specs.declared.deeds.Layer.TheVariants.{Streams, Recovery, Session, Life}
 use Rattle.qc_state.specs.declared.deeds.Quiet.{Quiet}
 use Rattle.qc_state.specs.declared.deeds.Quiet.TheVariants.{NothingOwed, Silent, Amplification, Killed}
 use Rattle.qc_state.specs.declared.deeds.Verdict.{Verdict}
@@ -26,14 +28,18 @@ use Rattle.qc_state.specs.declared.deeds.Verdict.TheVariants.{Ignored, Failure, 
 use Rattle.qc_state.specs.declared.events.EndpointEvent.{EndpointEvent}
 use Rattle.qc_state.specs.declared.events.EndpointEvent.TheVariants.{ResetToken, NeedIdentifiers, Drained}
 use Rattle.qc_state.specs.declared.events.Event.{Event}
-use Rattle.qc_state.specs.declared.events.Event.TheVariants.{HandshakeDataReady, Connected, ConnectionLost}
+use Rattle.qc_state.specs.declared.events.Event.TheVariants.{HandshakeDataReady, Connected, ConnectionLost, Stream}
 use Rattle.qc_state.specs.declared.input.Word.{Word}
 use Rattle.qc_state.specs.declared.input.Word.TheVariants as word
 use Rattle.qc_state.specs.declared.life.ConnectionError.{ConnectionError}
 use Rattle.qc_state.specs.declared.life.ConnectionError.TheVariants.{TransportError, ConnectionClosed, ApplicationClosed, TimedOut}
 use Rattle.qc_state.specs.declared.trace.Answer.{Answer}
 use Rattle.qc_state.specs.declared.trace.Answer.TheVariants as answer
+use Rattle.qc_state.specs.declared.trace.Refusal.{Refusal}
+use Rattle.qc_state.specs.declared.trace.Refusal.TheVariants as refusal
 use Rattle.qc_state.specs.declared.trace.Step.{Step}
+use Rattle.qc_streams.specs.declared.events.StreamEvent.{StreamEvent}
+use Rattle.qc_streams.specs.declared.events.StreamEvent.TheVariants as streamed
 
 -- a number, or `-` where there is none
 unfoldable pub number_or_dash : Option ℕ → List ℕ
@@ -124,15 +130,22 @@ piece_text space number verdict =
 
 -- a layer that was given something
 unfoldable pub layer_name : Layer → List ℕ
+layer_name Streams = codes "streams"
 layer_name Recovery = codes "recovery"
 layer_name Session = codes "session"
 layer_name Life = codes "life"
 
--- the name of the kind of frames with this type, of the kinds that layers are given (RFC 9000, sections 19.3, 19.19 and
--- 19.20); `-` for another one
+-- the name of the kind of frames with this type, of the kinds that layers are given (RFC 9000, sections 19.3 to 19.5, 19.8 to
+-- 19.11, 19.19 and 19.20); `-` for another one. The types of STREAM frames are those from 0x08 to 0x0f.
 unfoldable pub type_name : ℕ → List ℕ
 type_name type =
     if (type == 0x02) || (type == 0x03) then codes "ACK"
+    else if type == 0x04 then codes "RESET_STREAM"
+    else if type == 0x05 then codes "STOP_SENDING"
+    else if type / 8 == 1 then codes "STREAM"
+    else if type == 0x10 then codes "MAX_DATA"
+    else if type == 0x11 then codes "MAX_STREAM_DATA"
+    else if (type == 0x12) || (type == 0x13) then codes "MAX_STREAMS"
     else if type == 0x1c then codes "CONNECTION_CLOSE"
     else if type == 0x1d then codes "APPLICATION_CLOSE"
     else if type == 0x1e then codes "HANDSHAKE_DONE"
@@ -146,6 +159,12 @@ given_name (type ∷ _) = type_name type
 -- a frame of a kind that layers are given
 abbrev pub IsGiven : FrameValue → Type 0
 IsGiven (frames.Ack ack) = Unit {0}
+IsGiven (frames.ResetStream id code size) = Unit {0}
+IsGiven (frames.StopSending id code) = Unit {0}
+IsGiven (frames.Stream id offset fin body) = Unit {0}
+IsGiven (frames.MaxData limit) = Unit {0}
+IsGiven (frames.MaxStreamData id limit) = Unit {0}
+IsGiven (frames.MaxStreams dir count) = Unit {0}
 IsGiven (frames.ConnectionClose code type reason) = Unit {0}
 IsGiven (frames.ApplicationClose code reason) = Unit {0}
 IsGiven frames.HandshakeDone = Unit {0}
@@ -157,6 +176,7 @@ named_text body = given_name body ++ codes "/" ++ encode_lower body
 
 -- what a layer was given: a frame; the session bytes of CRYPTO frames without a head (RFC 9001, section 4), as their hex
 unfoldable pub given_text : Layer → List ℕ → List ℕ
+given_text Streams body = named_text body
 given_text Recovery body = named_text body
 given_text Session body = encode_lower body
 given_text Life body = named_text body
@@ -233,6 +253,18 @@ unfoldable pub out_text : SocketAddr → Option ℕ → Option EcnCodepoint → 
 out_text destination segment ecn bytes =
     target_text destination (length bytes) ++ marks_text segment ecn ++ encode_lower bytes ++ codes "\n"
 
+-- why a call on a stream was refused, with the peer's code where it has one
+unfoldable pub refusal_text : Refusal → List ℕ
+refusal_text refusal.Blocked = codes "Blocked"
+refusal_text refusal.ClosedStream = codes "ClosedStream"
+refusal_text (refusal.Stopped code) = codes "Stopped " ++ decimal code
+refusal_text refusal.IllegalOrderedRead = codes "IllegalOrderedRead"
+refusal_text (refusal.Reset code) = codes "Reset " ++ decimal code
+
+-- the line of bytes that were read: the offset of the first of them in their stream, and the bytes
+unfoldable pub read_text : (offset : ℕ) → (body : List ℕ) → List ℕ
+read_text offset body = codes "answer read " ++ decimal offset ++ codes " " ++ bytes_or_dash body ++ codes "\n"
+
 -- a transmit that sent nothing has the deed `quiet` and no answer
 abbrev pub nothing_text : Word → List ℕ
 nothing_text word.Transmit = []
@@ -243,16 +275,38 @@ unfoldable pub answer_text : Word → Answer → List ℕ
 answer_text w answer.Done = codes "answer done\n"
 answer_text w answer.Dropped = codes "answer dropped\n"
 answer_text w answer.Nothing = nothing_text w
+answer_text w (answer.Opened id) = codes "answer opened " ++ decimal id ++ codes "\n"
+answer_text w (answer.Accepted id) = codes "answer accepted " ++ decimal id ++ codes "\n"
+answer_text w (answer.Wrote count) = codes "answer wrote " ++ decimal count ++ codes "\n"
+answer_text w (answer.Read offset body) = read_text offset body
+answer_text w answer.Ended = codes "answer ended\n"
+answer_text w (answer.Error why) = codes "answer error " ++ refusal_text why ++ codes "\n"
 answer_text w (answer.Out destination segment ecn bytes) = out_text destination segment ecn bytes
 
 -- ---- steps
 
--- the line of what the application is told: that what the handshake settles is known, that the handshake is over, or that
--- the connection was lost, and why
+-- whether both ends send on a stream, or one
+unfoldable pub dir_name : Dir → List ℕ
+dir_name Bi = codes "bi"
+dir_name Uni = codes "uni"
+
+-- what happened on a stream, or to how many there may be: of which streams, or on which one, and with which code the peer
+-- stopped it
+unfoldable pub stream_event_text : StreamEvent → List ℕ
+stream_event_text (streamed.Opened dir) = codes "Opened " ++ dir_name dir
+stream_event_text (streamed.Readable id) = codes "Readable " ++ decimal id
+stream_event_text (streamed.Writable id) = codes "Writable " ++ decimal id
+stream_event_text (streamed.Stopped id code) = codes "Stopped " ++ decimal id ++ codes " " ++ decimal code
+stream_event_text (streamed.Finished id) = codes "Finished " ++ decimal id
+stream_event_text (streamed.Available dir) = codes "Available " ++ dir_name dir
+
+-- the line of what the application is told: that what the handshake settles is known, that the handshake is over, that the
+-- connection was lost, and why, or what happened on a stream
 unfoldable pub event_text : Event → List ℕ
 event_text HandshakeDataReady = codes "event handshake-data\n"
 event_text Connected = codes "event connected\n"
 event_text (ConnectionLost reason) = codes "event lost " ++ reason_text reason ++ codes "\n"
+event_text (Stream event) = codes "event stream " ++ stream_event_text event ++ codes "\n"
 
 -- the line of the peer's token for a stateless reset: the address that it holds for, and the token (RFC 9000, section 10.3)
 unfoldable pub reset_token_text : SocketAddr → (token : List ℕ) → List ℕ
@@ -278,8 +332,18 @@ unfoldable pub word_name : Word → List ℕ
 word_name word.Datagram = codes "datagram"
 word_name word.Timeout = codes "timeout"
 word_name word.Transmit = codes "transmit"
+word_name word.Open = codes "open"
+word_name word.Accept = codes "accept"
+word_name word.Write = codes "write"
+word_name word.Finish = codes "finish"
+word_name word.ResetSend = codes "reset"
+word_name word.StopRecv = codes "stop"
+word_name word.Read = codes "read"
 word_name word.Close = codes "close"
 word_name word.Ping = codes "ping"
+word_name word.MaxStreams = codes "streams"
+word_name word.SendWindow = codes "sendwindow"
+word_name word.ReceiveWindow = codes "recvwindow"
 
 -- the first line of a step: the place of its input in the list of inputs, and the input's kind and time
 unfoldable pub step_head : ℕ → Word → ℕ → List ℕ

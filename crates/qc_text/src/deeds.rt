@@ -11,7 +11,7 @@ use crate::frames::put_frames;
 use crate::names::{
     given_of, layer_of, option_space_of, quiet_of, reason_of, space_of, verdict_of,
 };
-use crate::pieces::{put_bytes, put_number, put_optional};
+use crate::pieces::{put_bytes, put_line, put_number, put_optional};
 use bytes::Bytes;
 use qc_base::{SpaceId, TransportError, TransportErrorCode, VarInt};
 use qc_frame::FrameList;
@@ -133,6 +133,7 @@ fn put_given(out: &mut Vec<u8>, layer: Layer, body: &[u8]) -> Result<(), AllocEr
     ensures in_range { OnOk result (IsBytes body.now) }
 {
     match layer {
+        Layer::Streams => put_named(out, body),
         Layer::Recovery => put_named(out, body),
         Layer::Session => put_hex(out, body),
         Layer::Life => put_named(out, body),
@@ -153,9 +154,7 @@ fn put_named(out: &mut Vec<u8>, body: &[u8]) -> Result<(), AllocError>
 fn put_rose(out: &mut Vec<u8>, life: u8) -> Result<(), AllocError>
     ensures { OnOk result (out.new.items ≡ out.old.items ++ (codes "life " ++ decimal life ++ codes "\n")) }
 {
-    out.extend_from_slice(b"life ")?;
-    put_number(out, u64::from(life))?;
-    out.extend_from_slice(b"\n")
+    put_line(out, b"life ", u64::from(life))
 }
 
 /// Appends the line of a reason for the end, after these words.

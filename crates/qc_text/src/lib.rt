@@ -12,6 +12,7 @@ mod laws;
 mod names;
 mod pieces;
 mod steps;
+mod streams;
 mod trace;
 
 pub use laws::given_frames_have_their_names;

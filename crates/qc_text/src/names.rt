@@ -1,9 +1,9 @@
 //! The words of lines.
 
 ghost use Rattle.std.specs.Prelude.{◌≡◌};
-ghost use Rattle.qc_text.specs.TraceText.{given_name, layer_name, option_space_name, quiet_name, reason_name, space_name, type_name, verdict_name, word_name};
+ghost use Rattle.qc_text.specs.TraceText.{dir_name, given_name, layer_name, option_space_name, quiet_name, reason_name, space_name, type_name, verdict_name, word_name};
 
-use qc_base::SpaceId;
+use qc_base::{Dir, SpaceId};
 use qc_state::{ConnectionError, Layer, Quiet, Verdict, Word};
 
 /// The word of an input's kind.
@@ -15,8 +15,29 @@ pub fn word_of(word: Word) -> &'static [u8]
         Word::Datagram => b"datagram",
         Word::Timeout => b"timeout",
         Word::Transmit => b"transmit",
+        Word::Open => b"open",
+        Word::Accept => b"accept",
+        Word::Write => b"write",
+        Word::Finish => b"finish",
+        Word::ResetSend => b"reset",
+        Word::StopRecv => b"stop",
+        Word::Read => b"read",
         Word::Close => b"close",
         Word::Ping => b"ping",
+        Word::MaxStreams => b"streams",
+        Word::SendWindow => b"sendwindow",
+        Word::ReceiveWindow => b"recvwindow",
+    }
+}
+
+/// The word of whether both ends send on a stream.
+#[tactic(auto, unfolding(crate::specs::TraceText::dir_name))]
+pub fn dir_of(dir: Dir) -> &'static [u8]
+    ensures { result.now ≡ dir_name dir }
+{
+    match dir {
+        Dir::Bi => b"bi",
+        Dir::Uni => b"uni",
     }
 }
 
@@ -66,6 +87,7 @@ pub fn layer_of(layer: Layer) -> &'static [u8]
     ensures { result.now ≡ layer_name layer }
 {
     match layer {
+        Layer::Streams => b"streams",
         Layer::Recovery => b"recovery",
         Layer::Session => b"session",
         Layer::Life => b"life",
@@ -90,6 +112,24 @@ fn type_of(first: u8) -> &'static [u8]
 {
     if first == 0x02 || first == 0x03 {
         return b"ACK";
+    }
+    if first == 0x04 {
+        return b"RESET_STREAM";
+    }
+    if first == 0x05 {
+        return b"STOP_SENDING";
+    }
+    if first / 8 == 1 {
+        return b"STREAM";
+    }
+    if first == 0x10 {
+        return b"MAX_DATA";
+    }
+    if first == 0x11 {
+        return b"MAX_STREAM_DATA";
+    }
+    if first == 0x12 || first == 0x13 {
+        return b"MAX_STREAMS";
     }
     if first == 0x1c {
         return b"CONNECTION_CLOSE";

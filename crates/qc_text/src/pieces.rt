@@ -1,6 +1,6 @@
 //! Pieces of lines: numbers, bytes and addresses.
 
-ghost use Rattle.std.specs.Prelude.{◌≡◌, ◌++◌, decimal, OnOk};
+ghost use Rattle.std.specs.Prelude.{◌≡◌, ◌++◌, codes, decimal, OnOk};
 ghost use Rattle.qc_base.specs.Grammar.{IsBytes};
 ghost use Rattle.qc_text.specs.OneText.{IsAddressInRange, IsIpInRange, IsOptionInRange};
 ghost use Rattle.qc_text.specs.TraceText.{address_text, bytes_or_dash, ip_text, number_or_dash};
@@ -16,6 +16,15 @@ pub fn put_number(out: &mut Vec<u8>, number: u64) -> Result<(), AllocError>
 {
     let mut buffer = Buffer::new();
     out.extend_from_slice(buffer.format(number).as_bytes())
+}
+
+/// Appends the line of a number, after these words.
+pub fn put_line(out: &mut Vec<u8>, words: &[u8], number: u64) -> Result<(), AllocError>
+    ensures { OnOk result (out.new.items ≡ out.old.items ++ (words.now ++ decimal number ++ codes "\n")) }
+{
+    out.extend_from_slice(words)?;
+    put_number(out, number)?;
+    out.extend_from_slice(b"\n")
 }
 
 /// Appends a number's decimal, or `-` where there is none.

@@ -9,7 +9,8 @@ ghost use Rattle.qc_text.specs.TraceText.{answer_text, ecn_text, endpoint_text, 
 use crate::deeds::{put_dids, put_reason};
 use crate::digits::put_hex;
 use crate::names::word_of;
-use crate::pieces::{put_address, put_bytes, put_number, put_optional};
+use crate::pieces::{put_address, put_bytes, put_line, put_number, put_optional};
+use crate::streams::{put_read, put_refusal, put_stream_event};
 use qc_base::{EcnCodepoint, Instant, ResetToken};
 use qc_state::{Answer, EndpointEvent, Event, Step, Word};
 use std::alloc::AllocError;
@@ -52,6 +53,12 @@ fn put_answer(out: &mut Vec<u8>, word: Word, answer: &Answer) -> Result<(), Allo
         Answer::Done => out.extend_from_slice(b"answer done\n"),
         Answer::Dropped => out.extend_from_slice(b"answer dropped\n"),
         Answer::Nothing => put_nothing(out, word),
+        Answer::Opened(id) => put_line(out, b"answer opened ", id.value()),
+        Answer::Accepted(id) => put_line(out, b"answer accepted ", id.value()),
+        Answer::Wrote(count) => put_line(out, b"answer wrote ", *count),
+        Answer::Read { offset, body } => put_read(out, *offset, body.as_slice()),
+        Answer::Ended => out.extend_from_slice(b"answer ended\n"),
+        Answer::Error(why) => put_refusal(out, *why),
         Answer::Out {
             destination,
             segment,
@@ -144,6 +151,7 @@ fn put_event(out: &mut Vec<u8>, event: &Event) -> Result<(), AllocError>
         Event::HandshakeDataReady => out.extend_from_slice(b"event handshake-data\n"),
         Event::Connected => out.extend_from_slice(b"event connected\n"),
         Event::ConnectionLost { reason } => put_reason(out, b"event lost ", reason),
+        Event::Stream(event) => put_stream_event(out, *event),
     }
 }
 

@@ -1,6 +1,6 @@
 //! Lines of each form, and those at the edges of them.
 
-use qc_base::{ConnectionId, EcnCodepoint, Instant, Side, VarInt};
+use qc_base::{ConnectionId, Dir, EcnCodepoint, Instant, Side, VarInt};
 use qc_script::{RandomWords, Script, ScriptError, Settings, read_script};
 use qc_state::Input;
 use std::alloc::Global;
@@ -98,6 +98,143 @@ fn other_inputs_than_datagrams_are_read(rt: HostRuntime) -> Result<(), Fail> {
         Some((3, (1 << 62) - 1, true))
     );
     assert_eq!(rt; time_in(rt.alloc(), "ping 0")?, Some((false, 0)));
+    Ok(())
+}
+
+/// A call of the streams: its word, its time, and the direction and the numbers that it names.
+#[derive(Clone, Copy, Debug, PartialEq, Eq)]
+struct Call {
+    word: &'static str,
+    now: u64,
+    dir: Option<Dir>,
+    numbers: [u64; 2],
+}
+
+/// A call that names a direction.
+fn of_dir(word: &'static str, now: u64, dir: Dir, number: u64) -> Call {
+    Call {
+        word,
+        now,
+        dir: Some(dir),
+        numbers: [number, 0],
+    }
+}
+
+/// A call that names no direction.
+fn of_numbers(word: &'static str, now: u64, numbers: [u64; 2]) -> Call {
+    Call {
+        word,
+        now,
+        dir: None,
+        numbers,
+    }
+}
+
+/// What an input says that is a call of the streams, but for a write.
+fn call_of(input: &Input) -> Option<Call> {
+    let call = match input {
+        Input::Open { now, dir } => of_dir("open", now.nanos(), *dir, 0),
+        Input::Accept { now, dir } => of_dir("accept", now.nanos(), *dir, 0),
+        Input::MaxStreams { now, dir, count } => {
+            of_dir("streams", now.nanos(), *dir, count.into_inner())
+        }
+        Input::Finish { now, id } => of_numbers("finish", now.nanos(), [id.value(), 0]),
+        Input::ResetSend { now, id, code } => {
+            of_numbers("reset", now.nanos(), [id.value(), code.into_inner()])
+        }
+        Input::StopRecv { now, id, code } => {
+            of_numbers("stop", now.nanos(), [id.value(), code.into_inner()])
+        }
+        Input::Read { now, id, max } => {
+            of_numbers("read", now.nanos(), [id.value(), *max as u64])
+        }
+        Input::SendWindow { now, size } => of_numbers("sendwindow", now.nanos(), [*size, 0]),
+        Input::ReceiveWindow { now, size } => {
+            of_numbers("recvwindow", now.nanos(), [size.into_inner(), 0])
+        }
+        _ => return None,
+    };
+    Some(call)
+}
+
+/// What the input of this line says, where it is such a call.
+fn call_in(alloc: Global, line: &str) -> Result<Option<Call>, Fail> {
+    let input = input_of(alloc, line)?;
+    Ok(call_of(&input))
+}
+
+/// The greatest number below 2^62.
+const GREATEST: u64 = (1 << 62) - 1;
+
+/// Lines of calls, and what they say.
+fn calls() -> [(&'static str, Call); 13] {
+    [
+    ("open 0 bi", of_dir("open", 0, Dir::Bi, 0)),
+    (
+        "open 18446744073709551615 uni",
+        of_dir("open", u64::MAX, Dir::Uni, 0),
+    ),
+    ("accept 1 bi", of_dir("accept", 1, Dir::Bi, 0)),
+    ("accept 2 uni", of_dir("accept", 2, Dir::Uni, 0)),
+    (
+        "finish 3 4611686018427387903",
+        of_numbers("finish", 3, [GREATEST, 0]),
+    ),
+    (
+        "reset 4 5 4611686018427387903",
+        of_numbers("reset", 4, [5, GREATEST]),
+    ),
+    (
+        "stop 5 4611686018427387903 6",
+        of_numbers("stop", 5, [GREATEST, 6]),
+    ),
+    (
+        "read 6 7 18446744073709551615",
+        of_numbers("read", 6, [7, u64::MAX]),
+    ),
+    ("read 6 4611686018427387903 0", of_numbers("read", 6, [GREATEST, 0])),
+    (
+        "streams 7 uni 4611686018427387903",
+        of_dir("streams", 7, Dir::Uni, GREATEST),
+    ),
+    ("streams 7 bi 0", of_dir("streams", 7, Dir::Bi, 0)),
+    (
+        "sendwindow 8 18446744073709551615",
+        of_numbers("sendwindow", 8, [u64::MAX, 0]),
+    ),
+    (
+        "recvwindow 9 4611686018427387903",
+        of_numbers("recvwindow", 9, [GREATEST, 0]),
+    ),
+    ]
+}
+
+/// The time and the stream of a write, and whether it has these bytes.
+fn write_of(input: &Input, text: &[u8]) -> Option<(u64, u64, bool)> {
+    match input {
+        Input::Write { now, id, body } => {
+            Some((now.nanos(), id.value(), body.as_slice() == text))
+        }
+        _ => None,
+    }
+}
+
+/// What the input of this line says, where it is a write.
+fn write_in(alloc: Global, line: &str, text: &[u8]) -> Result<Option<(u64, u64, bool)>, Fail> {
+    let input = input_of(alloc, line)?;
+    Ok(write_of(&input, text))
+}
+
+#[test]
+fn calls_of_streams_are_read(rt: HostRuntime) -> Result<(), Fail> {
+    for (line, call) in calls() {
+        assert_eq!(rt; call_in(rt.alloc(), line)?, Some(call), "{line:?}");
+    }
+    assert_eq!(rt;
+        write_in(rt.alloc(), "write 3 4611686018427387903 6f6b", b"ok")?,
+        Some((3, GREATEST, true))
+    );
+    assert_eq!(rt; write_in(rt.alloc(), "write 4 0 -", b"")?, Some((4, 0, true)));
     Ok(())
 }
 
@@ -220,6 +357,43 @@ const BAD_LINES: &[&str] = &[
     "ping 07",
     "ping 7 ",
     "pong 7",
+    // Calls of the streams: fields that are missing or too many, directions, and numbers that are too great.
+    "open",
+    "open 7",
+    "open bi",
+    "open 7 ",
+    "open 7 both",
+    "open 7 Bi",
+    "open 7 bi ",
+    "open 7 b",
+    "open 07 bi",
+    "accept 7 uni 1",
+    "accept 18446744073709551616 uni",
+    "write 7 1",
+    "write 7 4611686018427387904 -",
+    "write 7 1 0A",
+    "write 7 1 ",
+    "finish 7",
+    "finish 7 4611686018427387904",
+    "finish 7 01",
+    "reset 7 1",
+    "reset 7 4611686018427387904 1",
+    "reset 7 1 4611686018427387904",
+    "stop 7 1",
+    "stop 7 4611686018427387904 1",
+    "stop 7 1 4611686018427387904",
+    "read 7 1",
+    "read 7 4611686018427387904 1",
+    "read 7 1 18446744073709551616",
+    "streams 7 bi",
+    "streams 7 1",
+    "streams 7 both 1",
+    "streams 7 bi 4611686018427387904",
+    "sendwindow 7",
+    "sendwindow 7 18446744073709551616",
+    "recvwindow 7",
+    "recvwindow 7 4611686018427387904",
+    "reads 7 1 1",
     "",
 ];
 

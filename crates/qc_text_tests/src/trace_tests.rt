@@ -1,13 +1,16 @@
 //! Texts of traces that are made by hand. The lines are written by hand, by the rules of the trace's text; the frames in
-//! them are spelled by RFC 9000, sections 19.2, 19.3, 19.19 and 19.20.
+//! them are spelled by RFC 9000, sections 19.2 to 19.11, 19.19 and 19.20.
 
 use bytes::Bytes;
-use qc_base::{EcnCodepoint, Instant, ResetToken, SpaceId, TransportErrorCode, VarInt};
+use qc_base::{
+    Dir, EcnCodepoint, Instant, ResetToken, Side, SpaceId, StreamId, TransportErrorCode, VarInt,
+};
 use qc_frame::{FrameList, FrameOf, OwnedFrame};
 use qc_state::{
     Answer, ApplicationClose, Body, ConnectionClose, ConnectionError, Dids, EndpointEvent,
-    EndpointEvents, Events, Layer, Quiet, Step, Trace, Verdict, Word,
+    EndpointEvents, Events, Layer, Quiet, Refusal, Step, Trace, Verdict, Word,
 };
+use qc_streams::StreamEvent;
 use qc_text::{given_frames_have_their_names, steps_text, trace_text};
 use std::alloc::{AllocError, Global};
 use std::net::{IpAddr, Ipv4Addr, Ipv6Addr, SocketAddr};
@@ -155,6 +158,24 @@ const GIVEN_TO_RECOVERY: &[(&[u8], &str)] = &[
     ),
 ];
 
+/// What the streams are given: a reset and a stop of stream 0 with code 7; STREAM frames of stream 0 with neither an offset nor a
+/// length, and of stream 4 with both and the end; and frames that give credit. Frames of the types next to those have no name.
+const GIVEN_TO_STREAMS: &[(&[u8], &str)] = &[
+    (&[4, 0, 7, 5], "\ngave streams RESET_STREAM/04000705\n"),
+    (&[5, 0, 7], "\ngave streams STOP_SENDING/050007\n"),
+    (&[7, 1, 0x68], "\ngave streams -/070168\n"),
+    (&[8, 0, 0x68, 0x69], "\ngave streams STREAM/08006869\n"),
+    (
+        &[0x0f, 4, 1, 2, 0x68, 0x69],
+        "\ngave streams STREAM/0f0401026869\n",
+    ),
+    (&[0x10, 5], "\ngave streams MAX_DATA/1005\n"),
+    (&[0x11, 0, 5], "\ngave streams MAX_STREAM_DATA/110005\n"),
+    (&[0x12, 5], "\ngave streams MAX_STREAMS/1205\n"),
+    (&[0x13, 5], "\ngave streams MAX_STREAMS/1305\n"),
+    (&[0x14, 5], "\ngave streams -/1405\n"),
+];
+
 #[test]
 fn frames_that_layers_are_given(rt: HostRuntime) -> Result<(), Fail> {
     for (bytes, line) in GIVEN_TO_RECOVERY {
@@ -165,6 +186,12 @@ fn frames_that_layers_are_given(rt: HostRuntime) -> Result<(), Fail> {
     }
     for (bytes, line) in GIVEN_TO_LIFE {
         assert!(rt; is_given(rt.alloc(), Layer::Life, bytes, line)?, "{line}");
+    }
+    for (bytes, line) in GIVEN_TO_STREAMS {
+        assert!(rt;
+            is_given(rt.alloc(), Layer::Streams, bytes, line)?,
+            "{line}"
+        );
     }
     given_frames_have_their_names();
     Ok(())
@@ -453,6 +480,150 @@ fn killed_step(alloc: Global) -> Result<Step, AllocError> {
 fn the_end(rt: HostRuntime) -> Result<(), Fail> {
     let step = killed_step(rt.alloc())?;
     let told = "qconn 1\nstep 0 transmit 5\nlife 4\nquiet Killed\nendpoint drained\ntimer -\nend\n";
+    assert!(rt; is_text(rt.alloc(), step, told)?);
+    Ok(())
+}
+
+/// Each kind of an input, and its word.
+const WORDS: &[(Word, &str)] = &[
+    (Word::Datagram, "datagram"),
+    (Word::Timeout, "timeout"),
+    (Word::Open, "open"),
+    (Word::Accept, "accept"),
+    (Word::Write, "write"),
+    (Word::Finish, "finish"),
+    (Word::ResetSend, "reset"),
+    (Word::StopRecv, "stop"),
+    (Word::Read, "read"),
+    (Word::Close, "close"),
+    (Word::Ping, "ping"),
+    (Word::MaxStreams, "streams"),
+    (Word::SendWindow, "sendwindow"),
+    (Word::ReceiveWindow, "recvwindow"),
+];
+
+/// Whether a step of this kind that answered so is told by this word and this line.
+fn is_answered(
+    alloc: Global,
+    word: Word,
+    name: &str,
+    answer: Answer,
+    line: &str,
+) -> Result<bool, Fail> {
+    let step = step(alloc, word, Dids::new(alloc), answer);
+    let told = format!(in alloc; "qconn 1\nstep 0 {name} 5\n{line}\ntimer -\nend\n")?;
+    Ok(is_text(alloc, step, told.as_str())?)
+}
+
+#[test]
+fn words_of_inputs(rt: HostRuntime) -> Result<(), Fail> {
+    for (word, name) in WORDS {
+        assert!(rt;
+            is_answered(rt.alloc(), *word, name, Answer::Done, "answer done")?,
+            "{name}"
+        );
+    }
+    Ok(())
+}
+
+/// What calls on streams may answer, but for bytes that are read: stream 5 is the second one that a server opens for both ends, and
+/// stream 2 the first one that a client opens for itself.
+fn answers() -> [(Answer, &'static str); 6] {
+    [
+        (Answer::Nothing, "answer none"),
+        (
+            Answer::Opened(StreamId::new(Side::Server, Dir::Bi, 1)),
+            "answer opened 5",
+        ),
+        (
+            Answer::Accepted(StreamId::new(Side::Client, Dir::Uni, 0)),
+            "answer accepted 2",
+        ),
+        (Answer::Wrote(u64::MAX), "answer wrote 18446744073709551615"),
+        (Answer::Wrote(0), "answer wrote 0"),
+        (Answer::Ended, "answer ended"),
+    ]
+}
+
+/// Why they may be refused.
+fn refusals() -> [(Answer, &'static str); 5] {
+    [
+        (Answer::Error(Refusal::Blocked), "answer error Blocked"),
+        (
+            Answer::Error(Refusal::ClosedStream),
+            "answer error ClosedStream",
+        ),
+        (
+            Answer::Error(Refusal::Stopped(VarInt::from_u32(7))),
+            "answer error Stopped 7",
+        ),
+        (
+            Answer::Error(Refusal::IllegalOrderedRead),
+            "answer error IllegalOrderedRead",
+        ),
+        (
+            Answer::Error(Refusal::Reset(VarInt::from_u32(0))),
+            "answer error Reset 0",
+        ),
+    ]
+}
+
+#[test]
+fn answers_of_calls(rt: HostRuntime) -> Result<(), Fail> {
+    for (answer, line) in answers() {
+        assert!(rt;
+            is_answered(rt.alloc(), Word::Read, "read", answer, line)?,
+            "{line}"
+        );
+    }
+    for (answer, line) in refusals() {
+        assert!(rt;
+            is_answered(rt.alloc(), Word::Write, "write", answer, line)?,
+            "{line}"
+        );
+    }
+    Ok(())
+}
+
+/// Whether that these bytes were read at this offset is told by this line.
+fn is_read(alloc: Global, offset: u64, bytes: &[u8], line: &str) -> Result<bool, Fail> {
+    let body = Body::from_slice(alloc, bytes)?;
+    is_answered(alloc, Word::Read, "read", Answer::Read { offset, body }, line)
+}
+
+#[test]
+fn bytes_that_are_read(rt: HostRuntime) -> Result<(), Fail> {
+    assert!(rt; is_read(rt.alloc(), 12, &[0, 255], "answer read 12 00ff")?);
+    assert!(rt; is_read(rt.alloc(), 0, &[], "answer read 0 -")?);
+    Ok(())
+}
+
+/// What may happen on a stream, or to how many there may be.
+fn put_stream_events(events: &mut Events) -> Result<(), AllocError> {
+    let id = StreamId::new(Side::Client, Dir::Bi, 0);
+    let error_code = VarInt::from_u32(7);
+    events.push_stream(StreamEvent::Opened { dir: Dir::Bi })?;
+    events.push_stream(StreamEvent::Readable { id })?;
+    events.push_stream(StreamEvent::Writable { id })?;
+    events.push_stream(StreamEvent::Finished { id })?;
+    events.push_stream(StreamEvent::Stopped { id, error_code })?;
+    events.push_stream(StreamEvent::Available { dir: Dir::Uni })
+}
+
+/// A step that tells the application so.
+fn stream_events_step(alloc: Global) -> Result<Step, AllocError> {
+    let mut events = Events::new(alloc);
+    put_stream_events(&mut events)?;
+    let did = Dids::new(alloc);
+    let endpoint = EndpointEvents::new(alloc);
+    Ok(reporting(Word::Datagram, did, Answer::Done, events, endpoint))
+}
+
+#[test]
+fn events_of_streams(rt: HostRuntime) -> Result<(), Fail> {
+    let step = stream_events_step(rt.alloc())?;
+    let told =
+        "qconn 1\nstep 0 datagram 5\nanswer done\nevent stream Opened bi\nevent stream Readable 0\nevent stream Writable 0\nevent stream Finished 0\nevent stream Stopped 0 7\nevent stream Available uni\ntimer -\nend\n";
     assert!(rt; is_text(rt.alloc(), step, told)?);
     Ok(())
 }

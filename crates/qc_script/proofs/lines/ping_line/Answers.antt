@@ -1,10 +1,10 @@
 use Rattle.std.proofs.Common.{arith}
-use Rattle.qc_script.proofs.FieldLemmas.{number_text}
-use Rattle.qc_script.proofs.LineLemmas.{ping_next, no_ping}
+use Rattle.qc_state.specs.declared.input.Input.TheVariants.{Ping}
+use Rattle.qc_script.proofs.LineLemmas.{is_next, no_ping}
 use Rattle.qc_script.proofs.lines.ping_line.Goals as goal
 
 pub returns-in-Some : goal.returns-in-Some
-returns-in-Some c = rw c.from_nanos.ensures (ping_next c.args.digits.now c.in-Some.now (number_text c.args.digits.now c.in-Some.now (omega arith) c.in-Some.ensures))
+returns-in-Some c = rw c.from_nanos.ensures (is_next c.args.digits.now (Ping c.in-Some.now) c.in-Some.ensures (omega arith))
 
 pub returns-in-None : goal.returns-in-None
 returns-in-None c = no_ping c.args.digits.now c.in-None.ensures

@@ -1,5 +1,5 @@
-use Rattle.qc_script.proofs.LineLemmas.{no_word}
+use Rattle.qc_script.proofs.LineLemmas.{call_read}
 use Rattle.qc_script.proofs.lines.read_line.Goals as goal
 
-pub returns-in-None : goal.returns-in-None
-returns-in-None c = no_word c.args.text.now c.in_default.ensures c.in_default-after_word.ensures c.in_default-after_word-2.ensures c.in_default-after_word-3.ensures c.in-None.ensures
+pub returns : goal.returns
+returns c = call_read c.args.text.now c.in_default.ensures c.in_default-after_word.ensures c.in_default-after_word-2.ensures c.in_default-after_word-3.ensures c.in_default-after_word-4.ensures c.stream_line.result c.stream_line.ensures

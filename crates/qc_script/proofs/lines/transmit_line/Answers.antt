@@ -1,8 +1,19 @@
-use Rattle.qc_script.proofs.LineLemmas.{transmit_next, no_transmit}
+use Rattle.std.proofs.Common.{◌^◌, ◌∙◌, arith}
+use Rattle.std.specs.Fmt.{decimal}
+use Rattle.qc_state.specs.declared.input.Input.TheVariants.{Transmit}
+use Rattle.qc_script.proofs.FieldLemmas.{begins_same}
+use Rattle.qc_script.proofs.LineLemmas.{is_next, no_transmit, two_read}
 use Rattle.qc_script.proofs.lines.transmit_line.Goals as goal
 
-pub returns-in-Some : goal.returns-in-Some
-returns-in-Some c = rw c.from_nanos.ensures (transmit_next c.args.fields.now c.in-Some.now c.in-Some.max_datagrams c.in-Some.ensures)
+pub returns-in_err-now : goal.returns-in_err-now
+returns-in_err-now c = rw c.from_residual.ensures (no_transmit c.args.fields.now (λ now rest b x within e. c.in_err-now.ensures now rest b))
 
-pub returns-in-None : goal.returns-in-None
-returns-in-None c = no_transmit c.args.fields.now c.in-None.ensures
+pub returns-in_err-max_datagrams : goal.returns-in_err-max_datagrams
+returns-in_err-max_datagrams c = rw c.from_residual-in_err-max_datagrams.ensures (no_transmit c.args.fields.now (λ now rest b x within e.
+    let same = begins_same (2 ^ 64) c.args.fields.now c.in_ok-now.now c.in_ok-now.count.now now rest (omega arith) c.in_ok-now.ensures b in
+    c.in_err-max_datagrams.ensures x within (same.1 ∙ e)))
+
+pub returns : goal.returns
+returns c =
+    let fields = two_read c.args.fields.now c.in_ok-now.count.now (decimal c.in_ok-max_datagrams.max_datagrams) c.in_ok-now.now c.in_ok-now.ensures c.in_ok-max_datagrams.ensures in
+    rw c.from_nanos.ensures (is_next c.args.fields.now (Transmit c.in_ok-now.now c.in_ok-max_datagrams.max_datagrams) fields (omega arith, omega arith))
