@@ -43,6 +43,12 @@ none_called (input.Close time code reason) read s h = refl
 none_called (input.Ping time) read s h = refl
 none_called _ read s h = cc
 
+-- a packet that is sealed leaves them
+flown_streams : {S : Type 0} → (owed : Bool) (l : Lower S) (id : SpaceId) (n : ℕ) (packet : SentPacket) → (if owed then l else packet_flown l id n packet).streams ≡ l.streams
+unfolding packet_flown
+flown_streams true l id n packet = refl
+flown_streams false l id n packet = refl
+
 module _ {t : Types} where
   -- ---- moves
 
@@ -103,11 +109,6 @@ module _ {t : Types} where
   folds_by x a h = record { since = deeds_move x a.state; appended = told_appends a.did (deeds_move x a.state); steps = streams_steps x a.state; may = h.0; leads = h.1; handed = h.2; uncalled = h.3 }
 
   -- a packet is taken and sealed
-  flown_streams : (owed : Bool) (l : Lower t.S) (id : SpaceId) (n : ℕ) (packet : SentPacket) → (if owed then l else packet_flown l id n packet).streams ≡ l.streams
-  unfolding packet_flown
-  flown_streams true l id n packet = refl
-  flown_streams false l id n packet = refl
-
   packet_folds : (time : ℕ) (form : Form) (fs : List FrameValue) (a : At t) →
       Folds a (move_to (Seal time form (next_number a.state.numbers (number_space form)) (packet_size a.state form fs) fs) (move_to (Take (number_space form) fs) a))
   unfolding streams_steps state_move lower_move deeds_move AllMay after
