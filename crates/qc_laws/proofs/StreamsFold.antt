@@ -20,7 +20,7 @@ use Rattle.qc_state.specs.Flight.{flown_packet}
 use Rattle.qc_state.specs.Forms.{number_space}
 use Rattle.qc_state.specs.Headline.{deeds_of}
 use Rattle.qc_state.specs.Lower.{bytes_came, events_told, flight_dropped, frame_handed, limits_learned, packet_flown, packets_settled, session_read, session_wrote, streams_closed, streams_stepped, timer_fired}
-use Rattle.qc_state.specs.Moves.{Call, Hand, Learn, MayMove, Move, PeerCloses, PeerClosesToo, Raise, ReportStream, ReportStreams, Seal, Shut, Take, Tell, deeds_move, is_call, lower_move, move_to, state_move}
+use Rattle.qc_state.specs.Moves.{Call, Hand, Learn, Move, PeerCloses, PeerClosesToo, Raise, ReportStream, ReportStreams, Seal, Shut, Take, Tell, deeds_move, is_call, lower_move, move_to, state_move}
 use Rattle.qc_state.specs.Numbers.{next_number}
 use Rattle.qc_state.specs.Run.{IsAllowed, IsStep, Run, answer_of, began, called, called_all, input_after, reported, time_of}
 use Rattle.qc_state.specs.Run as run
@@ -42,6 +42,12 @@ none_called (input.Transmit time max) read s h = refl
 none_called (input.Close time code reason) read s h = refl
 none_called (input.Ping time) read s h = refl
 none_called _ read s h = cc
+
+-- a packet that is sealed leaves them
+flown_streams : {S : Type 0} → (owed : Bool) (l : Lower S) (id : SpaceId) (n : ℕ) (packet : SentPacket) → (if owed then l else packet_flown l id n packet).streams ≡ l.streams
+unfolding packet_flown
+flown_streams true l id n packet = refl
+flown_streams false l id n packet = refl
 
 module _ {t : Types} where
   -- ---- moves
@@ -103,11 +109,6 @@ module _ {t : Types} where
   folds_by x a h = record { since = deeds_move x a.state; appended = told_appends a.did (deeds_move x a.state); steps = streams_steps x a.state; may = h.0; leads = h.1; handed = h.2; uncalled = h.3 }
 
   -- a packet is taken and sealed
-  flown_streams : (owed : Bool) (l : Lower t.S) (id : SpaceId) (n : ℕ) (packet : SentPacket) → (if owed then l else packet_flown l id n packet).streams ≡ l.streams
-  unfolding packet_flown
-  flown_streams true l id n packet = refl
-  flown_streams false l id n packet = refl
-
   packet_folds : (time : ℕ) (form : Form) (fs : List FrameValue) (a : At t) →
       Folds a (move_to (Seal time form (next_number a.state.numbers (number_space form)) (packet_size a.state form fs) fs) (move_to (Take (number_space form) fs) a))
   unfolding streams_steps state_move lower_move deeds_move AllMay after
