@@ -13,12 +13,7 @@ use qc_streams::StreamEvent;
 use std::alloc::AllocError;
 
 /// Appends the line of bytes that were read, after these words.
-pub fn put_read(
-    out: &mut Vec<u8>,
-    words: &[u8],
-    offset: u64,
-    body: &[u8],
-) -> Result<(), AllocError>
+pub fn put_read(out: &mut Vec<u8>, words: &[u8], offset: u64, body: &[u8]) -> Result<(), AllocError>
     ensures text { OnOk result (out.new.items ≡ out.old.items ++ (words.now ++ decimal offset ++ codes " " ++ bytes_or_dash body.now ++ codes "\n")) }
     ensures in_range { OnOk result ((offset < 2 ^ 64) × IsBytes body.now) }
 {
