@@ -135,10 +135,19 @@ fn bad_call<U: Suite>(connection: &Connection<U>, input: &Input) -> Option<BadWh
         }
         Input::Write { id, .. } | Input::Finish { id, .. } | Input::ResetSend { id, .. } =>
             bad_direction(sends_on(side, *id), *id),
-        Input::StopRecv { id, .. } | Input::Read { id, .. } =>
-            bad_direction(receives_on(side, *id), *id),
-        Input::Datagram { .. } | Input::Timeout { .. } | Input::Open { .. } | Input::Accept { .. } | Input::Close { .. }
-        | Input::Ping { .. } | Input::MaxStreams { .. } | Input::SendWindow { .. } | Input::ReceiveWindow { .. } => None,
+        Input::StopRecv { id, .. } | Input::Read { id, .. } => bad_direction(
+            receives_on(side, *id),
+            *id,
+        ),
+        Input::Datagram { .. }
+        | Input::Timeout { .. }
+        | Input::Open { .. }
+        | Input::Accept { .. }
+        | Input::Close { .. }
+        | Input::Ping { .. }
+        | Input::MaxStreams { .. }
+        | Input::SendWindow { .. }
+        | Input::ReceiveWindow { .. } => None,
     }
 }
 

@@ -299,8 +299,8 @@ mark_injective a b e = digits_apart a b (ap (λ (z : List ℕ). get_or z 0 0) (s
 -- ---- directions
 
 pub Lacks-dir : (d : Dir) → Lacks 32 (dir_text d)
-Lacks-dir Bi = ((λ e. omega (arith, e)), (λ e. omega (arith, e)), tt)
-Lacks-dir Uni = ((λ e. omega (arith, e)), (λ e. omega (arith, e)), (λ e. omega (arith, e)), tt)
+Lacks-dir Bi = ((λ e. omega (arith, e)), ((λ e. omega (arith, e)), tt))
+Lacks-dir Uni = ((λ e. omega (arith, e)), ((λ e. omega (arith, e)), ((λ e. omega (arith, e)), tt)))
 
 pub dir_injective : (a b : Dir) → dir_text a ≡ dir_text b → a ≡ b
 dir_injective Bi Bi e = refl

@@ -137,15 +137,6 @@ pub fn first_number(text: &[u8]) -> Option<(u64, &[u8])>
     Some((number, rest))
 }
 
-/// The code, below 2^62, that is the first field of a text, and what is behind it.
-pub fn first_code(text: &[u8]) -> Option<(VarInt, &[u8])>
-    ensures { MatchOption result ((n : ℕ) → (rest : List ℕ) → Begins (2 ^ 62) text.now n rest → ⊥) (λ x. Begins (2 ^ 62) text.now x.0 x.1.now) }
-{
-    let (digits, rest) = split_at_byte(text, b' ')?;
-    let code = read_code(digits)?;
-    Some((code, rest))
-}
-
 /// The direction that is the first field of a text, and what is behind it.
 pub fn first_dir(text: &[u8]) -> Option<(Dir, &[u8])>
     ensures { MatchOption result ((dir : Dir) → (rest : List ℕ) → text.now ≢ dir_text dir ++ 32 ∷ rest) (λ x. text.now ≡ dir_text x.0 ++ 32 ∷ x.1.now) }

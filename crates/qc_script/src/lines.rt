@@ -4,7 +4,9 @@ ghost use Rattle.qc_script.specs.Script.{IsLineRead};
 ghost use Rattle.std.specs.Prelude.{codes, ◌++◌, IfOk};
 
 use crate::address::{read_address, read_mark};
-use crate::fields::{after_word, first_code, first_number, four_fields, read_hex, read_number};
+use crate::fields::{
+    after_word, first_number, four_fields, read_code, read_hex, read_number, split_at_byte,
+};
 use crate::stream_lines::stream_line;
 use qc_base::Instant;
 use qc_state::Input;
@@ -68,7 +70,10 @@ fn close_line(alloc: Global, fields: &[u8]) -> Result<Option<Input>, AllocError>
     let Some((now, rest)) = first_number(fields) else {
         return Ok(None);
     };
-    let Some((code, reason)) = first_code(rest) else {
+    let Some((digits, reason)) = split_at_byte(rest, b' ') else {
+        return Ok(None);
+    };
+    let Some(code) = read_code(digits) else {
         return Ok(None);
     };
     let Some(reason) = read_hex(alloc, reason)? else {

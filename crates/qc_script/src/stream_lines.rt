@@ -4,7 +4,7 @@ ghost use Rattle.qc_script.specs.Script.{IsCallRead, IsLineRead};
 ghost use Rattle.std.specs.Prelude.{codes, ◌++◌, IfOk};
 
 use crate::fields::{
-    after_word, first_code, first_dir, first_number, read_code, read_dir, read_hex, read_number,
+    after_word, first_dir, first_number, read_code, read_dir, read_hex, read_number, split_at_byte,
 };
 use qc_base::{Instant, StreamId};
 use qc_state::Input;
@@ -41,7 +41,10 @@ fn write_line(alloc: Global, fields: &[u8]) -> Result<Option<Input>, AllocError>
     let Some((now, rest)) = first_number(fields) else {
         return Ok(None);
     };
-    let Some((id, body)) = first_code(rest) else {
+    let Some((digits, body)) = split_at_byte(rest, b' ') else {
+        return Ok(None);
+    };
+    let Some(id) = read_code(digits) else {
         return Ok(None);
     };
     let Some(body) = read_hex(alloc, body)? else {
@@ -71,8 +74,9 @@ fn reset_line(fields: &[u8]) -> Option<Input>
     ensures { IsLineRead (codes "reset " ++ fields.now) result }
 {
     let (now, rest) = first_number(fields)?;
-    let (id, digits) = first_code(rest)?;
-    let code = read_code(digits)?;
+    let (digits, code) = split_at_byte(rest, b' ')?;
+    let id = read_code(digits)?;
+    let code = read_code(code)?;
     Some(Input::ResetSend {
         now: Instant::from_nanos(now),
         id: StreamId::from(id),
@@ -85,8 +89,9 @@ fn stop_line(fields: &[u8]) -> Option<Input>
     ensures { IsLineRead (codes "stop " ++ fields.now) result }
 {
     let (now, rest) = first_number(fields)?;
-    let (id, digits) = first_code(rest)?;
-    let code = read_code(digits)?;
+    let (digits, code) = split_at_byte(rest, b' ')?;
+    let id = read_code(digits)?;
+    let code = read_code(code)?;
     Some(Input::StopRecv {
         now: Instant::from_nanos(now),
         id: StreamId::from(id),
@@ -99,8 +104,9 @@ fn read_line(fields: &[u8]) -> Option<Input>
     ensures { IsLineRead (codes "read " ++ fields.now) result }
 {
     let (now, rest) = first_number(fields)?;
-    let (id, digits) = first_code(rest)?;
-    let max = read_number(digits)?;
+    let (digits, max) = split_at_byte(rest, b' ')?;
+    let id = read_code(digits)?;
+    let max = read_number(max)?;
     Some(Input::Read {
         now: Instant::from_nanos(now),
         id: StreamId::from(id),

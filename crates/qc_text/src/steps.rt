@@ -44,7 +44,7 @@ fn put_head(out: &mut Vec<u8>, at: u64, word: Word, now: Instant) -> Result<(), 
     out.extend_from_slice(b"\n")
 }
 
-#[tactic(auto, unfolding(crate::specs::TraceText::answer_text))]
+#[tactic(auto, unfolding(crate::specs::TraceText::answer_text, crate::specs::TraceText::read_text))]
 fn put_answer(out: &mut Vec<u8>, word: Word, answer: &Answer) -> Result<(), AllocError>
     ensures text { OnOk result (out.new.items ≡ out.old.items ++ answer_text word answer.now) }
     ensures in_range { OnOk result (IsAnswerInRange answer.now) }
@@ -56,9 +56,11 @@ fn put_answer(out: &mut Vec<u8>, word: Word, answer: &Answer) -> Result<(), Allo
         Answer::Opened(id) => put_line(out, b"answer opened ", id.value()),
         Answer::Accepted(id) => put_line(out, b"answer accepted ", id.value()),
         Answer::Wrote(count) => put_line(out, b"answer wrote ", *count),
-        Answer::Read { offset, body } => put_read(out, *offset, body.as_slice()),
+        Answer::Read { offset, body } => {
+            put_read(out, b"answer read ", *offset, body.as_slice())
+        }
         Answer::Ended => out.extend_from_slice(b"answer ended\n"),
-        Answer::Error(why) => put_refusal(out, *why),
+        Answer::Error(why) => put_refusal(out, b"answer error ", *why),
         Answer::Out {
             destination,
             segment,
@@ -151,7 +153,7 @@ fn put_event(out: &mut Vec<u8>, event: &Event) -> Result<(), AllocError>
         Event::HandshakeDataReady => out.extend_from_slice(b"event handshake-data\n"),
         Event::Connected => out.extend_from_slice(b"event connected\n"),
         Event::ConnectionLost { reason } => put_reason(out, b"event lost ", reason),
-        Event::Stream(event) => put_stream_event(out, *event),
+        Event::Stream(event) => put_stream_event(out, b"event stream ", *event),
     }
 }
 

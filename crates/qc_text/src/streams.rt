@@ -3,7 +3,7 @@
 ghost use Rattle.std.specs.Prelude.{◌≡◌, ◌<◌, ◌^◌, ◌++◌, codes, decimal, OnOk};
 ghost use Rattle.qc_base.specs.Grammar.{IsBytes};
 ghost use Rattle.qc_text.specs.OneText.{IsRefusalInRange, IsStreamEventInRange};
-ghost use Rattle.qc_text.specs.TraceText.{dir_name, read_text, refusal_text, stream_event_text};
+ghost use Rattle.qc_text.specs.TraceText.{bytes_or_dash, dir_name, refusal_text, stream_event_text};
 
 use crate::names::dir_of;
 use crate::pieces::{put_bytes, put_number};
@@ -12,25 +12,24 @@ use qc_state::Refusal;
 use qc_streams::StreamEvent;
 use std::alloc::AllocError;
 
-/// Appends the line of bytes that were read.
-#[tactic(auto, unfolding(crate::specs::TraceText::read_text))]
-pub fn put_read(out: &mut Vec<u8>, offset: u64, body: &[u8]) -> Result<(), AllocError>
-    ensures text { OnOk result (out.new.items ≡ out.old.items ++ read_text offset body.now) }
+/// Appends the line of bytes that were read, after these words.
+pub fn put_read(out: &mut Vec<u8>, words: &[u8], offset: u64, body: &[u8]) -> Result<(), AllocError>
+    ensures text { OnOk result (out.new.items ≡ out.old.items ++ (words.now ++ decimal offset ++ codes " " ++ bytes_or_dash body.now ++ codes "\n")) }
     ensures in_range { OnOk result ((offset < 2 ^ 64) × IsBytes body.now) }
 {
-    out.extend_from_slice(b"answer read ")?;
+    out.extend_from_slice(words)?;
     put_number(out, offset)?;
     out.extend_from_slice(b" ")?;
     put_bytes(out, body)?;
     out.extend_from_slice(b"\n")
 }
 
-/// Appends the line of why a call was refused.
-pub fn put_refusal(out: &mut Vec<u8>, refusal: Refusal) -> Result<(), AllocError>
-    ensures text { OnOk result (out.new.items ≡ out.old.items ++ (codes "answer error " ++ refusal_text refusal ++ codes "\n")) }
+/// Appends the line of why a call was refused, after these words.
+pub fn put_refusal(out: &mut Vec<u8>, words: &[u8], refusal: Refusal) -> Result<(), AllocError>
+    ensures text { OnOk result (out.new.items ≡ out.old.items ++ (words.now ++ refusal_text refusal ++ codes "\n")) }
     ensures in_range { OnOk result (IsRefusalInRange refusal) }
 {
-    out.extend_from_slice(b"answer error ")?;
+    out.extend_from_slice(words)?;
     put_why(out, refusal)?;
     out.extend_from_slice(b"\n")
 }
@@ -59,12 +58,16 @@ fn put_code(out: &mut Vec<u8>, words: &[u8], code: VarInt) -> Result<(), AllocEr
     put_number(out, code.into_inner())
 }
 
-/// Appends the line of what happened on a stream.
-pub fn put_stream_event(out: &mut Vec<u8>, event: StreamEvent) -> Result<(), AllocError>
-    ensures text { OnOk result (out.new.items ≡ out.old.items ++ (codes "event stream " ++ stream_event_text event ++ codes "\n")) }
+/// Appends the line of what happened on a stream, after these words.
+pub fn put_stream_event(
+    out: &mut Vec<u8>,
+    words: &[u8],
+    event: StreamEvent,
+) -> Result<(), AllocError>
+    ensures text { OnOk result (out.new.items ≡ out.old.items ++ (words.now ++ stream_event_text event ++ codes "\n")) }
     ensures in_range { OnOk result (IsStreamEventInRange event) }
 {
-    out.extend_from_slice(b"event stream ")?;
+    out.extend_from_slice(words)?;
     put_happened(out, event)?;
     out.extend_from_slice(b"\n")
 }

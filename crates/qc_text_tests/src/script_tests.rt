@@ -169,43 +169,46 @@ const GREATEST: u64 = (1 << 62) - 1;
 /// Lines of calls, and what they say.
 fn calls() -> [(&'static str, Call); 13] {
     [
-    ("open 0 bi", of_dir("open", 0, Dir::Bi, 0)),
-    (
-        "open 18446744073709551615 uni",
-        of_dir("open", u64::MAX, Dir::Uni, 0),
-    ),
-    ("accept 1 bi", of_dir("accept", 1, Dir::Bi, 0)),
-    ("accept 2 uni", of_dir("accept", 2, Dir::Uni, 0)),
-    (
-        "finish 3 4611686018427387903",
-        of_numbers("finish", 3, [GREATEST, 0]),
-    ),
-    (
-        "reset 4 5 4611686018427387903",
-        of_numbers("reset", 4, [5, GREATEST]),
-    ),
-    (
-        "stop 5 4611686018427387903 6",
-        of_numbers("stop", 5, [GREATEST, 6]),
-    ),
-    (
-        "read 6 7 18446744073709551615",
-        of_numbers("read", 6, [7, u64::MAX]),
-    ),
-    ("read 6 4611686018427387903 0", of_numbers("read", 6, [GREATEST, 0])),
-    (
-        "streams 7 uni 4611686018427387903",
-        of_dir("streams", 7, Dir::Uni, GREATEST),
-    ),
-    ("streams 7 bi 0", of_dir("streams", 7, Dir::Bi, 0)),
-    (
-        "sendwindow 8 18446744073709551615",
-        of_numbers("sendwindow", 8, [u64::MAX, 0]),
-    ),
-    (
-        "recvwindow 9 4611686018427387903",
-        of_numbers("recvwindow", 9, [GREATEST, 0]),
-    ),
+        ("open 0 bi", of_dir("open", 0, Dir::Bi, 0)),
+        (
+            "open 18446744073709551615 uni",
+            of_dir("open", u64::MAX, Dir::Uni, 0),
+        ),
+        ("accept 1 bi", of_dir("accept", 1, Dir::Bi, 0)),
+        ("accept 2 uni", of_dir("accept", 2, Dir::Uni, 0)),
+        (
+            "finish 3 4611686018427387903",
+            of_numbers("finish", 3, [GREATEST, 0]),
+        ),
+        (
+            "reset 4 5 4611686018427387903",
+            of_numbers("reset", 4, [5, GREATEST]),
+        ),
+        (
+            "stop 5 4611686018427387903 6",
+            of_numbers("stop", 5, [GREATEST, 6]),
+        ),
+        (
+            "read 6 7 18446744073709551615",
+            of_numbers("read", 6, [7, u64::MAX]),
+        ),
+        (
+            "read 6 4611686018427387903 0",
+            of_numbers("read", 6, [GREATEST, 0]),
+        ),
+        (
+            "streams 7 uni 4611686018427387903",
+            of_dir("streams", 7, Dir::Uni, GREATEST),
+        ),
+        ("streams 7 bi 0", of_dir("streams", 7, Dir::Bi, 0)),
+        (
+            "sendwindow 8 18446744073709551615",
+            of_numbers("sendwindow", 8, [u64::MAX, 0]),
+        ),
+        (
+            "recvwindow 9 4611686018427387903",
+            of_numbers("recvwindow", 9, [GREATEST, 0]),
+        ),
     ]
 }
 
@@ -234,7 +237,10 @@ fn calls_of_streams_are_read(rt: HostRuntime) -> Result<(), Fail> {
         write_in(rt.alloc(), "write 3 4611686018427387903 6f6b", b"ok")?,
         Some((3, GREATEST, true))
     );
-    assert_eq!(rt; write_in(rt.alloc(), "write 4 0 -", b"")?, Some((4, 0, true)));
+    assert_eq!(rt;
+        write_in(rt.alloc(), "write 4 0 -", b"")?,
+        Some((4, 0, true))
+    );
     Ok(())
 }
 

@@ -588,7 +588,13 @@ fn answers_of_calls(rt: HostRuntime) -> Result<(), Fail> {
 /// Whether that these bytes were read at this offset is told by this line.
 fn is_read(alloc: Global, offset: u64, bytes: &[u8], line: &str) -> Result<bool, Fail> {
     let body = Body::from_slice(alloc, bytes)?;
-    is_answered(alloc, Word::Read, "read", Answer::Read { offset, body }, line)
+    is_answered(
+        alloc,
+        Word::Read,
+        "read",
+        Answer::Read { offset, body },
+        line,
+    )
 }
 
 #[test]
