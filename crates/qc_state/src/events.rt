@@ -131,22 +131,12 @@ impl Events {
         Some(self.events.remove(0))
     }
 
-    /// All of them, which are taken out.
-    pub fn take(&mut self, alloc: Global) -> Events
-        ensures all { result ≡ self.old }
-        ensures rest { self.new ≡ [] }
+    /// All events of another list, which are taken out there, after the others. Want of memory is the only refusal.
+    pub fn append(&mut self, other: &mut Events) -> Result<(), AllocError>
+        ensures all { OnOk result (self.new ≡ self.old ++ other.old) }
+        ensures rest { OnOk result (other.new ≡ []) }
     {
-        std::mem::replace(self, Events::new(alloc))
-    }
-
-    /// These events, after the others. Want of memory is the only refusal.
-    pub fn append(&mut self, events: Events) -> Result<(), AllocError>
-        ensures { OnOk result (self.new ≡ self.old ++ events) }
-    {
-        for event in events.events {
-            self.events.push(event)?;
-        }
-        Ok(())
+        self.events.append(&mut other.events)
     }
 
     /// The events.
