@@ -58,24 +58,10 @@ module _ {t : Types} {R : Type 0} (stream : R → Stream) where
       subst (λ (y : Held t R). CallsStreams i (ideal stream y) (ideal stream (record w { lower = record w.lower { streams = x } })) answer) same
       (calls_streams i (ideal stream w) (ideal stream (record w { lower = record w.lower { streams = x } })) answer h refl)
 
--- where nothing else waits, the last comes first
-last_first : (a b : Bool) (n : Option StreamEvent) (x y z : Option Event) → a ≡ false → b ≡ false → n ≡ None → z ≡ (if a then x else if b then y else stream_first n z)
-last_first false false None x y z ready connected none = refl
-last_first true b n x y z ready connected none = cc
-last_first false true n x y z ready connected none = cc
-last_first false false (Some e) x y z ready connected none = cc
-
 module _ {t : Types} where
   -- where the streams have no event, the reason of the end is first
-  pub lost_first : (s mid : View t) (told : Option StreamEvent) (event : Option Event) → s.life.ready ≡ false → s.life.connected ≡ false → told ≡ next_event s.lower.streams → told ≡ None →
-      mid ≡ state_move ReportStream s → event ≡ lost_event mid.life → event ≡ first_event s
-  unfolding first_event state_move life_move
-  lost_first s mid told event ready connected is none leads lost =
-      lost ∙ ap (λ (v : View t). lost_event v.life) leads
-      ∙ last_first s.life.ready s.life.connected (next_event s.lower.streams) (ready_event s.life) (connected_event s.life) (lost_event s.life) ready connected (sym is ∙ none)
-
-  -- so it is of a core
-  pub core_lost : {R : Type 0} (stream : R → Stream) (v w : Held t R) (mid : View t) (told : Option StreamEvent) (event : Option Event) → w ≡ v → w.life.ready ≡ false → w.life.connected ≡ false → told ≡ next_event v.lower.streams → told ≡ None →
-      mid ≡ state_move ReportStream (ideal stream v) → event ≡ lost_event mid.life → event ≡ first_event (ideal stream v)
-  core_lost {R} stream v w mid told event same ready connected is none leads lost =
-      lost_first (ideal stream v) mid told event (subst (λ (x : Held t R). x.life.ready ≡ false) same ready) (subst (λ (x : Held t R). x.life.connected ≡ false) same connected) is none leads lost
+  pub lost_first : (s mid : View t) (told : Option StreamEvent) (event : Option Event) → told ≡ next_event s.lower.streams → told ≡ None → mid ≡ state_move ReportStream s → event ≡ lost_event mid.life →
+      event ≡ stream_first (next_event s.lower.streams) (lost_event s.life)
+  unfolding state_move life_move
+  lost_first s mid told event is none leads lost =
+      lost ∙ ap (λ (v : View t). lost_event v.life) leads ∙ sym (ap (λ (e : Option StreamEvent). stream_first e (lost_event s.life)) (sym is ∙ none))
