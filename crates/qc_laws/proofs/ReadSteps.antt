@@ -28,18 +28,18 @@ use Rattle.qc_laws.proofs.HarmlessTests.{both}
 
 -- ---- tests
 
-or_first : (a b : Bool) → (a || b) ≡ false → a ≡ false
+pub or_first : (a b : Bool) → (a || b) ≡ false → a ≡ false
 or_first true b h = cc
 or_first false b h = refl
 
-or_rest : (a b : Bool) → (a || b) ≡ false → b ≡ false
+pub or_rest : (a b : Bool) → (a || b) ≡ false → b ≡ false
 or_rest true b h = cc
 or_rest false b h = h
 
 none_front : (kind : Step → Bool) (xs ys : List Step) → NoneOf kind (xs ++ ys) → NoneOf kind xs
 none_front kind xs ys h = or_first (list_any kind xs) (list_any kind ys) (sym (list_any-append kind xs ys) ∙ h)
 
-none_back : (kind : Step → Bool) (xs ys : List Step) → NoneOf kind (xs ++ ys) → NoneOf kind ys
+pub none_back : (kind : Step → Bool) (xs ys : List Step) → NoneOf kind (xs ++ ys) → NoneOf kind ys
 none_back kind xs ys h = or_rest (list_any kind xs) (list_any kind ys) (sym (list_any-append kind xs ys) ∙ h)
 
 -- the three parts of steps

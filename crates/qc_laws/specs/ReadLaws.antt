@@ -1,5 +1,6 @@
 -- Laws over whole runs, said of what is read of the streams of the application (RFC 9000, sections 2.2 and 3.2), in words of the trace.
-use Rattle.std.specs.Prelude.{◌≡◌, ◌⊎◌, ℕ, ◌+◌, ◌==◌, true, if◌then◌else◌, List, [], ◌∷◌, ◌++◌, length, take}
+use Rattle.std.specs.Prelude.{◌≡◌, ◌⊎◌, ℕ, ◌+◌, ◌==◌, Bool, true, false, if◌then◌else◌, List, [], ◌∷◌, ◌++◌, length, take}
+use Rattle.std.specs.List.{list_any}
 use Rattle.qc_assembler.specs.Assembly.{add, run}
 use Rattle.qc_base.specs.declared.side.Side.{Side}
 use Rattle.qc_frame.specs.Frame.{FrameValue}
@@ -10,6 +11,7 @@ use Rattle.qc_state.specs.declared.input.Input.{Input}
 use Rattle.qc_state.specs.declared.input.Input.TheVariants as input
 use Rattle.qc_state.specs.declared.trace.Answer.{Answer}
 use Rattle.qc_state.specs.declared.trace.Answer.TheVariants as answer
+use Rattle.qc_state.specs.declared.trace.Refusal.TheVariants as refusal
 use Rattle.qc_state.specs.declared.trace.Step.{Step as TraceStep}
 use Rattle.qc_state.specs.First.{first_streams}
 use Rattle.qc_state.specs.Types.{Types}
@@ -75,15 +77,38 @@ abbrev pub EachEnd : (before : List (Input × TraceStep)) → List (Input × Tra
 EachEnd before [] = Unit {0}
 EachEnd before (call ∷ calls) = EndIs call.0 call.1.answer before × EachEnd (before ++ call ∷ []) calls
 
--- ---- both
+-- ---- once
+
+-- an answer of an input says that the stream with an id was read to its end
+abbrev pub ends_by : ℕ → Input → Answer → Bool
+ends_by id (input.Read time stream max) answer.Ended = stream == id
+ends_by id _ _ = false
+
+-- one of them says so
+abbrev pub ends_in : ℕ → List (Input × TraceStep) → Bool
+ends_in id calls = list_any (λ call. ends_by id call.0 call.1.answer) calls
+
+-- from then on a read of the stream answers that it is closed
+abbrev pub ClosedIs : Input → Answer → (before : List (Input × TraceStep)) → Type 0
+ClosedIs (input.Read time id max) a before = ends_in id before ≡ true → a ≡ answer.Error refusal.ClosedStream
+ClosedIs _ a before = Unit {0}
+
+-- so it is with each input, behind those before
+abbrev pub EachClosed : (before : List (Input × TraceStep)) → List (Input × TraceStep) → Type 0
+EachClosed before [] = Unit {0}
+EachClosed before (call ∷ calls) = ClosedIs call.0 call.1.answer before × EachClosed (before ++ call ∷ []) calls
+
+-- ---- all of it
 
 -- What was read of each stream, one answer behind the other, are the first of the bytes that came on it, from offset 0 on, each once, and
--- at each offset the one that came first; and only where they are all up to the end of the stream an answer says so.
+-- at each offset the one that came first; and only where they are all up to the end of the stream an answer says so, and that once: from
+-- then on the stream is closed to reads.
 pub record ReadsCame (calls : List (Input × TraceStep)) : Type 0 where
   pub taken : List FrameValue
   pub among : AreTaken (given_in calls) taken
   pub reads : (id : ℕ) → take (length (read_in id calls)) (came_in id taken []) ≡ run 0 (read_in id calls)
   pub ends : EachEnd [] calls
+  pub once : EachClosed [] calls
 
 -- so it is with inputs and their trace
 unfoldable pub ReadsTrace : List Input → List TraceStep → Type 0

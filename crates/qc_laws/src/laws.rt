@@ -115,7 +115,7 @@ pub fn streams_are_folded<U: Suite>()
 /// A law, which runs no code. Over a run from new streams on, the bytes that the answers give to reads of a stream, one behind the other,
 /// are the first of the bytes that came on it in the STREAM frames which the streams took, from offset 0 on, each once, and at each offset
 /// the byte that came first. And an answer says that a stream was read to its end only where a frame told its end which came before, and
-/// all bytes up to it were read (RFC 9000, 2.2 and 3.2).
+/// all bytes up to it were read; from then on reads of the stream answer that it is closed (RFC 9000, 2.2 and 3.2).
 pub fn reads_are_what_came<U: Suite>()
     ensures { (s last : View ⟦<U as Means>⟧.types) (k : ℕ) (is : List Input) (xs : List Step) → Run ⟦<U as Means>⟧.meaning k s is xs last → HasNewStreams s → ReadsTrace is xs }
 {}
