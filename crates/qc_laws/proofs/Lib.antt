@@ -37,6 +37,9 @@ pub mod StreamSteps
 pub mod StreamCalls
 pub mod StreamsMade
 pub mod StreamsFold
+pub mod ReadSteps
+pub mod ReadEnds
+pub mod ReadsHold
 pub mod StreamHolds
 pub mod StreamBegins
 pub mod AckMarks

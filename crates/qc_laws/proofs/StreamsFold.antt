@@ -182,7 +182,7 @@ module _ {t : Types} where
   -- ---- inputs
 
   -- over what was given, calls with their steps, the ranks that the life rose to, and the events that were told
-  record Over (bodies : List (List ℕ)) (calls : List (Input × TraceStep)) (ranks : List ℕ) (told : List StreamEvent) (s s' : View t) : Type 0 where
+  pub record Over (bodies : List (List ℕ)) (calls : List (Input × TraceStep)) (ranks : List ℕ) (told : List StreamEvent) (s s' : View t) : Type 0 where
     pub steps : List Step
     pub leads : s'.lower.streams ≡ after steps s.lower.streams
     pub are : Are steps bodies calls ranks told s.lower.streams
@@ -230,7 +230,7 @@ module _ {t : Types} where
 
   -- ---- steps and runs
 
-  step_over : (m : Meaning t) (k : ℕ) (s : View t) (i : Input) (x : TraceStep) (s' : View t) → IsStep m k s i x s' → Over (given_to_streams x.did) ((i, x) ∷ []) (lives_in x.did) (streams_told x.events) s s'
+  pub step_over : (m : Meaning t) (k : ℕ) (s : View t) (i : Input) (x : TraceStep) (s' : View t) → IsStep m k s i x s' → Over (given_to_streams x.did) ((i, x) ∷ []) (lives_in x.did) (streams_told x.events) s s'
   unfolding called run.step_after reported state_move lower_move events_told streams_stepped
   step_over m k s i x s' h =
       let b : At t = input_after m i h.choice (began s (time_of i)) in

@@ -40,7 +40,7 @@ none_or : (a b : Bool) → a ≡ false → b ≡ false → (a || b) ≡ false
 none_or true b h k = cc
 none_or false b h k = k
 
-none_append : (kind : Step → Bool) (xs ys : List Step) → NoneOf kind xs → NoneOf kind ys → NoneOf kind (xs ++ ys)
+pub none_append : (kind : Step → Bool) (xs ys : List Step) → NoneOf kind xs → NoneOf kind ys → NoneOf kind (xs ++ ys)
 none_append kind xs ys h k = list_any-append kind xs ys ∙ none_or (list_any kind xs) (list_any kind ys) h k
 
 module _ {A : Type 0} (kind : Step → Bool) (Makes : A → List Step → StreamsState → Type 0) where
@@ -59,7 +59,7 @@ module _ {A : Type 0} (kind : Step → Bool) (Makes : A → List Step → Stream
         subst (λ (z : StreamsState). AreMade kind Makes more h.2 (after h.1 z)) (sym same) h.6,
       )
 
-  made_append : (these those : List A) (xs ys : List Step) (s : StreamsState) → AreMade kind Makes these xs s → AreMade kind Makes those ys (after xs s) → AreMade kind Makes (these ++ those) (xs ++ ys) s
+  pub made_append : (these those : List A) (xs ys : List Step) (s : StreamsState) → AreMade kind Makes these xs s → AreMade kind Makes those ys (after xs s) → AreMade kind Makes (these ++ those) (xs ++ ys) s
   made_append [] those xs ys s a b = made_behind those xs ys s a b
   made_append (x ∷ these) those xs ys s a b =
       let front : List Step = a.0 in

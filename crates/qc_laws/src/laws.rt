@@ -1,6 +1,6 @@
 //! What follows from the laws of runs.
 
-ghost use Rattle.std.specs.Prelude.{◌≡◌, ◌⊎◌, ◌∷◌, ◌++◌, ℕ, length, Bool, true, false, if◌then◌else◌, List, [], Option, Some, Ok};
+ghost use Rattle.std.specs.Prelude.{◌≡◌, ◌⊎◌, ◌∷◌, ◌++◌, ◌<◌, ◌^◌, ℕ, length, Bool, true, false, if◌then◌else◌, List, [], Option, Some, Ok};
 ghost use Rattle.qc_base.specs.declared.side.SpaceId.{SpaceId};
 ghost use Rattle.qc_frame.specs.Frame.{FrameValue};
 ghost use Rattle.qc_header.specs.HeaderReading.{piece_at};
@@ -20,7 +20,12 @@ ghost use Rattle.qc_laws.specs.PathLaws.{IdsHold, PathHolds, all_from};
 ghost use Rattle.qc_state.specs.Paths.{same_address};
 ghost use Rattle.qc_laws.specs.PieceLaws.{TellsDatagram, TellsPiece, given_in, piece_deed, piece_gifts, pieces_in};
 ghost use Rattle.qc_state.specs.Receiving.{datagram_after, event_after, first_packet_after, first_token, piece_after};
+ghost use Rattle.qc_laws.specs.ReadLaws.{HasNewStreams, ReadsTrace};
 ghost use Rattle.qc_laws.specs.RecoveryLaws.{EachSettlesOnce, Recovers};
+ghost use Rattle.qc_base.specs.declared.side.Side.{Side};
+ghost use Rattle.qc_recovery.specs.TransportValues.{TransportValues};
+ghost use Rattle.qc_state.specs.First.{first_streams};
+ghost use Rattle.qc_streams.specs.Within.{StaysWithin};
 ghost use Rattle.qc_state.specs.Run.{IsStep, Run, began, placed_behind};
 ghost use Rattle.qc_state.specs.Setup.{is_first_awaited};
 ghost use Rattle.qc_laws.specs.StreamLaws.{GivesStream};
@@ -105,6 +110,21 @@ pub fn recovery_is_folded<U: Suite>()
 /// other step is that the peer's limits are known. So every law over the steps of the streams holds of a run (RFC 9000, 2 to 4).
 pub fn streams_are_folded<U: Suite>()
     ensures { (s last : View ⟦<U as Means>⟧.types) (k : ℕ) (is : List Input) (xs : List Step) → Run ⟦<U as Means>⟧.meaning k s is xs last → FoldsStreams is xs s last }
+{}
+
+/// A law, which runs no code. Over a run from new streams on, the bytes that the answers give to reads of a stream, one behind the other,
+/// are the first of the bytes that came on it in the STREAM frames which the streams took, from offset 0 on, each once, and at each offset
+/// the byte that came first. And an answer says that a stream was read to its end only where a frame told its end which came before, and
+/// all bytes up to it were read; from then on reads of the stream answer that it is closed (RFC 9000, 2.2 and 3.2).
+pub fn reads_are_what_came<U: Suite>()
+    ensures { (s last : View ⟦<U as Means>⟧.types) (k : ℕ) (is : List Input) (xs : List Step) → Run ⟦<U as Means>⟧.meaning k s is xs last → HasNewStreams s → ReadsTrace is xs }
+{}
+
+/// A law, which runs no code. Over a run from new streams on flow control is kept: what was written on each stream and on all together lies
+/// within the limits that the peer gave, what came within the credit that this end gives, and no more streams are opened, by either end,
+/// than the other lets (RFC 9000, 4.1 and 4.6).
+pub fn streams_stay_within<U: Suite>()
+    ensures { (side : Side) (transport : TransportValues) (s last : View ⟦<U as Means>⟧.types) (k : ℕ) (is : List Input) (xs : List Step) → Run ⟦<U as Means>⟧.meaning k s is xs last → s.lower.streams ≡ first_streams side transport → transport.receive_window < 2 ^ 64 → transport.stream_receive_window < 2 ^ 64 → StaysWithin last.lower.streams }
 {}
 
 /// A law, which runs no code. Over a run, while the connection is open, each byte that the session wrote in a space with keys waits to be

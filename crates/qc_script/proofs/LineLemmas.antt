@@ -1,5 +1,5 @@
 -- The line of an input: its word, its fields, and that no other input has it.
-use Rattle.std.proofs.Common.{◌≡◌, ◌≢◌, ℕ, ◌+◌, ◌^◌, ◌<◌, ◌≤◌, List, [], ◌∷◌, ◌++◌, drop, get_or, Option, Some, None, Result, Ok, Err, IfOk, refl, sym, ◌∙◌, ap, arith, codes}
+use Rattle.std.proofs.Common.{◌≡◌, ◌≢◌, ℕ, ◌+◌, ◌^◌, ◌<◌, List, [], ◌∷◌, ◌++◌, drop, get_or, Option, Some, None, Result, Ok, Err, IfOk, refl, sym, ◌∙◌, ap, arith, codes}
 use Rattle.std.proofs.lemmas.List.{append_assoc, append_cancel_left, append_cancel_right}
 use Rattle.std.specs.Fmt.{decimal}
 use Rattle.std.proofs.lemmas.Fmt.{decimal_injective}
@@ -11,7 +11,7 @@ use Rattle.qc_state.specs.declared.input.Input.{Input}
 use Rattle.qc_state.specs.declared.input.Input.TheVariants.{Datagram, Timeout, Transmit, Open, Accept, Write, Finish, ResetSend, StopRecv, Read, Close, Ping, MaxStreams, SendWindow, ReceiveWindow}
 use Rattle.qc_script.specs.Fields.{hex_field, address_text, dir_text, ecn_text, IsAddress, AreFields, Begins}
 use Rattle.qc_script.specs.Script.{input_line, IsWithin, IsNext, IsLineRead, IsOfStreams, IsCallRead}
-use Rattle.qc_script.proofs.NumberLemmas.{Lacks-decimal, first_split}
+use Rattle.qc_script.proofs.NumberLemmas.{Lacks-decimal}
 use Rattle.qc_script.proofs.FieldLemmas.{hex_field_injective, Lacks-address, address_injective, Lacks-mark, mark_injective, dir_injective, dir_split, begins_same, fields_same}
 
 -- ---- words and fields
