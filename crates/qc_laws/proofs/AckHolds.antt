@@ -29,14 +29,14 @@ use Rattle.qc_laws.specs.AckLaws.{AckHolds, EachHoldsAck, HoldsAck, is_owed_or_c
 use Rattle.qc_state.specs.Acks.{is_ack}
 use Rattle.qc_state.specs.Forms.{is_early, number_space}
 use Rattle.qc_state.specs.Keys.{epoch_in}
-use Rattle.qc_state.specs.Life.{connected_reported, drained_reported, is_drained, is_open, is_over, life_closed, life_drained, life_raised, lost_reported, notices_reported, ready_reported}
-use Rattle.qc_state.specs.Moves.{Accept, Ack, Arm, Ask, Begin, Confirm, Establish, Fire, Forget, Give, MayMove, Move, Owe, Pace, PeerCloses, Raise, Release, Seal, Shut, Take, Tell, Write, arrival_of, armed_after, armed_with, deeds_move, keys_move, life_move, move_to, state_move, timers_move, waiting_move, Call}
+use Rattle.qc_state.specs.Life.{connected_reported, drained_reported, is_drained, is_open, is_over, life_closed, life_drained, life_raised, lost_reported, notices_reported, ready_reported, all_heard_reported}
+use Rattle.qc_state.specs.Moves.{Accept, Ack, Arm, Ask, Begin, Confirm, Establish, Fire, Forget, Give, MayMove, Move, Owe, Pace, PeerCloses, Raise, Release, Seal, Shut, Take, Tell, Write, arrival_of, armed_after, armed_with, deeds_move, keys_move, life_move, move_to, state_move, timers_move, waiting_move, Call, Post}
 use Rattle.qc_state.specs.Numbers.{came_in, next_number}
 use Rattle.qc_state.specs.Offers.{packet_begun}
 use Rattle.qc_state.specs.Paths.{is_blocked}
 use Rattle.qc_state.specs.Receiving.{datagram_after}
 use Rattle.qc_state.specs.Recovering.{fired_by, loss_time}
-use Rattle.qc_state.specs.Run.{IsAllowed, IsStep, Run, began, called, close_after, input_after, reported, step_after, time_of}
+use Rattle.qc_state.specs.Run.{IsAllowed, IsStep, Run, began, called, close_after, input_after, reported, step_after, time_of, datagram_limit}
 use Rattle.qc_state.specs.Sending.{Choice, MayTransmit, packet_size, transmit_after}
 use Rattle.qc_state.specs.Spaces.{space_of}
 use Rattle.qc_state.specs.Stopping.{killed_after}
@@ -58,6 +58,7 @@ use Rattle.qc_state.proofs.Telling.{told_appends}
 use Rattle.qc_laws.proofs.TimerMoves.{IsPlain, plain_open}
 use Rattle.qc_state.proofs.Transmitted.{IsSending, holds_transmit}
 use Rattle.qc_laws.proofs.StreamCalls.{called_input}
+use Rattle.qc_datagrams.specs.Steps as datagrams
 
 module _ {t : Types} where
   -- what is told of an ACK that is held back, from one moment of an input at this time to another
@@ -403,6 +404,8 @@ module _ {t : Types} where
   input_result m (input.Transmit time max) choice a may = holding_result time a _ (transmit_holding m time choice a may)
   input_result m (input.Close time code reason) choice a may = holding_result time a _ (close_by m time _ a (is_open a.state.life.state))
   input_result m (input.Ping time) choice a may = holding_result time a _ (calm_holding m time (Ask a.state.keys.highest) a tt)
+  input_result m (input.SendDatagram time body) choice a may = holding_result time a _ (calm_holding m time (Post (datagrams.Sent (datagram_limit a.state) body)) a tt)
+  input_result m (input.RecvDatagram time) choice a may = holding_result time a _ (calm_holding m time (Post datagrams.Taken) a tt)
   input_result m i choice a may = holding_result (time_of i) a _ (called_input (Holding (time_of i)) (holding_here (time_of i)) (holding_next (time_of i)) (λ x b h. calm_holding m (time_of i) (Call x) b tt) i choice.read a may)
 
   -- ---- steps and runs
@@ -430,7 +433,7 @@ module _ {t : Types} where
   }
 
   step_result : (m : Meaning t) (k : ℕ) (s : View t) (i : Input) (x : Step) (s' : View t) → IsStep m k s i x s' → AckHolds s → AckHolds s' × HoldsAck x.now x.did s s'
-  unfolding called began step_after reported state_move life_move timers_move waiting_move clock_set ready_reported connected_reported lost_reported notices_reported drained_reported
+  unfolding called began step_after reported state_move life_move timers_move waiting_move clock_set ready_reported connected_reported all_heard_reported lost_reported notices_reported drained_reported
   step_result m k s i x s' h holds =
       let a : At t = began s (time_of i) in
       let b : At t = input_after m i h.choice a in

@@ -24,12 +24,12 @@ use Rattle.qc_state.specs.Keys.{epoch_in}
 use Rattle.qc_state.specs.Forms.{number_space, is_early}
 use Rattle.qc_state.specs.Headline.{deeds_of, KnownBehind, AcksOnly, SealsKnown, AcksKnown, IsKept, EachAcksKnown}
 use Rattle.qc_state.specs.Life.{is_open}
-use Rattle.qc_state.specs.Moves.{Move, Clock, Ask, Take, Seal, Forget, Enter, Expect, Fail, Accept, Fix, Hear, Ack, Fire, Arm, Pace, Release, Begin, Skip, Come, Read, Write, Ready, Token, Learn, Want, Confirm, Establish, Tell, PeerClosesToo, PeerCloses, Owe, Shut, Raise, Give, Say, ReportReady, ReportConnected, ReportLost, ReportNotice, ReportNotices, ReportDrained, accepts, state_move, move_to, deeds_move, waiting_move, numbers_move, keys_move, life_move, MayMove, IsTold, told, arrival_of, Finish, Hand, Call, ReportStream, ReportStreams, told_to_streams}
+use Rattle.qc_state.specs.Moves.{Move, Clock, Ask, Take, Seal, Forget, Enter, Expect, Fail, Accept, Fix, Hear, Ack, Fire, Arm, Pace, Release, Begin, Skip, Come, Read, Write, Ready, Token, Learn, Want, Confirm, Establish, Tell, PeerClosesToo, PeerCloses, Owe, Shut, Raise, Give, Say, ReportReady, ReportConnected, ReportLost, ReportNotice, ReportNotices, ReportDrained, accepts, state_move, move_to, deeds_move, waiting_move, numbers_move, keys_move, life_move, MayMove, IsTold, told, arrival_of, Finish, Hand, Call, ReportStream, ReportStreams, told_to_streams, Post, ReportHeard, ReportAllHeard}
 use Rattle.qc_state.specs.Numbers.{next_number}
 use Rattle.qc_state.specs.Offers.{packet_begun}
 use Rattle.qc_state.proofs.Probed.{begun_holds}
 use Rattle.qc_state.specs.Numbers as numbers
-use Rattle.qc_state.specs.Run.{time_of, began, close_after, input_after, called, reported, step_after, IsAllowed, IsStep, Run, Ran}
+use Rattle.qc_state.specs.Run.{time_of, began, close_after, input_after, called, reported, step_after, IsAllowed, IsStep, Run, Ran, datagram_limit}
 use Rattle.qc_state.specs.Sending.{packet_size, transmit_after, MayTransmit, Choice}
 use Rattle.qc_state.specs.Spaces.{space_of, with_space, is_space}
 use Rattle.qc_state.specs.Receiving.{datagram_after}
@@ -50,6 +50,7 @@ use Rattle.qc_state.proofs.Expired.{IsTimed, holds_timeout}
 use Rattle.qc_state.proofs.Telling.{open_rank, told_appends}
 use Rattle.qc_state.proofs.Transmitted.{IsSealable, IsSending, holds_transmit}
 use Rattle.qc_laws.proofs.StreamCalls.{called_input, handed_told}
+use Rattle.qc_datagrams.specs.Steps as datagrams
 
 -- ---- what is kept in a space, where one space changes
 
@@ -268,8 +269,11 @@ module _ {t : Types} where
   knows_move id (Say q) a h k = deed_knows id (Say q) _ a refl tt (λ n m. m)
   knows_move id (Hand frame) a h k = handed_knows id frame a
   knows_move id (Call x) a h k = silent_knows id (Call x) a refl (λ n m. m)
+  knows_move id (Post x) a h k = silent_knows id (Post x) a refl (λ n m. m)
   knows_move id ReportReady a h k = silent_knows id ReportReady a refl (λ n m. m)
   knows_move id ReportConnected a h k = silent_knows id ReportConnected a refl (λ n m. m)
+  knows_move id ReportHeard a h k = silent_knows id ReportHeard a refl (λ n m. m)
+  knows_move id ReportAllHeard a h k = silent_knows id ReportAllHeard a refl (λ n m. m)
   knows_move id ReportStream a h k = silent_knows id ReportStream a refl (λ n m. m)
   knows_move id ReportStreams a h k = silent_knows id ReportStreams a refl (λ n m. m)
   knows_move id ReportLost a h k = silent_knows id ReportLost a refl (λ n m. m)
@@ -373,6 +377,8 @@ module _ {t : Types} where
   knows_input id m (input.Transmit time max) choice a h = knows_transmit id m time choice a h
   knows_input id m (input.Close time code reason) choice a h = closed_by id time _ a _ refl
   knows_input id m (input.Ping time) choice a h = knows_move id (Ask a.state.keys.highest) a tt tt
+  knows_input id m (input.SendDatagram time body) choice a h = knows_move id (Post (datagrams.Sent (datagram_limit a.state) body)) a refl tt
+  knows_input id m (input.RecvDatagram time) choice a h = knows_move id (Post datagrams.Taken) a refl tt
   knows_input id m i choice a h = called_input (Knows id) (knows_here id) (knows_next id) (λ x b may. knows_move id (Call x) b may tt) i choice.read a h
 
   -- ---- runs

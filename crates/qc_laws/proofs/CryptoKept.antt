@@ -35,9 +35,9 @@ use Rattle.qc_state.specs.Acks.{is_ack}
 use Rattle.qc_laws.specs.EndLaws.{Ends}
 use Rattle.qc_state.specs.Headline.{deeds_of}
 use Rattle.qc_state.specs.Keys.{NewKeys, failure_counted, has_keys, keys_given, epoch_in}
-use Rattle.qc_state.specs.Life.{connected_reported, data_ready, drained_reported, identifiers_wanted, is_open, life_closed, life_drained, life_established, life_raised, lost_reported, ready_reported, reason_given, token_learned, notice_reported, notices_reported}
-use Rattle.qc_state.specs.Lower.{bytes_came, flight_dropped, packet_flown, packets_settled, session_read, session_wrote, timer_fired, limits_learned, frame_handed, streams_closed, streams_stepped, event_told, events_told}
-use Rattle.qc_state.specs.Moves.{Accept, Ack, AreNext, Ask, Begin, Clock, Confirm, PeerClosesToo, Establish, Fail, Fire, Forget, Give, PeerCloses, MayMove, Move, Owe, Raise, Release, ReportConnected, ReportDrained, ReportLost, ReportReady, ReportNotice, ReportNotices, Seal, Shut, Take, Write, arrival_of, deeds_move, keys_move, life_move, lower_move, move_to, paths_move, state_move, waiting_move, ReportStream, ReportStreams}
+use Rattle.qc_state.specs.Life.{connected_reported, data_ready, drained_reported, identifiers_wanted, is_open, life_closed, life_drained, life_established, life_raised, lost_reported, ready_reported, reason_given, token_learned, notice_reported, notices_reported, all_heard_reported, heard_reported}
+use Rattle.qc_state.specs.Lower.{bytes_came, flight_dropped, packet_flown, packets_settled, session_read, session_wrote, timer_fired, limits_learned, frame_handed, streams_closed, streams_stepped, event_told, events_told, datagrams_stepped}
+use Rattle.qc_state.specs.Moves.{Accept, Ack, AreNext, Ask, Begin, Clock, Confirm, PeerClosesToo, Establish, Fail, Fire, Forget, Give, PeerCloses, MayMove, Move, Owe, Raise, Release, ReportConnected, ReportDrained, ReportLost, ReportReady, ReportNotice, ReportNotices, Seal, Shut, Take, Write, arrival_of, deeds_move, keys_move, life_move, lower_move, move_to, paths_move, state_move, waiting_move, ReportStream, ReportStreams, ReportHeard, ReportAllHeard, Hand}
 use Rattle.qc_state.specs.Numbers.{next_number}
 use Rattle.qc_state.specs.Numbers as numbers
 use Rattle.qc_state.specs.Offers.{packet_begun}
@@ -58,6 +58,8 @@ use Rattle.qc_state.proofs.Telling.{told_appends}
 use Rattle.qc_state.proofs.Transmitted.{IsSealable}
 use Rattle.qc_laws.proofs.CryptoBuffers.{More, crypto_more_holds, crypto_more_sent, lost_in_more, more_here, more_next, more_same}
 use Rattle.qc_laws.proofs.CryptoPlaces.{FiresIn, ack_flight, ack_other, acked_crypto, apart_lower, apart_values, bundled_spaces, came_crypto, closed_crypto, dropped_highest, dropped_keys, failed_keys, fire_kept, fired_flight, flown_lower, given_above, given_keys, given_open, here_values, in_other, in_same, left_counts, more_bytes, narrow, none_written, not_above, put_again, put_crypto, put_other, rank_other, same_or, sealed_apart, sealed_stream, settled_bytes, settled_other, settled_stream, used_highest, used_keys, written_same}
+use Rattle.qc_state.specs.Datagrams.{tells_datagram}
+use Rattle.qc_laws.proofs.StreamCalls.{heard_state}
 
 -- ---- moves
 
@@ -116,7 +118,7 @@ module _ {t : Types} where
   still_crypto _ s id h = refl
 
   still_lower : (x : Move t) (s : View t) → IsStill x → (lower_move x s).recovery ≡ s.lower.recovery
-  unfolding lower_move bytes_came session_read limits_learned frame_handed streams_closed streams_stepped event_told events_told
+  unfolding lower_move bytes_came session_read limits_learned frame_handed streams_closed streams_stepped datagrams_stepped event_told events_told
   still_lower (Clock time) s h = absurd h
   still_lower (Take space fs) s h = absurd h
   still_lower (Seal time form n size fs) s h = absurd h
@@ -154,13 +156,14 @@ module _ {t : Types} where
 
   -- a life that is open was open
   move_open : (m : Meaning t) (x : Move t) (s : View t) → IsKnownMove m x s → MayMove x s → is_open (life_move x s).state ≡ true → is_open s.life.state ≡ true
-  unfolding life_move MayMove life_closed life_drained data_ready life_established token_learned identifiers_wanted life_raised reason_given ready_reported connected_reported lost_reported notice_reported notices_reported drained_reported
+  unfolding life_move MayMove life_closed life_drained data_ready life_established token_learned identifiers_wanted life_raised reason_given ready_reported connected_reported heard_reported all_heard_reported lost_reported notice_reported notices_reported drained_reported
   move_open m (Shut time close) s k may h = cc
   move_open m (PeerCloses time) s k may h = cc
   move_open m PeerClosesToo s k may h = cc
   move_open m Establish s k may h = low_open s.life.state may
   move_open m (Raise to) s k may h = let end : is_open to ≡ false = ap is_open k in cc
   move_open m (Give why) s k may h = ap is_open (sym (given_open s.life why (is_none s.life.reason))) ∙ h
+  move_open m (Hand frame) s k may h = ap is_open (sym (heard_state (tells_datagram frame s.lower.datagrams) s.life)) ∙ h
   move_open m _ s k may h = h
 
   still_same : (m : Meaning t) (x : Move t) (s : View t) (id : SpaceId) → IsStill x → IsKnownMove m x s → MayMove x s → Same id s (state_move x s)
@@ -292,6 +295,8 @@ module _ {t : Types} where
   move_bytes m (Write bytes keys session) s k may id before h = nil_kept id before (state_move (Write bytes keys session) s) (write_by bytes keys session s id before may (same_or id s.keys.highest) h)
   move_bytes m ReportReady s k may id before h = absurd k
   move_bytes m ReportConnected s k may id before h = absurd k
+  move_bytes m ReportHeard s k may id before h = absurd k
+  move_bytes m ReportAllHeard s k may id before h = absurd k
   move_bytes m ReportStream s k may id before h = absurd k
   move_bytes m ReportStreams s k may id before h = absurd k
   move_bytes m ReportLost s k may id before h = absurd k
@@ -404,7 +409,7 @@ module _ {t : Types} where
   Keeps m a b = Ends a.state → Ends b.state × Keeping m a b
 
   step_keeps : (m : Meaning t) (k : ℕ) (s : View t) (i : Input) (x : Step) (s' : View t) → IsStep m k s i x s' → Ends s → KeepsBytes m x.did s s'
-  unfolding called began run.step_after reported state_move lower_move events_told streams_stepped paths_move keys_move life_move waiting_move ready_reported connected_reported lost_reported notice_reported notices_reported drained_reported
+  unfolding called began run.step_after reported state_move lower_move events_told streams_stepped datagrams_stepped paths_move keys_move life_move waiting_move ready_reported connected_reported all_heard_reported lost_reported notice_reported notices_reported drained_reported
   step_keeps m k s i x s' h ends =
       let a : At t = began s (time_of i) in
       let b : At t = input_after m i h.choice a in

@@ -19,8 +19,8 @@ use Rattle.qc_state.specs.declared.waiting.Waiting.{Waiting}
 use Rattle.qc_state.specs.Acks.{is_ack}
 use Rattle.qc_laws.specs.EndLaws.{EndHolds, Ends, NoTimer}
 use Rattle.qc_state.specs.Forms.{number_space}
-use Rattle.qc_state.specs.Life.{connected_reported, data_ready, drained_reported, identifiers_wanted, is_closed, is_drained, is_open, life_closed, life_drained, life_established, life_raised, lost_reported, rank_of, ready_reported, reason_given, token_learned, notice_reported, notices_reported}
-use Rattle.qc_state.specs.Moves.{Accept, Ack, Arm, Ask, Begin, Clock, Come, Confirm, PeerClosesToo, Enter, Establish, Expect, Fail, Finish, Fire, Fix, Forget, Give, Hear, IsArmed, Learn, PeerCloses, MayMove, Move, Owe, Pace, Raise, Read, Ready, Release, ReportConnected, ReportDrained, ReportLost, ReportReady, ReportNotice, ReportNotices, Say, Seal, Shut, Skip, Take, Tell, Token, Want, Write, keys_move, life_move, move_to, numbers_move, state_move, timers_move, waiting_move, Call, Hand, ReportStream, ReportStreams}
+use Rattle.qc_state.specs.Life.{connected_reported, data_ready, drained_reported, identifiers_wanted, is_closed, is_drained, is_open, life_closed, life_drained, life_established, life_raised, lost_reported, rank_of, ready_reported, reason_given, token_learned, notice_reported, notices_reported, all_heard_reported}
+use Rattle.qc_state.specs.Moves.{Accept, Ack, Arm, Ask, Begin, Clock, Come, Confirm, PeerClosesToo, Enter, Establish, Expect, Fail, Finish, Fire, Fix, Forget, Give, Hear, IsArmed, Learn, PeerCloses, MayMove, Move, Owe, Pace, Raise, Read, Ready, Release, ReportConnected, ReportDrained, ReportLost, ReportReady, ReportNotice, ReportNotices, Say, Seal, Shut, Skip, Take, Tell, Token, Want, Write, keys_move, life_move, move_to, numbers_move, state_move, timers_move, waiting_move, Call, Hand, ReportStream, ReportStreams, Post, ReportHeard, ReportAllHeard}
 use Rattle.qc_state.specs.Numbers.{next_number}
 use Rattle.qc_state.specs.Offers.{packet_begun}
 use Rattle.qc_state.specs.Recovering.{loss_time, probe_timeout_now}
@@ -36,6 +36,8 @@ use Rattle.qc_laws.proofs.KnownMoves.{IsKnownMove}
 use Rattle.qc_state.proofs.Probed.{begun_holds}
 use Rattle.qc_state.proofs.Telling.{open_rank}
 use Rattle.qc_state.proofs.Transmitted.{IsSealable}
+use Rattle.qc_state.specs.Datagrams.{tells_datagram}
+use Rattle.qc_laws.proofs.StreamCalls.{heard_state}
 
 -- an open life hasn't drained
 open_alive : (s : State) → is_open s ≡ true → is_drained s ≡ false
@@ -209,8 +211,9 @@ module _ {t : Types} where
   move_keeps (Give why) r a may = λ h. same_holds _ _ _ _ _ _ (given_state a.state.life why (is_none a.state.life.reason)) refl refl h
   move_keeps (Finish bytes) r a may = λ h. h
   move_keeps (Say q) r a may = λ h. h
-  move_keeps (Hand frame) r a may = λ h. h
+  move_keeps (Hand frame) r a may = λ h. same_holds _ _ _ _ _ _ (heard_state (tells_datagram frame a.state.lower.datagrams) a.state.life) refl refl h
   move_keeps (Call x) r a may = λ h. h
+  move_keeps (Post x) r a may = λ h. h
   move_keeps _ r a may = absurd r
 
   -- so do the moves that are known of an input, and those with which a packet is taken and sealed
@@ -219,6 +222,8 @@ module _ {t : Types} where
   known_made m (Raise to) s h = h
   known_made m ReportReady s h = h
   known_made m ReportConnected s h = h
+  known_made m ReportHeard s h = h
+  known_made m ReportAllHeard s h = h
   known_made m ReportStream s h = h
   known_made m ReportStreams s h = h
   known_made m ReportLost s h = h
@@ -244,7 +249,7 @@ module _ {t : Types} where
 
   -- a step
   pub step_ends : (m : Meaning t) (k : ℕ) (s : View t) (i : Input) (x : Step) (s' : View t) → IsStep m k s i x s' → Ends s → Ends s'
-  unfolding called began step_after reported state_move life_move timers_move waiting_move clock_set ready_reported connected_reported lost_reported notice_reported notices_reported drained_reported
+  unfolding called began step_after reported state_move life_move timers_move waiting_move clock_set ready_reported connected_reported all_heard_reported lost_reported notice_reported notices_reported drained_reported
   step_ends m k s i x s' h holds =
       let b : At t = input_after m i h.choice (began s (time_of i)) in
       let behind : Ends b.state = holds_input Keeps here next move_keeps m i h.choice (began s (time_of i)) h.allowed

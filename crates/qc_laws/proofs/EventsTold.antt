@@ -8,19 +8,19 @@ use Rattle.qc_state.specs.declared.deeds.Did.TheVariants as did
 use Rattle.qc_state.specs.declared.events.EndpointEvent.{EndpointEvent}
 use Rattle.qc_state.specs.declared.events.EndpointEvent.TheVariants as endpoint
 use Rattle.qc_state.specs.declared.events.Event.{Event}
-use Rattle.qc_state.specs.declared.events.Event.TheVariants.{HandshakeDataReady, Connected, Stream, ConnectionLost}
+use Rattle.qc_state.specs.declared.events.Event.TheVariants.{HandshakeDataReady, Connected, Stream, ConnectionLost, DatagramReceived}
 use Rattle.qc_state.specs.declared.input.Input.{Input}
 use Rattle.qc_state.specs.declared.life.ConnectionError.{ConnectionError}
 use Rattle.qc_state.specs.declared.life.Life.{Life}
 use Rattle.qc_state.specs.declared.life.State.{State}
 use Rattle.qc_state.specs.declared.life.State.TheVariants as state
 use Rattle.qc_state.specs.declared.trace.Step.{Step}
-use Rattle.qc_laws.specs.EventLaws.{EachTells, OnlyDoneWaits, TellsDone, TellsOnce, Untold, all_told, connections_in, endpoint_events_of, ends_in, events_of, losses_in, once, rises_to, untold_of}
+use Rattle.qc_laws.specs.EventLaws.{EachTells, OnlyDoneWaits, TellsDone, TellsOnce, Untold, all_told, connections_in, endpoint_events_of, ends_in, events_of, losses_in, once, rises_to, untold_of, is_heard}
 use Rattle.qc_state.specs.Headline.{LifeRises, LosesOnce, RisesFrom, deeds_of, lives_in, reasons_in}
-use Rattle.qc_state.specs.Life.{connected_event, connected_reported, data_ready, drained_event, drained_reported, event_if, identifiers_wanted, is_drained, life_closed, life_drained, life_established, life_raised, lost_event, lost_reported, rank_of, ready_event, ready_reported, reason_given, token_learned, notices_reported}
-use Rattle.qc_state.specs.Moves.{IsTold, MayMove, Move, Accept, Clock, PeerClosesToo, Enter, Establish, Give, PeerCloses, Raise, Ready, ReportConnected, ReportDrained, ReportLost, ReportReady, ReportNotice, ReportNotices, Say, Seal, Shut, Tell, Token, Want, deeds_move, life_move, move_to, state_move, Hand, ReportStream, ReportStreams}
+use Rattle.qc_state.specs.Life.{connected_event, connected_reported, data_ready, drained_event, drained_reported, event_if, identifiers_wanted, is_drained, life_closed, life_drained, life_established, life_raised, lost_event, lost_reported, rank_of, ready_event, ready_reported, reason_given, token_learned, notices_reported, all_heard_reported, datagram_heard}
+use Rattle.qc_state.specs.Moves.{IsTold, MayMove, Move, Accept, Clock, PeerClosesToo, Enter, Establish, Give, PeerCloses, Raise, Ready, ReportConnected, ReportDrained, ReportLost, ReportReady, ReportNotice, ReportNotices, Say, Seal, Shut, Tell, Token, Want, deeds_move, life_move, move_to, state_move, Hand, ReportStream, ReportStreams, ReportHeard, ReportAllHeard, told_to_streams}
 use Rattle.qc_state.specs.Polls.{endpoint_events, waiting_events}
-use Rattle.qc_state.specs.Run.{IsStep, Ran, Run, began, called, input_after, reported, step_after, time_of}
+use Rattle.qc_state.specs.Run.{IsStep, Ran, Run, began, called, input_after, reported, step_after, time_of, IsAllowed}
 use Rattle.qc_state.specs.Types.{Types, Meaning}
 use Rattle.qc_state.specs.View.{View, At}
 use Rattle.qc_laws.proofs.Inputs.{IsMade, holds_input}
@@ -30,6 +30,9 @@ use Rattle.qc_laws.proofs.StreamCalls.{handed_told}
 use Rattle.qc_streams.specs.declared.events.StreamEvent.{StreamEvent}
 use Rattle.qc_state.specs.declared.deeds.Layer.TheVariants as layer
 use Rattle.qc_state.specs.Streams as streams_events
+use Rattle.qc_state.specs.Datagrams.{tells_datagram}
+use Rattle.qc_state.specs.Sending.{Choice}
+use Rattle.std.specs.List.{list_all}
 
 -- ---- deeds and events, one list behind another
 
@@ -60,6 +63,7 @@ losses_append [] fs = refl
 losses_append (HandshakeDataReady ∷ es) fs = losses_append es fs
 losses_append (Connected ∷ es) fs = losses_append es fs
 losses_append (Stream event ∷ es) fs = losses_append es fs
+losses_append (DatagramReceived ∷ es) fs = losses_append es fs
 losses_append (ConnectionLost why ∷ es) fs = ap (λ (x : List ConnectionError). why ∷ x) (losses_append es fs)
 
 connections_append : (es fs : List Event) → connections_in (es ++ fs) ≡ connections_in es + connections_in fs
@@ -67,6 +71,7 @@ connections_append [] fs = omega arith
 connections_append (HandshakeDataReady ∷ es) fs = connections_append es fs
 connections_append (Connected ∷ es) fs = let more : connections_in (es ++ fs) ≡ connections_in es + connections_in fs = connections_append es fs in omega (arith, more)
 connections_append (Stream event ∷ es) fs = connections_append es fs
+connections_append (DatagramReceived ∷ es) fs = connections_append es fs
 connections_append (ConnectionLost why ∷ es) fs = connections_append es fs
 
 ends_append : (es fs : List EndpointEvent) → ends_in (es ++ fs) ≡ ends_in es + ends_in fs
@@ -104,13 +109,14 @@ waits_next ds es u v w g h = record {
 
 -- the life rises below its end, and not to Established
 passed_waits : (rank : ℕ) (v v' : Life) → (rank == 1) ≡ false → (rank == 4) ≡ false → rank_of v.state < 4 → 1 ≤ rank_of v'.state →
-    v'.reason ≡ v.reason → v'.lost ≡ v.lost → v'.connected ≡ v.connected → v'.drained ≡ v.drained → v'.notices ≡ v.notices → OnlyDoneWaits v → Waits (did.Rose rank ∷ []) v v'
-passed_waits rank v v' first last low high reason lost connected drained notices h = record {
+    v'.reason ≡ v.reason → v'.lost ≡ v.lost → v'.connected ≡ v.connected → v'.drained ≡ v.drained → v'.notices ≡ v.notices → v'.heard ≡ v.heard → OnlyDoneWaits v → Waits (did.Rose rank ∷ []) v v'
+passed_waits rank v v' first last low high reason lost connected drained notices heard h = record {
   done = record {
     lost = λ e. lost ∙ h.lost (ap is_none (sym reason) ∙ e);
     connected = λ e. absurd (omega (arith, e, high));
     drained = λ e. drained ∙ h.drained low;
     notices = ap ends_in notices ∙ h.notices;
+    heard = ap (λ (es : List Event). list_all is_heard es) heard ∙ h.heard;
   };
   lost = ap option_to_list lost ∙ sym (append-nil (option_to_list v.lost));
   connected = rw first (ap once connected ∙ omega arith);
@@ -129,7 +135,7 @@ one_notice es e here none = let both : ends_in (es ++ e ∷ []) ≡ ends_in es +
 established_waits : (v : Life) → rank_of v.state < 1 → OnlyDoneWaits v → Waits (did.Rose 1 ∷ []) v (life_established v)
 unfolding life_established
 established_waits v low h = record {
-  done = record { lost = h.lost; connected = λ e. absurd (omega (arith, e)); drained = λ e. h.drained (omega (arith, low)); notices = h.notices };
+  done = record { lost = h.lost; connected = λ e. absurd (omega (arith, e)); drained = λ e. h.drained (omega (arith, low)); notices = h.notices; heard = h.heard };
   lost = sym (append-nil (option_to_list v.lost));
   connected = rw (h.connected low) refl;
   drained = omega arith;
@@ -138,7 +144,7 @@ established_waits v low h = record {
 ended_waits : (v : Life) → rank_of v.state < 4 → OnlyDoneWaits v → Waits (did.Rose 4 ∷ []) v (life_raised v state.Drained)
 unfolding life_raised
 ended_waits v low h = record {
-  done = record { lost = h.lost; connected = λ e. absurd (omega (arith, e)); drained = λ e. absurd (omega (arith, e)); notices = h.notices };
+  done = record { lost = h.lost; connected = λ e. absurd (omega (arith, e)); drained = λ e. absurd (omega (arith, e)); notices = h.notices; heard = h.heard };
   lost = sym (append-nil (option_to_list v.lost));
   connected = omega arith;
   drained = rw (h.drained low) refl;
@@ -148,7 +154,23 @@ given_waits : (v : Life) (why : ConnectionError) → v.reason ≡ None → OnlyD
 unfolding reason_given
 given_waits v why none h =
     let before : v.lost ≡ None = h.lost (ap is_none none) in
-    rw none (record { done = record { lost = λ e. cc e; connected = h.connected; drained = h.drained; notices = h.notices }; lost = rw before refl; connected = omega arith; drained = omega arith })
+    rw none (record { done = record { lost = λ e. cc e; connected = h.connected; drained = h.drained; notices = h.notices; heard = h.heard }; lost = rw before refl; connected = omega arith; drained = omega arith })
+
+-- that a datagram came waits behind what waits of datagrams
+heard_more : (es : List Event) → list_all is_heard es ≡ true → list_all is_heard (es ++ DatagramReceived ∷ []) ≡ true
+heard_more [] h = refl
+heard_more (DatagramReceived ∷ es) h = heard_more es h
+heard_more (_ ∷ es) h = cc
+
+heard_waits : (tells : Bool) (ds : List Did) (v : Life) → Waits ds v v → Waits ds v (datagram_heard tells v)
+unfolding datagram_heard
+heard_waits true ds v h = record {
+  done = record { lost = h.done.lost; connected = h.done.connected; drained = h.done.drained; notices = h.done.notices; heard = heard_more v.heard h.done.heard };
+  lost = h.lost;
+  connected = h.connected;
+  drained = h.drained;
+}
+heard_waits false ds v h = h
 
 module _ {t : Types} where
   -- from one moment to another: the deeds between, and what waits behind them
@@ -175,19 +197,23 @@ module _ {t : Types} where
   life_waits (Accept time id n e g v) s r h w = same_waits _ s.life refl refl refl w
   life_waits (Say q) s r h w = same_waits _ s.life refl refl refl w
   life_waits (Tell d) s r h w = told_waits d s.life h w
-  life_waits (Hand frame) s r h w = handed_told (λ ds. Waits ds s.life s.life) frame (same_waits [] s.life refl refl refl w) (λ body. same_waits (did.Gave layer.Streams body ∷ []) s.life refl refl refl w)
-  life_waits Ready s r h w = record { done = record { lost = w.lost; connected = w.connected; drained = w.drained; notices = w.notices }; lost = sym (append-nil (option_to_list s.life.lost)); connected = omega arith; drained = omega arith }
-  life_waits (Token token) s r h w = record { done = record { lost = w.lost; connected = w.connected; drained = w.drained; notices = one_notice s.life.notices (endpoint.ResetToken s.paths.current.remote token) refl w.notices }; lost = sym (append-nil (option_to_list s.life.lost)); connected = omega arith; drained = omega arith }
-  life_waits (Want time count) s r h w = record { done = record { lost = w.lost; connected = w.connected; drained = w.drained; notices = one_notice s.life.notices (endpoint.NeedIdentifiers time count) refl w.notices }; lost = sym (append-nil (option_to_list s.life.lost)); connected = omega arith; drained = omega arith }
+  life_waits (Hand frame) s r h w =
+      heard_waits (tells_datagram frame s.lower.datagrams) (told_to_streams frame) s.life
+      (handed_told (λ ds. Waits ds s.life s.life) frame (same_waits [] s.life refl refl refl w) (λ body. same_waits (did.Gave layer.Streams body ∷ []) s.life refl refl refl w))
+  life_waits Ready s r h w = record { done = record { lost = w.lost; connected = w.connected; drained = w.drained; notices = w.notices; heard = w.heard }; lost = sym (append-nil (option_to_list s.life.lost)); connected = omega arith; drained = omega arith }
+  life_waits (Token token) s r h w = record { done = record { lost = w.lost; connected = w.connected; drained = w.drained; notices = one_notice s.life.notices (endpoint.ResetToken s.paths.current.remote token) refl w.notices; heard = w.heard }; lost = sym (append-nil (option_to_list s.life.lost)); connected = omega arith; drained = omega arith }
+  life_waits (Want time count) s r h w = record { done = record { lost = w.lost; connected = w.connected; drained = w.drained; notices = one_notice s.life.notices (endpoint.NeedIdentifiers time count) refl w.notices; heard = w.heard }; lost = sym (append-nil (option_to_list s.life.lost)); connected = omega arith; drained = omega arith }
   life_waits Establish s r h w = established_waits s.life h w
-  life_waits (Shut time close) s r h w = passed_waits 2 s.life (life_closed s.life close) refl refl (omega (arith, h)) (omega arith) refl refl refl refl refl w
-  life_waits (PeerCloses time) s r h w = passed_waits 3 s.life (life_drained s.life) refl refl (omega (arith, h)) (omega arith) refl refl refl refl refl w
-  life_waits PeerClosesToo s r h w = passed_waits 3 s.life (life_drained s.life) refl refl (let low : rank_of s.life.state < 3 = closed_rank s.life.state h in omega (arith, low)) (omega arith) refl refl refl refl refl w
+  life_waits (Shut time close) s r h w = passed_waits 2 s.life (life_closed s.life close) refl refl (omega (arith, h)) (omega arith) refl refl refl refl refl refl w
+  life_waits (PeerCloses time) s r h w = passed_waits 3 s.life (life_drained s.life) refl refl (omega (arith, h)) (omega arith) refl refl refl refl refl refl w
+  life_waits PeerClosesToo s r h w = passed_waits 3 s.life (life_drained s.life) refl refl (let low : rank_of s.life.state < 3 = closed_rank s.life.state h in omega (arith, low)) (omega arith) refl refl refl refl refl refl w
   life_waits (Raise to) s r h w =
       subst (λ (y : State). Waits (did.Rose (rank_of y) ∷ []) s.life (life_raised s.life y)) (sym r) (ended_waits s.life (subst (λ (y : State). rank_of s.life.state < rank_of y) r h) w)
   life_waits (Give why) s r h w = given_waits s.life why h w
   life_waits ReportReady s r h w = absurd r
   life_waits ReportConnected s r h w = absurd r
+  life_waits ReportHeard s r h w = absurd r
+  life_waits ReportAllHeard s r h w = absurd r
   life_waits ReportStream s r h w = absurd r
   life_waits ReportStreams s r h w = absurd r
   life_waits ReportLost s r h w = absurd r
@@ -216,23 +242,33 @@ lost_losses : (o : Option ConnectionError) → losses_in (option_to_list (option
 lost_losses (Some why) = refl
 lost_losses None = refl
 
-waiting_losses : (r c : Bool) (es : List StreamEvent) (o : Option ConnectionError) →
-    losses_in (option_to_list (event_if r HandshakeDataReady) ++ (option_to_list (event_if c Connected) ++ (map Stream es ++ option_to_list (option_map ConnectionLost o)))) ≡ option_to_list o
-waiting_losses true true es o = stream_losses es _ ∙ lost_losses o
-waiting_losses true false es o = stream_losses es _ ∙ lost_losses o
-waiting_losses false true es o = stream_losses es _ ∙ lost_losses o
-waiting_losses false false es o = stream_losses es _ ∙ lost_losses o
+heard_losses : (hs fs : List Event) → list_all is_heard hs ≡ true → losses_in (hs ++ fs) ≡ losses_in fs
+heard_losses [] fs h = refl
+heard_losses (DatagramReceived ∷ hs) fs h = heard_losses hs fs h
+heard_losses (_ ∷ hs) fs h = cc
+
+heard_connections : (hs fs : List Event) → list_all is_heard hs ≡ true → connections_in (hs ++ fs) ≡ connections_in fs
+heard_connections [] fs h = refl
+heard_connections (DatagramReceived ∷ hs) fs h = heard_connections hs fs h
+heard_connections (_ ∷ hs) fs h = cc
+
+waiting_losses : (r c : Bool) (hs : List Event) (es : List StreamEvent) (o : Option ConnectionError) → list_all is_heard hs ≡ true →
+    losses_in (option_to_list (event_if r HandshakeDataReady) ++ (option_to_list (event_if c Connected) ++ (hs ++ (map Stream es ++ option_to_list (option_map ConnectionLost o))))) ≡ option_to_list o
+waiting_losses true true hs es o h = heard_losses hs _ h ∙ stream_losses es _ ∙ lost_losses o
+waiting_losses true false hs es o h = heard_losses hs _ h ∙ stream_losses es _ ∙ lost_losses o
+waiting_losses false true hs es o h = heard_losses hs _ h ∙ stream_losses es _ ∙ lost_losses o
+waiting_losses false false hs es o h = heard_losses hs _ h ∙ stream_losses es _ ∙ lost_losses o
 
 lost_connections : (o : Option ConnectionError) → connections_in (option_to_list (option_map ConnectionLost o)) ≡ 0
 lost_connections (Some why) = refl
 lost_connections None = refl
 
-waiting_connections : (r c : Bool) (es : List StreamEvent) (o : Option ConnectionError) →
-    connections_in (option_to_list (event_if r HandshakeDataReady) ++ (option_to_list (event_if c Connected) ++ (map Stream es ++ option_to_list (option_map ConnectionLost o)))) ≡ once c
-waiting_connections true true es o = ap (λ (n : ℕ). n + 1) (stream_connections es _ ∙ lost_connections o)
-waiting_connections true false es o = stream_connections es _ ∙ lost_connections o
-waiting_connections false true es o = ap (λ (n : ℕ). n + 1) (stream_connections es _ ∙ lost_connections o)
-waiting_connections false false es o = stream_connections es _ ∙ lost_connections o
+waiting_connections : (r c : Bool) (hs : List Event) (es : List StreamEvent) (o : Option ConnectionError) → list_all is_heard hs ≡ true →
+    connections_in (option_to_list (event_if r HandshakeDataReady) ++ (option_to_list (event_if c Connected) ++ (hs ++ (map Stream es ++ option_to_list (option_map ConnectionLost o))))) ≡ once c
+waiting_connections true true hs es o h = ap (λ (n : ℕ). n + 1) (heard_connections hs _ h ∙ stream_connections es _ ∙ lost_connections o)
+waiting_connections true false hs es o h = heard_connections hs _ h ∙ stream_connections es _ ∙ lost_connections o
+waiting_connections false true hs es o h = ap (λ (n : ℕ). n + 1) (heard_connections hs _ h ∙ stream_connections es _ ∙ lost_connections o)
+waiting_connections false false hs es o h = heard_connections hs _ h ∙ stream_connections es _ ∙ lost_connections o
 
 -- of those for the endpoint, those that tell of the end
 waiting_ends : (d : Bool) → ends_in (option_to_list (if d then Some endpoint.Drained else None)) ≡ once d
@@ -240,13 +276,13 @@ waiting_ends true = refl
 waiting_ends false = refl
 
 module _ {t : Types} where
-  losses_wait : (s : View t) → losses_in (waiting_events s) ≡ option_to_list s.life.lost
+  losses_wait : (s : View t) → list_all is_heard s.life.heard ≡ true → losses_in (waiting_events s) ≡ option_to_list s.life.lost
   unfolding waiting_events ready_event connected_event lost_event
-  losses_wait s = waiting_losses s.life.ready s.life.connected (streams_events.events_of s.lower.streams) s.life.lost
+  losses_wait s h = waiting_losses s.life.ready s.life.connected s.life.heard (streams_events.events_of s.lower.streams) s.life.lost h
 
-  connections_wait : (s : View t) → connections_in (waiting_events s) ≡ once s.life.connected
+  connections_wait : (s : View t) → list_all is_heard s.life.heard ≡ true → connections_in (waiting_events s) ≡ once s.life.connected
   unfolding waiting_events ready_event connected_event lost_event
-  connections_wait s = waiting_connections s.life.ready s.life.connected (streams_events.events_of s.lower.streams) s.life.lost
+  connections_wait s h = waiting_connections s.life.ready s.life.connected s.life.heard (streams_events.events_of s.lower.streams) s.life.lost h
 
   ends_wait : (s : View t) → ends_in s.life.notices ≡ 0 → ends_in (endpoint_events s) ≡ once s.life.drained
   unfolding endpoint_events drained_event
@@ -257,12 +293,24 @@ module _ {t : Types} where
 
   -- nothing waits behind the reports
   reported_told : (s : View t) → untold_of (reported s).life ≡ all_told
-  unfolding reported state_move life_move ready_reported connected_reported lost_reported notices_reported drained_reported
+  unfolding reported state_move life_move ready_reported connected_reported all_heard_reported lost_reported notices_reported drained_reported
   reported_told s = refl
 
   reported_notices : (s : View t) → (reported s).life.notices ≡ []
-  unfolding reported state_move life_move ready_reported connected_reported lost_reported notices_reported drained_reported
+  unfolding reported state_move life_move ready_reported connected_reported all_heard_reported lost_reported notices_reported drained_reported
   reported_notices s = refl
+
+  reported_heard : (s : View t) → (reported s).life.heard ≡ []
+  unfolding reported state_move life_move ready_reported connected_reported all_heard_reported lost_reported notices_reported drained_reported
+  reported_heard s = refl
+
+  -- before anything is reported, still only what came to pass waits
+  pub called_done : (m : Meaning t) (s : View t) (i : Input) (choice : Choice) → IsAllowed m i choice (began s (time_of i)) → OnlyDoneWaits s.life → OnlyDoneWaits (input_after m i choice (began s (time_of i))).state.life
+  unfolding began state_move life_move
+  called_done m s i choice may w =
+      let a : At t = began s (time_of i) in
+      let kept : Keeps a (input_after m i choice a) = holds_input Keeps here next move_keeps m i choice a may in
+      (kept.waits w).done
 
   -- a step tells what waited before it, and what its deeds did
   step_tells : (m : Meaning t) (k : ℕ) (s : View t) (i : Input) (x : Step) (s' : View t) → IsStep m k s i x s' → OnlyDoneWaits s.life → TellsDone (untold_of s.life) x
@@ -274,8 +322,8 @@ module _ {t : Types} where
       let deeds : kept.since ≡ x.did = sym (h.deeds ∙ kept.appended) in
       let waits : Waits x.did s.life b.state.life = subst (λ (ds : List Did). Waits ds s.life b.state.life) deeds (kept.waits w) in
       record {
-        losses = ap losses_in h.events ∙ losses_wait b.state ∙ waits.lost;
-        connections = ap connections_in h.events ∙ connections_wait b.state ∙ waits.connected;
+        losses = ap losses_in h.events ∙ losses_wait b.state waits.done.heard ∙ waits.lost;
+        connections = ap connections_in h.events ∙ connections_wait b.state waits.done.heard ∙ waits.connected;
         ends = ap ends_in h.endpoint ∙ ends_wait b.state waits.done.notices ∙ waits.drained;
       }
 
@@ -284,24 +332,32 @@ module _ {t : Types} where
   unfolding step_after
   step_told m k s i x s' h = ap untold_of h.life ∙ reported_told (called m s i h.choice).state
 
+  step_heard : (m : Meaning t) (k : ℕ) (s : View t) (i : Input) (x : Step) (s' : View t) → IsStep m k s i x s' → s'.life.heard ≡ []
+  unfolding step_after
+  step_heard m k s i x s' h = ap (λ (v : Life). v.heard) h.life ∙ reported_heard (called m s i h.choice).state
+
   step_notices : (m : Meaning t) (k : ℕ) (s : View t) (i : Input) (x : Step) (s' : View t) → IsStep m k s i x s' → s'.life.notices ≡ []
   unfolding step_after
   step_notices m k s i x s' h = ap (λ (v : Life). v.notices) h.life ∙ reported_notices (called m s i h.choice).state
 
 -- where nothing waits, only what came to pass does
-told_done : (v : Life) → untold_of v ≡ all_told → v.notices ≡ [] → OnlyDoneWaits v
-told_done v e none = record { lost = λ _. ap (λ (u : Untold). u.lost) e; connected = λ _. ap (λ (u : Untold). u.connected) e; drained = λ _. ap (λ (u : Untold). u.drained) e; notices = ap ends_in none }
+told_done : (v : Life) → untold_of v ≡ all_told → v.notices ≡ [] → v.heard ≡ [] → OnlyDoneWaits v
+told_done v e none unheard = record { lost = λ _. ap (λ (u : Untold). u.lost) e; connected = λ _. ap (λ (u : Untold). u.connected) e; drained = λ _. ap (λ (u : Untold). u.drained) e; notices = ap ends_in none; heard = ap (λ (es : List Event). list_all is_heard es) unheard }
 
 -- ---- runs
 
 module _ {t : Types} where
+  -- so it is behind a step
+  pub step_done : (m : Meaning t) (k : ℕ) (s : View t) (i : Input) (x : Step) (s' : View t) → IsStep m k s i x s' → OnlyDoneWaits s'.life
+  step_done m k s i x s' h = told_done s'.life (step_told m k s i x s' h) (step_notices m k s i x s' h) (step_heard m k s i x s' h)
+
   -- just what came to pass is told in a run
   pub run_tells_done : (m : Meaning t) (k : ℕ) (s : View t) (is : List Input) (xs : List Step) (s' : View t) → Run m k s is xs s' → OnlyDoneWaits s.life → EachTells (untold_of s.life) xs
   unfolding Run
   run_tells_done m k s [] [] s' r w = tt
   run_tells_done m k s (i ∷ is) (x ∷ xs) s' r w =
       let none : untold_of r.0.life ≡ all_told = step_told m k s i x r.0 r.1 in
-      (step_tells m k s i x r.0 r.1 w, subst (λ (u : Untold). EachTells u xs) none (run_tells_done m (k + 1) r.0 is xs s' r.2 (told_done r.0.life none (step_notices m k s i x r.0 r.1))))
+      (step_tells m k s i x r.0 r.1 w, subst (λ (u : Untold). EachTells u xs) none (run_tells_done m (k + 1) r.0 is xs s' r.2 (step_done m k s i x r.0 r.1)))
   run_tells_done m k s [] (x ∷ xs) s' r w = absurd r
   run_tells_done m k s (i ∷ is) [] s' r w = absurd r
 
@@ -309,7 +365,7 @@ module _ {t : Types} where
   pub run_stays_done : (m : Meaning t) (k : ℕ) (s : View t) (is : List Input) (xs : List Step) (s' : View t) → Run m k s is xs s' → OnlyDoneWaits s.life → OnlyDoneWaits s'.life
   unfolding Run
   run_stays_done m k s [] [] s' r w = subst (λ (v : View t). OnlyDoneWaits v.life) (sym r) w
-  run_stays_done m k s (i ∷ is) (x ∷ xs) s' r w = run_stays_done m (k + 1) r.0 is xs s' r.2 (told_done r.0.life (step_told m k s i x r.0 r.1) (step_notices m k s i x r.0 r.1))
+  run_stays_done m k s (i ∷ is) (x ∷ xs) s' r w = run_stays_done m (k + 1) r.0 is xs s' r.2 (step_done m k s i x r.0 r.1)
   run_stays_done m k s [] (x ∷ xs) s' r w = absurd r
   run_stays_done m k s (i ∷ is) [] s' r w = absurd r
 

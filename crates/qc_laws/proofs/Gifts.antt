@@ -22,7 +22,7 @@ use Rattle.qc_state.specs.declared.lower.Lower.{Lower}
 use Rattle.qc_state.specs.declared.numbers.Numbers.{Numbers}
 use Rattle.qc_state.specs.Keys.{keys_dropped}
 use Rattle.qc_state.specs.Life.{is_established, is_open, data_ready}
-use Rattle.qc_state.specs.Lower.{bytes_came, flight_dropped, packets_settled, ready_bytes, session_read, stream_of, frame_handed, streams_stepped}
+use Rattle.qc_state.specs.Lower.{bytes_came, flight_dropped, packets_settled, ready_bytes, session_read, stream_of, frame_handed, streams_stepped, datagrams_stepped, first_of, handed_stop}
 use Rattle.qc_state.specs.Moves.{Move, Ack, Arm, Come, Confirm, Establish, Forget, Give, Learn, PeerCloses, Owe, Read, Ready, Shut, Tell, Token, Want, Write, MayMove, armed_after, armed_with, deeds_move, keys_move, life_move, lower_move, move_to, numbers_move, setup_move, state_move, Hand, told_to_streams}
 use Rattle.qc_state.specs.Numbers.{next_number, number_accepted, number_acked}
 use Rattle.qc_state.specs.Numbers as numbers
@@ -42,7 +42,10 @@ use Rattle.qc_state.proofs.Telling.{told_appends}
 use Rattle.qc_state.specs.Streams.{steps_of_frame, streams_stop}
 use Rattle.qc_streams.specs.Waits as steps
 use Rattle.qc_streams.specs.declared.state.StreamsState.{StreamsState}
-use Rattle.qc_laws.proofs.StreamCalls.{handed_told}
+use Rattle.qc_laws.proofs.StreamCalls.{handed_told, heard_state}
+use Rattle.qc_state.specs.Datagrams.{datagram_steps, datagram_stop, tells_datagram}
+use Rattle.qc_datagrams.specs.Steps as datagram
+use Rattle.qc_datagrams.specs.declared.datagrams.Datagrams.{Datagrams}
 
 -- ---- lists of deeds
 
@@ -104,9 +107,17 @@ came_streams : {S : Type 0} (id : SpaceId) (l : Lower S) (offset : ℕ) (body : 
 unfolding bytes_came
 came_streams id l offset body = refl
 
+came_datagrams : {S : Type 0} (id : SpaceId) (l : Lower S) (offset : ℕ) (body : List ℕ) → (bytes_came l id offset body).datagrams ≡ l.datagrams
+unfolding bytes_came
+came_datagrams id l offset body = refl
+
 read_streams : {S : Type 0} (id : SpaceId) (l : Lower S) (count : ℕ) (session : S) → (session_read l id count session).streams ≡ l.streams
 unfolding session_read
 read_streams id l count session = refl
+
+read_datagrams : {S : Type 0} (id : SpaceId) (l : Lower S) (count : ℕ) (session : S) → (session_read l id count session).datagrams ≡ l.datagrams
+unfolding session_read
+read_datagrams id l count session = refl
 
 session_now : {S : Type 0} (id : SpaceId) (l : Lower S) (count : ℕ) (session : S) → (session_read l id count session).session ≡ session
 unfolding session_read
@@ -209,26 +220,27 @@ module _ {t : Types} where
     pub stream : stream_of v.lower id ≡ r.stream
     pub session : v.lower.session ≡ r.session
     pub streams : v.lower.streams ≡ r.streams
+    pub datagrams : v.lower.datagrams ≡ r.datagrams
 
   along_tell : (s : View t) (id : SpaceId) (r : Reading t.S) (d : Did) (a : At t) → Along s id r a.state → Along s id r (move_to (Tell d) a).state
   unfolding move_to state_move setup_move keys_move life_move numbers_move lower_move
-  along_tell s id r d a h = record { fixed = h.fixed; highest = h.highest; life = h.life; next = h.next; skipped = h.skipped; stream = h.stream; session = h.session; streams = h.streams }
+  along_tell s id r d a h = record { fixed = h.fixed; highest = h.highest; life = h.life; next = h.next; skipped = h.skipped; stream = h.stream; session = h.session; streams = h.streams; datagrams = h.datagrams }
 
   along_arm : (s : View t) (id : SpaceId) (r : Reading t.S) (time : ℕ) (a : At t) → Along s id r a.state → Along s id r (armed_after time a).state
   unfolding armed_after armed_with move_to state_move setup_move keys_move life_move numbers_move lower_move
-  along_arm s id r time a h = record { fixed = h.fixed; highest = h.highest; life = h.life; next = h.next; skipped = h.skipped; stream = h.stream; session = h.session; streams = h.streams }
+  along_arm s id r time a h = record { fixed = h.fixed; highest = h.highest; life = h.life; next = h.next; skipped = h.skipped; stream = h.stream; session = h.session; streams = h.streams; datagrams = h.datagrams }
 
   along_forget : (s : View t) (id : SpaceId) (r : Reading t.S) (space : SpaceId) (a : At t) → Along s id r a.state → Along s id r (move_to (Forget space) a).state
   unfolding move_to state_move setup_move keys_move life_move numbers_move lower_move flight_dropped stream_of
-  along_forget s id r space a h = record { fixed = h.fixed; highest = dropped_highest space a.state.keys ∙ h.highest; life = h.life; next = h.next; skipped = h.skipped; stream = h.stream; session = h.session; streams = h.streams }
+  along_forget s id r space a h = record { fixed = h.fixed; highest = dropped_highest space a.state.keys ∙ h.highest; life = h.life; next = h.next; skipped = h.skipped; stream = h.stream; session = h.session; streams = h.streams; datagrams = h.datagrams }
 
   along_ack : (s : View t) (id : SpaceId) (r : Reading t.S) (n : ℕ) (after : After t.C) (a : At t) → Along s id r a.state → Along s id r (move_to (Ack id n after) a).state
   unfolding move_to state_move setup_move keys_move life_move numbers_move lower_move packets_settled stream_of number_acked
-  along_ack s id r n after a h = record { fixed = h.fixed; highest = h.highest; life = h.life; next = acked_next id a.state.numbers n ∙ h.next; skipped = h.skipped; stream = h.stream; session = h.session; streams = h.streams }
+  along_ack s id r n after a h = record { fixed = h.fixed; highest = h.highest; life = h.life; next = acked_next id a.state.numbers n ∙ h.next; skipped = h.skipped; stream = h.stream; session = h.session; streams = h.streams; datagrams = h.datagrams }
 
   along_ready : (s : View t) (id : SpaceId) (r : Reading t.S) (a : At t) → Along s id r a.state → Along s id r (move_to Ready a).state
   unfolding move_to state_move setup_move keys_move life_move numbers_move lower_move data_ready
-  along_ready s id r a h = record { fixed = h.fixed; highest = h.highest; life = h.life; next = h.next; skipped = h.skipped; stream = h.stream; session = h.session; streams = h.streams }
+  along_ready s id r a h = record { fixed = h.fixed; highest = h.highest; life = h.life; next = h.next; skipped = h.skipped; stream = h.stream; session = h.session; streams = h.streams; datagrams = h.datagrams }
 
   along_come : (s : View t) (id : SpaceId) (r : Reading t.S) (offset : ℕ) (body : List ℕ) (a : At t) → Along s id r a.state →
       Along s id (record r { stream = inserted offset body r.stream }) (move_to (Come id offset body) a).state
@@ -242,6 +254,7 @@ module _ {t : Types} where
     stream = came_stream id a.state.lower offset body ∙ ap (λ (w : Assembly). inserted offset body w) h.stream;
     session = came_session id a.state.lower offset body ∙ h.session;
     streams = came_streams id a.state.lower offset body ∙ h.streams;
+    datagrams = came_datagrams id a.state.lower offset body ∙ h.datagrams;
   }
 
   along_read : (s : View t) (id : SpaceId) (r : Reading t.S) (count : ℕ) (session : t.S) (a : At t) → Along s id r a.state →
@@ -256,20 +269,22 @@ module _ {t : Types} where
     stream = read_stream id a.state.lower count session ∙ ap (λ (w : Assembly). advanced count w) h.stream;
     session = session_now id a.state.lower count session;
     streams = read_streams id a.state.lower count session ∙ h.streams;
+    datagrams = read_datagrams id a.state.lower count session ∙ h.datagrams;
   }
 
   along_hand : (s : View t) (id : SpaceId) (r : Reading t.S) (f : FrameValue) (a : At t) → Along s id r a.state →
-      Along s id (record r { streams = steps.after (steps_of_frame f r.streams) r.streams }) (move_to (Hand f) a).state
-  unfolding move_to state_move setup_move keys_move life_move numbers_move lower_move frame_handed streams_stepped stream_of
+      Along s id (record r { streams = steps.after (steps_of_frame f r.streams) r.streams; datagrams = datagram.after (datagram_steps f) r.datagrams }) (move_to (Hand f) a).state
+  unfolding move_to state_move setup_move keys_move life_move numbers_move lower_move frame_handed streams_stepped datagrams_stepped stream_of
   along_hand s id r f a h = record {
     fixed = h.fixed;
     highest = h.highest;
-    life = h.life;
+    life = heard_state (tells_datagram f a.state.lower.datagrams) a.state.life ∙ h.life;
     next = h.next;
     skipped = h.skipped;
     stream = h.stream;
     session = h.session;
     streams = ap (λ (x : StreamsState). steps.after (steps_of_frame f x) x) h.streams;
+    datagrams = ap (λ (x : Datagrams). datagram.after (datagram_steps f) x) h.datagrams;
   }
 
   -- a frame stops by its kind as the packet began
@@ -346,21 +361,23 @@ module _ {t : Types} (m : Meaning t) (coming : Coming) (s : View t) (id : SpaceI
       leaves_next gifts behind o a b (bytes_given m coming id (ready_bytes (stream_of b.state.lower id)) b) (gives_move [] (Come id offset body) a refl refl)
       (subst (λ (bytes : List ℕ). Leaves gifts behind o b (bytes_given m coming id bytes b)) (ap ready_bytes (sym there.stream)) (bytes_leave w (ready_bytes w.stream) b there))
 
-  -- the streams take a frame, or refuse it
+  -- the streams or the datagrams take a frame, or refuse it
   stopped_leaves : (gifts : List Did) (r : Reading t.S) (stop : Option TransportError) (a b : At t) → Gives gifts a b → Along s id r b.state → Leaves gifts r (unless_stopped stop) a (refused_after coming.time stop b)
   stopped_leaves gifts r None a b gave along = (gave, along)
   stopped_leaves gifts r (Some error) a b gave along = gives_quiet gifts a b _ gave (stopped_quiet coming.time error b)
 
   handed_leaves : (r : Reading t.S) (f : FrameValue) (a : At t) → Along s id r a.state →
-      Leaves (told_to_streams f) (record r { streams = steps.after (steps_of_frame f r.streams) r.streams }) (unless_stopped (streams_stop f r.streams)) a (handed_after coming.time f a)
-  unfolding handed_after deeds_move
+      Leaves (told_to_streams f) (record r { streams = steps.after (steps_of_frame f r.streams) r.streams; datagrams = datagram.after (datagram_steps f) r.datagrams })
+      (unless_stopped (first_of (streams_stop f r.streams) (datagram_stop f r.datagrams))) a (handed_after coming.time f a)
+  unfolding handed_after handed_stop deeds_move
   handed_leaves r f a along =
       let gifts : List Did = told_to_streams f in
-      let behind : Reading t.S = record r { streams = steps.after (steps_of_frame f r.streams) r.streams } in
+      let behind : Reading t.S = record r { streams = steps.after (steps_of_frame f r.streams) r.streams; datagrams = datagram.after (datagram_steps f) r.datagrams } in
+      let stop : Option TransportError = first_of (streams_stop f a.state.lower.streams) (datagram_stop f a.state.lower.datagrams) in
       let b : At t = move_to (Hand f) a in
       let gave : Gives gifts a b = gives_move gifts (Hand f) a (handed_told (λ ds. pieces_in ds ≡ []) f refl (λ body. refl)) (handed_told (λ ds. given_in ds ≡ ds) f refl (λ body. refl)) in
-      subst (λ (x : StreamsState). Leaves gifts behind (unless_stopped (streams_stop f x)) a (refused_after coming.time (streams_stop f a.state.lower.streams) b)) along.streams
-      (stopped_leaves gifts behind (streams_stop f a.state.lower.streams) a b gave (along_hand s id r f a along))
+      subst (λ (x : Option TransportError). Leaves gifts behind (unless_stopped x) a (refused_after coming.time stop b)) (λ i. first_of (streams_stop f (along.streams i)) (datagram_stop f (along.datagrams i)))
+      (stopped_leaves gifts behind stop a b gave (along_hand s id r f a along))
 
   -- an acknowledgement
   rearmed_quiet : (r : Reading t.S) (acked : List Entry) (a : At t) → Along s id r a.state → Gives [] a (rearmed_after coming.time acked a) × Along s id r (rearmed_after coming.time acked a).state
@@ -407,7 +424,7 @@ module _ {t : Types} (m : Meaning t) (coming : Coming) (s : View t) (id : SpaceI
 
   -- a frame that its kind doesn't stop
   kind_leaves : (r : Reading t.S) (f : FrameValue) (a : At t) → Along s id r a.state → Leaves (gift_of r.stream f) (reading_behind m r f) (kind_outcome m s id r f) a (applied_after m coming id f a)
-  unfolding applied_after streams_stop steps_of_frame steps.after
+  unfolding applied_after streams_stop steps_of_frame steps.after datagram.after
   kind_leaves r (frames.Crypto offset body) a along =
       let w : Reading t.S = record r { stream = inserted offset body r.stream } in
       let gifts : List Did = session_gift (ready_bytes w.stream) in
@@ -427,6 +444,7 @@ module _ {t : Types} (m : Meaning t) (coming : Coming) (s : View t) (id : SpaceI
   kind_leaves r (frames.MaxStreams dir count) a along = handed_leaves r (frames.MaxStreams dir count) a along
   kind_leaves r (frames.StreamDataBlocked stream limit) a along = handed_leaves r (frames.StreamDataBlocked stream limit) a along
   kind_leaves r (frames.StreamsBlocked dir limit) a along = handed_leaves r (frames.StreamsBlocked dir limit) a along
+  kind_leaves r (frames.Datagram body) a along = handed_leaves r (frames.Datagram body) a along
   kind_leaves r _ a along = (gives_here a, along)
 
   -- a frame

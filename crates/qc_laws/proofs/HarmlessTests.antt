@@ -21,7 +21,7 @@ use Rattle.qc_state.specs.declared.life.State.{State}
 use Rattle.qc_state.specs.declared.life.State.TheVariants as state
 use Rattle.qc_state.specs.declared.paths.Paths.{Paths}
 use Rattle.qc_state.specs.Headline.{is_harmless}
-use Rattle.qc_state.specs.Life.{is_handshake, is_over, ready_reported, connected_reported, lost_reported, notices_reported, drained_reported}
+use Rattle.qc_state.specs.Life.{is_handshake, is_over, ready_reported, connected_reported, lost_reported, notices_reported, drained_reported, all_heard_reported}
 use Rattle.qc_state.specs.Paths.{is_blocked}
 use Rattle.qc_state.specs.Receiving.{is_initial_with}
 use Rattle.qc_state.specs.Verdicts.{first_row}
@@ -109,11 +109,11 @@ within_read (suc most) len versions grease (b ∷ bytes) p items e = front_read 
 
 -- what is reported of a life
 abbrev pub life_reported : Life → Life
-life_reported v = drained_reported (notices_reported (lost_reported (connected_reported (ready_reported v))))
+life_reported v = drained_reported (notices_reported (lost_reported (all_heard_reported (connected_reported (ready_reported v)))))
 
 -- what was reported isn't reported again
 pub reported_again : (v : Life) → life_reported (life_reported v) ≡ life_reported v
-unfolding drained_reported notices_reported lost_reported connected_reported ready_reported
+unfolding drained_reported notices_reported lost_reported all_heard_reported connected_reported ready_reported
 reported_again v = refl
 
 -- a path that isn't blocked isn't blocked either once more bytes came

@@ -27,11 +27,11 @@ use Rattle.qc_state.specs.Headline.{deeds_of}
 use Rattle.qc_laws.specs.InitialLaws.{LeavesInitial, NoneInitial, has_left, leaves_with, seals_initial}
 use Rattle.qc_state.specs.Keys.{NewKeys, NoKeys, HandshakeKeys, DataKeys, count_one, failure_counted, has_keys, key_used, keys_dropped, keys_given, epoch_in, form_in, has_keys_for}
 use Rattle.qc_state.specs.Life.{is_open, is_over}
-use Rattle.qc_state.specs.Moves.{Accept, Ask, Begin, PeerClosesToo, Enter, Establish, Expect, Fail, Finish, Forget, Give, IsTold, Learn, PeerCloses, MayMove, Move, Owe, Raise, Say, Seal, Shut, Skip, Take, Tell, Write, accepts, armed_with, deeds_move, enters, keys_move, move_to, setup_move, state_move, Hand, Call}
+use Rattle.qc_state.specs.Moves.{Accept, Ask, Begin, PeerClosesToo, Enter, Establish, Expect, Fail, Finish, Forget, Give, IsTold, Learn, PeerCloses, MayMove, Move, Owe, Raise, Say, Seal, Shut, Skip, Take, Tell, Write, accepts, armed_with, deeds_move, enters, keys_move, move_to, setup_move, state_move, Hand, Call, Post}
 use Rattle.qc_state.specs.Numbers.{is_skipped, next_number}
 use Rattle.qc_state.specs.Paths.{is_blocked}
 use Rattle.qc_state.specs.Receiving.{accepted_after, admitted_after, datagram_after, fixed_after, is_close_item, is_eliciting_item, read_for_close, received_after, signs_of, verdict_after}
-use Rattle.qc_state.specs.Run.{IsAllowed, IsStep, Run, began, called, close_after, input_after, reported, step_after, time_of}
+use Rattle.qc_state.specs.Run.{IsAllowed, IsStep, Run, began, called, close_after, input_after, reported, step_after, time_of, datagram_limit}
 use Rattle.qc_state.specs.Sending.{Choice, Died, Ending, Going, Hushed, MayAll, MayEnd, MayFollow, MayTransmit, Sent, Went, batch_grown, begun_after, drops_initial, ending_after, finished_after, flown_after, going_from, gone_after, handshake_left, initial_left, is_flown, leaves_initial, packet_after, packet_size, packets_after, sealed_in, skipped_after, spared_after, transmit_after}
 use Rattle.qc_state.specs.Setup.{packet_drawn, parameters_known, token_expected, word_drawn}
 use Rattle.qc_state.specs.Spaces.{is_space}
@@ -49,6 +49,7 @@ use Rattle.qc_state.proofs.Telling.{told_appends}
 use Rattle.qc_state.proofs.Transmitted.{IsSending, holds_ending, holds_packets, holds_spared, owing_keyed}
 use Rattle.qc_laws.proofs.StreamCalls.{called_input, handed_told}
 use Rattle.qc_state.specs.declared.deeds.Layer.TheVariants as layer
+use Rattle.qc_datagrams.specs.Steps as datagrams
 
 -- ---- tests
 
@@ -543,6 +544,8 @@ module _ {t : Types} where
   input_leaves side m (input.Transmit time max) choice a may = transmit_leaves side m time choice a may
   input_leaves side m (input.Close time code reason) choice a may = closed_by side time _ a (is_open a.state.life.state)
   input_leaves side m (input.Ping time) choice a may = move_leaves side (Ask a.state.keys.highest) tt a
+  input_leaves side m (input.SendDatagram time body) choice a may = move_leaves side (Post (datagrams.Sent (datagram_limit a.state) body)) tt a
+  input_leaves side m (input.RecvDatagram time) choice a may = move_leaves side (Post datagrams.Taken) tt a
   input_leaves side m i choice a may = called_input (Leaves side) (leaves_here side) (leaves_next side) (λ x b h. move_leaves side (Call x) tt b) i choice.read a may
 
   -- what the law says over deeds

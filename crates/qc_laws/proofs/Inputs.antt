@@ -9,9 +9,9 @@ use Rattle.qc_state.specs.declared.life.State.TheVariants.{Drained}
 use Rattle.qc_state.specs.Forms.{number_space}
 use Rattle.qc_state.specs.Headline.{is_datagram}
 use Rattle.qc_state.specs.Life.{is_open}
-use Rattle.qc_state.specs.Moves.{Move, MayMove, Arm, Ask, Begin, Clock, Finish, Fire, Forget, Give, Pace, Raise, Release, ReportConnected, ReportDrained, ReportLost, ReportReady, ReportNotice, ReportNotices, Say, Seal, Shut, Skip, Take, keys_move, life_move, move_to, numbers_move, state_move, Call, ReportStream, ReportStreams}
+use Rattle.qc_state.specs.Moves.{Move, MayMove, Arm, Ask, Begin, Clock, Finish, Fire, Forget, Give, Pace, Raise, Release, ReportConnected, ReportDrained, ReportLost, ReportReady, ReportNotice, ReportNotices, Say, Seal, Shut, Skip, Take, keys_move, life_move, move_to, numbers_move, state_move, Call, ReportStream, ReportStreams, Post, ReportHeard, ReportAllHeard}
 use Rattle.qc_state.specs.Numbers.{next_number}
-use Rattle.qc_state.specs.Run.{IsAllowed, close_after, input_after}
+use Rattle.qc_state.specs.Run.{IsAllowed, close_after, input_after, datagram_limit}
 use Rattle.qc_state.specs.Sending.{Choice, packet_size}
 use Rattle.qc_state.specs.Types.{Types, Meaning}
 use Rattle.qc_state.specs.View.{At}
@@ -21,6 +21,7 @@ use Rattle.qc_laws.proofs.Receives.{holds_datagram}
 use Rattle.qc_state.proofs.Telling.{open_rank}
 use Rattle.qc_state.proofs.Transmitted.{IsSealable, IsSending, holds_transmit}
 use Rattle.qc_laws.proofs.StreamCalls.{called_input}
+use Rattle.qc_datagrams.specs.Steps as datagrams
 
 -- the moves that an input makes once the connection was told the time: no reports; and a life that rises by itself rises to its end
 abbrev pub IsMade : {t : Types} → Move t → Type 0
@@ -28,6 +29,8 @@ IsMade (Clock time) = ⊥
 IsMade (Raise to) = to ≡ Drained
 IsMade ReportReady = ⊥
 IsMade ReportConnected = ⊥
+IsMade ReportHeard = ⊥
+IsMade ReportAllHeard = ⊥
 IsMade ReportStream = ⊥
 IsMade ReportStreams = ⊥
 IsMade ReportLost = ⊥
@@ -54,6 +57,7 @@ IsOwn (Give why) = Unit {0}
 IsOwn (Finish bytes) = Unit {0}
 IsOwn (Say q) = Unit {0}
 IsOwn (Call x) = Unit {0}
+IsOwn (Post x) = Unit {0}
 IsOwn _ = ⊥
 
 -- those of timers, and those of a transmit, are among them
@@ -84,6 +88,8 @@ received_made (Raise to) r = r
 received_made (Clock time) r = absurd r
 received_made ReportReady r = absurd r
 received_made ReportConnected r = absurd r
+received_made ReportHeard r = absurd r
+received_made ReportAllHeard r = absurd r
 received_made ReportStream r = absurd r
 received_made ReportStreams r = absurd r
 received_made ReportLost r = absurd r
@@ -97,6 +103,8 @@ own_made (Raise to) r = r
 own_made (Clock time) r = absurd r
 own_made ReportReady r = absurd r
 own_made ReportConnected r = absurd r
+own_made ReportHeard r = absurd r
+own_made ReportAllHeard r = absurd r
 own_made ReportStream r = absurd r
 own_made ReportStreams r = absurd r
 own_made ReportLost r = absurd r
@@ -130,6 +138,8 @@ module _ {t : Types} (R : At t → At t → Type 0) (here : (a : At t) → R a a
   holds_own m (input.Transmit time max) choice a none h = holds_transmit R here next (λ x r. move x (sending_own x r)) sealed m time choice a h
   holds_own m (input.Close time code reason) choice a none h = closed_by time _ a _ refl
   holds_own m (input.Ping time) choice a none h = move (Ask a.state.keys.highest) tt a tt
+  holds_own m (input.SendDatagram time body) choice a none h = move (Post (datagrams.Sent (datagram_limit a.state) body)) tt a refl
+  holds_own m (input.RecvDatagram time) choice a none h = move (Post datagrams.Taken) tt a refl
   holds_own m i choice a none h = called_input R here next (λ x. move (Call x) tt) i choice.read a h
 
 -- what holds of no move, of two moves one after the other, and of each move that an input makes, where it may be made, holds of an

@@ -21,9 +21,9 @@ use Rattle.qc_state.specs.Forms.{number_space}
 use Rattle.qc_laws.specs.KeyLaws.{IsWithinLimit, KeysHold}
 use Rattle.qc_state.specs.Keys.{NewKeys, NoKeys, HandshakeKeys, DataKeys, count_one, failure_counted, key_used, keys_dropped, keys_given, plain_usage, reaches_limit, ring_usage, ring_used, usage_of}
 use Rattle.qc_state.specs.Life.{is_open}
-use Rattle.qc_state.specs.Moves.{Move, Ask, Fail, Forget, Seal, Shut, Take, Write, keys_move, move_to, state_move, Call}
+use Rattle.qc_state.specs.Moves.{Move, Ask, Fail, Forget, Seal, Shut, Take, Write, keys_move, move_to, state_move, Call, Post}
 use Rattle.qc_state.specs.Numbers.{next_number}
-use Rattle.qc_state.specs.Run.{IsAllowed, IsStep, Run, began, called, close_after, input_after, reported, step_after, time_of}
+use Rattle.qc_state.specs.Run.{IsAllowed, IsStep, Run, began, called, close_after, input_after, reported, step_after, time_of, datagram_limit}
 use Rattle.qc_state.specs.Sending.{MayTransmit, packet_size, transmit_after, Choice}
 use Rattle.qc_state.specs.Types.{Types, Meaning}
 use Rattle.qc_state.specs.View.{View, At}
@@ -32,6 +32,7 @@ use Rattle.qc_state.proofs.ReceivedMoves.{AreUnused, IsReceived}
 use Rattle.qc_laws.proofs.Receives.{holds_datagram}
 use Rattle.qc_state.proofs.Transmitted.{IsSealable, IsSending, holds_transmit}
 use Rattle.qc_laws.proofs.StreamCalls.{called_input}
+use Rattle.qc_datagrams.specs.Steps as datagrams
 
 -- a key that may seal one packet more has sealed no more than it may behind it
 once_more : (sealed limit : ℕ) → nat_le limit (sealed + 0) ≡ false → plus sealed 1 ≤ limit
@@ -171,6 +172,8 @@ module _ {t : Types} where
   input_keeps m (input.Transmit time max) choice a may = transmit_keeps m time choice a may
   input_keeps m (input.Close time code reason) choice a may = closed_by time _ a (is_open a.state.life.state)
   input_keeps m (input.Ping time) choice a may = move_keeps (Ask a.state.keys.highest) a tt
+  input_keeps m (input.SendDatagram time body) choice a may = move_keeps (Post (datagrams.Sent (datagram_limit a.state) body)) a tt
+  input_keeps m (input.RecvDatagram time) choice a may = move_keeps (Post datagrams.Taken) a tt
   input_keeps m i choice a may = called_input Keeps here next (λ x d k. move_keeps (Call x) d tt) i choice.read a may
 
   -- a step

@@ -11,11 +11,11 @@ use Rattle.qc_state.specs.declared.life.Close.{Close}
 use Rattle.qc_state.specs.declared.life.State.TheVariants.{Drained}
 use Rattle.qc_state.specs.Forms.{number_space}
 use Rattle.qc_state.specs.Life.{is_open}
-use Rattle.qc_state.specs.Moves.{Ack, Ask, Clock, Fire, MayMove, Move, Raise, ReportConnected, ReportDrained, ReportLost, ReportReady, ReportNotice, ReportNotices, Seal, Shut, Take, move_to, Call, ReportStream, ReportStreams, Tell}
+use Rattle.qc_state.specs.Moves.{Ack, Ask, Clock, Fire, MayMove, Move, Raise, ReportConnected, ReportDrained, ReportLost, ReportReady, ReportNotice, ReportNotices, Seal, Shut, Take, move_to, Call, ReportStream, ReportStreams, Tell, Post, ReportHeard, ReportAllHeard}
 use Rattle.qc_state.specs.Numbers.{next_number}
 use Rattle.qc_state.specs.Receiving.{datagram_after}
 use Rattle.qc_state.specs.Recovering.{fired_by, settled_by}
-use Rattle.qc_state.specs.Run.{IsAllowed, close_after, input_after}
+use Rattle.qc_state.specs.Run.{IsAllowed, close_after, input_after, datagram_limit}
 use Rattle.qc_state.specs.Sending.{Choice, packet_size}
 use Rattle.qc_state.specs.Types.{Types, Meaning}
 use Rattle.qc_state.specs.View.{View, At}
@@ -32,6 +32,7 @@ use Rattle.qc_state.specs.declared.deeds.Did.TheVariants as did
 use Rattle.qc_state.specs.declared.deeds.Layer.TheVariants as layer
 use Rattle.qc_frame.specs.declared.frames.FrameOf.TheVariants as frames
 use Rattle.qc_laws.specs.StreamsLaws.{is_streams_call}
+use Rattle.qc_datagrams.specs.Steps as datagrams
 
 -- a deed that tells of no gift to the streams: these are told of with the move that hands them a frame
 abbrev pub IsElsewhere : Did → Type 0
@@ -75,6 +76,8 @@ module _ {t : Types} where
   IsKnownMove m (Tell d) s = IsElsewhere d
   IsKnownMove m ReportReady s = ⊥
   IsKnownMove m ReportConnected s = ⊥
+  IsKnownMove m ReportHeard s = ⊥
+  IsKnownMove m ReportAllHeard s = ⊥
   IsKnownMove m ReportStream s = ⊥
   IsKnownMove m ReportStreams s = ⊥
   IsKnownMove m ReportLost s = ⊥
@@ -97,6 +100,8 @@ module _ {t : Types} where
   packet_known m o (Tell d) s h = told_elsewhere o d s h
   packet_known m o ReportReady s h = absurd h
   packet_known m o ReportConnected s h = absurd h
+  packet_known m o ReportHeard s h = absurd h
+  packet_known m o ReportAllHeard s h = absurd h
   packet_known m o ReportStream s h = absurd h
   packet_known m o ReportStreams s h = absurd h
   packet_known m o ReportLost s h = absurd h
@@ -116,6 +121,8 @@ module _ {t : Types} where
   outside_known m at_time (Tell d) s h = unread_elsewhere d h
   outside_known m at_time ReportReady s h = absurd h
   outside_known m at_time ReportConnected s h = absurd h
+  outside_known m at_time ReportHeard s h = absurd h
+  outside_known m at_time ReportAllHeard s h = absurd h
   outside_known m at_time ReportStream s h = absurd h
   outside_known m at_time ReportStreams s h = absurd h
   outside_known m at_time ReportLost s h = absurd h
@@ -135,6 +142,8 @@ module _ {t : Types} where
   expiry_known m (Tell d) s h = absurd h
   expiry_known m ReportReady s h = absurd h
   expiry_known m ReportConnected s h = absurd h
+  expiry_known m ReportHeard s h = absurd h
+  expiry_known m ReportAllHeard s h = absurd h
   expiry_known m ReportStream s h = absurd h
   expiry_known m ReportStreams s h = absurd h
   expiry_known m ReportLost s h = absurd h
@@ -154,6 +163,8 @@ module _ {t : Types} where
   sending_known m (Tell d) s h = absurd h
   sending_known m ReportReady s h = absurd h
   sending_known m ReportConnected s h = absurd h
+  sending_known m ReportHeard s h = absurd h
+  sending_known m ReportAllHeard s h = absurd h
   sending_known m ReportStream s h = absurd h
   sending_known m ReportStreams s h = absurd h
   sending_known m ReportLost s h = absurd h
@@ -210,6 +221,8 @@ module _ {t : Types} (m : Meaning t) (R : At t → At t → Type 0) (here : (a :
   known_other (input.Transmit time max) choice a none h = holds_transmit R here next (λ x r b may. move x b (sending_known m x b.state r) (sending_uncalled x r) may) seal m time choice a h
   known_other (input.Close time code reason) choice a none h = closed_by time _ a _ refl
   known_other (input.Ping time) choice a none h = move (Ask a.state.keys.highest) a tt tt tt
+  known_other (input.SendDatagram time body) choice a none h = move (Post (datagrams.Sent (datagram_limit a.state) body)) a tt tt refl
+  known_other (input.RecvDatagram time) choice a none h = move (Post datagrams.Taken) a tt tt refl
   known_other _ choice a none h = cc
 
 -- what holds of each move that is known so, too, holds of an input
@@ -226,4 +239,6 @@ module _ {t : Types} (m : Meaning t) (R : At t → At t → Type 0) (here : (a :
   known_input (input.Transmit time max) choice a h = other (input.Transmit time max) choice a refl h
   known_input (input.Close time code reason) choice a h = other (input.Close time code reason) choice a refl h
   known_input (input.Ping time) choice a h = other (input.Ping time) choice a refl h
+  known_input (input.SendDatagram time body) choice a h = other (input.SendDatagram time body) choice a refl h
+  known_input (input.RecvDatagram time) choice a h = other (input.RecvDatagram time) choice a refl h
   known_input i choice a h = called_input R here next (λ x b may. move (Call x) b tt may) i choice.read a h

@@ -30,12 +30,12 @@ use Rattle.qc_state.specs.Acks.{is_ack, told_counts}
 use Rattle.qc_state.specs.Forms.{number_space}
 use Rattle.qc_state.specs.Life.{is_open, is_over}
 use Rattle.qc_laws.specs.MarkLaws.{AcksTell, DeedsTell, EachTold, SealsTold, StepsTell, Tally, carried_mark, nothing_tallied, tally_accepted, tally_behind, tally_judged, tally_of, tally_since, tally_told}
-use Rattle.qc_state.specs.Moves.{Move, Clock, Ask, Take, Seal, Forget, Enter, Expect, Fail, Accept, Fix, Hear, Ack, Fire, Arm, Pace, Release, Begin, Skip, Come, Read, Write, Ready, Token, Learn, Want, Confirm, Establish, Tell, PeerClosesToo, PeerCloses, Owe, Shut, Raise, Give, Say, Finish, ReportReady, ReportConnected, ReportLost, ReportNotice, ReportNotices, ReportDrained, accepts, enters, state_move, move_to, deeds_move, waiting_move, numbers_move, keys_move, life_move, MayMove, IsTold, told, Hand, Call, ReportStream, ReportStreams, told_to_streams}
+use Rattle.qc_state.specs.Moves.{Move, Clock, Ask, Take, Seal, Forget, Enter, Expect, Fail, Accept, Fix, Hear, Ack, Fire, Arm, Pace, Release, Begin, Skip, Come, Read, Write, Ready, Token, Learn, Want, Confirm, Establish, Tell, PeerClosesToo, PeerCloses, Owe, Shut, Raise, Give, Say, Finish, ReportReady, ReportConnected, ReportLost, ReportNotice, ReportNotices, ReportDrained, accepts, enters, state_move, move_to, deeds_move, waiting_move, numbers_move, keys_move, life_move, MayMove, IsTold, told, Hand, Call, ReportStream, ReportStreams, told_to_streams, Post, ReportHeard, ReportAllHeard}
 use Rattle.qc_state.specs.Numbers.{next_number}
 use Rattle.qc_state.specs.Offers.{packet_begun}
 use Rattle.qc_state.proofs.Probed.{begun_holds}
 use Rattle.qc_state.specs.Receiving.{datagram_after}
-use Rattle.qc_state.specs.Run.{time_of, began, close_after, input_after, called, reported, step_after, IsAllowed, IsStep, Run, Ran}
+use Rattle.qc_state.specs.Run.{time_of, began, close_after, input_after, called, reported, step_after, IsAllowed, IsStep, Run, Ran, datagram_limit}
 use Rattle.qc_state.specs.Sending.{Choice, MayTransmit, packet_size, transmit_after}
 use Rattle.qc_state.specs.Spaces.{space_of, with_space, is_space}
 use Rattle.qc_state.specs.Types.{Types, Meaning}
@@ -50,6 +50,7 @@ use Rattle.qc_laws.proofs.Receives.{datagram_holds}
 use Rattle.qc_state.proofs.Telling.{open_rank, told_appends}
 use Rattle.qc_state.proofs.Transmitted.{IsSealable, IsSending, holds_transmit}
 use Rattle.qc_laws.proofs.StreamCalls.{called_input, handed_told}
+use Rattle.qc_datagrams.specs.Steps as datagrams
 
 -- ---- the counts of a space, as they are known
 
@@ -353,8 +354,11 @@ module _ {t : Types} where
   counted_move id mark (Say q) a h k = plain_counted id mark (Say q) _ a refl (λ y. tt) (λ y. refl) refl
   counted_move id mark (Hand frame) a h k = handed_counted id mark frame a
   counted_move id mark (Call x) a h k = silent_counted id mark (Call x) a refl refl
+  counted_move id mark (Post x) a h k = silent_counted id mark (Post x) a refl refl
   counted_move id mark ReportReady a h k = silent_counted id mark ReportReady a refl refl
   counted_move id mark ReportConnected a h k = silent_counted id mark ReportConnected a refl refl
+  counted_move id mark ReportHeard a h k = silent_counted id mark ReportHeard a refl refl
+  counted_move id mark ReportAllHeard a h k = silent_counted id mark ReportAllHeard a refl refl
   counted_move id mark ReportStream a h k = silent_counted id mark ReportStream a refl refl
   counted_move id mark ReportStreams a h k = silent_counted id mark ReportStreams a refl refl
   counted_move id mark ReportLost a h k = silent_counted id mark ReportLost a refl refl
@@ -439,6 +443,8 @@ module _ {t : Types} where
   counted_input id m (input.Transmit time max) choice a h = counted_transmit id m time choice a h
   counted_input id m (input.Close time code reason) choice a h = closed_by id time _ a _ refl
   counted_input id m (input.Ping time) choice a h = counted_move id None (Ask a.state.keys.highest) a tt tt
+  counted_input id m (input.SendDatagram time body) choice a h = counted_move id None (Post (datagrams.Sent (datagram_limit a.state) body)) a refl tt
+  counted_input id m (input.RecvDatagram time) choice a h = counted_move id None (Post datagrams.Taken) a refl tt
   counted_input id m i choice a h = called_input (Counted id None) (counted_here id None) (counted_next id None) (λ x b may. counted_move id None (Call x) b may tt) i choice.read a h
 
   -- ---- runs

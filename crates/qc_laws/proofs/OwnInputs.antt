@@ -3,7 +3,7 @@ use Rattle.std.proofs.Common.{◌≡◌, ℕ, [], refl, ap, ◌∙◌, false}
 use Rattle.qc_state.specs.declared.input.Input.{Input}
 use Rattle.qc_state.specs.declared.trace.Step.{Step}
 use Rattle.qc_state.specs.Headline.{is_datagram}
-use Rattle.qc_state.specs.Moves.{Move, Arm, Ask, Begin, Finish, Fire, Forget, Give, Pace, Raise, Release, Say, Seal, Shut, Skip, Take, MayMove, deeds_move, move_to, Call}
+use Rattle.qc_state.specs.Moves.{Move, Arm, Ask, Begin, Finish, Fire, Forget, Give, Pace, Raise, Release, Say, Seal, Shut, Skip, Take, MayMove, deeds_move, move_to, Call, Post}
 use Rattle.qc_laws.specs.PieceLaws.{given_in, pieces_in}
 use Rattle.qc_state.specs.Run.{IsStep, began, called, time_of}
 use Rattle.qc_state.specs.Types.{Types, Meaning}
@@ -30,6 +30,7 @@ module _ {t : Types} where
   own_quiet (Finish bytes) r a may = gives_move [] (Finish bytes) a refl refl
   own_quiet (Say q) r a may = gives_move [] (Say q) a refl refl
   own_quiet (Call x) r a may = gives_move [] (Call x) a refl refl
+  own_quiet (Post x) r a may = gives_move [] (Post x) a refl refl
   own_quiet _ r a may = absurd r
 
   quiet_step : (m : Meaning t) (k : ℕ) (s : View t) (i : Input) (x : Step) (s' : View t) → is_datagram i ≡ false → (h : IsStep m k s i x s') → Gives [] (began s (time_of i)) (called m s i h.choice)

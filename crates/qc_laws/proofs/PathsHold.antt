@@ -480,6 +480,8 @@ module _ {t : Types} where
   path_input m (input.Transmit time max) choice s may = path_transmit m time choice _ (at s []) may
   path_input m (input.Close time code reason) choice s may = path_close time _ _ (at s []) (is_open s.life.state)
   path_input m (input.Ping time) choice s may = unchanged 0 _ s.paths
+  path_input m (input.SendDatagram time body) choice s may = unchanged 0 _ s.paths
+  path_input m (input.RecvDatagram time) choice s may = unchanged 0 _ s.paths
   path_input m i choice s may = path_called i choice s may
 
   -- a step

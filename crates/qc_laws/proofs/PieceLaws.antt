@@ -73,12 +73,12 @@ module _ {t : Types} where
   left_along : (s : View t) (id : SpaceId) (r : Reading t.S) (blocked : Bool) (time : ℕ) (a : At t) (b : Bool) → Along s id r a.state →
       let c : At t = if b then armed_with blocked time (move_to (Forget Initial) a) else a in Along s id r c.state
   unfolding armed_with move_to state_move setup_move keys_move life_move numbers_move lower_move flight_dropped stream_of keys_dropped
-  left_along s id r blocked time a true h = record { fixed = h.fixed; highest = h.highest; life = h.life; next = h.next; skipped = h.skipped; stream = h.stream; session = h.session; streams = h.streams }
+  left_along s id r blocked time a true h = record { fixed = h.fixed; highest = h.highest; life = h.life; next = h.next; skipped = h.skipped; stream = h.stream; session = h.session; streams = h.streams; datagrams = h.datagrams }
   left_along s id r blocked time a false h = h
 
   fixed_along : (s : View t) (id : SpaceId) (r : Reading t.S) (source : List ℕ) (a : At t) (b : Bool) → Along s id r a.state → let c : At t = if b then move_to (Fix source) a else a in Along s id r c.state
   unfolding move_to state_move setup_move keys_move life_move numbers_move lower_move
-  fixed_along s id r source a true h = record { fixed = h.fixed; highest = h.highest; life = h.life; next = h.next; skipped = h.skipped; stream = h.stream; session = h.session; streams = h.streams }
+  fixed_along s id r source a true h = record { fixed = h.fixed; highest = h.highest; life = h.life; next = h.next; skipped = h.skipped; stream = h.stream; session = h.session; streams = h.streams; datagrams = h.datagrams }
   fixed_along s id r source a false h = h
 
   fixed_quiet : (source : List ℕ) (a : At t) (b : Bool) → Gives [] a (if b then move_to (Fix source) a else a)
@@ -88,7 +88,7 @@ module _ {t : Types} where
 
   accepted_along : (time : ℕ) (id : SpaceId) (number : ℕ) (e : Bool) (signs : Signs) (v : Verdict) (a : At t) → Along a.state id (reading_of a.state id) (move_to (Accept time id number e signs v) a).state
   unfolding move_to state_move setup_move keys_move life_move numbers_move lower_move number_accepted
-  accepted_along time id number e signs v a = record { fixed = refl; highest = refl; life = refl; next = accepted_next id a.state.numbers number; skipped = refl; stream = refl; session = refl; streams = refl }
+  accepted_along time id number e signs v a = record { fixed = refl; highest = refl; life = refl; next = accepted_next id a.state.numbers number; skipped = refl; stream = refl; session = refl; streams = refl; datagrams = refl }
 
   -- a packet that is admitted
   admitted_tells : (m : Meaning t) (coming : Coming) (id : SpaceId) (spin : Bool) (source : List ℕ) (number : ℕ) (payload : List ℕ) (a : At t) →

@@ -249,6 +249,7 @@ frame_ends id n (frames.Stream j offset fin body) s given =
 frame_ends id n (frames.MaxData limit) s given = stopped_ends id n (refusal_of (handed.MaxData limit) s) (came (handed.MaxData limit)) (frames.MaxData limit) (λ e. absurd cc)
 frame_ends id n (frames.MaxStreamData j limit) s given = named_ends id n (handed.MaxStreamData j limit) s (nat_lt j (2 ^ 62)) (frames.MaxStreamData j limit) (λ e. absurd cc)
 frame_ends id n (frames.MaxStreams dir count) s given = stopped_ends id n (refusal_of (handed.MaxStreams dir count) s) (came (handed.MaxStreams dir count)) (frames.MaxStreams dir count) (λ e. absurd cc)
+frame_ends id n (frames.Datagram body) s given = λ e. absurd cc
 frame_ends id n _ s given = absurd cc
 
 -- so an end that a step tells was told by what was given

@@ -218,6 +218,7 @@ frame_comes (frames.Stream id offset fin body) s given = named_comes (handed.Str
 frame_comes (frames.MaxData limit) s given = stopped_comes (refusal_of (handed.MaxData limit) s) (came (handed.MaxData limit)) (frames.MaxData limit) (λ j c. refl)
 frame_comes (frames.MaxStreamData id limit) s given = named_comes (handed.MaxStreamData id limit) s (nat_lt id (2 ^ 62)) (frames.MaxStreamData id limit) (λ j c. refl)
 frame_comes (frames.MaxStreams dir count) s given = stopped_comes (refusal_of (handed.MaxStreams dir count) s) (came (handed.MaxStreams dir count)) (frames.MaxStreams dir count) (λ j c. refl)
+frame_comes (frames.Datagram body) s given = inl refl
 frame_comes _ s given = cc
 
 -- the frames that were taken, and what came with them

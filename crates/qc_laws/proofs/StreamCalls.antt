@@ -21,6 +21,8 @@ use Rattle.qc_state.specs.declared.deeds.Did.TheVariants as did
 use Rattle.qc_state.specs.declared.deeds.Layer.TheVariants as layer
 use Rattle.qc_state.specs.declared.input.Input.{Input}
 use Rattle.qc_state.specs.declared.input.Input.TheVariants as input
+use Rattle.qc_state.specs.declared.life.Life.{Life}
+use Rattle.qc_state.specs.Life.{datagram_heard}
 use Rattle.qc_state.specs.Lower.{streams_stepped}
 use Rattle.qc_state.specs.Moves.{Call, MayMove, is_call, lower_move, move_to, state_move, told_to_streams}
 use Rattle.qc_state.specs.Run.{called_all}
@@ -37,6 +39,12 @@ handed_told P frame none gave = told_by (is_given_to_streams frame)
     told_by : (b : Bool) → P (if b then did.Gave layer.Streams (spelling frame) ∷ [] else [])
     told_by true = gave (spelling frame)
     told_by false = none
+
+-- that a datagram came changes nothing else of a life than what waits of datagrams
+pub heard_state : (b : Bool) (v : Life) → (datagram_heard b v).state ≡ v.state
+unfolding datagram_heard
+heard_state true v = refl
+heard_state false v = refl
 
 -- ---- calls
 

@@ -18,11 +18,11 @@ use Rattle.qc_state.specs.declared.trace.Step.{Step}
 use Rattle.qc_state.specs.Forms.{number_space}
 use Rattle.qc_state.specs.Headline.{deeds_of}
 use Rattle.qc_state.specs.Life.{is_open, is_over}
-use Rattle.qc_state.specs.Lower.{bytes_came, flight_dropped, packets_settled, ready_bytes, session_read, session_wrote, stream_of, timer_fired, limits_learned, frame_handed, streams_closed, streams_stepped, events_told, event_told}
-use Rattle.qc_state.specs.Moves.{Accept, Ack, Ask, Come, Enter, Fire, Forget, Move, Read, Seal, Shut, Take, Tell, Write, deeds_move, lower_move, move_to, state_move, Hand, Call}
+use Rattle.qc_state.specs.Lower.{bytes_came, flight_dropped, packets_settled, ready_bytes, session_read, session_wrote, stream_of, timer_fired, limits_learned, frame_handed, streams_closed, streams_stepped, events_told, event_told, datagrams_stepped}
+use Rattle.qc_state.specs.Moves.{Accept, Ack, Ask, Come, Enter, Fire, Forget, Move, Read, Seal, Shut, Take, Tell, Write, deeds_move, lower_move, move_to, state_move, Hand, Call, Post}
 use Rattle.qc_state.specs.Numbers.{next_number}
 use Rattle.qc_state.specs.Receiving.{datagram_after}
-use Rattle.qc_state.specs.Run.{IsAllowed, IsStep, Run, began, called, close_after, input_after, reported, step_after, time_of}
+use Rattle.qc_state.specs.Run.{IsAllowed, IsStep, Run, began, called, close_after, input_after, reported, step_after, time_of, datagram_limit}
 use Rattle.qc_state.specs.Sending.{Choice, packet_size}
 use Rattle.qc_state.specs.Spaces.{is_space}
 use Rattle.qc_laws.specs.StreamLaws.{GivesStream, is_of, session_bytes}
@@ -39,6 +39,7 @@ use Rattle.qc_laws.proofs.StreamSteps.{after_append, bytes_append, came_apart, c
 use Rattle.qc_state.proofs.Telling.{told_appends}
 use Rattle.qc_state.proofs.Transmitted.{IsSending, holds_transmit}
 use Rattle.qc_laws.proofs.StreamCalls.{called_input, handed_told}
+use Rattle.qc_datagrams.specs.Steps as datagrams
 
 module _ {t : Types} (id : SpaceId) where
   -- ---- within a packet
@@ -123,7 +124,7 @@ module _ {t : Types} (id : SpaceId) where
 
   -- each other move of a packet
   move_within : (m : Meaning t) (o : OpenPacket) (x : Move t) (a : At t) → IsInPacket m o x a.state → IsBeside x → Within (is_space id o.space) a (move_to x a)
-  unfolding lower_move deeds_move flight_dropped packets_settled session_wrote limits_learned frame_handed streams_closed event_told events_told streams_stepped stream_of
+  unfolding lower_move deeds_move flight_dropped packets_settled session_wrote limits_learned frame_handed streams_closed event_told events_told streams_stepped datagrams_stepped stream_of
   move_within m o (Read space count session) a h beside = absurd beside
   move_within m o (Seal time form n size fs) a h beside = absurd h
   move_within m o (Fire after) a h beside = absurd h
@@ -184,7 +185,7 @@ module _ {t : Types} (id : SpaceId) where
   -- ---- inputs
 
   outside_kept : (time : ℕ) (x : Move t) (a : At t) → IsOutside time x a.state → Kept a (move_to x a)
-  unfolding lower_move deeds_move limits_learned streams_closed event_told events_told streams_stepped stream_of
+  unfolding lower_move deeds_move limits_learned streams_closed event_told events_told streams_stepped datagrams_stepped stream_of
   outside_kept time (Seal at form n size fs) a h = absurd h
   outside_kept time (Come space offset bytes) a h = absurd h
   outside_kept time (Read space count session) a h = absurd h
@@ -202,7 +203,7 @@ module _ {t : Types} (id : SpaceId) where
       datagram_holds m coming (λ p. Unit {0}) Kept kept_here kept_next (λ x b h may. outside_kept coming.time x b h) (λ p comes o b opened. packet_kept m o b opened.lively) bytes a (λ p among. tt)
 
   timed_kept : (x : Move t) → IsTimed x → (a : At t) → Kept a (move_to x a)
-  unfolding lower_move deeds_move timer_fired limits_learned streams_closed event_told events_told streams_stepped stream_of
+  unfolding lower_move deeds_move timer_fired limits_learned streams_closed event_told events_told streams_stepped datagrams_stepped stream_of
   timed_kept (Seal at form n size fs) h a = absurd h
   timed_kept (Come space offset bytes) h a = absurd h
   timed_kept (Read space count session) h a = absurd h
@@ -216,7 +217,7 @@ module _ {t : Types} (id : SpaceId) where
   timed_kept x h a = still_kept x a refl (λ now. refl)
 
   sending_kept : (x : Move t) → IsSending x → (a : At t) → Kept a (move_to x a)
-  unfolding lower_move deeds_move flight_dropped limits_learned streams_closed event_told events_told streams_stepped stream_of
+  unfolding lower_move deeds_move flight_dropped limits_learned streams_closed event_told events_told streams_stepped datagrams_stepped stream_of
   sending_kept (Seal at form n size fs) h a = absurd h
   sending_kept (Come space offset bytes) h a = absurd h
   sending_kept (Read space count session) h a = absurd h
@@ -237,17 +238,19 @@ module _ {t : Types} (id : SpaceId) where
       (still_kept (Seal time form (next_number a.state.numbers (number_space form)) (packet_size a.state form fs) fs) b (flown_stream id b.state.waiting.close_owed b.state.lower form _ time _ fs) (λ now. refl))
 
   shut_kept : (time : ℕ) (close : Close) (a : At t) (b : Bool) → Kept a (if b then move_to (Shut time close) a else a)
-  unfolding lower_move deeds_move streams_closed streams_stepped stream_of
+  unfolding lower_move deeds_move streams_closed streams_stepped datagrams_stepped stream_of
   shut_kept time close a true = still_kept (Shut time close) a refl (λ now. refl)
   shut_kept time close a false = kept_here a
 
   input_kept : (m : Meaning t) (i : Input) (choice : Choice) (a : At t) → IsAllowed m i choice a → Kept a (input_after m i choice a)
-  unfolding IsAllowed input_after close_after lower_move deeds_move streams_stepped stream_of
+  unfolding IsAllowed input_after close_after lower_move deeds_move streams_stepped datagrams_stepped stream_of
   input_kept m (input.Datagram time remote ecn bytes) choice a may = datagram_kept m (record { time = time; remote = remote; mark = ecn }) bytes a
   input_kept m (input.Timeout time) choice a may = holds_timeout Kept kept_here kept_next (λ x h b may_be. timed_kept x h b) m time a
   input_kept m (input.Transmit time max) choice a may = holds_transmit Kept kept_here kept_next (λ x r b h. sending_kept x r b) (λ at form fs b h. seal_kept at form fs b) m time choice a may
   input_kept m (input.Close time code reason) choice a may = shut_kept time _ a (is_open a.state.life.state)
   input_kept m (input.Ping time) choice a may = still_kept (Ask a.state.keys.highest) a refl (λ now. refl)
+  input_kept m (input.SendDatagram time body) choice a may = still_kept (Post (datagrams.Sent (datagram_limit a.state) body)) a refl (λ now. refl)
+  input_kept m (input.RecvDatagram time) choice a may = still_kept (Post datagrams.Taken) a refl (λ now. refl)
   input_kept m i choice a may = called_input Kept kept_here kept_next (λ x b h. still_kept (Call x) b refl (λ now. refl)) i choice.read a may
 
   -- ---- steps and runs
@@ -259,7 +262,7 @@ module _ {t : Types} (id : SpaceId) where
     pub given : (now : Bool) → session_bytes id now ds ≡ all_read steps
 
   step_over : (m : Meaning t) (k : ℕ) (s : View t) (i : Input) (x : Step) (s' : View t) → IsStep m k s i x s' → Over x.did s s'
-  unfolding called began step_after reported state_move lower_move events_told streams_stepped stream_of
+  unfolding called began step_after reported state_move lower_move events_told streams_stepped datagrams_stepped stream_of
   step_over m k s i x s' h =
       let kept : Kept (began s (time_of i)) (input_after m i h.choice (began s (time_of i))) = input_kept m i h.choice (began s (time_of i)) h.allowed in
       let deeds : x.did ≡ kept.since = h.deeds ∙ kept.appended in

@@ -14,7 +14,7 @@ use Rattle.qc_streams.proofs.StepsLaw.{after_append}
 use Rattle.qc_state.specs.declared.deeds.Did.{Did}
 use Rattle.qc_state.specs.declared.deeds.Did.TheVariants as did
 use Rattle.qc_state.specs.declared.events.Event.{Event}
-use Rattle.qc_state.specs.declared.events.Event.TheVariants.{HandshakeDataReady, Connected, Stream, ConnectionLost}
+use Rattle.qc_state.specs.declared.events.Event.TheVariants.{HandshakeDataReady, Connected, Stream, ConnectionLost, DatagramReceived}
 use Rattle.qc_state.specs.declared.form.Form.{Form}
 use Rattle.qc_state.specs.declared.input.Input.{Input}
 use Rattle.qc_state.specs.declared.input.Input.TheVariants as input
@@ -26,7 +26,7 @@ use Rattle.qc_state.specs.Flight.{flown_packet}
 use Rattle.qc_state.specs.Forms.{number_space}
 use Rattle.qc_state.specs.Headline.{deeds_of, lives_in}
 use Rattle.qc_state.specs.Life.{connected_event, event_if, lost_event, rank_of, ready_event}
-use Rattle.qc_state.specs.Lower.{bytes_came, events_told, flight_dropped, frame_handed, limits_learned, packet_flown, packets_settled, session_read, session_wrote, streams_closed, streams_stepped, timer_fired}
+use Rattle.qc_state.specs.Lower.{bytes_came, events_told, flight_dropped, frame_handed, limits_learned, packet_flown, packets_settled, session_read, session_wrote, streams_closed, streams_stepped, timer_fired, datagrams_stepped}
 use Rattle.qc_state.specs.Moves.{Call, Establish, Hand, Learn, MayMove, Move, PeerCloses, PeerClosesToo, Raise, ReportStream, ReportStreams, Seal, Shut, Take, Tell, deeds_move, lower_move, move_to, state_move}
 use Rattle.qc_state.specs.Numbers.{next_number}
 use Rattle.qc_state.specs.Polls.{waiting_events}
@@ -38,10 +38,13 @@ use Rattle.qc_state.specs.Types.{Types, Meaning}
 use Rattle.qc_state.specs.View.{View, At}
 use Rattle.qc_state.proofs.Telling.{told_appends}
 use Rattle.qc_laws.specs.EventLaws as events
-use Rattle.qc_laws.specs.StreamsLaws.{FoldsStreams, given_to_streams, is_streams_call, streams_steps, streams_told, with_steps}
+use Rattle.qc_laws.specs.StreamsLaws.{FoldsStreams, given_to_streams, is_streams_call, streams_steps, streams_told, with_steps, AreMade, MakesEvent, is_asked}
 use Rattle.qc_laws.proofs.KnownMoves.{IsKnownMove, IsUncalled, known_other}
 use Rattle.qc_laws.proofs.StreamCalls.{calls_may}
 use Rattle.qc_laws.proofs.StreamsMade.{Are, are_append, asked_are, calls_are, close_are, frame_are, given_append, limits_are, low_are, none_are, other_are, told_are}
+use Rattle.qc_laws.specs.EventLaws.{OnlyDoneWaits}
+use Rattle.qc_laws.proofs.EventsTold.{called_done, step_done}
+use Rattle.std.specs.List.{list_all}
 
 -- an input that is no call of the streams makes none
 none_called : (i : Input) (read : Result (Option Chunk) ReadFault) (s : StreamsState) → is_streams_call i ≡ false → [] ≡ calls_of i read s
@@ -50,6 +53,8 @@ none_called (input.Timeout time) read s h = refl
 none_called (input.Transmit time max) read s h = refl
 none_called (input.Close time code reason) read s h = refl
 none_called (input.Ping time) read s h = refl
+none_called (input.SendDatagram time body) read s h = refl
+none_called (input.RecvDatagram time) read s h = refl
 none_called _ read s h = cc
 
 -- a packet that is sealed leaves them
@@ -74,6 +79,7 @@ events_append [] fs = refl
 events_append (HandshakeDataReady ∷ es) fs = events_append es fs
 events_append (Connected ∷ es) fs = events_append es fs
 events_append (Stream event ∷ es) fs = ap (λ (xs : List StreamEvent). event ∷ xs) (events_append es fs)
+events_append (DatagramReceived ∷ es) fs = events_append es fs
 events_append (ConnectionLost why ∷ es) fs = events_append es fs
 
 -- of the events that wait, those of streams
@@ -88,17 +94,22 @@ lost_events None = refl
 stream_events : (es : List StreamEvent) (o : Option ConnectionError) → streams_told (map Stream es ++ option_to_list (option_map ConnectionLost o)) ≡ es
 stream_events es o = mapped_events es _ ∙ ap (λ (xs : List StreamEvent). es ++ xs) (lost_events o) ∙ append-nil es
 
-waiting_by : (r c : Bool) (es : List StreamEvent) (o : Option ConnectionError) →
-    streams_told (option_to_list (event_if r HandshakeDataReady) ++ (option_to_list (event_if c Connected) ++ (map Stream es ++ option_to_list (option_map ConnectionLost o)))) ≡ es
-waiting_by true true es o = stream_events es o
-waiting_by true false es o = stream_events es o
-waiting_by false true es o = stream_events es o
-waiting_by false false es o = stream_events es o
+heard_events : (hs fs : List Event) → list_all events.is_heard hs ≡ true → streams_told (hs ++ fs) ≡ streams_told fs
+heard_events [] fs h = refl
+heard_events (DatagramReceived ∷ hs) fs h = heard_events hs fs h
+heard_events (_ ∷ hs) fs h = cc
+
+waiting_by : (r c : Bool) (hs : List Event) (es : List StreamEvent) (o : Option ConnectionError) → list_all events.is_heard hs ≡ true →
+    streams_told (option_to_list (event_if r HandshakeDataReady) ++ (option_to_list (event_if c Connected) ++ (hs ++ (map Stream es ++ option_to_list (option_map ConnectionLost o))))) ≡ es
+waiting_by true true hs es o h = heard_events hs _ h ∙ stream_events es o
+waiting_by true false hs es o h = heard_events hs _ h ∙ stream_events es o
+waiting_by false true hs es o h = heard_events hs _ h ∙ stream_events es o
+waiting_by false false hs es o h = heard_events hs _ h ∙ stream_events es o
 
 module _ {t : Types} where
-  events_wait : (s : View t) → streams_told (waiting_events s) ≡ events_of s.lower.streams
+  events_wait : (s : View t) → list_all events.is_heard s.life.heard ≡ true → streams_told (waiting_events s) ≡ events_of s.lower.streams
   unfolding waiting_events ready_event connected_event lost_event
-  events_wait s = waiting_by s.life.ready s.life.connected (events_of s.lower.streams) s.life.lost
+  events_wait s h = waiting_by s.life.ready s.life.connected s.life.heard (events_of s.lower.streams) s.life.lost h
 
   -- ---- moves
 
@@ -108,7 +119,7 @@ module _ {t : Types} where
       ((state_move x s).lower.streams ≡ after (streams_steps x s) s.lower.streams) × Are (streams_steps x s) (given_to_streams (deeds_move x s)) [] (lives_in (deeds_move x s)) [] s.lower.streams
 
   move_folds : (m : Meaning t) (x : Move t) (s : View t) → IsKnownMove m x s → IsUncalled x → MayMove x s → MoveFolds x s
-  unfolding streams_steps state_move lower_move deeds_move flight_dropped packets_settled timer_fired bytes_came session_read session_wrote limits_learned frame_handed streams_closed streams_stepped MayMove after
+  unfolding streams_steps state_move lower_move deeds_move flight_dropped packets_settled timer_fired bytes_came session_read session_wrote limits_learned frame_handed streams_closed streams_stepped datagrams_stepped MayMove after
   move_folds m (Take id fs) s k u may = absurd k
   move_folds m (Seal time form n size fs) s k u may = absurd k
   move_folds m (Hand frame) s k u may = (refl, frame_are frame s.lower.streams)
@@ -175,26 +186,31 @@ module _ {t : Types} where
   called_did (x ∷ xs) a = called_did xs (move_to (Call x) a)
 
   called_streams : (xs : List Step) (a : At t) → (called_all xs a).state.lower.streams ≡ after xs a.state.lower.streams
-  unfolding move_to state_move lower_move streams_stepped after
+  unfolding move_to state_move lower_move streams_stepped datagrams_stepped after
   called_streams [] a = refl
   called_streams (x ∷ xs) a = called_streams xs (move_to (Call x) a)
 
   -- ---- inputs
 
-  -- over what was given, calls with their steps, the ranks that the life rose to, and the events that were told
+  -- over what was given, calls with their steps, the ranks that the life rose to, and the events that were told, where only what came to
+  -- pass waited
   pub record Over (bodies : List (List ℕ)) (calls : List (Input × TraceStep)) (ranks : List ℕ) (told : List StreamEvent) (s s' : View t) : Type 0 where
     pub steps : List Step
+    pub asked : List StreamEvent
     pub leads : s'.lower.streams ≡ after steps s.lower.streams
-    pub are : Are steps bodies calls ranks told s.lower.streams
+    pub are : Are steps bodies calls ranks asked s.lower.streams
+    pub same : OnlyDoneWaits s.life → asked ≡ told
 
-  over_next : (bodies more : List (List ℕ)) (calls others : List (Input × TraceStep)) (ranks higher : List ℕ) (told later : List StreamEvent) (u v w : View t) →
+  over_next : (bodies more : List (List ℕ)) (calls others : List (Input × TraceStep)) (ranks higher : List ℕ) (told later : List StreamEvent) (u v w : View t) → (OnlyDoneWaits u.life → OnlyDoneWaits v.life) →
       Over bodies calls ranks told u v → Over more others higher later v w → Over (bodies ++ more) (calls ++ others) (ranks ++ higher) (told ++ later) u w
-  over_next bodies more calls others ranks higher told later u v w g h =
+  over_next bodies more calls others ranks higher told later u v w stays g h =
       let s : StreamsState = u.lower.streams in
       record {
         steps = g.steps ++ h.steps;
+        asked = g.asked ++ h.asked;
         leads = h.leads ∙ ap (λ (x : StreamsState). after h.steps x) g.leads ∙ sym (after_append g.steps h.steps s);
-        are = are_append g.steps h.steps bodies more calls others ranks higher told later s g.are (subst (λ (x : StreamsState). Are h.steps more others higher later x) g.leads h.are);
+        are = are_append g.steps h.steps bodies more calls others ranks higher g.asked h.asked s g.are (subst (λ (x : StreamsState). Are h.steps more others higher h.asked x) g.leads h.are);
+        same = λ done. ap (λ (es : List StreamEvent). es ++ h.asked) (g.same done) ∙ ap (λ (es : List StreamEvent). told ++ es) (h.same (stays done));
       }
 
   over_same : (bodies same : List (List ℕ)) (calls : List (Input × TraceStep)) (ranks alike : List ℕ) (told equal : List StreamEvent) (u v : View t) →
@@ -213,7 +229,7 @@ module _ {t : Types} where
       let folds : Folds a (input_after m i choice a) = known_other m Folds folds_here folds_next (λ y c known uncalled may_be. folds_by y c (move_folds m y c.state known uncalled may_be)) (λ time form fs c may_be. packet_folds time form fs c) i choice a none may in
       let makes : [] ≡ calls_of i choice.read (after folds.steps s.lower.streams) = none_called i choice.read (after folds.steps s.lower.streams) none in
       subst (λ (ds : List Did). Over (given_to_streams ds) ((i, x) ∷ []) (lives_in ds) [] s (input_after m i choice a).state) (sym folds.appended)
-      (record { steps = folds.steps; leads = folds.leads; are = other_are i x choice.read folds.steps (given_to_streams folds.since) (lives_in folds.since) s.lower.streams none makes folds.are })
+      (record { steps = folds.steps; asked = []; leads = folds.leads; same = λ done. refl; are = other_are i x choice.read folds.steps (given_to_streams folds.since) (lives_in folds.since) s.lower.streams none makes folds.are })
 
   input_does : (m : Meaning t) (i : Input) (x : TraceStep) (choice : Choice) (s : View t) → IsAllowed m i choice (began s (time_of i)) → x.answer ≡ answer_of m i choice (began s (time_of i)) → Does m i x choice s
   unfolding began state_move lower_move input_after IsAllowed answer_of
@@ -222,32 +238,40 @@ module _ {t : Types} where
   input_does m (input.Transmit time max) x choice s may answers = other_does m (input.Transmit time max) x choice s refl may
   input_does m (input.Close time code reason) x choice s may answers = other_does m (input.Close time code reason) x choice s refl may
   input_does m (input.Ping time) x choice s may answers = other_does m (input.Ping time) x choice s refl may
+  input_does m (input.SendDatagram time body) x choice s may answers = other_does m (input.SendDatagram time body) x choice s refl may
+  input_does m (input.RecvDatagram time) x choice s may answers = other_does m (input.RecvDatagram time) x choice s refl may
   input_does m i x choice s may answers =
       let a : At t = began s (time_of i) in
       let xs : List Step = calls_of i choice.read s.lower.streams in
       subst (λ (ds : List Did). Over (given_to_streams ds) ((i, x) ∷ []) (lives_in ds) [] s (called_all xs a).state) (sym (called_did xs a))
-      (record { steps = xs; leads = called_streams xs a; are = calls_are i x choice.read s.lower.streams (calls_may i choice.read s.lower.streams may) answers })
+      (record { steps = xs; asked = []; leads = called_streams xs a; same = λ done. refl; are = calls_are i x choice.read s.lower.streams (calls_may i choice.read s.lower.streams may) answers })
 
   -- ---- steps and runs
 
   pub step_over : (m : Meaning t) (k : ℕ) (s : View t) (i : Input) (x : TraceStep) (s' : View t) → IsStep m k s i x s' → Over (given_to_streams x.did) ((i, x) ∷ []) (lives_in x.did) (streams_told x.events) s s'
-  unfolding called run.step_after reported state_move lower_move events_told streams_stepped
+  unfolding called run.step_after reported state_move lower_move events_told streams_stepped datagrams_stepped
   step_over m k s i x s' h =
       let b : At t = input_after m i h.choice (began s (time_of i)) in
       let told : List StreamEvent = events_of b.state.lower.streams in
-      let asks : Over [] [] [] told b.state s' = record { steps = asked_for (length told); leads = ap (λ (l : Lower t.S). l.streams) h.lower; are = asked_are b.state.lower.streams } in
-      over_same (given_to_streams b.did ++ []) (given_to_streams x.did) ((i, x) ∷ []) (lives_in b.did ++ []) (lives_in x.did) told (streams_told x.events) s s'
-      (append-nil (given_to_streams b.did) ∙ ap given_to_streams (sym h.deeds)) (append-nil (lives_in b.did) ∙ ap lives_in (sym h.deeds)) (sym (ap streams_told h.events ∙ events_wait b.state))
-      (over_next (given_to_streams b.did) [] ((i, x) ∷ []) [] (lives_in b.did) [] [] told s b.state s' (input_does m i x h.choice s h.allowed h.answer) asks)
+      let asks : Over [] [] [] (streams_told x.events) b.state s' = record {
+        steps = asked_for (length told);
+        asked = told;
+        leads = ap (λ (l : Lower t.S). l.streams) h.lower;
+        are = asked_are b.state.lower.streams;
+        same = λ done. sym (ap streams_told h.events ∙ events_wait b.state done.heard);
+      } in
+      over_same (given_to_streams b.did ++ []) (given_to_streams x.did) ((i, x) ∷ []) (lives_in b.did ++ []) (lives_in x.did) (streams_told x.events) (streams_told x.events) s s'
+      (append-nil (given_to_streams b.did) ∙ ap given_to_streams (sym h.deeds)) (append-nil (lives_in b.did) ∙ ap lives_in (sym h.deeds)) refl
+      (over_next (given_to_streams b.did) [] ((i, x) ∷ []) [] (lives_in b.did) [] [] (streams_told x.events) s b.state s' (called_done m s i h.choice h.allowed) (input_does m i x h.choice s h.allowed h.answer) asks)
 
   run_over : (m : Meaning t) (k : ℕ) (s : View t) (is : List Input) (xs : List TraceStep) (s' : View t) → Run m k s is xs s' →
       Over (given_to_streams (deeds_of xs)) (with_steps is xs) (lives_in (deeds_of xs)) (streams_told (events.events_of xs)) s s'
   unfolding Run after
-  run_over m k s [] [] s' r = record { steps = []; leads = ap (λ (v : View t). v.lower.streams) r; are = none_are s.lower.streams }
+  run_over m k s [] [] s' r = record { steps = []; asked = []; leads = ap (λ (v : View t). v.lower.streams) r; are = none_are s.lower.streams; same = λ done. refl }
   run_over m k s (i ∷ is) (x ∷ xs) s' r =
       over_same (given_to_streams x.did ++ given_to_streams (deeds_of xs)) (given_to_streams (deeds_of (x ∷ xs))) (with_steps (i ∷ is) (x ∷ xs)) (lives_in x.did ++ lives_in (deeds_of xs)) (lives_in (deeds_of (x ∷ xs)))
       (streams_told x.events ++ streams_told (events.events_of xs)) (streams_told (events.events_of (x ∷ xs))) s s' (sym (given_append x.did (deeds_of xs))) (sym (lives_append x.did (deeds_of xs))) (sym (events_append x.events (events.events_of xs)))
-      (over_next (given_to_streams x.did) (given_to_streams (deeds_of xs)) ((i, x) ∷ []) (with_steps is xs) (lives_in x.did) (lives_in (deeds_of xs)) (streams_told x.events) (streams_told (events.events_of xs)) s r.0 s'
+      (over_next (given_to_streams x.did) (given_to_streams (deeds_of xs)) ((i, x) ∷ []) (with_steps is xs) (lives_in x.did) (lives_in (deeds_of xs)) (streams_told x.events) (streams_told (events.events_of xs)) s r.0 s' (λ done. step_done m k s i x r.0 r.1)
       (step_over m k s i x r.0 r.1) (run_over m (k + 1) r.0 is xs s' r.2))
   run_over m k s [] (x ∷ xs) s' r = absurd r
   run_over m k s (i ∷ is) [] s' r = absurd r
@@ -256,4 +280,4 @@ module _ {t : Types} where
   pub run_folds : (m : Meaning t) (k : ℕ) (s : View t) (is : List Input) (xs : List TraceStep) (s' : View t) → Run m k s is xs s' → FoldsStreams is xs s s'
   run_folds m k s is xs s' r =
       let o = run_over m k s is xs s' r in
-      record { steps = o.steps; may = o.are.may; leads = o.leads; handed = o.are.handed; called = o.are.called; closed = o.are.closed; told = o.are.asked; only = o.are.only }
+      record { steps = o.steps; may = o.are.may; leads = o.leads; handed = o.are.handed; called = o.are.called; closed = o.are.closed; told = λ done. subst (λ (es : List StreamEvent). AreMade is_asked MakesEvent es o.steps s.lower.streams) (o.same done) o.are.asked; only = o.are.only }

@@ -133,6 +133,7 @@ frame_makes (frames.Stream id offset fin body) s = given_made (frames.Stream id 
 frame_makes (frames.MaxData limit) s = given_made (frames.MaxData limit) s refl
 frame_makes (frames.MaxStreamData id limit) s = given_made (frames.MaxStreamData id limit) s refl
 frame_makes (frames.MaxStreams dir count) s = given_made (frames.MaxStreams dir count) s refl
+frame_makes (frames.Datagram body) s = given_made (frames.Datagram body) s refl
 frame_makes (frames.StreamDataBlocked id limit) s = blocked_none id s (nat_lt id (2 ^ 62))
 frame_makes (frames.StreamsBlocked dir limit) s = none_blocked (refusal_of (handed.StreamsBlocked limit) s)
 frame_makes _ s = refl

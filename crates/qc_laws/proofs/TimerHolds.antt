@@ -26,12 +26,12 @@ use Rattle.qc_state.specs.Forms.{is_early, number_space}
 use Rattle.qc_state.specs.Headline.{deeds_of}
 use Rattle.qc_state.specs.Keys.{epoch_in, has_keys_for}
 use Rattle.qc_state.specs.Life.{is_drained, is_open}
-use Rattle.qc_state.specs.Moves.{Ack, Arm, Ask, Begin, Clock, Establish, Expect, Finish, Fire, Forget, Give, Hear, MayMove, Move, Pace, Raise, Release, ReportConnected, ReportDrained, ReportLost, ReportNotices, ReportReady, Say, Seal, Shut, Skip, Tell, Write, armed_after, armed_with, deeds_move, keys_move, move_to, paths_move, state_move, Call, ReportStreams}
+use Rattle.qc_state.specs.Moves.{Ack, Arm, Ask, Begin, Clock, Establish, Expect, Finish, Fire, Forget, Give, Hear, MayMove, Move, Pace, Raise, Release, ReportConnected, ReportDrained, ReportLost, ReportNotices, ReportReady, Say, Seal, Shut, Skip, Tell, Write, armed_after, armed_with, deeds_move, keys_move, move_to, paths_move, state_move, Call, ReportStreams, Post, ReportAllHeard}
 use Rattle.qc_state.specs.Numbers.{next_number}
 use Rattle.qc_state.specs.Paths.{is_blocked, path_idle, path_kept}
 use Rattle.qc_state.specs.Receiving.{counted_after, cut_of, datagram_after, first_after, first_token, heard_after, pieces_after}
 use Rattle.qc_state.specs.Recovering.{fired_by, is_validated_by_peer, loss_time}
-use Rattle.qc_state.specs.Run.{IsAllowed, IsStep, Run, began, called, close_after, input_after, reported, step_after, time_of}
+use Rattle.qc_state.specs.Run.{IsAllowed, IsStep, Run, began, called, close_after, input_after, reported, step_after, time_of, datagram_limit}
 use Rattle.qc_state.specs.Sending.{Choice, Died, Ending, Going, Hushed, MayAll, MayEnd, MayFollow, MayTransmit, Sent, Went, begun_after, drops_initial, ending_after, finished_after, flown_after, going_from, gone_after, handshake_left, initial_left, is_flown, packet_after, packets_after, sealed_in, spared_after, transmit_after}
 use Rattle.qc_state.specs.Stopping.{given_after, key_limit_error, killed_after}
 use Rattle.qc_laws.specs.TimerLaws.{KeepsTimer, TimerHolds, awaits_ack, elicits_in, has_asked, has_probe_keys, must_probe, sealed_since}
@@ -53,6 +53,7 @@ use Rattle.qc_state.proofs.Telling.{told_appends}
 use Rattle.qc_state.proofs.Transmitted.{begins_keyed}
 use Rattle.qc_laws.proofs.TimerMoves.{HoldsIf, IsFree, IsPlain, arm_holds, holds_if, plain_free, plain_holds, sealed_holds, since_append, timer_holds}
 use Rattle.qc_laws.proofs.StreamCalls.{called_input}
+use Rattle.qc_datagrams.specs.Steps as datagrams
 
 module _ {t : Types} where
   -- from one moment to another the law holds on, in a time in which datagrams may be begun, or not
@@ -391,6 +392,8 @@ module _ {t : Types} where
   input_holds m (input.Transmit time max) choice a ends may = transmit_holds m time choice a ends may
   input_holds m (input.Close time code reason) choice a ends may = closed_by m time _ a (is_open a.state.life.state)
   input_holds m (input.Ping time) choice a ends may = holds_plain m (Ask a.state.keys.highest) a tt refl
+  input_holds m (input.SendDatagram time body) choice a ends may = holds_plain m (Post (datagrams.Sent (datagram_limit a.state) body)) a tt refl
+  input_holds m (input.RecvDatagram time) choice a ends may = holds_plain m (Post datagrams.Taken) a tt refl
   input_holds m i choice a ends may = called_input Holds holds_here holds_next (λ x b h. holds_plain m (Call x) b tt refl) i choice.read a may
 
   -- so of another view with the same life, path, timer, keys, setup and packets in flight
@@ -409,12 +412,14 @@ module _ {t : Types} where
   reported_holds m s late h =
       let a : View t = state_move ReportReady s in
       let b : View t = state_move ReportConnected a in
-      let c : View t = state_move ReportStreams b in
+      let heard : View t = state_move ReportAllHeard b in
+      let c : View t = state_move ReportStreams heard in
       let d : View t = state_move ReportLost c in
       let e : View t = state_move ReportNotices d in
       plain_view m ReportDrained e late tt refl
       (plain_view m ReportNotices d late tt refl
-      (plain_view m ReportLost c late tt refl (plain_view m ReportStreams b late tt refl (plain_view m ReportConnected a late tt refl (plain_view m ReportReady s late tt refl h)))))
+      (plain_view m ReportLost c late tt refl
+      (plain_view m ReportStreams heard late tt refl (plain_view m ReportAllHeard b late tt refl (plain_view m ReportConnected a late tt refl (plain_view m ReportReady s late tt refl h))))))
 
   step_holds : (m : Meaning t) (k : ℕ) (s : View t) (i : Input) (x : Step) (s' : View t) → IsStep m k s i x s' → Ends s → KeepsTimer x.did s s'
   unfolding called began step_after

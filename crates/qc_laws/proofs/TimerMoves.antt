@@ -30,9 +30,9 @@ use Rattle.qc_state.specs.declared.timers.Timers.{Timers}
 use Rattle.qc_state.specs.Acks.{is_ack}
 use Rattle.qc_state.specs.Flight.{counts_in_flight, flown_packet, is_padding}
 use Rattle.qc_state.specs.Forms.{number_space}
-use Rattle.qc_state.specs.Life.{connected_reported, data_ready, drained_reported, identifiers_wanted, is_established, is_handshake, is_open, life_closed, life_drained, life_established, life_raised, lost_reported, notice_reported, notices_reported, rank_of, ready_reported, reason_given, token_learned}
-use Rattle.qc_state.specs.Lower.{bytes_came, flight_dropped, packet_flown, packets_settled, session_read, session_wrote, timer_fired, limits_learned, frame_handed, streams_closed, streams_stepped, event_told, events_told}
-use Rattle.qc_state.specs.Moves.{Accept, Ack, AreNext, Arm, Establish, Fail, Finish, Fire, Forget, Give, Hear, IsTold, Move, PeerCloses, PeerClosesToo, Raise, Seal, Shut, Take, Tell, Write, armed_with, deeds_move, keys_move, life_move, lower_move, move_to, paths_move, setup_move, state_move, timers_move, waiting_move, Hand}
+use Rattle.qc_state.specs.Life.{connected_reported, data_ready, drained_reported, identifiers_wanted, is_established, is_handshake, is_open, life_closed, life_drained, life_established, life_raised, lost_reported, notice_reported, notices_reported, rank_of, ready_reported, reason_given, token_learned, all_heard_reported, heard_reported, datagram_heard}
+use Rattle.qc_state.specs.Lower.{bytes_came, flight_dropped, packet_flown, packets_settled, session_read, session_wrote, timer_fired, limits_learned, frame_handed, streams_closed, streams_stepped, event_told, events_told, datagrams_stepped}
+use Rattle.qc_state.specs.Moves.{Accept, Ack, AreNext, Arm, Establish, Fail, Finish, Fire, Forget, Give, Hear, IsTold, Move, PeerCloses, PeerClosesToo, Raise, Seal, Shut, Take, Tell, Write, armed_with, deeds_move, keys_move, life_move, lower_move, move_to, paths_move, setup_move, state_move, timers_move, waiting_move, Hand, told_to_streams}
 use Rattle.qc_state.specs.Paths.{is_blocked, path_accepted, path_idle, path_kept, path_spun, peer_fixed}
 use Rattle.qc_state.specs.Recovering.{around_of, fired_by, is_validated_by_peer, loss_time, settled_by}
 use Rattle.qc_state.specs.Sending.{flown_after, is_flown, packet_size, sealed_in}
@@ -55,7 +55,8 @@ use Rattle.qc_laws.proofs.CryptoBuffers.{or_either, or_left, or_right}
 use Rattle.qc_laws.proofs.EndsHold.{low_open}
 use Rattle.qc_laws.proofs.KnownMoves.{IsFiredBy, IsSettledBy}
 use Rattle.qc_laws.proofs.TimerFlights.{Less, ack_less, armed_alone, armed_some, dropped_each, fire_less, kept_asked, kept_greatest, less_holds, sent_each}
-use Rattle.qc_laws.proofs.StreamCalls.{handed_told}
+use Rattle.qc_laws.proofs.StreamCalls.{handed_told, heard_state}
+use Rattle.qc_state.specs.Datagrams.{tells_datagram}
 
 -- ---- deeds
 
@@ -286,18 +287,19 @@ module _ {t : Types} where
   plain_timer m _ s h o = refl
 
   pub plain_open : (m : Meaning t) (x : Move t) (s : View t) → IsPlain m x s → is_open (life_move x s).state ≡ true → is_open s.life.state ≡ true
-  unfolding life_move life_closed life_drained data_ready life_established token_learned identifiers_wanted life_raised reason_given ready_reported connected_reported lost_reported notice_reported notices_reported drained_reported
+  unfolding life_move life_closed life_drained data_ready life_established token_learned identifiers_wanted life_raised reason_given ready_reported connected_reported heard_reported all_heard_reported lost_reported notice_reported notices_reported drained_reported
   plain_open m (Shut time close) s k h = cc
   plain_open m (PeerCloses time) s k h = cc
   plain_open m PeerClosesToo s k h = cc
   plain_open m Establish s k h = low_open s.life.state k
   plain_open m (Raise to) s k h = let end : is_open to ≡ false = ap is_open k in cc
   plain_open m (Give why) s k h = ap is_open (sym (given_same s.life why (is_none s.life.reason))) ∙ h
+  plain_open m (Hand frame) s k h = ap is_open (sym (heard_state (tells_datagram frame s.lower.datagrams) s.life)) ∙ h
   plain_open m _ s k h = h
 
   -- what was sealed since the handshake was over was sealed before, and then it was over
   plain_since : (m : Meaning t) (x : Move t) (s : View t) (since : Bool) → IsPlain m x s → (sealed_since since (deeds_move x s) && is_established (life_move x s).state) ≡ true → (since && is_established s.life.state) ≡ true
-  unfolding deeds_move life_move life_closed life_drained data_ready life_established token_learned identifiers_wanted life_raised reason_given ready_reported connected_reported lost_reported notice_reported notices_reported drained_reported
+  unfolding deeds_move life_move life_closed life_drained data_ready life_established token_learned identifiers_wanted life_raised reason_given ready_reported connected_reported heard_reported all_heard_reported lost_reported notice_reported notices_reported drained_reported
   plain_since m (Seal time form n size fs) s since k h = absurd k
   plain_since m (Shut time close) s since k h = never since false _ refl h
   plain_since m (PeerCloses time) s since k h = never since false _ refl h
@@ -306,11 +308,14 @@ module _ {t : Types} where
   plain_since m (Raise to) s since k h = never (sealed_since since (did.Rose (rank_of to) ∷ [])) (is_established to) _ (ap is_established k) h
   plain_since m (Give why) s since k h = ap (λ (x : State). since && is_established x) (sym (given_same s.life why (is_none s.life.reason))) ∙ h
   plain_since m (Tell d) s since k h = ap (λ (b : Bool). b && is_established s.life.state) (sym (told_since since d k)) ∙ h
-  plain_since m (Hand frame) s since k h = ap (λ (b : Bool). b && is_established s.life.state) (sym (handed_told (λ ds. sealed_since since ds ≡ since) frame refl (λ body. refl))) ∙ h
+  plain_since m (Hand frame) s since k h =
+      let same : sealed_since since (told_to_streams frame) ≡ since = handed_told (λ ds. sealed_since since ds ≡ since) frame refl (λ body. refl) in
+      let life : (datagram_heard (tells_datagram frame s.lower.datagrams) s.life).state ≡ s.life.state = heard_state (tells_datagram frame s.lower.datagrams) s.life in
+      sym (λ i. same i && is_established (life i)) ∙ h
   plain_since m _ s since k h = h
 
   plain_elicits : (m : Meaning t) (x : Move t) (s : View t) (id : SpaceId) → IsPlain m x s → elicits_in (state_move x s) id ≡ true → elicits_in s id ≡ true
-  unfolding elicits_in state_move lower_move packets_settled timer_fired flight_dropped bytes_came session_read session_wrote limits_learned frame_handed streams_closed streams_stepped event_told events_told settled_by fired_by dropped_after space_dropped
+  unfolding elicits_in state_move lower_move packets_settled timer_fired flight_dropped bytes_came session_read session_wrote limits_learned frame_handed streams_closed streams_stepped datagrams_stepped event_told events_told settled_by fired_by dropped_after space_dropped
   plain_elicits m (Seal time form n size fs) s id k h = absurd k
   plain_elicits m (Ack space n after) s id k h =
       (ack_less m.control _ id space _ _ _ _ _ s.lower.recovery s.paths.current.kept).any (λ (e : Entry). e.1.ack_eliciting) (subst (λ (a : After t.C). has_eliciting (recovery.space_of id a.recovery).flight ≡ true) k.is h)
@@ -353,7 +358,7 @@ module _ {t : Types} where
   fail_space s id h = record { flight = h.flight; keyed = λ e. failed_same s.keys id ∙ h.keyed e; below = λ e. h.below (sym (failed_same s.keys id) ∙ e) }
 
   plain_spaces : (m : Meaning t) (x : Move t) (s : View t) → IsPlain m x s → Spaces s → Spaces (state_move x s)
-  unfolding state_move lower_move keys_move bytes_came session_read limits_learned frame_handed streams_closed streams_stepped event_told events_told
+  unfolding state_move lower_move keys_move bytes_came session_read limits_learned frame_handed streams_closed streams_stepped datagrams_stepped event_told events_told
   plain_spaces m (Seal time form n size fs) s k h = absurd k
   plain_spaces m (Ack space n after) s k h = λ id. less_space s (state_move (Ack space n after) s) id refl (settled_less m space id n after s k) (h id)
   plain_spaces m (Fire after) s k h = λ id. less_space s (state_move (Fire after) s) id refl (fired_less m id after s k) (h id)
@@ -402,7 +407,7 @@ module _ {t : Types} where
   fired_before m after s k = less_before s (state_move (Fire after) s) refl refl (λ id. fired_less m id after s k)
 
   plain_probe : (m : Meaning t) (x : Move t) (s : View t) → IsPlain m x s → Spaces s → must_probe (state_move x s) ≡ true → must_probe s ≡ true
-  unfolding must_probe is_validated_by_peer has_probe_keys has_asked state_move lower_move keys_move setup_move bytes_came session_read limits_learned frame_handed streams_closed streams_stepped event_told events_told failure_counted has_keys has_keys_for form_in token_expected parameters_known word_drawn
+  unfolding must_probe is_validated_by_peer has_probe_keys has_asked state_move lower_move keys_move setup_move bytes_came session_read limits_learned frame_handed streams_closed streams_stepped datagrams_stepped event_told events_told failure_counted has_keys has_keys_for form_in token_expected parameters_known word_drawn
   plain_probe m (Seal time form n size fs) s k h e = absurd k
   plain_probe m (Ack space n after) s k h e = before_probes s (state_move (Ack space n after) s) (settled_before m space n after s k) e
   plain_probe m (Fire after) s k h e = before_probes s (state_move (Fire after) s) (fired_before m after s k) e

@@ -13,10 +13,10 @@ use Rattle.qc_state.specs.declared.trace.Step.{Step}
 use Rattle.qc_state.specs.Forms.{number_space}
 use Rattle.qc_state.specs.Headline as headline
 use Rattle.qc_state.specs.Headline.{deeds_of, reasons_in, lives_in, entered_in, EachNew, CloseFrom, RisesFrom, Kernel, IsBehind, Tells, EachRises, EachAdmitted, LifeRises, OnlyCloses, LosesOnce}
-use Rattle.qc_state.specs.Life.{rank_of, is_open, ready_reported, connected_reported, lost_reported, notice_reported, notices_reported, drained_reported}
-use Rattle.qc_state.specs.Moves.{Ask, Take, Seal, Shut, state_move, move_to, MayMove, numbers_move, keys_move, life_move, timers_move, Call}
+use Rattle.qc_state.specs.Life.{rank_of, is_open, ready_reported, connected_reported, lost_reported, notice_reported, notices_reported, drained_reported, all_heard_reported}
+use Rattle.qc_state.specs.Moves.{Ask, Take, Seal, Shut, state_move, move_to, MayMove, numbers_move, keys_move, life_move, timers_move, Call, Post}
 use Rattle.qc_state.specs.Numbers.{next_number, came_in}
-use Rattle.qc_state.specs.Run.{time_of, began, close_after, input_after, called, reported, step_after, IsAllowed, IsStep, Run, Ran}
+use Rattle.qc_state.specs.Run.{time_of, began, close_after, input_after, called, reported, step_after, IsAllowed, IsStep, Run, Ran, datagram_limit}
 use Rattle.qc_state.specs.Sending.{transmit_after, MayTransmit, packet_size, Choice}
 use Rattle.qc_state.specs.Timers.{clock_set}
 use Rattle.qc_state.specs.Types.{Types, Meaning}
@@ -26,6 +26,7 @@ use Rattle.qc_state.proofs.Expired.{holds_timeout}
 use Rattle.qc_laws.proofs.ToldReceiving.{told_datagram}
 use Rattle.qc_state.proofs.Transmitted.{IsSealable, holds_transmit}
 use Rattle.qc_laws.proofs.StreamCalls.{called_input}
+use Rattle.qc_datagrams.specs.Steps as datagrams
 
 -- the greater of two times, of which the other isn't less
 later_max : (a b : ℕ) → a ≤ b → max a b ≡ b
@@ -58,10 +59,12 @@ module _ {t : Types} where
   told_input id m (input.Transmit time max) choice a h = told_transmit id m time choice a h
   told_input id m (input.Close time code reason) choice a h = closed_by id time _ a _ refl
   told_input id m (input.Ping time) choice a h = told_move id (Ask a.state.keys.highest) a tt
+  told_input id m (input.SendDatagram time body) choice a h = told_move id (Post (datagrams.Sent (datagram_limit a.state) body)) a refl
+  told_input id m (input.RecvDatagram time) choice a h = told_move id (Post datagrams.Taken) a refl
   told_input id m i choice a h = called_input (Told id) (told_here id) (told_next id) (λ x b may. told_move id (Call x) b may) i choice.read a h
 
   step_tells : (id : SpaceId) (m : Meaning t) (k : ℕ) (s : View t) (i : Input) (x : Step) (s' : View t) → IsStep m k s i x s' → Tells id (kernel id s) x.did (kernel id s')
-  unfolding called began step_after reported state_move numbers_move life_move ready_reported connected_reported lost_reported notice_reported notices_reported drained_reported
+  unfolding called began step_after reported state_move numbers_move life_move ready_reported connected_reported all_heard_reported lost_reported notice_reported notices_reported drained_reported
   step_tells id m k s i x s' h =
       let a : At t = began s (time_of i) in
       let b : At t = input_after m i h.choice a in

@@ -1,11 +1,12 @@
 -- Laws over whole runs, said of the events that are told (RFC 9000, section 10).
 use Rattle.std.specs.Prelude.{◌≡◌, ℕ, ◌+◌, ◌<◌, ◌≤◌, ◌==◌, ◌&&◌, not, nat_le, Bool, true, false, if◌then◌else◌, List, [], ◌∷◌, ◌++◌, length, Option, None, is_none, is_some, option_to_list}
+use Rattle.std.specs.List.{list_all}
 use Rattle.qc_state.specs.declared.deeds.Did.{Did}
 use Rattle.qc_state.specs.declared.deeds.Did.TheVariants.{Piece, Gave, Sealed, Rose, Lost, Quiet}
 use Rattle.qc_state.specs.declared.events.EndpointEvent.{EndpointEvent}
 use Rattle.qc_state.specs.declared.events.EndpointEvent.TheVariants.{ResetToken, NeedIdentifiers, Drained}
 use Rattle.qc_state.specs.declared.events.Event.{Event}
-use Rattle.qc_state.specs.declared.events.Event.TheVariants.{HandshakeDataReady, Connected, Stream, ConnectionLost}
+use Rattle.qc_state.specs.declared.events.Event.TheVariants.{HandshakeDataReady, Connected, Stream, ConnectionLost, DatagramReceived}
 use Rattle.qc_state.specs.declared.life.ConnectionError.{ConnectionError}
 use Rattle.qc_state.specs.declared.life.Life.{Life}
 use Rattle.qc_state.specs.declared.trace.Step.{Step}
@@ -18,6 +19,7 @@ losses_in [] = []
 losses_in (HandshakeDataReady ∷ es) = losses_in es
 losses_in (Connected ∷ es) = losses_in es
 losses_in (Stream event ∷ es) = losses_in es
+losses_in (DatagramReceived ∷ es) = losses_in es
 losses_in (ConnectionLost why ∷ es) = why ∷ losses_in es
 
 -- how many events tell that the handshake is over
@@ -26,6 +28,7 @@ connections_in [] = 0
 connections_in (HandshakeDataReady ∷ es) = connections_in es
 connections_in (Connected ∷ es) = connections_in es + 1
 connections_in (Stream event ∷ es) = connections_in es
+connections_in (DatagramReceived ∷ es) = connections_in es
 connections_in (ConnectionLost why ∷ es) = connections_in es
 
 -- how many events tell the endpoint that the connection has drained
@@ -73,13 +76,19 @@ untold_of v = record { lost = v.lost; connected = v.connected; drained = v.drain
 abbrev pub all_told : Untold
 all_told = record { lost = None; connected = false; drained = false }
 
+-- whether an event tells that a datagram came
+abbrev pub is_heard : Event → Bool
+is_heard DatagramReceived = true
+is_heard _ = false
+
 -- only what came to pass waits to be told: a loss only where a reason was given, that the handshake is over only behind the rise to
--- Established, and the end only in Drained, and not among what is told before it
+-- Established, and the end only in Drained, and not among what is told before it; and what waits of datagrams is that they came
 pub record OnlyDoneWaits (v : Life) : Type 0 where
   pub lost : is_none v.reason ≡ true → v.lost ≡ None
   pub connected : rank_of v.state < 1 → v.connected ≡ false
   pub drained : rank_of v.state < 4 → v.drained ≡ false
   pub notices : ends_in v.notices ≡ 0
+  pub heard : list_all is_heard v.heard ≡ true
 
 -- a step tells what waited before it, and just what its deeds did: a loss for the reason that they gave; that the handshake is over
 -- where the life rose to Established; and the end where it rose to Drained

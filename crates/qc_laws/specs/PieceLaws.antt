@@ -19,7 +19,7 @@ use Rattle.qc_state.specs.declared.deeds.Verdict.TheVariants as verdict
 use Rattle.qc_state.specs.declared.opening.Opening.{Opening}
 use Rattle.qc_state.specs.declared.opening.Opening.TheVariants.{Unreadable, Unopened, Reserved, Opened}
 use Rattle.qc_state.specs.Life.{is_over}
-use Rattle.qc_state.specs.Lower.{ready_bytes, stream_of}
+use Rattle.qc_state.specs.Lower.{ready_bytes, stream_of, first_of}
 use Rattle.qc_state.specs.Moves.{Expect, move_to, told_to_streams}
 use Rattle.qc_state.specs.Numbers.{next_number}
 use Rattle.qc_state.specs.Opening.{opening_of}
@@ -30,6 +30,9 @@ use Rattle.qc_state.specs.View.{View, At}
 use Rattle.qc_state.specs.Streams.{steps_of_frame, streams_stop}
 use Rattle.qc_streams.specs.Waits.{after}
 use Rattle.qc_streams.specs.declared.state.StreamsState.{StreamsState}
+use Rattle.qc_state.specs.Datagrams.{datagram_steps, datagram_stop}
+use Rattle.qc_datagrams.specs.Steps as datagrams
+use Rattle.qc_datagrams.specs.declared.datagrams.Datagrams.{Datagrams}
 
 -- the deeds that tell of packets which came, in order
 abbrev pub pieces_in : List Did → List Did
@@ -58,11 +61,12 @@ pub data Outcome : Type 0 where
   Goes : Outcome  -- it is applied, and the frames behind it come next
 
 -- what the frames of a packet change, as far as it decides what becomes of those behind them: what came of the space's CRYPTO stream,
--- the session, and the streams of the application
+-- the session, and the streams and datagrams of the application
 pub record Reading (S : Type 0) : Type 0 where
   pub stream : Assembly
   pub session : S
   pub streams : StreamsState
+  pub datagrams : Datagrams
 
 -- an error refuses a frame
 abbrev pub refused_or : Option TransportError → Outcome → Outcome
@@ -74,7 +78,7 @@ abbrev pub unless_refused : Result Bool TransportError → Outcome
 unless_refused (Err error) = Last
 unless_refused (Ok ready) = Goes
 
--- a frame that the streams refuse is the last one
+-- a frame that the streams or the datagrams refuse is the last one
 abbrev pub unless_stopped : Option TransportError → Outcome
 unless_stopped (Some error) = Last
 unless_stopped None = Goes
@@ -97,7 +101,7 @@ session_gift [] = []
 session_gift (b ∷ bytes) = did.Gave layer.Session (b ∷ bytes) ∷ []
 
 -- what a frame gives to a layer: the session is given the bytes that can be read in order from then on, any other layer the frame as it
--- is spelled; so are the streams, whether they refuse it or not
+-- is spelled; so are the streams and the datagrams, whether they refuse it or not
 abbrev pub gift_of : Assembly → FrameValue → List Did
 gift_of stream (frames.Crypto offset body) = session_gift (ready_bytes (inserted offset body stream))
 gift_of stream (frames.Ack ack) = did.Gave layer.Recovery (spelling (frames.Ack ack)) ∷ []
@@ -107,19 +111,19 @@ gift_of stream (frames.ApplicationClose code reason) = did.Gave layer.Life (spel
 gift_of stream frame = told_to_streams frame
 
 module _ {t : Types} where
-  -- what came of the space's CRYPTO stream, the session, and the streams, as they are
+  -- what came of the space's CRYPTO stream, the session, the streams and the datagrams, as they are
   abbrev pub reading_of : View t → SpaceId → Reading t.S
-  reading_of s id = record { stream = stream_of s.lower id; session = s.lower.session; streams = s.lower.streams }
+  reading_of s id = record { stream = stream_of s.lower id; session = s.lower.session; streams = s.lower.streams; datagrams = s.lower.datagrams }
 
   -- the session reads bytes, if there are any
   abbrev pub read_behind : Meaning t → Reading t.S → List ℕ → Reading t.S
   read_behind m r [] = r
   read_behind m r (b ∷ bytes) = record r { stream = advanced (length (b ∷ bytes)) r.stream; session = m.after_read r.session (b ∷ bytes) }
 
-  -- all three behind a frame: of any other frame than CRYPTO the streams make the steps that it is, if it is any
+  -- all four behind a frame: of any other frame than CRYPTO streams and datagrams make the steps that it is, if it is any
   abbrev pub reading_behind : Meaning t → Reading t.S → FrameValue → Reading t.S
   reading_behind m r (frames.Crypto offset body) = let came : Reading t.S = record r { stream = inserted offset body r.stream } in read_behind m came (ready_bytes came.stream)
-  reading_behind m r frame = record r { streams = after (steps_of_frame frame r.streams) r.streams }
+  reading_behind m r frame = record r { streams = after (steps_of_frame frame r.streams) r.streams; datagrams = datagrams.after (datagram_steps frame) r.datagrams }
 
   -- whether the session refuses bytes
   abbrev pub read_outcome : Meaning t → t.S → List ℕ → Outcome
@@ -132,7 +136,7 @@ module _ {t : Types} where
       refused_or (crypto_stop_of s.setup.fixed.crypto_buffer_size (expected_space s) r.stream id offset body) (read_outcome m r.session (ready_bytes (inserted offset body r.stream)))
   kind_outcome m s id r (frames.ConnectionClose code type reason) = close_outcome id
   kind_outcome m s id r (frames.ApplicationClose code reason) = close_outcome id
-  kind_outcome m s id r frame = unless_stopped (streams_stop frame r.streams)
+  kind_outcome m s id r frame = unless_stopped (first_of (streams_stop frame r.streams) (datagram_stop frame r.datagrams))
 
   -- what becomes of a frame
   abbrev pub outcome_of : Meaning t → View t → SpaceId → Reading t.S → TypedValue → Outcome
@@ -140,7 +144,7 @@ module _ {t : Types} where
       refused_or (stop_in s.setup.fixed.side id (next_number s.numbers id) s.numbers.filter.last read.ty read.frame) (kind_outcome m s id r read.frame)
 
   -- the frames of an admitted packet that are applied: those in front of the first that stops it by its kind or can't be read; but where
-  -- the session refuses bytes of a frame, or the streams refuse one, that one is the last, and outside of 1-RTT packets the first close is
+  -- the session refuses bytes of a frame, or streams or datagrams refuse one, that one is the last, and outside of 1-RTT packets the first close is
   abbrev pub applied_in : Meaning t → View t → SpaceId → Reading t.S → List Item → List FrameValue
   applied_in m s id r [] = []
   applied_in m s id r (Err fault ∷ items) = []

@@ -12,7 +12,7 @@ use Rattle.qc_state.specs.declared.deeds.Did.{Did}
 use Rattle.qc_state.specs.declared.deeds.Did.TheVariants as did
 use Rattle.qc_state.specs.declared.deeds.Layer.TheVariants as layer
 use Rattle.qc_state.specs.declared.input.Input.{Input}
-use Rattle.qc_state.specs.declared.input.Input.TheVariants.{Close, Datagram, Ping, Timeout, Transmit}
+use Rattle.qc_state.specs.declared.input.Input.TheVariants.{Close, Datagram, Ping, Timeout, Transmit, SendDatagram, RecvDatagram}
 use Rattle.qc_state.specs.declared.trace.Step.{Step as TraceStep}
 use Rattle.qc_state.specs.Headline.{deeds_of, lives_in}
 use Rattle.qc_state.specs.Moves.{Move, Call, Hand, Learn, PeerCloses, PeerClosesToo, Raise, ReportStream, ReportStreams, Shut, is_call}
@@ -23,6 +23,7 @@ use Rattle.qc_streams.specs.Owed.{next_event}
 use Rattle.qc_streams.specs.declared.events.StreamEvent.{StreamEvent}
 use Rattle.qc_state.specs.declared.events.Event.{Event}
 use Rattle.qc_state.specs.declared.events.Event.TheVariants.{Stream}
+use Rattle.qc_laws.specs.EventLaws.{OnlyDoneWaits}
 use Rattle.qc_laws.specs.EventLaws as events
 
 -- ---- steps of one kind
@@ -56,7 +57,8 @@ given_to_streams [] = []
 given_to_streams (did.Gave layer.Streams body ∷ ds) = body ∷ given_to_streams ds
 given_to_streams (_ ∷ ds) = given_to_streams ds
 
--- What is given so is a frame as it is spelled, and makes these steps: one, or none where it is refused
+-- What is given so is a frame as it is spelled, and makes these steps: one, or none where it is refused, or is a DATAGRAM, which is given
+-- so as well and is none of theirs
 pub record MakesFrame (body : List ℕ) (made : List Step) (s : StreamsState) : Type 0 where
   pub frame : FrameValue
   pub given : is_given_to_streams frame ≡ true
@@ -72,6 +74,8 @@ is_streams_call (Timeout time) = false
 is_streams_call (Transmit time max) = false
 is_streams_call (Close time code reason) = false
 is_streams_call (Ping time) = false
+is_streams_call (SendDatagram time body) = false
+is_streams_call (RecvDatagram time) = false
 is_streams_call _ = true
 
 -- inputs, each with the step of the trace that it is
@@ -142,7 +146,7 @@ module _ {t : Types} where
   -- From one view to another, over inputs whose trace is this, the streams made steps: each of them may be made as its turn comes, and the
   -- streams are what they leave. Those of the steps that frames make are the ones of the frames that the deeds gave to the streams; those
   -- that calls make are the ones of the inputs, which answer so; they are closed where the life rises to Closed or further; each event of
-  -- theirs that is told is their next one; and any other step is that the peer's limits are known. So whatever holds over any steps of the
+  -- theirs that is told is their next one, where only what came to pass waits; and any other step is that the peer's limits are known. So whatever holds over any steps of the
   -- streams holds over these.
   pub record FoldsStreams (is : List Input) (xs : List TraceStep) (s s' : View t) : Type 0 where
     pub steps : List Step
@@ -151,5 +155,5 @@ module _ {t : Types} where
     pub handed : AreMade is_came MakesFrame (given_to_streams (deeds_of xs)) steps s.lower.streams
     pub called : AreMade is_call MakesCall (with_steps is xs) steps s.lower.streams
     pub closed : AreMade is_closing MakesClose (lives_in (deeds_of xs)) steps s.lower.streams
-    pub told : AreMade is_asked MakesEvent (streams_told (events.events_of xs)) steps s.lower.streams
+    pub told : OnlyDoneWaits s.life → AreMade is_asked MakesEvent (streams_told (events.events_of xs)) steps s.lower.streams
     pub only : NoneOf is_other steps
