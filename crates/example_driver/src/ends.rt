@@ -160,6 +160,8 @@ fn word(event: &Event) -> &'static str {
     match event {
         Event::HandshakeDataReady => "knows what the handshake settles",
         Event::Connected => "is connected",
+        Event::DatagramReceived => "has got a datagram",
+        Event::Stream(_) => "has news of a stream",
         Event::ConnectionLost { .. } => "has lost the connection",
     }
 }

@@ -159,6 +159,8 @@ fn call(streams: &mut StreamsState, alloc: Global, input: &Input) -> Result<Answ
         Input::Datagram { .. }
         | Input::Timeout { .. }
         | Input::Transmit { .. }
+        | Input::SendDatagram { .. }
+        | Input::RecvDatagram { .. }
         | Input::Close { .. }
         | Input::Ping { .. } => Ok(Answer::Done),
     }

@@ -48,7 +48,7 @@ fn datagram_of(alloc: Global, step: &Step) -> Result<Option<Vec<u8>>, AllocError
             let bytes = Vec::from_slice(alloc, bytes.as_slice())?;
             Ok(Some(bytes))
         }
-        Answer::Done | Answer::Dropped | Answer::Nothing => Ok(None),
+        _ => Ok(None),
     }
 }
 
