@@ -1,6 +1,6 @@
 -- What holds of each view that was just made holds of a connection that was just made: of the bytes that its session wrote, the loss
--- timer, ACKs that are held back, and the CRYPTO streams.
-use Rattle.std.proofs.Common.{◌≡◌, ℕ, List, [], Bool, true, false, None, Some, sym, subst}
+-- timer, ACKs that are held back, the CRYPTO streams, and the streams of the application.
+use Rattle.std.proofs.Common.{◌≡◌, ℕ, List, [], Bool, true, false, None, Some, refl, sym, subst}
 use Rattle.rand_core.specs.Stream.{Stream}
 use Rattle.std.specs.declared.net.SocketAddr.{SocketAddr}
 use Rattle.qc_base.specs.declared.side.Side.TheVariants.{Client, Server}
@@ -14,6 +14,7 @@ use Rattle.qc_laws.specs.CryptoLaws.{CryptoKept}
 use Rattle.qc_state.specs.First.{first_path, first_view, just_made, server_view}
 use Rattle.qc_state.specs.Keys.{new_keys}
 use Rattle.qc_state.specs.Paths.{new_path, only_path}
+use Rattle.qc_laws.specs.ReadLaws.{HasNewStreams}
 use Rattle.qc_laws.specs.StreamLaws.{IsUnread}
 use Rattle.qc_laws.specs.TimerLaws.{TimerHolds}
 use Rattle.qc_state.specs.Types.{Types, Meaning}
@@ -83,3 +84,14 @@ module _ {t : Types} {R : Type 0} where
       ideal stream v ≡ server_view m session words fixed remote remote_cid validated transport congestion time → IsUnread (ideal stream v)
   server_streams stream m session words fixed remote remote_cid validated transport congestion time v is =
       subst (λ (s : View t). IsUnread s) (sym is) (server_view_holds (λ (s : View t). IsUnread s) (made_streams t) m session words fixed remote remote_cid validated transport congestion time)
+
+  -- the streams of the application are new
+  pub first_new : (stream : R → Stream) (m : Meaning t) (session : t.S) (words : Stream) (fixed : Fixed) (remote : SocketAddr) (first_cid token : List ℕ) (transport : TransportValues) (congestion : t.C) (time : ℕ) (v : Held t R) →
+      ideal stream v ≡ first_view m session words fixed remote first_cid token transport congestion time → HasNewStreams (ideal stream v)
+  first_new stream m session words fixed remote first_cid token transport congestion time v is =
+      subst (λ (s : View t). HasNewStreams s) (sym is) (client_view (λ (s : View t). HasNewStreams s) (λ keys session hello token words fixed paths transport time. (fixed.side, transport, refl)) m session words fixed remote first_cid token transport congestion time)
+
+  pub server_new : (stream : R → Stream) (m : Meaning t) (session : t.S) (words : Stream) (fixed : Fixed) (remote : SocketAddr) (remote_cid : List ℕ) (validated : Bool) (transport : TransportValues) (congestion : t.C) (time : ℕ) (v : Held t R) →
+      ideal stream v ≡ server_view m session words fixed remote remote_cid validated transport congestion time → HasNewStreams (ideal stream v)
+  server_new stream m session words fixed remote remote_cid validated transport congestion time v is =
+      subst (λ (s : View t). HasNewStreams s) (sym is) (server_view_holds (λ (s : View t). HasNewStreams s) (λ keys session hello token words fixed paths transport time. (fixed.side, transport, refl)) m session words fixed remote remote_cid validated transport congestion time)

@@ -8,37 +8,40 @@ use Rattle.qc_state.specs.declared.events.EndpointEvent.{EndpointEvent}
 use Rattle.qc_state.specs.declared.events.EndpointEvent.TheVariants as endpoint
 use Rattle.qc_state.specs.declared.life.Life.{Life}
 use Rattle.qc_state.specs.Life.{connected_event, drained_event, drained_reported, lost_event, notices_reported, ready_event}
-use Rattle.qc_state.specs.Moves.{ReportReady, ReportConnected, ReportStreams, ReportLost, ReportNotices, ReportDrained, keys_move, life_move, lower_move, numbers_move, paths_move, setup_move, state_move, timers_move, waiting_move}
+use Rattle.qc_state.specs.Moves.{ReportReady, ReportConnected, ReportAllHeard, ReportStreams, ReportLost, ReportNotices, ReportDrained, keys_move, life_move, lower_move, numbers_move, paths_move, setup_move, state_move, timers_move, waiting_move}
 use Rattle.qc_state.specs.Polls.{endpoint_events, first_endpoint_event, waiting_events}
 use Rattle.qc_state.specs.Streams.{events_of}
 use Rattle.qc_state.specs.Types.{Types}
 use Rattle.qc_state.specs.View.{View}
 use Rattle.qc_laws.proofs.Steps.{endpoint_wait, events_wait}
 
--- four lists behind one another
-joined : {A : Type 0} (e0 e1 e2 e3 e4 : List A) (x y u z : List A) → e0 ≡ [] → e1 ≡ e0 ++ x → e2 ≡ e1 ++ y → e3 ≡ e2 ++ u → e4 ≡ e3 ++ z → e4 ≡ x ++ (y ++ (u ++ z))
-joined {A} e0 e1 e2 e3 e4 x y u z h0 h1 h2 h3 h4 =
-    h4 ∙ ap (λ (l : List A). l ++ z) (h3 ∙ ap (λ (l : List A). l ++ u) (h2 ∙ ap (λ (l : List A). l ++ y) (h1 ∙ ap (λ (l : List A). l ++ x) h0)))
-    ∙ append_assoc (x ++ y) u z ∙ append_assoc x y (u ++ z)
+-- five lists behind one another
+joined : {A : Type 0} (e0 e1 e2 e3 e4 e5 : List A) (x y w u z : List A) → e0 ≡ [] → e1 ≡ e0 ++ x → e2 ≡ e1 ++ y → e3 ≡ e2 ++ w → e4 ≡ e3 ++ u → e5 ≡ e4 ++ z → e5 ≡ x ++ (y ++ (w ++ (u ++ z)))
+joined {A} e0 e1 e2 e3 e4 e5 x y w u z h0 h1 h2 h3 h4 h5 =
+    h5 ∙ ap (λ (l : List A). l ++ z) (h4 ∙ ap (λ (l : List A). l ++ u) (h3 ∙ ap (λ (l : List A). l ++ w) (h2 ∙ ap (λ (l : List A). l ++ y) (h1 ∙ ap (λ (l : List A). l ++ x) h0))))
+    ∙ append_assoc ((x ++ y) ++ w) u z ∙ append_assoc (x ++ y) w (u ++ z) ∙ append_assoc x y (w ++ (u ++ z))
 
 module _ {t : Types} where
   -- the events that waited, each behind the report of the one before
-  pub events_told : (s2 s3 s4 s5 : View t) (e0 e1 e2 e3 e4 : List Event) (x y z : Option Event) → e0 ≡ [] → x ≡ ready_event s2.life → s3 ≡ state_move ReportReady s2 → e1 ≡ e0 ++ option_to_list x →
-      y ≡ connected_event s3.life → s4 ≡ state_move ReportConnected s3 → e2 ≡ e1 ++ option_to_list y → e3 ≡ e2 ++ map Stream (events_of s4.lower.streams) → s5 ≡ state_move ReportStreams s4 →
-      z ≡ lost_event s5.life → e4 ≡ e3 ++ option_to_list z → e4 ≡ waiting_events s2
-  events_told s2 s3 s4 s5 e0 e1 e2 e3 e4 x y z h0 is_x is_s3 h1 is_y is_s4 h2 h3 is_s5 is_z h4 =
-      let streams : List Event = map Stream (events_of s4.lower.streams) in
-      joined e0 e1 e2 e3 e4 (option_to_list x) (option_to_list y) streams (option_to_list z) h0 h1 h2 h3 h4
-      ∙ ap (λ (o : Option Event). option_to_list o ++ (option_to_list y ++ (streams ++ option_to_list z))) is_x
-      ∙ ap (λ (o : Option Event). option_to_list (ready_event s2.life) ++ (option_to_list o ++ (streams ++ option_to_list z))) is_y
-      ∙ ap (λ (o : Option Event). option_to_list (ready_event s2.life) ++ (option_to_list (connected_event s3.life) ++ (streams ++ option_to_list o))) is_z
-      ∙ events_wait s2 s3 s4 s5 is_s3 is_s4 is_s5
+  pub events_told : (s2 s3 s4 s5 s6 : View t) (e0 e1 e2 e3 e4 e5 : List Event) (x y z : Option Event) → e0 ≡ [] → x ≡ ready_event s2.life → s3 ≡ state_move ReportReady s2 → e1 ≡ e0 ++ option_to_list x →
+      y ≡ connected_event s3.life → s4 ≡ state_move ReportConnected s3 → e2 ≡ e1 ++ option_to_list y → e3 ≡ e2 ++ s4.life.heard → s5 ≡ state_move ReportAllHeard s4 →
+      e4 ≡ e3 ++ map Stream (events_of s5.lower.streams) → s6 ≡ state_move ReportStreams s5 → z ≡ lost_event s6.life → e5 ≡ e4 ++ option_to_list z → e5 ≡ waiting_events s2
+  events_told s2 s3 s4 s5 s6 e0 e1 e2 e3 e4 e5 x y z h0 is_x is_s3 h1 is_y is_s4 h2 h3 is_s5 h4 is_s6 is_z h5 =
+      let heard : List Event = s4.life.heard in
+      let streams : List Event = map Stream (events_of s5.lower.streams) in
+      joined e0 e1 e2 e3 e4 e5 (option_to_list x) (option_to_list y) heard streams (option_to_list z) h0 h1 h2 h3 h4 h5
+      ∙ ap (λ (o : Option Event). option_to_list o ++ (option_to_list y ++ (heard ++ (streams ++ option_to_list z)))) is_x
+      ∙ ap (λ (o : Option Event). option_to_list (ready_event s2.life) ++ (option_to_list o ++ (heard ++ (streams ++ option_to_list z)))) is_y
+      ∙ ap (λ (o : Option Event). option_to_list (ready_event s2.life) ++ (option_to_list (connected_event s3.life) ++ (heard ++ (streams ++ option_to_list o)))) is_z
+      ∙ events_wait s2 s3 s4 s5 s6 is_s3 is_s4 is_s5 is_s6
 
-  -- the four reports, one after the other
-  pub reports_lead : (s2 s3 s4 s5 s6 : View t) → s3 ≡ state_move ReportReady s2 → s4 ≡ state_move ReportConnected s3 → s5 ≡ state_move ReportStreams s4 → s6 ≡ state_move ReportLost s5 →
-      s6 ≡ state_move ReportLost (state_move ReportStreams (state_move ReportConnected (state_move ReportReady s2)))
-  reports_lead s2 s3 s4 s5 s6 is_s3 is_s4 is_s5 is_s6 =
-      is_s6 ∙ ap (λ (v : View t). state_move ReportLost v) (is_s5 ∙ ap (λ (v : View t). state_move ReportStreams v) (is_s4 ∙ ap (λ (v : View t). state_move ReportConnected v) is_s3))
+  -- the five reports, one after the other
+  pub reports_lead : (s2 s3 s4 s5 s6 s7 : View t) → s3 ≡ state_move ReportReady s2 → s4 ≡ state_move ReportConnected s3 → s5 ≡ state_move ReportAllHeard s4 → s6 ≡ state_move ReportStreams s5 → s7 ≡ state_move ReportLost s6 →
+      s7 ≡ state_move ReportLost (state_move ReportStreams (state_move ReportAllHeard (state_move ReportConnected (state_move ReportReady s2))))
+  reports_lead s2 s3 s4 s5 s6 s7 is_s3 is_s4 is_s5 is_s6 is_s7 =
+      is_s7
+      ∙ ap (λ (v : View t). state_move ReportLost v)
+      (is_s6 ∙ ap (λ (v : View t). state_move ReportStreams v) (is_s5 ∙ ap (λ (v : View t). state_move ReportAllHeard v) (is_s4 ∙ ap (λ (v : View t). state_move ReportConnected v) is_s3)))
 
   -- the same of what the endpoint is told
   pub endpoint_told : (s5 s6 : View t) (e0 e1 : List EndpointEvent) (z : Option EndpointEvent) → e0 ≡ s5.life.notices → s6 ≡ state_move ReportNotices s5 →

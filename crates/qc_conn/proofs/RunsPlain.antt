@@ -18,6 +18,10 @@ use Rattle.qc_frame.specs.FrameSpelling.{spelling, frames_spelling}
 use Rattle.qc_frame.specs.Sizes.{IsLongestReason}
 use Rattle.qc_frame.specs.declared.frames.FrameOf.TheVariants as frames
 use Rattle.qc_frame.proofs.Lengths.{length-application_close}
+use Rattle.qc_datagrams.specs.Datagrams.{send_refusal}
+use Rattle.qc_datagrams.specs.Steps as datagrams
+use Rattle.qc_datagrams.specs.declared.datagrams.SendRefusal.{SendRefusal}
+use Rattle.qc_datagrams.specs.declared.datagrams.SendRefusal.TheVariants as send
 use Rattle.qc_recv.specs.declared.recv.Chunk.{Chunk}
 use Rattle.qc_recovery.specs.TransportValues.{TransportValues}
 use Rattle.qc_recovery.specs.declared.calls.Fired.{Fired}
@@ -57,14 +61,15 @@ use Rattle.qc_state.specs.declared.trace.Step.{Step}
 use Rattle.qc_state.specs.declared.trace.Answer.TheVariants as answer
 use Rattle.qc_state.specs.declared.waiting.SpaceWaiting.{SpaceWaiting}
 use Rattle.qc_state.specs.declared.waiting.Waiting.{Waiting}
-use Rattle.qc_state.specs.Life.{is_closed, is_open, data_ready, drained_event, identifiers_wanted, life_closed, life_drained, life_established, life_raised, reason_given, token_learned, notices_reported, drained_reported, lost_reported, connected_reported, ready_reported}
-use Rattle.qc_state.specs.Moves.{Move, Take, Seal, Forget, Raise, Say, Give, Enter, Fail, Accept, Fix, Hear, Ack, Fire, Arm, Pace, Release, Begin, Skip, Come, Read, Write, Ready, Learn, Establish, Tell, PeerClosesToo, PeerCloses, Owe, Shut, Hand, Call, IsTold, MayMove, told, state_move, move_to, deeds_move, life_move, paths_move, waiting_move, keys_move, Expect, Confirm, Token, Want, Finish}
+use Rattle.qc_state.specs.Life.{is_closed, is_open, data_ready, datagram_heard, drained_event, identifiers_wanted, life_closed, life_drained, life_established, life_raised, reason_given, token_learned, notices_reported, drained_reported, lost_reported, connected_reported, ready_reported}
+use Rattle.qc_state.specs.Moves.{Move, Take, Seal, Forget, Raise, Say, Give, Enter, Fail, Accept, Fix, Hear, Ack, Fire, Arm, Pace, Release, Begin, Skip, Come, Read, Write, Ready, Learn, Establish, Tell, PeerClosesToo, PeerCloses, Owe, Shut, Hand, Call, Post, IsTold, MayMove, told, state_move, move_to, deeds_move, life_move, paths_move, waiting_move, keys_move, Expect, Confirm, Token, Want, Finish}
+use Rattle.qc_state.specs.Datagrams.{sent_answer, taken_answer, tells_datagram}
 use Rattle.qc_state.specs.Forms.{is_early, number_space}
 use Rattle.qc_state.specs.Keys.{epoch_in}
 use Rattle.qc_state.specs.Numbers.{next_number, received_number}
 use Rattle.qc_state.specs.Paths.{path_idle, path_kept, path_sent, path_received, peer_fixed, path_accepted, path_spun, new_path, only_path}
 use Rattle.qc_state.specs.Receiving.{datagram_after, is_taken}
-use Rattle.qc_state.specs.Run.{time_of, began, close_after, called_all, input_after, called, reported, step_after, IsAllowed, out_of, answer_of, IsStep, Run, Ran}
+use Rattle.qc_state.specs.Run.{time_of, began, close_after, called_all, datagram_limit, input_after, called, reported, step_after, IsAllowed, out_of, answer_of, IsStep, Run, Ran}
 use Rattle.qc_state.specs.Sending.{told_code, told_type, told_application_code, told_close, close_frame, closing_frame, IsKeptReason, Closes, padded, padding_of, packet_size, Carries, transmit_after, MayTransmit, transmit_bytes, transmit_of, transmit_with, Choice, Ending, Went, Hushed, Died, sent_out, gone_after}
 use Rattle.qc_state.specs.Spaces.{space_of, with_space, is_space}
 use Rattle.qc_state.specs.Streams.{calls_of, closed_answer, count_written, finish_answer, is_given_to_streams, read_answer, write_answer}
@@ -364,6 +369,17 @@ closed_plain : (refused : Bool) → IsAnswerPlain (closed_answer refused)
 closed_plain true = tt
 closed_plain false = tt
 
+sent_plain : (refusal : Option SendRefusal) → IsAnswerPlain (sent_answer refusal)
+sent_plain None = tt
+sent_plain (Some send.Disabled) = tt
+sent_plain (Some send.UnsupportedByPeer) = tt
+sent_plain (Some send.TooLarge) = tt
+sent_plain (Some send.Blocked) = tt
+
+taken_plain : (waiting : List (List ℕ)) → IsAnswerPlain (taken_answer waiting)
+taken_plain [] = tt
+taken_plain (d ∷ ds) = tt
+
 read_plain : (read : Result (Option Chunk) ReadFault) → IsAnswerPlain (read_answer read)
 read_plain (Ok (Some chunk)) = tt
 read_plain (Ok None) = tt
@@ -400,6 +416,12 @@ given_notices v why = by_test (is_none v.reason)
     by_test : (b : Bool) → (if b then record v { reason = Some why; lost = Some why } else v).notices ≡ v.notices
     by_test true = refl
     by_test false = refl
+
+-- nor does what is heard of datagrams change it
+heard_notices : (tells : Bool) (v : Life) → (datagram_heard tells v).notices ≡ v.notices
+unfolding datagram_heard
+heard_notices true v = refl
+heard_notices false v = refl
 
 -- one more that leaves nothing out
 one_notice : (es : List EndpointEvent) (e : EndpointEvent) → IsEndpointPlain e → All IsEndpointPlain es → All IsEndpointPlain (es ++ e ∷ [])
@@ -482,7 +504,7 @@ module _ {t : Types} where
   keeps_move Confirm r a h = record { deeds = λ b p. p; crypto = set_below a.state.waiting «Data» (record (space_of a.state.waiting.spaces «Data») { done = true }) (λ p. p); path = refl; notices = λ p k. k }
   keeps_move Establish r a h = record { deeds = λ b. one_more a.did _ tt; crypto = λ p. p; path = refl; notices = λ p k. k }
   keeps_move (Tell d) r a h = record { deeds = λ b. one_more a.did d (told_plain d h); crypto = λ p. p; path = refl; notices = λ p k. k }
-  keeps_move (Hand frame) r a h = record { deeds = λ b. handed_plain a.did frame (is_given_to_streams frame); crypto = λ p. p; path = refl; notices = λ p k. k }
+  keeps_move (Hand frame) r a h = record { deeds = λ b. handed_plain a.did frame (is_given_to_streams frame); crypto = λ p. p; path = refl; notices = λ p k. same_notices a.state.life (datagram_heard (tells_datagram frame a.state.lower.datagrams) a.state.life) (heard_notices (tells_datagram frame a.state.lower.datagrams) a.state.life) k }
   keeps_move PeerClosesToo r a h = record { deeds = λ b. one_more a.did _ tt; crypto = λ p. p; path = refl; notices = λ p k. k }
   keeps_move (PeerCloses time) r a h = record { deeds = λ b. one_more a.did _ tt; crypto = λ p. p; path = refl; notices = λ p k. k }
   keeps_move Owe r a h = record { deeds = λ b p. p; crypto = begun_below a.state.waiting a.state.waiting.close_owed; path = refl; notices = λ p k. k }
@@ -554,6 +576,11 @@ module _ {t : Types} where
   keeps_calls [] a = keeps_here a
   keeps_calls (x ∷ xs) a = keeps_next a (move_to (Call x) a) (called_all xs (move_to (Call x) a)) (keeps_call x a) (keeps_calls xs (move_to (Call x) a))
 
+  -- a datagram of the application is sent or taken
+  keeps_post : (x : datagrams.Step) (a : At t) → Keeps a (move_to (Post x) a)
+  unfolding move_to state_move deeds_move waiting_move paths_move life_move
+  keeps_post x a = record { deeds = λ b p. p; crypto = λ p. p; path = refl; notices = λ p k. k }
+
   -- what an input does
   keeps_input : (m : Meaning t) (i : Input) (choice : Choice) (a : At t) → IsAllowed m i choice a → Keeps a (input_after m i choice a)
   unfolding IsAllowed input_after close_after move_to state_move deeds_move waiting_move ping_asked paths_move life_move
@@ -567,6 +594,8 @@ module _ {t : Types} where
   keeps_input m (input.ResetSend time id code) choice a may = keeps_calls (calls_of (input.ResetSend time id code) choice.read a.state.lower.streams) a
   keeps_input m (input.StopRecv time id code) choice a may = keeps_calls (calls_of (input.StopRecv time id code) choice.read a.state.lower.streams) a
   keeps_input m (input.Read time id max) choice a may = keeps_calls (calls_of (input.Read time id max) choice.read a.state.lower.streams) a
+  keeps_input m (input.SendDatagram time body) choice a may = keeps_post (datagrams.Sent (datagram_limit a.state) body) a
+  keeps_input m (input.RecvDatagram time) choice a may = keeps_post datagrams.Taken a
   keeps_input m (input.Close time code reason) choice a may = keeps_closed time _ a (is_open a.state.life.state)
   keeps_input m (input.Ping time) choice a may = record { deeds = λ b p. p; crypto = set_below a.state.waiting a.state.keys.highest _ (λ p. p); path = refl; notices = λ p k. k }
   keeps_input m (input.MaxStreams time dir count) choice a may = keeps_calls (calls_of (input.MaxStreams time dir count) choice.read a.state.lower.streams) a
@@ -592,6 +621,8 @@ module _ {t : Types} where
   answer_plain m (input.ResetSend time id code) choice a h = closed_plain (bars_reset (known_at id a.state.lower.streams))
   answer_plain m (input.StopRecv time id code) choice a h = closed_plain (closed_to (receiving_at id a.state.lower.streams))
   answer_plain m (input.Read time id max) choice a h = read_plain choice.read
+  answer_plain m (input.SendDatagram time body) choice a h = sent_plain (send_refusal (datagram_limit a.state) true body a.state.lower.datagrams)
+  answer_plain m (input.RecvDatagram time) choice a h = taken_plain a.state.lower.datagrams.incoming
   answer_plain m (input.Close time code reason) choice a h = tt
   answer_plain m (input.Ping time) choice a h = tt
   answer_plain m (input.MaxStreams time dir count) choice a h = tt

@@ -6,7 +6,7 @@ use Rattle.qc_conn.specs.declared.driving.BadWhy.TheVariants.{ZeroDatagrams, Dir
 use Rattle.qc_conn.specs.declared.driving.DriveKind.{DriveKind}
 use Rattle.qc_conn.specs.declared.driving.DriveKind.TheVariants.{OutOfMemory, TimeBack, BadCall, Failed}
 use Rattle.qc_state.specs.declared.input.Input.{Input}
-use Rattle.qc_state.specs.declared.input.Input.TheVariants.{Datagram, Timeout, Transmit, Open, Accept, Write, Finish, ResetSend, StopRecv, Read, Close, Ping, MaxStreams, SendWindow, ReceiveWindow}
+use Rattle.qc_state.specs.declared.input.Input.TheVariants.{Datagram, Timeout, Transmit, Open, Accept, Write, Finish, ResetSend, StopRecv, Read, SendDatagram, RecvDatagram, Close, Ping, MaxStreams, SendWindow, ReceiveWindow}
 use Rattle.qc_state.specs.declared.trace.Step.{Step}
 use Rattle.qc_state.specs.Run.{time_of, IsStep}
 use Rattle.qc_state.specs.Streams.{sends_on, receives_on}
@@ -31,6 +31,8 @@ module _ {t : Types} where
   bad_call s (ResetSend time id code) = bad_direction (sends_on s.setup.fixed.side id) id
   bad_call s (StopRecv time id code) = bad_direction (receives_on s.setup.fixed.side id) id
   bad_call s (Read time id max) = bad_direction (receives_on s.setup.fixed.side id) id
+  bad_call s (SendDatagram time body) = None
+  bad_call s (RecvDatagram time) = None
   bad_call s (Close time code reason) = None
   bad_call s (Ping time) = None
   bad_call s (MaxStreams time dir count) = None

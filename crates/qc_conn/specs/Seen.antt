@@ -1,11 +1,16 @@
 -- What contracts see of a connection, and what its calls do.
-use Rattle.std.specs.Prelude.{ℕ, ◌+◌, min, Bool, List, Option}
+use Rattle.std.specs.Prelude.{◌≡◌, ℕ, ◌+◌, ◌<◌, ◌^◌, min, Bool, List, Option}
+use Rattle.qc_base.specs.declared.side.Side.{Side}
+use Rattle.qc_recovery.specs.TransportValues.{TransportValues}
 use Rattle.qc_state.specs.declared.deeds.Did.{Did}
 use Rattle.qc_state.specs.declared.transmit.Transmit.{Transmit}
+use Rattle.qc_state.specs.First.{first_streams}
 use Rattle.qc_state.specs.Run.{began}
 use Rattle.qc_state.specs.Sending.{Transmits}
 use Rattle.qc_state.specs.Types.{Types, Meaning}
 use Rattle.qc_state.specs.View.{View, Held, at}
+use Rattle.qc_streams.specs.declared.state.StreamsState.{StreamsState}
+use Rattle.qc_streams.specs.Within.{StaysWithin}
 
 -- the state, the mark that a call met want of memory, and how many steps `drive` has given of it, as far as its type counts
 pub record Seen (t : Types) (R : Type 0) : Type 0 where
@@ -21,3 +26,7 @@ counted before steps = min (before + steps) 18446744073709551615
 pub record Sends {t : Types} (m : Meaning t) (time : ℕ) (s s' : View t) (sent : Option Transmit) (buffer : List ℕ) : Type 0 where
   pub deeds : List Did
   pub transmits : Transmits m time (began s time) (at s' deeds) sent buffer
+
+-- flow control is kept by what became of streams that were new, with windows of 64 bits (RFC 9000, sections 4.1 and 4.6)
+unfoldable pub KeepsCredit : (s s' : StreamsState) → Type 0
+KeepsCredit s s' = (side : Side) (transport : TransportValues) → s ≡ first_streams side transport → transport.receive_window < 2 ^ 64 → transport.stream_receive_window < 2 ^ 64 → StaysWithin s'

@@ -4,7 +4,7 @@ ghost use Rattle.std.specs.Prelude.{◌≡◌, ◌≢◌, ◌≤◌, ◌<◌, �
 ghost use Rattle.std.specs.List.{All};
 ghost use Rattle.qc_text.specs.OneText.{IsPlain, IsPlainStart};
 ghost use Rattle.qc_conn.specs.Refusal.{bad_call, bad_direction, refusal_of, NamesInput, RefusedAt, TakesAll};
-ghost use Rattle.qc_conn.specs.Seen.{counted};
+ghost use Rattle.qc_conn.specs.Seen.{KeepsCredit, counted};
 ghost use Rattle.qc_base.specs.declared.side.SpaceId.{SpaceId};
 ghost use Rattle.qc_laws.specs.AckLaws.{AckHolds, EachHoldsAck};
 ghost use Rattle.qc_laws.specs.CryptoLaws.{KeepsBytes};
@@ -16,6 +16,7 @@ ghost use Rattle.qc_laws.specs.KeyLaws.{KeysHold};
 ghost use Rattle.qc_laws.specs.MarkLaws.{EachTold};
 ghost use Rattle.qc_laws.specs.PathLaws.{IdsHold, PathHolds, all_from};
 ghost use Rattle.qc_state.specs.Headline.{deeds_of, EachRises, EachAdmitted, EachAcksKnown, Harmless, LifeRises, OnlyCloses, LosesOnce};
+ghost use Rattle.qc_laws.specs.ReadLaws.{HasNewStreams, ReadsTrace};
 ghost use Rattle.qc_laws.specs.RecoveryLaws.{EachSettlesOnce, Recovers};
 ghost use Rattle.qc_state.specs.Run.{time_of, Adds, Run, Ran};
 ghost use Rattle.qc_laws.specs.StreamLaws.{GivesStream};
@@ -146,6 +147,8 @@ fn bad_call<U: Suite>(connection: &Connection<U>, input: &Input) -> Option<BadWh
         | Input::Accept { .. }
         | Input::Close { .. }
         | Input::Ping { .. }
+        | Input::SendDatagram { .. }
+        | Input::RecvDatagram { .. }
         | Input::MaxStreams { .. }
         | Input::SendWindow { .. }
         | Input::ReceiveWindow { .. } => None,
@@ -281,6 +284,10 @@ pub fn drive<U: Suite, G: TokenStore>(
     // The streams of the application are what their own steps leave: each may be made as its turn comes, those of frames are the ones of the
     // frames that were given to them, and those of calls the ones of the inputs, which answer so.
     ensures folded { IfOk result (λ trace. FoldsStreams inputs.now trace (ideal U.Random.stream connection.old.core) (ideal U.Random.stream connection.new.core)) }
+
+    // Where they were new, what was read of each are the first bytes that came on it, each once, and flow control is kept.
+    ensures reads { HasNewStreams (ideal U.Random.stream connection.old.core) → IfOk result (λ trace. ReadsTrace inputs.now trace) }
+    ensures credit { OnOk result (KeepsCredit connection.old.core.lower.streams connection.new.core.lower.streams) }
 
     // An ACK of 1-RTT packets is held back for 25 ms at most, or until an ACK is sealed.
     ensures held { AckHolds (ideal U.Random.stream connection.old.core) → IfOk result (λ trace. EachHoldsAck ⟦<U as Means>⟧.meaning 0 (ideal U.Random.stream connection.old.core) inputs.now trace (ideal U.Random.stream connection.new.core)) }

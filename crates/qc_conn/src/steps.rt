@@ -7,7 +7,7 @@ ghost use Rattle.qc_receive.specs.Cutting.{rest_of};
 ghost use Rattle.qc_receive.specs.Events.{LeavesBytes, handed_after, time_of_event};
 ghost use Rattle.qc_receive.specs.FirstPacket.{first_reason, size_of};
 ghost use Rattle.qc_state.specs.Life.{is_drained};
-ghost use Rattle.qc_state.specs.Moves.{ReportReady, ReportConnected, ReportStreams, ReportLost, ReportNotices, ReportDrained, state_move};
+ghost use Rattle.qc_state.specs.Moves.{ReportReady, ReportConnected, ReportAllHeard, ReportStreams, ReportLost, ReportNotices, ReportDrained, state_move};
 ghost use Rattle.qc_state.specs.Polls.{endpoint_events, waiting_events};
 ghost use Rattle.qc_state.specs.Receiving.{datagram_after, first_packet_after, is_taken};
 ghost use Rattle.qc_state.specs.Setup.{is_first_awaited};
@@ -250,6 +250,37 @@ fn datagram_call<U: Suite>(
     Ok(Answer::Dropped)
 }
 
+/// A datagram of the application is sent at `now`.
+fn send_call<U: Suite>(
+    core: &mut Core<U>,
+    alloc: Global,
+    now: Instant,
+    body: &Body,
+    did: &Dids,
+) -> Result<Answer, AllocError>
+    requires { did.now ≡ [] }
+    ensures { IfOk result (λ answer. Calls ⟦<U as Means>⟧.meaning (ideal U.Random.stream core.old) (Input.SendDatagram now body.now) (held U.Random.stream core.new did.now) answer) }
+{
+    core.clock(now);
+    let answer = core.send_datagram(alloc, body)?;
+    Ok(answer)
+}
+
+/// The application takes a datagram that came, at `now`.
+fn recv_call<U: Suite>(
+    core: &mut Core<U>,
+    alloc: Global,
+    now: Instant,
+    did: &Dids,
+) -> Result<Answer, AllocError>
+    requires { did.now ≡ [] }
+    ensures { IfOk result (λ answer. Calls ⟦<U as Means>⟧.meaning (ideal U.Random.stream core.old) (Input.RecvDatagram now) (held U.Random.stream core.new did.now) answer) }
+{
+    core.clock(now);
+    let answer = core.recv_datagram(alloc)?;
+    Ok(answer)
+}
+
 /// A call on the streams.
 fn stream_call<U: Suite>(
     core: &mut Core<U>,
@@ -293,6 +324,8 @@ fn call<U: Suite>(
         ),
         Input::Close { now, code, reason } => close_call(core, alloc, *now, *code, reason, did),
         Input::Ping { now } => Ok(ping_call(core, *now, did)),
+        Input::SendDatagram { now, body } => send_call(core, alloc, *now, body, did),
+        Input::RecvDatagram { now } => recv_call(core, alloc, *now, did),
         Input::Open { .. }
         | Input::Accept { .. }
         | Input::Write { .. }
@@ -316,6 +349,7 @@ fn report_next(event: Option<Event>, events: &mut Events) -> Result<(), AllocErr
             Event::HandshakeDataReady => events.push_ready(),
             Event::Connected => events.push_connected(),
             Event::ConnectionLost { reason } => events.push_lost(reason),
+            Event::DatagramReceived => events.push_datagram(),
             Event::Stream(event) => events.push_stream(event),
         },
     }
@@ -324,11 +358,12 @@ fn report_next(event: Option<Event>, events: &mut Events) -> Result<(), AllocErr
 /// What waits to be reported to the application, one after the other.
 fn report_events<U: Suite>(core: &mut Core<U>, alloc: Global) -> Result<Events, AllocError>
     ensures events { IfOk result (λ events. events ≡ waiting_events (ideal U.Random.stream core.old)) }
-    ensures leads { OnOk result ((ideal U.Random.stream core.new) ≡ state_move ReportLost (state_move ReportStreams (state_move ReportConnected (state_move ReportReady (ideal U.Random.stream core.old))))) }
+    ensures leads { OnOk result ((ideal U.Random.stream core.new) ≡ state_move ReportLost (state_move ReportStreams (state_move ReportAllHeard (state_move ReportConnected (state_move ReportReady (ideal U.Random.stream core.old)))))) }
 {
     let mut events = Events::new(alloc);
     report_next(core.poll_ready(), &mut events)?;
     report_next(core.poll_connected(), &mut events)?;
+    core.take_heard_events(&mut events)?;
     core.take_stream_events(&mut events)?;
     report_next(core.poll_lost(), &mut events)?;
     Ok(events)
@@ -377,6 +412,8 @@ fn word(input: &Input) -> Word
         Input::ResetSend { .. } => Word::ResetSend,
         Input::StopRecv { .. } => Word::StopRecv,
         Input::Read { .. } => Word::Read,
+        Input::SendDatagram { .. } => Word::SendDatagram,
+        Input::RecvDatagram { .. } => Word::RecvDatagram,
         Input::Close { .. } => Word::Close,
         Input::Ping { .. } => Word::Ping,
         Input::MaxStreams { .. } => Word::MaxStreams,
@@ -400,6 +437,8 @@ pub(crate) fn time(input: &Input) -> Instant
         Input::ResetSend { now, .. } => *now,
         Input::StopRecv { now, .. } => *now,
         Input::Read { now, .. } => *now,
+        Input::SendDatagram { now, .. } => *now,
+        Input::RecvDatagram { now } => *now,
         Input::Close { now, .. } => *now,
         Input::Ping { now } => *now,
         Input::MaxStreams { now, .. } => *now,

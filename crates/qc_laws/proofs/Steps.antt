@@ -1,7 +1,9 @@
 -- From a call and the reports after it to a step.
-use Rattle.std.proofs.Common.{◌≡◌, ℕ, ◌+◌, ◌≤◌, List, [], ◌∷◌, ◌++◌, length, take, get_or, ◌<◌, refl, ap, sym, ◌∙◌, subst, Bool, Option, Result, Err, if◌then◌else◌, arith, length-append}
+use Rattle.std.proofs.Common.{◌≡◌, ℕ, ◌+◌, ◌≤◌, List, [], ◌∷◌, ◌++◌, length, take, get_or, ◌<◌, refl, ap, sym, ◌∙◌, subst, Bool, true, Option, Result, Err, if◌then◌else◌, arith, length-append}
 use Rattle.std.proofs.lemmas.List.{take_more}
 use Rattle.std.specs.Prelude.{map, option_to_list}
+use Rattle.qc_datagrams.specs.Datagrams.{send_refusal}
+use Rattle.qc_datagrams.specs.Steps as datagrams
 use Rattle.qc_recv.specs.declared.recv.Chunk.{Chunk}
 use Rattle.qc_state.specs.declared.coming.Coming.{Coming}
 use Rattle.qc_state.specs.declared.deeds.Did.{Did}
@@ -14,10 +16,11 @@ use Rattle.qc_state.specs.declared.trace.Answer.{Answer}
 use Rattle.qc_state.specs.declared.trace.Answer.TheVariants.{Done, Dropped}
 use Rattle.qc_state.specs.declared.trace.Step.{Step}
 use Rattle.qc_state.specs.declared.transmit.Transmit.{Transmit}
-use Rattle.qc_state.specs.Life.{ready_event, connected_event, lost_event, ready_reported, connected_reported, lost_reported, drained_event, notices_reported}
-use Rattle.qc_state.specs.Moves.{Ask, Call, Clock, ReportReady, ReportConnected, ReportStreams, ReportLost, ReportNotices, ReportDrained, state_move, move_to, deeds_move, life_move, lower_move}
+use Rattle.qc_state.specs.Datagrams.{sent_answer, taken_answer}
+use Rattle.qc_state.specs.Life.{all_heard_reported, ready_event, connected_event, lost_event, ready_reported, connected_reported, lost_reported, drained_event, notices_reported}
+use Rattle.qc_state.specs.Moves.{Ask, Call, Clock, Post, ReportReady, ReportConnected, ReportAllHeard, ReportStreams, ReportLost, ReportNotices, ReportDrained, state_move, move_to, deeds_move, life_move, lower_move}
 use Rattle.qc_state.specs.Polls.{waiting_events, endpoint_events}
-use Rattle.qc_state.specs.Run.{time_of, word_of, began, close_after, called_all, input_after, called, reported, step_after, IsAllowed, out_of, answer_of, IsStep, Run, Calls, Ran, Adds}
+use Rattle.qc_state.specs.Run.{time_of, word_of, began, close_after, called_all, datagram_limit, input_after, called, reported, step_after, IsAllowed, out_of, answer_of, IsStep, Run, Calls, Ran, Adds}
 use Rattle.qc_state.specs.Receiving.{is_taken, datagram_after}
 use Rattle.qc_state.specs.Sending.{transmit_of, Transmits, Choice, Went}
 use Rattle.qc_state.specs.Streams.{MayRead, call_answer, calls_of, events_of}
@@ -67,6 +70,27 @@ module _ {t : Types} where
     leads = ap (λ (x : List Did). at b x) is_ds ∙ ap (λ (x : View t). at x []) (is_b ∙ ap (λ (x : View t). state_move (Ask x.keys.highest) x) is_mid);
     allowed = tt;
     answers = e;
+  }
+
+  -- a datagram of the application is sent, and one is taken
+  pub calls_send : (m : Meaning t) (s mid : View t) (time : ℕ) (body : List ℕ) (b : View t) (ds : List Did) (answer : Answer) → mid ≡ state_move (Clock time) s → b ≡ state_move (Post (datagrams.Sent (datagram_limit mid) body)) mid → ds ≡ [] →
+      answer ≡ sent_answer (send_refusal (datagram_limit mid) true body mid.lower.datagrams) → Calls m s (input.SendDatagram time body) (at b ds) answer
+  unfolding began input_after called IsAllowed answer_of move_to deeds_move
+  calls_send m s mid time body b ds answer is_mid is_b is_ds e = record {
+    choice = unread;
+    leads = ap (λ (x : List Did). at b x) is_ds ∙ ap (λ (x : View t). at x []) (is_b ∙ ap (λ (x : View t). state_move (Post (datagrams.Sent (datagram_limit x) body)) x) is_mid);
+    allowed = tt;
+    answers = e ∙ ap (λ (x : View t). sent_answer (send_refusal (datagram_limit x) true body x.lower.datagrams)) is_mid;
+  }
+
+  pub calls_recv : (m : Meaning t) (s mid : View t) (time : ℕ) (b : View t) (ds : List Did) (answer : Answer) → mid ≡ state_move (Clock time) s → b ≡ state_move (Post datagrams.Taken) mid → ds ≡ [] →
+      answer ≡ taken_answer mid.lower.datagrams.incoming → Calls m s (input.RecvDatagram time) (at b ds) answer
+  unfolding began input_after called IsAllowed answer_of move_to deeds_move
+  calls_recv m s mid time b ds answer is_mid is_b is_ds e = record {
+    choice = unread;
+    leads = ap (λ (x : List Did). at b x) is_ds ∙ ap (λ (x : View t). at x []) (is_b ∙ ap (λ (x : View t). state_move (Post datagrams.Taken) x) is_mid);
+    allowed = tt;
+    answers = e ∙ ap (λ (x : View t). taken_answer x.lower.datagrams.incoming) is_mid;
   }
 
   pub calls_close : (m : Meaning t) (s mid : View t) (time code : ℕ) (reason copy : List ℕ) (ds : List Did) (b : At t) (answer : Answer) →
@@ -122,19 +146,24 @@ module _ {t : Types} where
   unfolding connected_event state_move life_move ready_reported
   same_connected s = refl
 
-  -- so it is with the events of the streams
-  same_streams : (s : View t) → events_of (state_move ReportConnected (state_move ReportReady s)).lower.streams ≡ events_of s.lower.streams
+  -- so it is with the events of datagrams
+  same_heard : (s : View t) → (state_move ReportConnected (state_move ReportReady s)).life.heard ≡ s.life.heard
+  unfolding state_move life_move ready_reported connected_reported
+  same_heard s = refl
+
+  -- with those of the streams
+  same_streams : (s : View t) → events_of (state_move ReportAllHeard (state_move ReportConnected (state_move ReportReady s))).lower.streams ≡ events_of s.lower.streams
   unfolding state_move lower_move
   same_streams s = refl
 
   -- with the reason of the end
-  same_lost : (s : View t) → lost_event (state_move ReportStreams (state_move ReportConnected (state_move ReportReady s))).life ≡ lost_event s.life
-  unfolding lost_event state_move life_move ready_reported connected_reported
+  same_lost : (s : View t) → lost_event (state_move ReportStreams (state_move ReportAllHeard (state_move ReportConnected (state_move ReportReady s)))).life ≡ lost_event s.life
+  unfolding lost_event state_move life_move ready_reported connected_reported all_heard_reported
   same_lost s = refl
 
   -- and with all that waits for the endpoint
-  same_end : (s : View t) → endpoint_events (state_move ReportLost (state_move ReportStreams (state_move ReportConnected (state_move ReportReady s)))) ≡ endpoint_events s
-  unfolding endpoint_events drained_event state_move life_move ready_reported connected_reported lost_reported
+  same_end : (s : View t) → endpoint_events (state_move ReportLost (state_move ReportStreams (state_move ReportAllHeard (state_move ReportConnected (state_move ReportReady s))))) ≡ endpoint_events s
+  unfolding endpoint_events drained_event state_move life_move ready_reported connected_reported all_heard_reported lost_reported
   same_end s = refl
 
   -- reporting what waits before the end leaves the end
@@ -201,18 +230,22 @@ module _ {t : Types} where
       subst (λ (a : At t). Transmits m time a b sent buffer) (ap (λ (x : List Did). at mid x) is_ds ∙ ap (λ (x : View t). at x []) is_mid) h
 
   -- what is reported, one after the other, is all that waited
-  pub events_wait : (s2 s3 s4 s5 : View t) → s3 ≡ state_move ReportReady s2 → s4 ≡ state_move ReportConnected s3 → s5 ≡ state_move ReportStreams s4 →
-      option_to_list (ready_event s2.life) ++ (option_to_list (connected_event s3.life) ++ (map Stream (events_of s4.lower.streams) ++ option_to_list (lost_event s5.life))) ≡ waiting_events s2
+  pub events_wait : (s2 s3 s4 s5 s6 : View t) → s3 ≡ state_move ReportReady s2 → s4 ≡ state_move ReportConnected s3 → s5 ≡ state_move ReportAllHeard s4 → s6 ≡ state_move ReportStreams s5 →
+      option_to_list (ready_event s2.life) ++ (option_to_list (connected_event s3.life) ++ (s4.life.heard ++ (map Stream (events_of s5.lower.streams) ++ option_to_list (lost_event s6.life)))) ≡ waiting_events s2
   unfolding waiting_events
-  events_wait s2 s3 s4 s5 is_s3 is_s4 is_s5 =
+  events_wait s2 s3 s4 s5 s6 is_s3 is_s4 is_s5 is_s6 =
       let e4 : s4 ≡ state_move ReportConnected (state_move ReportReady s2) = is_s4 ∙ ap (λ (v : View t). state_move ReportConnected v) is_s3 in
-      let e5 : s5 ≡ state_move ReportStreams (state_move ReportConnected (state_move ReportReady s2)) = is_s5 ∙ ap (λ (v : View t). state_move ReportStreams v) e4 in
+      let e5 : s5 ≡ state_move ReportAllHeard (state_move ReportConnected (state_move ReportReady s2)) = is_s5 ∙ ap (λ (v : View t). state_move ReportAllHeard v) e4 in
+      let e6 : s6 ≡ state_move ReportStreams (state_move ReportAllHeard (state_move ReportConnected (state_move ReportReady s2))) = is_s6 ∙ ap (λ (v : View t). state_move ReportStreams v) e5 in
       let connected : connected_event s3.life ≡ connected_event s2.life = ap (λ (v : View t). connected_event v.life) is_s3 ∙ same_connected s2 in
-      let streams : events_of s4.lower.streams ≡ events_of s2.lower.streams = ap (λ (v : View t). events_of v.lower.streams) e4 ∙ same_streams s2 in
-      let lost : lost_event s5.life ≡ lost_event s2.life = ap (λ (v : View t). lost_event v.life) e5 ∙ same_lost s2 in
-      ap (λ (o : Option Event). option_to_list (ready_event s2.life) ++ (option_to_list o ++ (map Stream (events_of s4.lower.streams) ++ option_to_list (lost_event s5.life)))) connected
-      ∙ ap (λ (es : List StreamEvent). option_to_list (ready_event s2.life) ++ (option_to_list (connected_event s2.life) ++ (map Stream es ++ option_to_list (lost_event s5.life)))) streams
-      ∙ ap (λ (o : Option Event). option_to_list (ready_event s2.life) ++ (option_to_list (connected_event s2.life) ++ (map Stream (events_of s2.lower.streams) ++ option_to_list o))) lost
+      let heard : s4.life.heard ≡ s2.life.heard = ap (λ (v : View t). v.life.heard) e4 ∙ same_heard s2 in
+      let streams : events_of s5.lower.streams ≡ events_of s2.lower.streams = ap (λ (v : View t). events_of v.lower.streams) e5 ∙ same_streams s2 in
+      let lost : lost_event s6.life ≡ lost_event s2.life = ap (λ (v : View t). lost_event v.life) e6 ∙ same_lost s2 in
+      let first : List Event = option_to_list (ready_event s2.life) in
+      ap (λ (o : Option Event). first ++ (option_to_list o ++ (s4.life.heard ++ (map Stream (events_of s5.lower.streams) ++ option_to_list (lost_event s6.life))))) connected
+      ∙ ap (λ (es : List Event). first ++ (option_to_list (connected_event s2.life) ++ (es ++ (map Stream (events_of s5.lower.streams) ++ option_to_list (lost_event s6.life))))) heard
+      ∙ ap (λ (es : List StreamEvent). first ++ (option_to_list (connected_event s2.life) ++ (s2.life.heard ++ (map Stream es ++ option_to_list (lost_event s6.life))))) streams
+      ∙ ap (λ (o : Option Event). first ++ (option_to_list (connected_event s2.life) ++ (s2.life.heard ++ (map Stream (events_of s2.lower.streams) ++ option_to_list o)))) lost
 
   -- so it is with what is reported to the endpoint
   pub endpoint_wait : (s5 s6 : View t) → s6 ≡ state_move ReportNotices s5 → s5.life.notices ++ option_to_list (drained_event s6.life) ≡ endpoint_events s5
@@ -222,7 +255,7 @@ module _ {t : Types} where
   -- a step of a call, of all reports to the application, and of those to the endpoint
   pub is_step_reported : (m : Meaning t) (k : ℕ) (s : View t) (i : Input) (x : Step) (ds : List Did) (s2 s5 s6 : View t) →
       s.timers.greatest ≤ time_of i → Calls m s i (at s2 ds) x.answer → x.did ≡ ds →
-      s5 ≡ state_move ReportLost (state_move ReportStreams (state_move ReportConnected (state_move ReportReady s2))) → s6 ≡ state_move ReportDrained (state_move ReportNotices s5) →
+      s5 ≡ state_move ReportLost (state_move ReportStreams (state_move ReportAllHeard (state_move ReportConnected (state_move ReportReady s2)))) → s6 ≡ state_move ReportDrained (state_move ReportNotices s5) →
       x.events ≡ waiting_events s2 → x.endpoint ≡ endpoint_events s5 →
       x.timeout ≡ next_timeout s6.timers → x.at ≡ k → x.word ≡ word_of i → x.now ≡ time_of i → IsStep m k s i x s6
   unfolding reported

@@ -4,6 +4,7 @@ use Rattle.qc_laws.proofs.CryptoKept.{run_keeps_bytes}
 use Rattle.qc_laws.proofs.EventsTold.{none_tells_done, none_tells_once}
 use Rattle.qc_laws.proofs.KeysHold.{run_keys_hold}
 use Rattle.qc_laws.proofs.MarksTold.{none_each_told}
+use Rattle.qc_laws.proofs.ReadsHold.{run_reads, run_within}
 use Rattle.qc_laws.proofs.Recovers.{run_recovers}
 use Rattle.qc_laws.proofs.Steps.{ran_none}
 use Rattle.qc_laws.proofs.StreamHolds.{run_gives}
@@ -15,6 +16,7 @@ use Rattle.qc_laws.specs.KeyLaws.{KeysHold}
 use Rattle.qc_state.specs.Run.{Run}
 use Rattle.qc_state.specs.Types.{Types, Meaning}
 use Rattle.qc_state.specs.View.{View}
+use Rattle.qc_conn.specs.Seen.{KeepsCredit}
 use Rattle.qc_conn.proofs.Stores.{store_kept, store_part, store_run}
 use Rattle.qc_state.specs.Headline.{deeds_of}
 use Rattle.qc_conn.proofs.driving.drive.Goals as goal
@@ -29,6 +31,12 @@ of_trace : {t : Types} {E : Type 0} (m : Meaning t) (s s' : View t) (inputs : Li
 of_trace m s s' inputs (Ok trace) P run holds = holds trace run
 of_trace m s s' inputs (Err e) P run holds = tt
 
+-- flow control is kept over a run, if there is one
+credit_kept : {t : Types} {E : Type 0} (m : Meaning t) (s s' : View t) (inputs : List Input) (answer : Result (List Step) E) → IfOk answer (λ trace. Run m 0 s inputs trace s') → OnOk answer (KeepsCredit s.lower.streams s'.lower.streams)
+unfolding KeepsCredit
+credit_kept m s s' inputs (Ok trace) run = λ side transport new window stream_window. run_within side transport m 0 s inputs trace s' run new window stream_window
+credit_kept m s s' inputs (Err e) run = tt
+
 pub returns-clause-recovers : goal.returns-clause-recovers
 returns-clause-recovers g c = λ ends. of_trace _ _ _ _ c.drive_all.result _ c.drive_all.ensures.run (λ trace run. run_recovers _ 0 _ _ trace _ run ends)
 
@@ -40,6 +48,12 @@ returns-clause-streams g c = λ id. of_trace _ _ _ _ c.drive_all.result _ c.driv
 
 pub returns-clause-folded : goal.returns-clause-folded
 returns-clause-folded g c = of_trace _ _ _ _ c.drive_all.result _ c.drive_all.ensures.run (λ trace run. run_folds _ 0 _ _ trace _ run)
+
+pub returns-clause-reads : goal.returns-clause-reads
+returns-clause-reads g c = λ new. of_trace _ _ _ _ c.drive_all.result _ c.drive_all.ensures.run (λ trace run. run_reads _ 0 _ _ trace _ run new)
+
+pub returns-clause-credit : goal.returns-clause-credit
+returns-clause-credit g c = credit_kept _ _ _ _ c.drive_all.result c.drive_all.ensures.run
 
 pub returns-clause-keys : goal.returns-clause-keys
 returns-clause-keys g c = keys_kept _ _ _ _ c.drive_all.result c.drive_all.ensures.run
