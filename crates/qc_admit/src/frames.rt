@@ -123,7 +123,7 @@ fn closed<U: Suite>(
     }
 }
 
-/// The streams are handed a frame: it ends its packet where they refuse it, and this end closes for the error.
+/// The streams or the datagrams are handed a frame: it ends its packet where it is refused, and this end closes for the error.
 #[tactic(auto, unfolding(qc_state::specs::Receiving::handed_after))]
 fn handed<U: Suite>(
     core: &mut Core<U>,
@@ -197,7 +197,8 @@ fn applied<U: Suite>(
         | FrameOf::MaxStreamData { .. }
         | FrameOf::MaxStreams { .. }
         | FrameOf::StreamDataBlocked { .. }
-        | FrameOf::StreamsBlocked { .. } => handed(core, alloc, did, coming.time, frame),
+        | FrameOf::StreamsBlocked { .. }
+        | FrameOf::Datagram { .. } => handed(core, alloc, did, coming.time, frame),
         _ => Ok(Behind::Goes),
     }
 }

@@ -110,6 +110,7 @@ fn data_stop(
         | FrameOf::DataBlocked { .. }
         | FrameOf::StreamDataBlocked { .. }
         | FrameOf::StreamsBlocked { .. }
+        | FrameOf::Datagram { .. }
         | FrameOf::ConnectionClose { .. }
         | FrameOf::ApplicationClose { .. } => None,
         FrameOf::HandshakeDone => done_stop(side),

@@ -10,11 +10,11 @@ use Rattle.qc_state.specs.Run.{Calls, IsAllowed, answer_of, input_after, time_of
 use Rattle.qc_state.specs.Types.{Types, Meaning}
 use Rattle.qc_state.specs.View.{View, at}
 use Rattle.qc_laws.proofs.Steps.{IsForStreams, calls_streams}
-use Rattle.qc_conn.specs.StreamCalls.{is_for_streams}
+use Rattle.qc_laws.specs.StreamsLaws.{is_streams_call}
 
 module _ {t : Types} where
   -- each of these inputs is a call on the streams, and nothing else
-  for_streams : (m : Meaning t) (i : Input) → is_for_streams i ≡ true → IsForStreams m i
+  for_streams : (m : Meaning t) (i : Input) → is_streams_call i ≡ true → IsForStreams m i
   unfolding input_after IsAllowed answer_of
   for_streams m (Open time dir) is = record { leads = λ choice a. refl; allowed = λ choice a may. may; answers = λ choice a. refl }
   for_streams m (Accept time dir) is = record { leads = λ choice a. refl; allowed = λ choice a may. may; answers = λ choice a. refl }
@@ -33,5 +33,5 @@ module _ {t : Types} where
   for_streams m (Ping time) is = cc
 
   -- the time is told, and then the call is made
-  pub stream_called : (m : Meaning t) (s mid b : View t) (i : Input) (ds : List Did) (answer : Answer) → is_for_streams i ≡ true → mid ≡ state_move (Clock (time_of i)) s → ds ≡ [] → CallsStreams i mid b answer → Calls m s i (at b ds) answer
+  pub stream_called : (m : Meaning t) (s mid b : View t) (i : Input) (ds : List Did) (answer : Answer) → is_streams_call i ≡ true → mid ≡ state_move (Clock (time_of i)) s → ds ≡ [] → CallsStreams i mid b answer → Calls m s i (at b ds) answer
   stream_called m s mid b i ds answer is is_mid is_ds h = calls_streams m s mid i h.read b ds answer (for_streams m i is) is_mid is_ds h.may h.leads h.answers

@@ -3,4 +3,3 @@ pub mod RefusedText
 pub mod Seen
 pub mod Opened
 pub mod Stored
-pub mod StreamCalls

@@ -390,49 +390,6 @@ impl<U: Suite> Connection<U> {
         self.core.ping();
     }
 
-    /// Sets how many streams of a direction the peer may have open at a time (RFC 9000, 4.6): more may be opened at once, fewer as streams
-    /// end. It takes no memory, and is done of a connection that has failed too.
-    #[tactic(auto, unfolding(qc_state::specs::Moves::state_move, qc_state::specs::Moves::numbers_move, qc_state::specs::Moves::keys_move, qc_state::specs::Moves::life_move, qc_state::specs::Moves::paths_move, qc_state::specs::Moves::timers_move, qc_state::specs::Moves::waiting_move, qc_state::specs::Moves::setup_move, qc_state::specs::Moves::lower_move, qc_state::specs::Lower::streams_stepped, qc_streams::specs::Waits::after, qc_streams::specs::Waits::after_step))]
-    pub fn set_max_concurrent_streams(&mut self, dir: Dir, count: VarInt)
-        ensures leads { (ideal U.Random.stream self.new.core) ≡ state_move (Call (ConcurrentSet dir count)) (ideal U.Random.stream self.old.core) }
-        ensures set { self.new.core.lower.streams ≡ max_concurrent_set dir count self.old.core.lower.streams }
-        ensures mark { self.new.failed ≡ self.old.failed }
-    {
-        self.core
-            .lower
-            .streams
-            .set_max_concurrent_streams(dir, count);
-    }
-
-    /// How many streams of a direction the peer may have open at a time.
-    pub fn max_concurrent_streams(&self, dir: Dir) -> u64
-        ensures { result ≡ (by_dir dir self.now.core.lower.streams.peer).concurrent }
-    {
-        self.core.lower.streams.max_concurrent(dir)
-    }
-
-    /// Sets how many bytes may be kept until they are acknowledged, on all streams. It takes no memory, and is done of a connection that
-    /// has failed too.
-    #[tactic(auto, unfolding(qc_state::specs::Moves::state_move, qc_state::specs::Moves::numbers_move, qc_state::specs::Moves::keys_move, qc_state::specs::Moves::life_move, qc_state::specs::Moves::paths_move, qc_state::specs::Moves::timers_move, qc_state::specs::Moves::waiting_move, qc_state::specs::Moves::setup_move, qc_state::specs::Moves::lower_move, qc_state::specs::Lower::streams_stepped, qc_streams::specs::Waits::after, qc_streams::specs::Waits::after_step))]
-    pub fn set_send_window(&mut self, send_window: u64)
-        ensures leads { (ideal U.Random.stream self.new.core) ≡ state_move (Call (SendWindowSet send_window)) (ideal U.Random.stream self.old.core) }
-        ensures set { self.new.core.lower.streams ≡ send_window_set send_window self.old.core.lower.streams }
-        ensures mark { self.new.failed ≡ self.old.failed }
-    {
-        self.core.lower.streams.set_send_window(send_window);
-    }
-
-    /// Sets how many bytes may be underway or unread, on all streams (RFC 9000, 4.1): a lower window takes no credit back. It takes no
-    /// memory, and is done of a connection that has failed too.
-    #[tactic(auto, unfolding(qc_state::specs::Moves::state_move, qc_state::specs::Moves::numbers_move, qc_state::specs::Moves::keys_move, qc_state::specs::Moves::life_move, qc_state::specs::Moves::paths_move, qc_state::specs::Moves::timers_move, qc_state::specs::Moves::waiting_move, qc_state::specs::Moves::setup_move, qc_state::specs::Moves::lower_move, qc_state::specs::Lower::streams_stepped, qc_streams::specs::Waits::after, qc_streams::specs::Waits::after_step))]
-    pub fn set_receive_window(&mut self, receive_window: VarInt)
-        ensures leads { (ideal U.Random.stream self.new.core) ≡ state_move (Call (ReceiveWindowSet receive_window)) (ideal U.Random.stream self.old.core) }
-        ensures set { self.new.core.lower.streams ≡ receive_window_set receive_window self.old.core.lower.streams }
-        ensures mark { self.new.failed ≡ self.old.failed }
-    {
-        self.core.lower.streams.set_receive_window(receive_window);
-    }
-
     /// The next event for the application. None exactly where none waits.
     pub fn poll(&mut self) -> Option<Event>
         ensures event { result ≡ first_event (ideal U.Random.stream self.old.core) }
@@ -537,5 +494,48 @@ impl<U: Suite> Connection<U> {
         ensures core { self.new.core ≡ self.old.core }
     {
         self.steps = self.steps.saturating_add(1);
+    }
+}
+
+#[tactic(auto, unfolding(qc_state::specs::Moves::state_move, qc_state::specs::Moves::numbers_move, qc_state::specs::Moves::keys_move, qc_state::specs::Moves::life_move, qc_state::specs::Moves::paths_move, qc_state::specs::Moves::timers_move, qc_state::specs::Moves::waiting_move, qc_state::specs::Moves::setup_move, qc_state::specs::Moves::lower_move, qc_state::specs::Lower::streams_stepped, qc_streams::specs::Waits::after, qc_streams::specs::Waits::after_step))]
+impl<U: Suite> Connection<U> {
+    /// Sets how many streams of a direction the peer may have open at a time (RFC 9000, 4.6): more may be opened at once, fewer as streams
+    /// end. It takes no memory, and is done of a connection that has failed too.
+    pub fn set_max_concurrent_streams(&mut self, dir: Dir, count: VarInt)
+        ensures leads { (ideal U.Random.stream self.new.core) ≡ state_move (Call (ConcurrentSet dir count)) (ideal U.Random.stream self.old.core) }
+        ensures set { self.new.core.lower.streams ≡ max_concurrent_set dir count self.old.core.lower.streams }
+        ensures mark { self.new.failed ≡ self.old.failed }
+    {
+        self.core
+            .lower
+            .streams
+            .set_max_concurrent_streams(dir, count);
+    }
+
+    /// How many streams of a direction the peer may have open at a time.
+    pub fn max_concurrent_streams(&self, dir: Dir) -> u64
+        ensures { result ≡ (by_dir dir self.now.core.lower.streams.peer).concurrent }
+    {
+        self.core.lower.streams.max_concurrent(dir)
+    }
+
+    /// Sets how many bytes may be kept until they are acknowledged, on all streams. It takes no memory, and is done of a connection that
+    /// has failed too.
+    pub fn set_send_window(&mut self, send_window: u64)
+        ensures leads { (ideal U.Random.stream self.new.core) ≡ state_move (Call (SendWindowSet send_window)) (ideal U.Random.stream self.old.core) }
+        ensures set { self.new.core.lower.streams ≡ send_window_set send_window self.old.core.lower.streams }
+        ensures mark { self.new.failed ≡ self.old.failed }
+    {
+        self.core.lower.streams.set_send_window(send_window);
+    }
+
+    /// Sets how many bytes may be underway or unread, on all streams (RFC 9000, 4.1): a lower window takes no credit back. It takes no
+    /// memory, and is done of a connection that has failed too.
+    pub fn set_receive_window(&mut self, receive_window: VarInt)
+        ensures leads { (ideal U.Random.stream self.new.core) ≡ state_move (Call (ReceiveWindowSet receive_window)) (ideal U.Random.stream self.old.core) }
+        ensures set { self.new.core.lower.streams ≡ receive_window_set receive_window self.old.core.lower.streams }
+        ensures mark { self.new.failed ≡ self.old.failed }
+    {
+        self.core.lower.streams.set_receive_window(receive_window);
     }
 }

@@ -19,6 +19,7 @@ ghost use Rattle.qc_state.specs.Headline.{deeds_of, EachRises, EachAdmitted, Eac
 ghost use Rattle.qc_laws.specs.RecoveryLaws.{EachSettlesOnce, Recovers};
 ghost use Rattle.qc_state.specs.Run.{time_of, Adds, Run, Ran};
 ghost use Rattle.qc_laws.specs.StreamLaws.{GivesStream};
+ghost use Rattle.qc_laws.specs.StreamsLaws.{FoldsStreams};
 ghost use Rattle.qc_laws.specs.TimerLaws.{KeepsTimer};
 ghost use Rattle.qc_state.specs.View.{ideal};
 
@@ -276,6 +277,10 @@ pub fn drive<U: Suite, G: TokenStore>(
 
     // The session is given the bytes of each space's CRYPTO stream in order, each once: from a new connection on the front of what came.
     ensures streams { (id : SpaceId) → IfOk result (λ trace. GivesStream id (deeds_of trace) (ideal U.Random.stream connection.old.core) (ideal U.Random.stream connection.new.core)) }
+
+    // The streams of the application are what their own steps leave: each may be made as its turn comes, those of frames are the ones of the
+    // frames that were given to them, and those of calls the ones of the inputs, which answer so.
+    ensures folded { IfOk result (λ trace. FoldsStreams inputs.now trace (ideal U.Random.stream connection.old.core) (ideal U.Random.stream connection.new.core)) }
 
     // An ACK of 1-RTT packets is held back for 25 ms at most, or until an ACK is sealed.
     ensures held { AckHolds (ideal U.Random.stream connection.old.core) → IfOk result (λ trace. EachHoldsAck ⟦<U as Means>⟧.meaning 0 (ideal U.Random.stream connection.old.core) inputs.now trace (ideal U.Random.stream connection.new.core)) }

@@ -2,7 +2,7 @@
 
 ghost use Rattle.std.specs.Prelude.{◌≡◌, ◌<◌, ◌≤◌, ◌++◌, [], true, false, length, OnOk, IfOk, IfSome, option_to_list};
 ghost use Rattle.qc_conn.specs.Seen.{Sends};
-ghost use Rattle.qc_conn.specs.StreamCalls.{is_for_streams};
+ghost use Rattle.qc_laws.specs.StreamsLaws.{is_streams_call};
 ghost use Rattle.qc_receive.specs.Cutting.{rest_of};
 ghost use Rattle.qc_receive.specs.Events.{LeavesBytes, handed_after, time_of_event};
 ghost use Rattle.qc_receive.specs.FirstPacket.{first_reason, size_of};
@@ -257,7 +257,7 @@ fn stream_call<U: Suite>(
     input: &Input,
     did: &Dids,
 ) -> Result<Answer, AllocError>
-    requires streams { is_for_streams input.now ≡ true }
+    requires streams { is_streams_call input.now ≡ true }
     requires none { did.now ≡ [] }
     ensures { IfOk result (λ answer. Calls ⟦<U as Means>⟧.meaning (ideal U.Random.stream core.old) input.now (held U.Random.stream core.new did.now) answer) }
 {

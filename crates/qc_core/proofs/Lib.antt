@@ -3,3 +3,4 @@ pub mod EndpointPolls
 pub mod Expiring
 pub mod Skips
 pub mod StreamCalls
+pub mod DatagramCalls

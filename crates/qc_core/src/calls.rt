@@ -3,11 +3,12 @@
 ghost use Rattle.std.specs.Prelude.{◌≡◌, ◌<◌, ◌^◌, ◌≤◌, ◌++◌, [], length, is_some, map, OnOk, IfOk};
 ghost use Rattle.qc_state.specs.Life.{is_open, ready_event, connected_event, lost_event, drained_event};
 ghost use Rattle.qc_state.specs.Moves.{Clock, Ask, ReportReady, ReportConnected, ReportStreams, ReportLost, ReportNotices, ReportDrained, move_to, state_move};
-ghost use Rattle.qc_state.specs.Polls.{first_endpoint_event, first_event, polled, polled_endpoint};
+ghost use Rattle.qc_state.specs.Polls.{first_endpoint_event, first_event, heard_first, heard_polled, polled, polled_endpoint, stream_first, stream_polled};
 ghost use Rattle.qc_state.specs.Run.{close_after};
 ghost use Rattle.qc_state.specs.Streams.{events_of};
 ghost use Rattle.qc_state.specs.Timers.{next_timeout};
 ghost use Rattle.qc_state.specs.View.{at, ideal, held};
+ghost use Rattle.qc_streams.specs.Owed.{next_event};
 
 use crate::state::Core;
 use bytes::Bytes;
@@ -79,6 +80,29 @@ impl<U: Suite> Core<U> {
         self.do_report_streams(events)
     }
 
+    /// The first event of the streams, or that of the end where they have none.
+    fn poll_streams(&mut self) -> Option<Event>
+        ensures event { result ≡ stream_first (next_event self.old.lower.streams) (lost_event self.old.life) }
+        ensures leads { (ideal U.Random.stream self.new) ≡ stream_polled (next_event self.old.lower.streams) (ideal U.Random.stream self.old) }
+    {
+        match self.do_report_stream() {
+            None => self.poll_lost(),
+            Some(event) => Some(Event::Stream(event)),
+        }
+    }
+
+    /// The first event of datagrams, or what waits behind it where there is none.
+    #[tactic(auto, using(crate::proofs::DatagramCalls::heard_is_first, crate::proofs::DatagramCalls::heard_is_polled, crate::proofs::DatagramCalls::streams_are_first, crate::proofs::DatagramCalls::streams_are_polled))]
+    fn poll_heard(&mut self) -> Option<Event>
+        ensures event { result ≡ heard_first self.old.life.heard (stream_first (next_event self.old.lower.streams) (lost_event self.old.life)) }
+        ensures leads { (ideal U.Random.stream self.new) ≡ heard_polled self.old.life.heard (ideal U.Random.stream self.old) }
+    {
+        if self.life.heard.is_empty() {
+            return self.poll_streams();
+        }
+        self.do_report_heard()
+    }
+
     /// The next event for the application. None exactly where none waits.
     #[tactic(auto, unfolding(qc_state::specs::Polls::first_event, qc_state::specs::Polls::polled))]
     pub fn poll(&mut self) -> Option<Event>
@@ -91,10 +115,7 @@ impl<U: Suite> Core<U> {
         if self.life.connected {
             return self.poll_connected();
         }
-        match self.do_report_stream() {
-            None => self.poll_lost(),
-            Some(event) => Some(Event::Stream(event)),
-        }
+        self.poll_heard()
     }
 
     /// All that waits to be reported to the endpoint before the end.

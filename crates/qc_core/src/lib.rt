@@ -2,6 +2,7 @@
 #![tactic(auto)]
 
 mod calls;
+mod datagrams;
 mod moves;
 mod offers;
 mod packets;

@@ -1,35 +1,40 @@
 //! The moves of a connection, one function each.
 
-ghost use Rattle.std.specs.Prelude.{◌≡◌, [], ◌+◌, ◌<◌, ◌≤◌, ◌^◌, ◌==◌, ◌++◌, Err, true, length, map, not, if◌then◌else◌, OnOk, OnErr, IfOk};
+ghost use Rattle.std.specs.Prelude.{◌≡◌, [], ◌+◌, ◌<◌, ◌≤◌, ◌^◌, ◌==◌, ◌++◌, Err, true, length, map, not, option_to_list, slice_get, if◌then◌else◌, OnOk, OnErr, IfOk};
 ghost use Rattle.qc_assembler.specs.Assembly.{inserted, part_count};
 ghost use Rattle.qc_core.specs.Sealing.{sealed_drawn};
 ghost use Rattle.qc_state.specs.Acks.{AckPart, is_ack, may_acknowledge};
 ghost use Rattle.qc_state.specs.Life.{ready_event, connected_event, lost_event, first_notice, drained_event};
-ghost use Rattle.qc_state.specs.Lower.{packet_flown, ready_bytes, stream_of};
+ghost use Rattle.qc_state.specs.Lower.{handed_stop, packet_flown, ready_bytes, stream_of};
 ghost use Rattle.qc_frame.specs.Frame.{ack_map, borrowed};
 ghost use Rattle.qc_frame.specs.FrameFits.{Fits};
 ghost use Rattle.qc_frame.specs.FrameSpelling.{elicits};
 ghost use Rattle.qc_frame.specs.declared.frames.FrameOf.TheVariants as frames;
 ghost use Rattle.std.specs.List.{list_any};
 ghost use Rattle.qc_state.specs.Flight.{flown_packet};
-ghost use Rattle.qc_state.specs.Moves.{Clock, Ask, Take, Forget, Expect, Enter, Fail, Accept, Fix, Hear, Ack, Fire, Arm, Come, Pace, Ready, Release, Skip, Token, Learn, Want, Confirm, Establish, Tell, PeerClosesToo, PeerCloses, Owe, Shut, Raise, Give, Finish, Say, Hand, ReportReady, ReportConnected, ReportStream, ReportStreams, ReportLost, ReportNotice, ReportNotices, ReportDrained, move_to, state_move, tells_congestion};
+ghost use Rattle.qc_state.specs.Moves.{Clock, Ask, Take, Forget, Expect, Enter, Fail, Accept, Fix, Hear, Ack, Fire, Arm, Come, Pace, Ready, Release, Skip, Token, Learn, Want, Confirm, Establish, Tell, PeerClosesToo, PeerCloses, Owe, Shut, Raise, Give, Finish, Say, Hand, Post, ReportReady, ReportConnected, ReportHeard, ReportAllHeard, ReportStream, ReportStreams, ReportLost, ReportNotice, ReportNotices, ReportDrained, move_to, state_move, tells_congestion};
 ghost use Rattle.qc_base.specs.declared.side.SpaceId.TheVariants.{«Data»};
 ghost use Rattle.qc_state.specs.Numbers.{is_skipped};
 ghost use Rattle.qc_state.specs.Recovering.{fired_by, probe_timeout_now, settled_by};
 ghost use Rattle.qc_state.specs.Setup.{idle_limit_now};
 ghost use Rattle.qc_state.specs.Spaces.{space_of};
-ghost use Rattle.qc_state.specs.Streams.{events_of, streams_stop};
+ghost use Rattle.qc_state.specs.Streams.{events_of};
 ghost use Rattle.qc_state.specs.Timers.{timers_acking, timers_sealed};
 ghost use Rattle.qc_streams.specs.Owed.{next_event};
+ghost use Rattle.qc_datagrams.specs.Datagrams.{send_refusal};
+ghost use Rattle.qc_datagrams.specs.Queue.{first};
+ghost use Rattle.qc_datagrams.specs.Steps.{Sent, Taken};
 ghost use Rattle.qc_state.specs.View.{at, ideal, held};
 ghost use Rattle.qc_state.specs.Taking.{TakenPart};
 
+use crate::datagrams::send_datagram;
 use crate::packets::{accept_on, enter, set_accepted, settle_in, tell_waiting, use_number};
 use crate::recovering::shows_validated;
 use crate::state::Core;
 use bytes::Bytes;
 use qc_assembler::InsertError;
 use qc_base::{ConnectionId, EcnCodepoint, Instant, ResetToken, SpaceId, TransportError};
+use qc_datagrams::SendRefusal;
 use qc_frame::{Ack, Frame, FrameList};
 use qc_params::TransportParameters;
 use qc_path::{Arrival, next_bundled_ack_time};
@@ -54,7 +59,7 @@ fn tells_congestion(mark: Option<EcnCodepoint>) -> bool
     }
 }
 
-#[tactic(auto, unfolding(qc_state::specs::Moves::move_to, qc_state::specs::Moves::state_move, qc_state::specs::Moves::numbers_move, qc_state::specs::Moves::keys_move, qc_state::specs::Moves::life_move, qc_state::specs::Moves::paths_move, qc_state::specs::Moves::timers_move, qc_state::specs::Moves::waiting_move, qc_state::specs::Moves::setup_move, qc_state::specs::Moves::lower_move, qc_state::specs::Moves::deeds_move, qc_state::specs::Setup::ideal_setup, qc_state::specs::Setup::idle_limit_now, qc_state::specs::Setup::parameters_known, qc_state::specs::Setup::token_expected, qc_state::specs::Lower::session_wrote, qc_state::specs::Paths::path_kept, crate::specs::Sealing::sealed_drawn))]
+#[tactic(auto, unfolding(qc_state::specs::Moves::move_to, qc_state::specs::Moves::state_move, qc_state::specs::Moves::numbers_move, qc_state::specs::Moves::keys_move, qc_state::specs::Moves::life_move, qc_state::specs::Moves::paths_move, qc_state::specs::Moves::timers_move, qc_state::specs::Moves::waiting_move, qc_state::specs::Moves::setup_move, qc_state::specs::Moves::lower_move, qc_state::specs::Moves::deeds_move, qc_state::specs::Setup::ideal_setup, qc_state::specs::Setup::idle_limit_now, qc_state::specs::Setup::parameters_known, qc_state::specs::Setup::token_expected, qc_state::specs::Lower::session_wrote, qc_state::specs::Lower::datagrams_stepped, qc_state::specs::Life::datagram_heard, qc_datagrams::specs::Steps::after, qc_datagrams::specs::Steps::after_step, qc_state::specs::Paths::path_kept, crate::specs::Sealing::sealed_drawn))]
 impl<U: Suite> Core<U> {
     /// The connection is told a time.
     pub fn do_clock(&mut self, now: Instant)
@@ -406,8 +411,8 @@ impl<U: Suite> Core<U> {
         did.push_gave(layer, body)
     }
 
-    /// The streams are handed a frame. Answers the error with which they refuse it, if they do. Want of memory is the only refusal of
-    /// the call.
+    /// The streams or the datagrams are handed a frame. Answers the error with which it is refused, if it is. Want of memory is the only
+    /// refusal of the call.
     pub fn do_hand(
         &mut self,
         alloc: Global,
@@ -415,10 +420,13 @@ impl<U: Suite> Core<U> {
         frame: &Frame<'_>,
     ) -> Result<Option<TransportError>, AllocError>
         requires { Fits (borrowed frame.now) }
-        ensures stop { IfOk result (λ stop. stop ≡ streams_stop (borrowed frame.now) self.old.lower.streams) }
+        ensures stop { IfOk result (λ stop. stop ≡ handed_stop (borrowed frame.now) self.old.lower) }
         ensures leads { OnOk result ((held U.Random.stream self.new did.new) ≡ move_to (Hand (borrowed frame.now)) (held U.Random.stream self.old did.old)) }
     {
-        let stop = self.lower.hand(alloc, frame)?;
+        let (stop, tells) = self.lower.hand(alloc, frame)?;
+        if tells {
+            self.life.hear_datagram()?;
+        }
         tell_handed(alloc, did, frame)?;
         Ok(stop)
     }
@@ -518,6 +526,44 @@ impl<U: Suite> Core<U> {
         ensures leads { (ideal U.Random.stream self.new) ≡ state_move ReportLost (ideal U.Random.stream self.old) }
     {
         self.life.take_lost()
+    }
+
+    /// The first that waits of datagrams is reported, where something does.
+    pub fn do_report_heard(&mut self) -> Option<Event>
+        ensures event { result ≡ slice_get self.old.life.heard 0 }
+        ensures leads { (ideal U.Random.stream self.new) ≡ state_move ReportHeard (ideal U.Random.stream self.old) }
+    {
+        self.life.take_heard()
+    }
+
+    /// All that waits of datagrams is reported, behind the others. Want of memory is the only refusal.
+    pub fn do_report_all_heard(&mut self, events: &mut Events) -> Result<(), AllocError>
+        ensures events { OnOk result (events.new ≡ events.old ++ self.old.life.heard) }
+        ensures leads { OnOk result ((ideal U.Random.stream self.new) ≡ state_move ReportAllHeard (ideal U.Random.stream self.old)) }
+    {
+        self.life.take_all_heard(events)
+    }
+
+    /// The application sends a datagram, for which the oldest are dropped that wait; it may have `most` bytes, where the peer takes any.
+    /// Answers why it is refused, if it is. Want of memory is the only refusal of the call.
+    pub fn do_send_datagram(
+        &mut self,
+        alloc: Global,
+        most: Option<u64>,
+        body: &Body,
+    ) -> Result<Option<SendRefusal>, AllocError>
+        ensures refusal { IfOk result (λ refusal. refusal ≡ send_refusal most true body.now self.old.lower.datagrams) }
+        ensures leads { OnOk result ((ideal U.Random.stream self.new) ≡ state_move (Post (Sent most body.now)) (ideal U.Random.stream self.old)) }
+    {
+        send_datagram(&mut self.lower.datagrams, alloc, most, body)
+    }
+
+    /// The application takes the oldest datagram that came, where there is one.
+    pub fn do_take_datagram(&mut self) -> Option<Bytes>
+        ensures given { option_to_list result ≡ first self.old.lower.datagrams.incoming }
+        ensures leads { (ideal U.Random.stream self.new) ≡ state_move (Post Taken) (ideal U.Random.stream self.old) }
+    {
+        self.lower.datagrams.incoming.pop()
     }
 
     /// The first event of the streams is reported, where one waits.

@@ -2,3 +2,4 @@ pub mod Queue
 pub mod Datagrams
 pub mod Given
 pub mod Size
+pub mod Steps

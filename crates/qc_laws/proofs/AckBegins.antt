@@ -1,5 +1,5 @@
 -- In a connection that was just made nothing came that is to be acknowledged, and no ACK is held back.
-use Rattle.std.proofs.Common.{◌≡◌, ℕ, List, arith}
+use Rattle.std.proofs.Common.{ℕ, List, arith}
 use Rattle.rand_core.specs.Stream.{Stream}
 use Rattle.qc_path.specs.Acks.{no_marks}
 use Rattle.qc_recovery.specs.TransportValues.{TransportValues}

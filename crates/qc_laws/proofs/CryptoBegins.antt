@@ -13,7 +13,6 @@ use Rattle.qc_state.specs.declared.paths.Paths.{Paths}
 use Rattle.qc_state.specs.declared.setup.Fixed.{Fixed}
 use Rattle.qc_laws.specs.CryptoLaws.{BytesHold, CryptoHolds, CryptoKept}
 use Rattle.qc_state.specs.First.{just_made}
-use Rattle.qc_state.specs.Keys.{first_keys}
 use Rattle.qc_state.specs.Receiving.{is_below}
 use Rattle.qc_state.specs.Types.{Types}
 use Rattle.qc_laws.proofs.CryptoBuffers.{written_holds}

@@ -1,6 +1,6 @@
 -- Over a run each byte that the session wrote, in a space with keys, waits, is in flight or was acknowledged, while the connection is open.
-use Rattle.std.proofs.Common.{◌≡◌, ℕ, ◌+◌, ◌<◌, ◌≤◌, ◌⊎◌, inl, inr, List, [], ◌∷◌, ◌++◌, refl, ap, sym, ◌∙◌, subst, Bool, true, false, if◌then◌else◌, append_assoc, append-nil}
-use Rattle.std.specs.Prelude.{◌-◌, ◌==◌, ◌||◌, is_none, IsPermutation}
+use Rattle.std.proofs.Common.{◌≡◌, ℕ, ◌+◌, ◌≤◌, ◌⊎◌, inl, inr, List, [], ◌∷◌, ◌++◌, refl, ap, sym, ◌∙◌, subst, Bool, true, false, if◌then◌else◌, append_assoc, append-nil}
+use Rattle.std.specs.Prelude.{◌-◌, is_none, IsPermutation}
 use Rattle.std.specs.List.{list_any}
 use Rattle.qc_base.specs.declared.side.SpaceId.{SpaceId}
 use Rattle.qc_base.specs.declared.side.SpaceId.TheVariants.{«Data»}
@@ -11,7 +11,6 @@ use Rattle.qc_recovery.specs.Calls.{dropped_after}
 use Rattle.qc_recovery.specs.Runs.{in_space}
 use Rattle.qc_recovery.specs.Steps.{After, FiredAfter, space_dropped}
 use Rattle.qc_recovery.specs.Steps as recovery
-use Rattle.qc_recovery.specs.declared.calls.Fired.{Fired}
 use Rattle.qc_recovery.specs.declared.recovery.Recovery.{Recovery}
 use Rattle.qc_recovery.proofs.RunsSettle.{put_flight}
 use Rattle.qc_send_stream.specs.Buffer.{Buffer}

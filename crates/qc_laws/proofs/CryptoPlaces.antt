@@ -1,6 +1,6 @@
 -- What a packet that is sealed, acknowledged or lost leaves of the bytes that wait and of what is in flight, in each space.
-use Rattle.std.proofs.Common.{◌≡◌, ℕ, ◌+◌, ◌<◌, ◌≤◌, ◌⊎◌, inl, inr, List, [], ◌∷◌, ◌++◌, refl, ap, sym, ◌∙◌, subst, Bool, true, false, Option, Some, None, if◌then◌else◌, arith}
-use Rattle.std.specs.Prelude.{◌-◌, ◌==◌, ◌||◌, is_some, IsPermutation}
+use Rattle.std.proofs.Common.{◌≡◌, ℕ, ◌<◌, ◌≤◌, ◌⊎◌, inl, inr, List, [], ◌∷◌, ◌++◌, refl, ap, sym, ◌∙◌, subst, Bool, true, false, Option, Some, None, if◌then◌else◌, arith}
+use Rattle.std.specs.Prelude.{◌==◌, ◌||◌, is_some, IsPermutation}
 use Rattle.std.specs.List.{list_any}
 use Rattle.std.proofs.lemmas.List.Folds.{list_any-append}
 use Rattle.std.proofs.lemmas.List.Sorted.{list_any-IsPermutation}
@@ -44,7 +44,7 @@ use Rattle.qc_state.specs.declared.life.Life.{Life}
 use Rattle.qc_state.specs.declared.lower.Lower.{Lower}
 use Rattle.qc_state.specs.Keys.{NewKeys, NoKeys, HandshakeKeys, DataKeys, count_one, failure_counted, has_keys, key_used, keys_dropped, keys_given, ring_used, form_in, has_keys_for}
 use Rattle.qc_state.specs.Lower.{packet_flown}
-use Rattle.qc_state.specs.Moves.{Ack, AreNext}
+use Rattle.qc_state.specs.Moves.{AreNext}
 use Rattle.qc_state.specs.Receiving.{is_below}
 use Rattle.qc_state.specs.Run.{began}
 use Rattle.qc_laws.proofs.CryptoBuffers.{More, Stays, all_awaited, all_kept_has, all_stays, all_again_more, lost_in_awaited, lost_in_more, more_awaited, more_here, or_either, or_left, or_right}

@@ -1,5 +1,5 @@
 -- Over a run the timers stand as the life has it, and a close is owed only where an end has closed.
-use Rattle.std.proofs.Common.{◌≡◌, ℕ, ◌+◌, ◌<◌, ◌≤◌, List, [], ◌∷◌, refl, ap, sym, ◌∙◌, subst, Bool, true, false, Option, Some, None, if◌then◌else◌, arith}
+use Rattle.std.proofs.Common.{◌≡◌, ℕ, ◌+◌, ◌<◌, List, [], ◌∷◌, refl, ap, sym, ◌∙◌, subst, Bool, true, false, Option, Some, None, if◌then◌else◌, arith}
 use Rattle.std.specs.Prelude.{◌&&◌, is_none, is_some}
 use Rattle.std.specs.List.{list_any}
 use Rattle.qc_base.specs.declared.side.SpaceId.{SpaceId}

@@ -1,6 +1,5 @@
 -- What holds of each move that an input makes holds of the input.
 use Rattle.std.proofs.Common.{◌≡◌, ℕ, List, refl, Bool, true, false, if◌then◌else◌}
-use Rattle.qc_base.specs.declared.side.SpaceId.{SpaceId}
 use Rattle.qc_frame.specs.Frame.{FrameValue}
 use Rattle.qc_state.specs.declared.form.Form.{Form}
 use Rattle.qc_state.specs.declared.input.Input.{Input}

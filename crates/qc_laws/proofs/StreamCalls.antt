@@ -1,6 +1,6 @@
 -- What holds of each call of the streams that may be made holds of the inputs that make them; and what is told of a frame that the
 -- streams are handed is its gift, or nothing.
-use Rattle.std.proofs.Common.{◌≡◌, ℕ, List, [], ◌∷◌, length, refl, Bool, true, false, Option, Some, None, if◌then◌else◌, arith}
+use Rattle.std.proofs.Common.{◌≡◌, ℕ, List, [], ◌∷◌, refl, Bool, true, false, Option, Some, None, if◌then◌else◌, arith}
 use Rattle.std.specs.Prelude.{not, is_some, Result}
 use Rattle.qc_frame.specs.Frame.{FrameValue}
 use Rattle.qc_frame.specs.FrameSpelling.{spelling}

@@ -1,27 +1,35 @@
 -- Over a run the streams of the application are the fold of their own steps.
-use Rattle.std.proofs.Common.{◌≡◌, ℕ, ◌+◌, List, [], ◌∷◌, ◌++◌, length, refl, ap, sym, ◌∙◌, subst, Bool, true, false, if◌then◌else◌, append_assoc, append-nil}
-use Rattle.std.specs.Prelude.{Option, Result}
+use Rattle.std.proofs.Common.{◌≡◌, ℕ, ◌+◌, List, [], ◌∷◌, ◌++◌, length, refl, ap, sym, ◌∙◌, subst, Bool, true, false, Some, None, if◌then◌else◌, append_assoc, append-nil}
+use Rattle.std.specs.Prelude.{map, nat_le, option_to_list, Option, Result}
+use Rattle.std.specs.Option.{option_map}
 use Rattle.qc_base.specs.declared.side.SpaceId.{SpaceId}
 use Rattle.qc_flight.specs.declared.sent.SentPacket.{SentPacket}
 use Rattle.qc_frame.specs.Frame.{FrameValue}
 use Rattle.qc_recv.specs.declared.recv.Chunk.{Chunk}
+use Rattle.qc_streams.specs.declared.events.StreamEvent.{StreamEvent}
 use Rattle.qc_streams.specs.declared.fault.ReadFault.{ReadFault}
 use Rattle.qc_streams.specs.declared.state.StreamsState.{StreamsState}
-use Rattle.qc_streams.specs.Steps.{AllMay}
 use Rattle.qc_streams.specs.Waits.{Step, after}
-use Rattle.qc_streams.proofs.StepsLaw.{after_append, may_append}
+use Rattle.qc_streams.proofs.StepsLaw.{after_append}
 use Rattle.qc_state.specs.declared.deeds.Did.{Did}
+use Rattle.qc_state.specs.declared.deeds.Did.TheVariants as did
+use Rattle.qc_state.specs.declared.events.Event.{Event}
+use Rattle.qc_state.specs.declared.events.Event.TheVariants.{HandshakeDataReady, Connected, Stream, ConnectionLost}
 use Rattle.qc_state.specs.declared.form.Form.{Form}
 use Rattle.qc_state.specs.declared.input.Input.{Input}
 use Rattle.qc_state.specs.declared.input.Input.TheVariants as input
+use Rattle.qc_state.specs.declared.life.ConnectionError.{ConnectionError}
+use Rattle.qc_state.specs.declared.life.State.{State}
 use Rattle.qc_state.specs.declared.lower.Lower.{Lower}
 use Rattle.qc_state.specs.declared.trace.Step.{Step as TraceStep}
 use Rattle.qc_state.specs.Flight.{flown_packet}
 use Rattle.qc_state.specs.Forms.{number_space}
-use Rattle.qc_state.specs.Headline.{deeds_of}
+use Rattle.qc_state.specs.Headline.{deeds_of, lives_in}
+use Rattle.qc_state.specs.Life.{connected_event, event_if, lost_event, rank_of, ready_event}
 use Rattle.qc_state.specs.Lower.{bytes_came, events_told, flight_dropped, frame_handed, limits_learned, packet_flown, packets_settled, session_read, session_wrote, streams_closed, streams_stepped, timer_fired}
-use Rattle.qc_state.specs.Moves.{Call, Hand, Learn, MayMove, Move, PeerCloses, PeerClosesToo, Raise, ReportStream, ReportStreams, Seal, Shut, Take, Tell, deeds_move, is_call, lower_move, move_to, state_move}
+use Rattle.qc_state.specs.Moves.{Call, Establish, Hand, Learn, MayMove, Move, PeerCloses, PeerClosesToo, Raise, ReportStream, ReportStreams, Seal, Shut, Take, Tell, deeds_move, lower_move, move_to, state_move}
 use Rattle.qc_state.specs.Numbers.{next_number}
+use Rattle.qc_state.specs.Polls.{waiting_events}
 use Rattle.qc_state.specs.Run.{IsAllowed, IsStep, Run, answer_of, began, called, called_all, input_after, reported, time_of}
 use Rattle.qc_state.specs.Run as run
 use Rattle.qc_state.specs.Sending.{Choice, packet_size}
@@ -29,10 +37,11 @@ use Rattle.qc_state.specs.Streams.{asked_for, calls_of, events_of}
 use Rattle.qc_state.specs.Types.{Types, Meaning}
 use Rattle.qc_state.specs.View.{View, At}
 use Rattle.qc_state.proofs.Telling.{told_appends}
-use Rattle.qc_laws.specs.StreamsLaws.{AreMade, FoldsStreams, MakesCall, MakesFrame, NoneOf, given_to_streams, is_came, is_streams_call, streams_steps, with_steps}
+use Rattle.qc_laws.specs.EventLaws as events
+use Rattle.qc_laws.specs.StreamsLaws.{FoldsStreams, given_to_streams, is_streams_call, streams_steps, streams_told, with_steps}
 use Rattle.qc_laws.proofs.KnownMoves.{IsKnownMove, IsUncalled, known_other}
 use Rattle.qc_laws.proofs.StreamCalls.{calls_may}
-use Rattle.qc_laws.proofs.StreamsMade.{asked_may, asked_uncalled, asked_uncame, calls_all, calls_uncame, closed_may, frame_makes, frame_may, frame_uncalled, given_append, learned_may, made_append, none_append, told_made}
+use Rattle.qc_laws.proofs.StreamsMade.{Are, are_append, asked_are, calls_are, close_are, frame_are, given_append, limits_are, low_are, none_are, other_are, told_are}
 
 -- an input that is no call of the streams makes none
 none_called : (i : Input) (read : Result (Option Chunk) ReadFault) (s : StreamsState) → is_streams_call i ≡ false → [] ≡ calls_of i read s
@@ -43,30 +52,77 @@ none_called (input.Close time code reason) read s h = refl
 none_called (input.Ping time) read s h = refl
 none_called _ read s h = cc
 
+-- a packet that is sealed leaves them
+flown_streams : {S : Type 0} → (owed : Bool) (l : Lower S) (id : SpaceId) (n : ℕ) (packet : SentPacket) → (if owed then l else packet_flown l id n packet).streams ≡ l.streams
+unfolding packet_flown
+flown_streams true l id n packet = refl
+flown_streams false l id n packet = refl
+
+-- ---- ranks and events, one list behind another
+
+lives_append : (ds es : List Did) → lives_in (ds ++ es) ≡ lives_in ds ++ lives_in es
+lives_append [] es = refl
+lives_append (did.Sealed space n epoch early fs ∷ ds) es = lives_append ds es
+lives_append (did.Piece space number v ∷ ds) es = lives_append ds es
+lives_append (did.Gave to body ∷ ds) es = lives_append ds es
+lives_append (did.Rose life ∷ ds) es = ap (λ (ranks : List ℕ). life ∷ ranks) (lives_append ds es)
+lives_append (did.Lost why ∷ ds) es = lives_append ds es
+lives_append (did.Quiet why ∷ ds) es = lives_append ds es
+
+events_append : (es fs : List Event) → streams_told (es ++ fs) ≡ streams_told es ++ streams_told fs
+events_append [] fs = refl
+events_append (HandshakeDataReady ∷ es) fs = events_append es fs
+events_append (Connected ∷ es) fs = events_append es fs
+events_append (Stream event ∷ es) fs = ap (λ (xs : List StreamEvent). event ∷ xs) (events_append es fs)
+events_append (ConnectionLost why ∷ es) fs = events_append es fs
+
+-- of the events that wait, those of streams
+mapped_events : (es : List StreamEvent) (fs : List Event) → streams_told (map Stream es ++ fs) ≡ es ++ streams_told fs
+mapped_events [] fs = refl
+mapped_events (e ∷ es) fs = ap (λ (xs : List StreamEvent). e ∷ xs) (mapped_events es fs)
+
+lost_events : (o : Option ConnectionError) → streams_told (option_to_list (option_map ConnectionLost o)) ≡ []
+lost_events (Some why) = refl
+lost_events None = refl
+
+stream_events : (es : List StreamEvent) (o : Option ConnectionError) → streams_told (map Stream es ++ option_to_list (option_map ConnectionLost o)) ≡ es
+stream_events es o = mapped_events es _ ∙ ap (λ (xs : List StreamEvent). es ++ xs) (lost_events o) ∙ append-nil es
+
+waiting_by : (r c : Bool) (es : List StreamEvent) (o : Option ConnectionError) →
+    streams_told (option_to_list (event_if r HandshakeDataReady) ++ (option_to_list (event_if c Connected) ++ (map Stream es ++ option_to_list (option_map ConnectionLost o)))) ≡ es
+waiting_by true true es o = stream_events es o
+waiting_by true false es o = stream_events es o
+waiting_by false true es o = stream_events es o
+waiting_by false false es o = stream_events es o
+
 module _ {t : Types} where
+  events_wait : (s : View t) → streams_told (waiting_events s) ≡ events_of s.lower.streams
+  unfolding waiting_events ready_event connected_event lost_event
+  events_wait s = waiting_by s.life.ready s.life.connected (events_of s.lower.streams) s.life.lost
+
   -- ---- moves
 
   -- what is said of a move
   abbrev MoveFolds : Move t → View t → Type 0
   MoveFolds x s =
-      AllMay (streams_steps x s) s.lower.streams × ((state_move x s).lower.streams ≡ after (streams_steps x s) s.lower.streams)
-      × AreMade is_came MakesFrame (given_to_streams (deeds_move x s)) (streams_steps x s) s.lower.streams × NoneOf is_call (streams_steps x s)
+      ((state_move x s).lower.streams ≡ after (streams_steps x s) s.lower.streams) × Are (streams_steps x s) (given_to_streams (deeds_move x s)) [] (lives_in (deeds_move x s)) [] s.lower.streams
 
-  move_folds : (m : Meaning t) (x : Move t) (s : View t) → IsKnownMove m x s → IsUncalled x → MoveFolds x s
-  unfolding streams_steps state_move lower_move deeds_move flight_dropped packets_settled timer_fired bytes_came session_read session_wrote limits_learned frame_handed streams_closed streams_stepped AllMay after
-  move_folds m (Take id fs) s k u = absurd k
-  move_folds m (Seal time form n size fs) s k u = absurd k
-  move_folds m (Hand frame) s k u = (frame_may frame s.lower.streams, refl, frame_makes frame s.lower.streams, frame_uncalled frame s.lower.streams)
-  move_folds m (Call x) s k u = absurd u
-  move_folds m (Learn parameters) s k u = (learned_may _ s.lower.streams, refl, refl, refl)
-  move_folds m (Shut time close) s k u = (closed_may s.lower.streams, refl, refl, refl)
-  move_folds m (PeerCloses time) s k u = (closed_may s.lower.streams, refl, refl, refl)
-  move_folds m PeerClosesToo s k u = (closed_may s.lower.streams, refl, refl, refl)
-  move_folds m (Raise to) s k u = (closed_may s.lower.streams, refl, refl, refl)
-  move_folds m (Tell d) s k u = (tt, refl, told_made d s.lower.streams k, refl)
-  move_folds m ReportStream s k u = absurd k
-  move_folds m ReportStreams s k u = absurd k
-  move_folds m _ s k u = (tt, refl, refl, refl)
+  move_folds : (m : Meaning t) (x : Move t) (s : View t) → IsKnownMove m x s → IsUncalled x → MayMove x s → MoveFolds x s
+  unfolding streams_steps state_move lower_move deeds_move flight_dropped packets_settled timer_fired bytes_came session_read session_wrote limits_learned frame_handed streams_closed streams_stepped MayMove after
+  move_folds m (Take id fs) s k u may = absurd k
+  move_folds m (Seal time form n size fs) s k u may = absurd k
+  move_folds m (Hand frame) s k u may = (refl, frame_are frame s.lower.streams)
+  move_folds m (Call x) s k u may = absurd u
+  move_folds m (Learn parameters) s k u may = (refl, limits_are _ s.lower.streams)
+  move_folds m Establish s k u may = (refl, low_are s.lower.streams)
+  move_folds m (Shut time close) s k u may = (refl, close_are 2 s.lower.streams refl)
+  move_folds m (PeerCloses time) s k u may = (refl, close_are 3 s.lower.streams refl)
+  move_folds m PeerClosesToo s k u may = (refl, close_are 3 s.lower.streams refl)
+  move_folds m (Raise to) s k u may = (refl, close_are (rank_of to) s.lower.streams (ap (λ (x : State). nat_le 2 (rank_of x)) k))
+  move_folds m (Tell d) s k u may = (refl, told_are d s.lower.streams may k)
+  move_folds m ReportStream s k u may = absurd k
+  move_folds m ReportStreams s k u may = absurd k
+  move_folds m _ s k u may = (refl, none_are s.lower.streams)
 
   -- ---- from one moment of an input to another, where it is no call of the streams
 
@@ -74,49 +130,42 @@ module _ {t : Types} where
     pub since : List Did
     pub appended : b.did ≡ a.did ++ since
     pub steps : List Step
-    pub may : AllMay steps a.state.lower.streams
     pub leads : b.state.lower.streams ≡ after steps a.state.lower.streams
-    pub handed : AreMade is_came MakesFrame (given_to_streams since) steps a.state.lower.streams
-    pub uncalled : NoneOf is_call steps
+    pub are : Are steps (given_to_streams since) [] (lives_in since) [] a.state.lower.streams
 
   folds_here : (a : At t) → Folds a a
-  unfolding AllMay after
-  folds_here a = record { since = []; appended = sym (append-nil a.did); steps = []; may = tt; leads = refl; handed = refl; uncalled = refl }
+  unfolding after
+  folds_here a = record { since = []; appended = sym (append-nil a.did); steps = []; leads = refl; are = none_are a.state.lower.streams }
 
   folds_next : (a b c : At t) → Folds a b → Folds b c → Folds a c
   folds_next a b c g h =
       let s : StreamsState = a.state.lower.streams in
+      let steps : List Step = g.steps ++ h.steps in
       record {
         since = g.since ++ h.since;
         appended = h.appended ∙ ap (λ (x : List Did). x ++ h.since) g.appended ∙ append_assoc a.did g.since h.since;
-        steps = g.steps ++ h.steps;
-        may = may_append g.steps h.steps s g.may (subst (λ (x : StreamsState). AllMay h.steps x) g.leads h.may);
+        steps = steps;
         leads = h.leads ∙ ap (λ (x : StreamsState). after h.steps x) g.leads ∙ sym (after_append g.steps h.steps s);
-        handed = subst (λ (bodies : List (List ℕ)). AreMade is_came MakesFrame bodies (g.steps ++ h.steps) s) (sym (given_append g.since h.since))
-            (made_append is_came MakesFrame (given_to_streams g.since) (given_to_streams h.since) g.steps h.steps s g.handed
-            (subst (λ (x : StreamsState). AreMade is_came MakesFrame (given_to_streams h.since) h.steps x) g.leads h.handed));
-        uncalled = none_append is_call g.steps h.steps g.uncalled h.uncalled;
+        are = subst (λ (bodies : List (List ℕ)). Are steps bodies [] (lives_in (g.since ++ h.since)) [] s) (sym (given_append g.since h.since))
+            (subst (λ (ranks : List ℕ). Are steps (given_to_streams g.since ++ given_to_streams h.since) [] ranks [] s) (sym (lives_append g.since h.since))
+            (are_append g.steps h.steps (given_to_streams g.since) (given_to_streams h.since) [] [] (lives_in g.since) (lives_in h.since) [] [] s g.are
+            (subst (λ (x : StreamsState). Are h.steps (given_to_streams h.since) [] (lives_in h.since) [] x) g.leads h.are)));
       }
 
   folds_by : (x : Move t) (a : At t) → MoveFolds x a.state → Folds a (move_to x a)
   unfolding move_to
-  folds_by x a h = record { since = deeds_move x a.state; appended = told_appends a.did (deeds_move x a.state); steps = streams_steps x a.state; may = h.0; leads = h.1; handed = h.2; uncalled = h.3 }
+  folds_by x a h = record { since = deeds_move x a.state; appended = told_appends a.did (deeds_move x a.state); steps = streams_steps x a.state; leads = h.0; are = h.1 }
 
   -- a packet is taken and sealed
-  flown_streams : (owed : Bool) (l : Lower t.S) (id : SpaceId) (n : ℕ) (packet : SentPacket) → (if owed then l else packet_flown l id n packet).streams ≡ l.streams
-  unfolding packet_flown
-  flown_streams true l id n packet = refl
-  flown_streams false l id n packet = refl
-
   packet_folds : (time : ℕ) (form : Form) (fs : List FrameValue) (a : At t) →
       Folds a (move_to (Seal time form (next_number a.state.numbers (number_space form)) (packet_size a.state form fs) fs) (move_to (Take (number_space form) fs) a))
-  unfolding streams_steps state_move lower_move deeds_move AllMay after
+  unfolding streams_steps state_move lower_move deeds_move after
   packet_folds time form fs a =
       let b : At t = move_to (Take (number_space form) fs) a in
       let n : ℕ = next_number a.state.numbers (number_space form) in
       let size : ℕ = packet_size a.state form fs in
-      folds_next a b _ (folds_by (Take (number_space form) fs) a (tt, refl, refl, refl))
-      (folds_by (Seal time form n size fs) b (tt, flown_streams b.state.waiting.close_owed b.state.lower (number_space form) n (flown_packet time size fs), refl, refl))
+      folds_next a b _ (folds_by (Take (number_space form) fs) a (refl, none_are a.state.lower.streams))
+      (folds_by (Seal time form n size fs) b (flown_streams b.state.waiting.close_owed b.state.lower (number_space form) n (flown_packet time size fs), none_are b.state.lower.streams))
 
   -- ---- calls
 
@@ -132,44 +181,42 @@ module _ {t : Types} where
 
   -- ---- inputs
 
-  -- over what was given, and calls with their steps
-  record Over (bodies : List (List ℕ)) (calls : List (Input × TraceStep)) (s s' : View t) : Type 0 where
+  -- over what was given, calls with their steps, the ranks that the life rose to, and the events that were told
+  record Over (bodies : List (List ℕ)) (calls : List (Input × TraceStep)) (ranks : List ℕ) (told : List StreamEvent) (s s' : View t) : Type 0 where
     pub steps : List Step
-    pub may : AllMay steps s.lower.streams
     pub leads : s'.lower.streams ≡ after steps s.lower.streams
-    pub handed : AreMade is_came MakesFrame bodies steps s.lower.streams
-    pub called : AreMade is_call MakesCall calls steps s.lower.streams
+    pub are : Are steps bodies calls ranks told s.lower.streams
 
-  over_next : (bodies more : List (List ℕ)) (calls others : List (Input × TraceStep)) (u v w : View t) → Over bodies calls u v → Over more others v w → Over (bodies ++ more) (calls ++ others) u w
-  over_next bodies more calls others u v w g h =
+  over_next : (bodies more : List (List ℕ)) (calls others : List (Input × TraceStep)) (ranks higher : List ℕ) (told later : List StreamEvent) (u v w : View t) →
+      Over bodies calls ranks told u v → Over more others higher later v w → Over (bodies ++ more) (calls ++ others) (ranks ++ higher) (told ++ later) u w
+  over_next bodies more calls others ranks higher told later u v w g h =
       let s : StreamsState = u.lower.streams in
       record {
         steps = g.steps ++ h.steps;
-        may = may_append g.steps h.steps s g.may (subst (λ (x : StreamsState). AllMay h.steps x) g.leads h.may);
         leads = h.leads ∙ ap (λ (x : StreamsState). after h.steps x) g.leads ∙ sym (after_append g.steps h.steps s);
-        handed = made_append is_came MakesFrame bodies more g.steps h.steps s g.handed (subst (λ (x : StreamsState). AreMade is_came MakesFrame more h.steps x) g.leads h.handed);
-        called = made_append is_call MakesCall calls others g.steps h.steps s g.called (subst (λ (x : StreamsState). AreMade is_call MakesCall others h.steps x) g.leads h.called);
+        are = are_append g.steps h.steps bodies more calls others ranks higher told later s g.are (subst (λ (x : StreamsState). Are h.steps more others higher later x) g.leads h.are);
       }
+
+  over_same : (bodies same : List (List ℕ)) (calls : List (Input × TraceStep)) (ranks alike : List ℕ) (told equal : List StreamEvent) (u v : View t) →
+      bodies ≡ same → ranks ≡ alike → told ≡ equal → Over bodies calls ranks told u v → Over same calls alike equal u v
+  over_same bodies same calls ranks alike told equal u v is_same is_alike is_equal o =
+      subst (λ (x : List (List ℕ)). Over x calls alike equal u v) is_same (subst (λ (x : List ℕ). Over bodies calls x equal u v) is_alike (subst (λ (x : List StreamEvent). Over bodies calls ranks x u v) is_equal o))
 
   -- what an input does before anything is reported
   abbrev Does : Meaning t → Input → TraceStep → Choice → View t → Type 0
-  Does m i x choice s = let b : At t = input_after m i choice (began s (time_of i)) in Over (given_to_streams b.did) ((i, x) ∷ []) s b.state
+  Does m i x choice s = let b : At t = input_after m i choice (began s (time_of i)) in Over (given_to_streams b.did) ((i, x) ∷ []) (lives_in b.did) [] s b.state
 
   other_does : (m : Meaning t) (i : Input) (x : TraceStep) (choice : Choice) (s : View t) → is_streams_call i ≡ false → IsAllowed m i choice (began s (time_of i)) → Does m i x choice s
   unfolding began state_move lower_move
   other_does m i x choice s none may =
       let a : At t = began s (time_of i) in
-      let folds : Folds a (input_after m i choice a) = known_other m Folds folds_here folds_next (λ y c known uncalled may_be. folds_by y c (move_folds m y c.state known uncalled)) (λ time form fs c may_be. packet_folds time form fs c) i choice a none may in
-      record {
-        steps = folds.steps;
-        may = folds.may;
-        leads = folds.leads;
-        handed = subst (λ (ds : List Did). AreMade is_came MakesFrame (given_to_streams ds) folds.steps s.lower.streams) (sym folds.appended) folds.handed;
-        called = (folds.steps, [], [], sym (append-nil folds.steps), folds.uncalled, record { read = choice.read; makes = none_called i choice.read (after folds.steps s.lower.streams) none; answers = λ e. cc }, refl);
-      }
+      let folds : Folds a (input_after m i choice a) = known_other m Folds folds_here folds_next (λ y c known uncalled may_be. folds_by y c (move_folds m y c.state known uncalled may_be)) (λ time form fs c may_be. packet_folds time form fs c) i choice a none may in
+      let makes : [] ≡ calls_of i choice.read (after folds.steps s.lower.streams) = none_called i choice.read (after folds.steps s.lower.streams) none in
+      subst (λ (ds : List Did). Over (given_to_streams ds) ((i, x) ∷ []) (lives_in ds) [] s (input_after m i choice a).state) (sym folds.appended)
+      (record { steps = folds.steps; leads = folds.leads; are = other_are i x choice.read folds.steps (given_to_streams folds.since) (lives_in folds.since) s.lower.streams none makes folds.are })
 
   input_does : (m : Meaning t) (i : Input) (x : TraceStep) (choice : Choice) (s : View t) → IsAllowed m i choice (began s (time_of i)) → x.answer ≡ answer_of m i choice (began s (time_of i)) → Does m i x choice s
-  unfolding began state_move lower_move input_after IsAllowed answer_of after
+  unfolding began state_move lower_move input_after IsAllowed answer_of
   input_does m (input.Datagram time remote ecn bytes) x choice s may answers = other_does m (input.Datagram time remote ecn bytes) x choice s refl may
   input_does m (input.Timeout time) x choice s may answers = other_does m (input.Timeout time) x choice s refl may
   input_does m (input.Transmit time max) x choice s may answers = other_does m (input.Transmit time max) x choice s refl may
@@ -178,41 +225,35 @@ module _ {t : Types} where
   input_does m i x choice s may answers =
       let a : At t = began s (time_of i) in
       let xs : List Step = calls_of i choice.read s.lower.streams in
-      let are = calls_may i choice.read s.lower.streams may in
-      record {
-        steps = xs;
-        may = calls_all xs s.lower.streams are;
-        leads = called_streams xs a;
-        handed = subst (λ (ds : List Did). AreMade is_came MakesFrame (given_to_streams ds) xs s.lower.streams) (sym (called_did xs a)) (calls_uncame xs s.lower.streams are);
-        called = ([], xs, [], sym (append-nil xs), refl, record { read = choice.read; makes = refl; answers = λ e. answers }, refl);
-      }
+      subst (λ (ds : List Did). Over (given_to_streams ds) ((i, x) ∷ []) (lives_in ds) [] s (called_all xs a).state) (sym (called_did xs a))
+      (record { steps = xs; leads = called_streams xs a; are = calls_are i x choice.read s.lower.streams (calls_may i choice.read s.lower.streams may) answers })
 
   -- ---- steps and runs
 
-  step_over : (m : Meaning t) (k : ℕ) (s : View t) (i : Input) (x : TraceStep) (s' : View t) → IsStep m k s i x s' → Over (given_to_streams x.did) ((i, x) ∷ []) s s'
+  step_over : (m : Meaning t) (k : ℕ) (s : View t) (i : Input) (x : TraceStep) (s' : View t) → IsStep m k s i x s' → Over (given_to_streams x.did) ((i, x) ∷ []) (lives_in x.did) (streams_told x.events) s s'
   unfolding called run.step_after reported state_move lower_move events_told streams_stepped
   step_over m k s i x s' h =
       let b : At t = input_after m i h.choice (began s (time_of i)) in
-      let n : ℕ = length (events_of b.state.lower.streams) in
-      let asks : Over [] [] b.state s' = record {
-        steps = asked_for n;
-        may = asked_may n b.state.lower.streams;
-        leads = ap (λ (l : Lower t.S). l.streams) h.lower;
-        handed = asked_uncame n;
-        called = asked_uncalled n;
-      } in
-      subst (λ (bodies : List (List ℕ)). Over bodies ((i, x) ∷ []) s s') (append-nil (given_to_streams b.did) ∙ ap given_to_streams (sym h.deeds))
-      (over_next (given_to_streams b.did) [] ((i, x) ∷ []) [] s b.state s' (input_does m i x h.choice s h.allowed h.answer) asks)
+      let told : List StreamEvent = events_of b.state.lower.streams in
+      let asks : Over [] [] [] told b.state s' = record { steps = asked_for (length told); leads = ap (λ (l : Lower t.S). l.streams) h.lower; are = asked_are b.state.lower.streams } in
+      over_same (given_to_streams b.did ++ []) (given_to_streams x.did) ((i, x) ∷ []) (lives_in b.did ++ []) (lives_in x.did) told (streams_told x.events) s s'
+      (append-nil (given_to_streams b.did) ∙ ap given_to_streams (sym h.deeds)) (append-nil (lives_in b.did) ∙ ap lives_in (sym h.deeds)) (sym (ap streams_told h.events ∙ events_wait b.state))
+      (over_next (given_to_streams b.did) [] ((i, x) ∷ []) [] (lives_in b.did) [] [] told s b.state s' (input_does m i x h.choice s h.allowed h.answer) asks)
 
-  run_over : (m : Meaning t) (k : ℕ) (s : View t) (is : List Input) (xs : List TraceStep) (s' : View t) → Run m k s is xs s' → Over (given_to_streams (deeds_of xs)) (with_steps is xs) s s'
-  unfolding Run AllMay after
-  run_over m k s [] [] s' r = record { steps = []; may = tt; leads = ap (λ (v : View t). v.lower.streams) r; handed = refl; called = refl }
+  run_over : (m : Meaning t) (k : ℕ) (s : View t) (is : List Input) (xs : List TraceStep) (s' : View t) → Run m k s is xs s' →
+      Over (given_to_streams (deeds_of xs)) (with_steps is xs) (lives_in (deeds_of xs)) (streams_told (events.events_of xs)) s s'
+  unfolding Run after
+  run_over m k s [] [] s' r = record { steps = []; leads = ap (λ (v : View t). v.lower.streams) r; are = none_are s.lower.streams }
   run_over m k s (i ∷ is) (x ∷ xs) s' r =
-      subst (λ (bodies : List (List ℕ)). Over bodies (with_steps (i ∷ is) (x ∷ xs)) s s') (sym (given_append x.did (deeds_of xs)))
-      (over_next (given_to_streams x.did) (given_to_streams (deeds_of xs)) ((i, x) ∷ []) (with_steps is xs) s r.0 s' (step_over m k s i x r.0 r.1) (run_over m (k + 1) r.0 is xs s' r.2))
+      over_same (given_to_streams x.did ++ given_to_streams (deeds_of xs)) (given_to_streams (deeds_of (x ∷ xs))) (with_steps (i ∷ is) (x ∷ xs)) (lives_in x.did ++ lives_in (deeds_of xs)) (lives_in (deeds_of (x ∷ xs)))
+      (streams_told x.events ++ streams_told (events.events_of xs)) (streams_told (events.events_of (x ∷ xs))) s s' (sym (given_append x.did (deeds_of xs))) (sym (lives_append x.did (deeds_of xs))) (sym (events_append x.events (events.events_of xs)))
+      (over_next (given_to_streams x.did) (given_to_streams (deeds_of xs)) ((i, x) ∷ []) (with_steps is xs) (lives_in x.did) (lives_in (deeds_of xs)) (streams_told x.events) (streams_told (events.events_of xs)) s r.0 s'
+      (step_over m k s i x r.0 r.1) (run_over m (k + 1) r.0 is xs s' r.2))
   run_over m k s [] (x ∷ xs) s' r = absurd r
   run_over m k s (i ∷ is) [] s' r = absurd r
 
   -- over a run the streams are the fold of their steps
   pub run_folds : (m : Meaning t) (k : ℕ) (s : View t) (is : List Input) (xs : List TraceStep) (s' : View t) → Run m k s is xs s' → FoldsStreams is xs s s'
-  run_folds m k s is xs s' r = let o = run_over m k s is xs s' r in record { steps = o.steps; may = o.may; leads = o.leads; handed = o.handed; called = o.called }
+  run_folds m k s is xs s' r =
+      let o = run_over m k s is xs s' r in
+      record { steps = o.steps; may = o.are.may; leads = o.leads; handed = o.are.handed; called = o.are.called; closed = o.are.closed; told = o.are.asked; only = o.are.only }

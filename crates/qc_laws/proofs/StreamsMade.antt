@@ -2,8 +2,8 @@
 use Rattle.std.proofs.Common.{◌≡◌, ℕ, zero, suc, ◌<◌, ◌^◌, List, [], ◌∷◌, ◌++◌, refl, ap, sym, ◌∙◌, subst, Bool, true, false, Option, Some, None, if◌then◌else◌, append_assoc, append-nil, arith}
 use Rattle.std.proofs.lemmas.Bool.Decides.{nat_tests}
 use Rattle.std.proofs.lemmas.List.Folds.{list_any-append}
-use Rattle.std.specs.Prelude.{◌||◌, nat_lt}
-use Rattle.std.specs.List.{list_any}
+use Rattle.std.specs.Prelude.{◌||◌, not, nat_le, nat_lt, length, Result}
+use Rattle.std.specs.List.{list_all, list_any}
 use Rattle.qc_frame.specs.Frame.{FrameValue}
 use Rattle.qc_frame.specs.FrameSpelling.{spelling}
 use Rattle.qc_frame.specs.declared.frames.FrameOf.TheVariants as frames
@@ -15,15 +15,24 @@ use Rattle.qc_streams.specs.Steps.{AllMay, Handed, IsSealedSo, NamesStream, came
 use Rattle.qc_streams.specs.Steps as handed
 use Rattle.qc_streams.specs.Waits.{Step, Closed, IsPossible, LimitCame, LimitsKnown, Polled, ResetCame, StopCame, StreamCame, StreamLimitCame, StreamsLimitCame, after, after_step}
 use Rattle.qc_streams.specs.Within.{IsTaken}
-use Rattle.qc_streams.proofs.StepsLaw.{after_append, handed_may}
+use Rattle.qc_streams.proofs.StepsLaw.{after_append, handed_may, may_append}
 use Rattle.qc_state.specs.declared.deeds.Did.{Did}
 use Rattle.qc_state.specs.declared.deeds.Did.TheVariants as did
 use Rattle.qc_state.specs.declared.deeds.Layer.TheVariants as layer
-use Rattle.qc_state.specs.Moves.{is_call, told_to_streams}
-use Rattle.qc_state.specs.Streams.{asked_for, is_given_to_streams, steps_of_frame, steps_of_handed}
-use Rattle.qc_laws.specs.StreamsLaws.{AreMade, MakesFrame, NoneOf, given_to_streams, is_came}
+use Rattle.qc_state.specs.Moves.{is_call, told_to_streams, IsTold}
+use Rattle.qc_state.specs.Streams.{asked_for, is_given_to_streams, steps_of_frame, steps_of_handed, call_answer, calls_of, events_of}
+use Rattle.qc_laws.specs.StreamsLaws.{AreMade, MakesFrame, NoneOf, given_to_streams, is_came, MakesCall, MakesClose, MakesEvent, is_asked, is_closing, is_other, is_streams_call}
 use Rattle.qc_laws.proofs.KnownMoves.{IsElsewhere}
-use Rattle.qc_laws.proofs.StreamCalls.{AreCalls}
+use Rattle.qc_laws.proofs.StreamCalls.{AreCalls, handed_told}
+use Rattle.qc_recv.specs.declared.recv.Chunk.{Chunk}
+use Rattle.qc_streams.specs.declared.fault.ReadFault.{ReadFault}
+use Rattle.qc_streams.specs.declared.events.StreamEvent.{StreamEvent}
+use Rattle.qc_streams.specs.Owed.{next_event, polled}
+use Rattle.qc_state.specs.declared.input.Input.{Input}
+use Rattle.qc_state.specs.declared.trace.Step.{Step as TraceStep}
+use Rattle.qc_state.specs.Headline.{lives_in}
+use Rattle.qc_laws.proofs.HarmlessTests.{both, first_holds, second_holds}
+use Rattle.qc_state.proofs.StreamEvents.{next_first, next_none}
 
 -- ---- steps one behind the other
 
@@ -31,7 +40,7 @@ none_or : (a b : Bool) → a ≡ false → b ≡ false → (a || b) ≡ false
 none_or true b h k = cc
 none_or false b h k = k
 
-pub none_append : (kind : Step → Bool) (xs ys : List Step) → NoneOf kind xs → NoneOf kind ys → NoneOf kind (xs ++ ys)
+none_append : (kind : Step → Bool) (xs ys : List Step) → NoneOf kind xs → NoneOf kind ys → NoneOf kind (xs ++ ys)
 none_append kind xs ys h k = list_any-append kind xs ys ∙ none_or (list_any kind xs) (list_any kind ys) h k
 
 module _ {A : Type 0} (kind : Step → Bool) (Makes : A → List Step → StreamsState → Type 0) where
@@ -50,7 +59,7 @@ module _ {A : Type 0} (kind : Step → Bool) (Makes : A → List Step → Stream
         subst (λ (z : StreamsState). AreMade kind Makes more h.2 (after h.1 z)) (sym same) h.6,
       )
 
-  pub made_append : (these those : List A) (xs ys : List Step) (s : StreamsState) → AreMade kind Makes these xs s → AreMade kind Makes those ys (after xs s) → AreMade kind Makes (these ++ those) (xs ++ ys) s
+  made_append : (these those : List A) (xs ys : List Step) (s : StreamsState) → AreMade kind Makes these xs s → AreMade kind Makes those ys (after xs s) → AreMade kind Makes (these ++ those) (xs ++ ys) s
   made_append [] those xs ys s a b = made_behind those xs ys s a b
   made_append (x ∷ these) those xs ys s a b =
       let front : List Step = a.0 in
@@ -89,7 +98,7 @@ unfolding AllMay
 named_may id f s true is names = handed_may f s (names (named id is))
 named_may id f s false is names = tt
 
-pub frame_may : (frame : FrameValue) (s : StreamsState) → AllMay (steps_of_frame frame s) s
+frame_may : (frame : FrameValue) (s : StreamsState) → AllMay (steps_of_frame frame s) s
 unfolding steps_of_frame AllMay NamesStream
 frame_may (frames.ResetStream id code size) s = named_may id (handed.ResetStream id code size) s (nat_lt id (2 ^ 62)) refl (λ h. h)
 frame_may (frames.StopSending id code) s = named_may id (handed.StopSending id code) s (nat_lt id (2 ^ 62)) refl (λ h. h)
@@ -116,7 +125,7 @@ unfolding steps_of came
 blocked_none id s true = none_blocked (refusal_of (handed.StreamDataBlocked id) s)
 blocked_none id s false = refl
 
-pub frame_makes : (frame : FrameValue) (s : StreamsState) → AreMade is_came MakesFrame (given_to_streams (told_to_streams frame)) (steps_of_frame frame s) s
+frame_makes : (frame : FrameValue) (s : StreamsState) → AreMade is_came MakesFrame (given_to_streams (told_to_streams frame)) (steps_of_frame frame s) s
 unfolding steps_of_frame steps_of came
 frame_makes (frames.ResetStream id code size) s = given_made (frames.ResetStream id code size) s refl
 frame_makes (frames.StopSending id code) s = given_made (frames.StopSending id code) s refl
@@ -128,61 +137,62 @@ frame_makes (frames.StreamDataBlocked id limit) s = blocked_none id s (nat_lt id
 frame_makes (frames.StreamsBlocked dir limit) s = none_blocked (refusal_of (handed.StreamsBlocked limit) s)
 frame_makes _ s = refl
 
--- what is told by itself is no gift to the streams
-pub told_made : (d : Did) (s : StreamsState) → IsElsewhere d → AreMade is_came MakesFrame (given_to_streams (d ∷ [])) [] s
-told_made (did.Gave layer.Streams body) s h = absurd h
-told_made _ s h = refl
-
--- no frame makes a call
-came_uncalled : (f : Handed) → NoneOf is_call (came f)
+-- all of them are such
+came_all : (f : Handed) → list_all is_came (came f) ≡ true
 unfolding came
-came_uncalled (handed.Stream id offset body last) = refl
-came_uncalled (handed.ResetStream id code size) = refl
-came_uncalled (handed.StopSending id code) = refl
-came_uncalled (handed.MaxStreamData id limit) = refl
-came_uncalled (handed.MaxStreams dir n) = refl
-came_uncalled (handed.MaxData limit) = refl
-came_uncalled (handed.StreamDataBlocked id) = refl
-came_uncalled (handed.StreamsBlocked n) = refl
+came_all (handed.Stream id offset body last) = refl
+came_all (handed.ResetStream id code size) = refl
+came_all (handed.StopSending id code) = refl
+came_all (handed.MaxStreamData id limit) = refl
+came_all (handed.MaxStreams dir n) = refl
+came_all (handed.MaxData limit) = refl
+came_all (handed.StreamDataBlocked id) = refl
+came_all (handed.StreamsBlocked n) = refl
 
-unless_uncalled : (o : Option Refusal) (xs : List Step) → NoneOf is_call xs → NoneOf is_call (unless_refused o xs)
-unless_uncalled None xs h = h
-unless_uncalled (Some r) xs h = refl
+unless_all : (o : Option Refusal) (xs : List Step) → list_all is_came xs ≡ true → list_all is_came (unless_refused o xs) ≡ true
+unless_all None xs h = h
+unless_all (Some r) xs h = refl
 
-handed_uncalled : (o : Option Handed) (s : StreamsState) → NoneOf is_call (steps_of_handed o s)
+handed_all : (o : Option Handed) (s : StreamsState) → list_all is_came (steps_of_handed o s) ≡ true
 unfolding steps_of
-handed_uncalled None s = refl
-handed_uncalled (Some f) s = unless_uncalled (refusal_of f s) (came f) (came_uncalled f)
+handed_all None s = refl
+handed_all (Some f) s = unless_all (refusal_of f s) (came f) (came_all f)
 
-pub frame_uncalled : (frame : FrameValue) (s : StreamsState) → NoneOf is_call (steps_of_frame frame s)
+frame_all : (frame : FrameValue) (s : StreamsState) → list_all is_came (steps_of_frame frame s) ≡ true
 unfolding steps_of_frame
-frame_uncalled frame s = handed_uncalled _ s
+frame_all frame s = handed_all _ s
 
--- ---- other steps
+-- ---- a step is of one kind
 
-pub closed_may : (s : StreamsState) → AllMay (Closed ∷ []) s
-unfolding AllMay IsPossible IsTaken IsAnswered IsSealedSo
-closed_may s = (record { possible = tt; taken = tt; answered = tt; sealed = tt }, tt)
+none_by : (kind other : Step → Bool) → ((x : Step) → other x ≡ true → kind x ≡ false) → (xs : List Step) → list_all other xs ≡ true → NoneOf kind xs
+none_by kind other apart [] h = refl
+none_by kind other apart (x ∷ xs) h =
+    none_or (kind x) (list_any kind xs) (apart x (first_holds (other x) (list_all other xs) h)) (none_by kind other apart xs (second_holds (other x) (list_all other xs) h))
 
-pub learned_may : (p : PeerLimits) (s : StreamsState) → AllMay (LimitsKnown p ∷ []) s
-unfolding AllMay IsPossible IsTaken IsAnswered IsSealedSo
-learned_may p s = (record { possible = tt; taken = tt; answered = tt; sealed = tt }, tt)
+came_uncalled : (x : Step) → is_came x ≡ true → is_call x ≡ false
+came_uncalled (StreamCame id offset body last) h = refl
+came_uncalled (ResetCame id code size) h = refl
+came_uncalled (StopCame id code) h = refl
+came_uncalled (StreamLimitCame id limit) h = refl
+came_uncalled (StreamsLimitCame dir count) h = refl
+came_uncalled (LimitCame limit) h = refl
+came_uncalled _ h = cc
 
--- that they are asked for events
-pub asked_may : (n : ℕ) (s : StreamsState) → AllMay (asked_for n) s
-unfolding AllMay IsPossible IsTaken IsAnswered IsSealedSo
-asked_may zero s = tt
-asked_may (suc n) s = (record { possible = tt; taken = tt; answered = tt; sealed = tt }, asked_may n (after_step Polled s))
+came_open : (x : Step) → is_came x ≡ true → is_closing x ≡ false
+came_open Closed h = cc
+came_open _ h = refl
 
-pub asked_uncame : (n : ℕ) → NoneOf is_came (asked_for n)
-asked_uncame zero = refl
-asked_uncame (suc n) = asked_uncame n
+came_unasked : (x : Step) → is_came x ≡ true → is_asked x ≡ false
+came_unasked Polled h = cc
+came_unasked _ h = refl
 
-pub asked_uncalled : (n : ℕ) → NoneOf is_call (asked_for n)
-asked_uncalled zero = refl
-asked_uncalled (suc n) = asked_uncalled n
+first_known : (a b : Bool) → a ≡ true → not (a || b) ≡ false
+first_known true b h = refl
+first_known false b h = cc
 
--- no call is made by a frame
+came_known : (x : Step) → is_came x ≡ true → is_other x ≡ false
+came_known x h = first_known (is_came x) _ h
+
 call_uncame : (x : Step) → is_call x ≡ true → is_came x ≡ false
 call_uncame (StreamCame id offset body last) h = cc
 call_uncame (ResetCame id code size) h = cc
@@ -192,11 +202,167 @@ call_uncame (StreamsLimitCame dir count) h = cc
 call_uncame (LimitCame limit) h = cc
 call_uncame _ h = refl
 
-pub calls_uncame : (xs : List Step) (s : StreamsState) → AreCalls xs s → NoneOf is_came xs
-calls_uncame [] s h = refl
-calls_uncame (x ∷ xs) s h = none_or (is_came x) (list_any is_came xs) (call_uncame x h.0.0) (calls_uncame xs (after_step x s) h.1)
+call_open : (x : Step) → is_call x ≡ true → is_closing x ≡ false
+call_open Closed h = cc
+call_open _ h = refl
 
-pub calls_all : (xs : List Step) (s : StreamsState) → AreCalls xs s → AllMay xs s
+call_unasked : (x : Step) → is_call x ≡ true → is_asked x ≡ false
+call_unasked Polled h = cc
+call_unasked _ h = refl
+
+second_known : (a b c : Bool) → b ≡ true → not (a || (b || c)) ≡ false
+second_known true b c h = refl
+second_known false true c h = refl
+second_known false false c h = cc
+
+call_known : (x : Step) → is_call x ≡ true → is_other x ≡ false
+call_known x h = second_known (is_came x) (is_call x) _ h
+
+calls_all : (xs : List Step) (s : StreamsState) → AreCalls xs s → list_all is_call xs ≡ true
+calls_all [] s h = refl
+calls_all (x ∷ xs) s h = both (is_call x) (list_all is_call xs) h.0.0 (calls_all xs (after_step x s) h.1)
+
+calls_may : (xs : List Step) (s : StreamsState) → AreCalls xs s → AllMay xs s
 unfolding AllMay
-calls_all [] s h = tt
-calls_all (x ∷ xs) s h = (h.0.1, calls_all xs (after_step x s) h.1)
+calls_may [] s h = tt
+calls_may (x ∷ xs) s h = (h.0.1, calls_may xs (after_step x s) h.1)
+
+asked_uncame : (n : ℕ) → NoneOf is_came (asked_for n)
+asked_uncame zero = refl
+asked_uncame (suc n) = asked_uncame n
+
+asked_uncalled : (n : ℕ) → NoneOf is_call (asked_for n)
+asked_uncalled zero = refl
+asked_uncalled (suc n) = asked_uncalled n
+
+asked_open : (n : ℕ) → NoneOf is_closing (asked_for n)
+asked_open zero = refl
+asked_open (suc n) = asked_open n
+
+asked_known : (n : ℕ) → NoneOf is_other (asked_for n)
+asked_known zero = refl
+asked_known (suc n) = asked_known n
+
+asked_may : (n : ℕ) (s : StreamsState) → AllMay (asked_for n) s
+unfolding AllMay IsPossible IsTaken IsAnswered IsSealedSo
+asked_may zero s = tt
+asked_may (suc n) s = (record { possible = tt; taken = tt; answered = tt; sealed = tt }, asked_may n (after_step Polled s))
+
+-- asked as often as events wait, they tell these
+asked_tells : (n : ℕ) (s : StreamsState) (o : Option StreamEvent) → next_event s ≡ o → length (events_of s) ≡ n → AreMade is_asked MakesEvent (events_of s) (asked_for n) s
+unfolding after after_step
+asked_tells zero s None is count = subst (λ (es : List StreamEvent). AreMade is_asked MakesEvent es [] s) (sym (next_none s is)) refl
+asked_tells zero s (Some e) is count =
+    let more : length (events_of s) ≡ suc (length (events_of (polled s))) = ap (λ (es : List StreamEvent). length es) (next_first s e is) in
+    absurd (omega (arith, count, more))
+asked_tells (suc n) s None is count =
+    let none : length (events_of s) ≡ 0 = ap (λ (es : List StreamEvent). length es) (next_none s is) in
+    absurd (omega (arith, count, none))
+asked_tells (suc n) s (Some e) is count =
+    let more : length (events_of s) ≡ suc (length (events_of (polled s))) = ap (λ (es : List StreamEvent). length es) (next_first s e is) in
+    subst (λ (es : List StreamEvent). AreMade is_asked MakesEvent es (Polled ∷ asked_for n) s) (sym (next_first s e is))
+    ([], Polled ∷ [], asked_for n, refl, refl, (refl, is), asked_tells n (polled s) (next_event (polled s)) refl (omega (arith, count, more)))
+
+-- ---- what all of them are
+
+-- these steps may be made, and are those of what was given, of calls, of the ranks that the life rose to, and of events that were told
+pub record Are (xs : List Step) (bodies : List (List ℕ)) (calls : List (Input × TraceStep)) (ranks : List ℕ) (told : List StreamEvent) (s : StreamsState) : Type 0 where
+  pub may : AllMay xs s
+  pub handed : AreMade is_came MakesFrame bodies xs s
+  pub called : AreMade is_call MakesCall calls xs s
+  pub closed : AreMade is_closing MakesClose ranks xs s
+  pub asked : AreMade is_asked MakesEvent told xs s
+  pub only : NoneOf is_other xs
+
+pub are_append : (xs ys : List Step) (bodies more : List (List ℕ)) (calls others : List (Input × TraceStep)) (ranks higher : List ℕ) (told later : List StreamEvent) (s : StreamsState) →
+    Are xs bodies calls ranks told s → Are ys more others higher later (after xs s) → Are (xs ++ ys) (bodies ++ more) (calls ++ others) (ranks ++ higher) (told ++ later) s
+are_append xs ys bodies more calls others ranks higher told later s a b = record {
+  may = may_append xs ys s a.may b.may;
+  handed = made_append is_came MakesFrame bodies more xs ys s a.handed b.handed;
+  called = made_append is_call MakesCall calls others xs ys s a.called b.called;
+  closed = made_append is_closing MakesClose ranks higher xs ys s a.closed b.closed;
+  asked = made_append is_asked MakesEvent told later xs ys s a.asked b.asked;
+  only = none_append is_other xs ys a.only b.only;
+}
+
+-- no steps
+pub none_are : (s : StreamsState) → Are [] [] [] [] [] s
+unfolding AllMay
+none_are s = record { may = tt; handed = refl; called = refl; closed = refl; asked = refl; only = refl }
+
+-- those of a frame
+pub frame_are : (frame : FrameValue) (s : StreamsState) → Are (steps_of_frame frame s) (given_to_streams (told_to_streams frame)) [] (lives_in (told_to_streams frame)) [] s
+frame_are frame s =
+    let all : list_all is_came (steps_of_frame frame s) ≡ true = frame_all frame s in
+    record {
+      may = frame_may frame s;
+      handed = frame_makes frame s;
+      called = none_by is_call is_came came_uncalled (steps_of_frame frame s) all;
+      closed = handed_told (λ ds. AreMade is_closing MakesClose (lives_in ds) (steps_of_frame frame s) s) frame (none_by is_closing is_came came_open (steps_of_frame frame s) all)
+          (λ body. none_by is_closing is_came came_open (steps_of_frame frame s) all);
+      asked = none_by is_asked is_came came_unasked (steps_of_frame frame s) all;
+      only = none_by is_other is_came came_known (steps_of_frame frame s) all;
+    }
+
+-- what is told by itself is no gift to the streams, nor a rise of the life
+pub told_are : (d : Did) (s : StreamsState) → IsTold d → IsElsewhere d → Are [] (given_to_streams (d ∷ [])) [] (lives_in (d ∷ [])) [] s
+told_are (did.Piece space number v) s h k = none_are s
+told_are (did.Gave layer.Session body) s h k = none_are s
+told_are (did.Gave layer.Recovery body) s h k = none_are s
+told_are (did.Gave layer.Life body) s h k = none_are s
+told_are (did.Gave layer.Streams body) s h k = absurd k
+told_are _ s h k = absurd h
+
+-- the peer's limits are known
+pub limits_are : (p : PeerLimits) (s : StreamsState) → Are (LimitsKnown p ∷ []) [] [] [] [] s
+unfolding AllMay IsPossible IsTaken IsAnswered IsSealedSo
+limits_are p s = record { may = (record { possible = tt; taken = tt; answered = tt; sealed = tt }, tt); handed = refl; called = refl; closed = refl; asked = refl; only = refl }
+
+-- the life rises to Closed or further, or to Established
+pub close_are : (rank : ℕ) (s : StreamsState) → nat_le 2 rank ≡ true → Are (Closed ∷ []) [] [] (rank ∷ []) [] s
+unfolding AllMay IsPossible IsTaken IsAnswered IsSealedSo
+close_are rank s high = record {
+  may = (record { possible = tt; taken = tt; answered = tt; sealed = tt }, tt);
+  handed = refl;
+  called = refl;
+  closed = ([], Closed ∷ [], [], refl, refl, sym (ap (λ (b : Bool). if b then Closed ∷ [] else []) high), refl);
+  asked = refl;
+  only = refl;
+}
+
+pub low_are : (s : StreamsState) → Are [] [] [] (1 ∷ []) [] s
+unfolding AllMay
+low_are s = record { may = tt; handed = refl; called = refl; closed = ([], [], [], refl, refl, refl, refl); asked = refl; only = refl }
+
+-- they are asked for all events that wait
+pub asked_are : (s : StreamsState) → Are (asked_for (length (events_of s))) [] [] [] (events_of s) s
+asked_are s =
+    let n : ℕ = length (events_of s) in
+    record { may = asked_may n s; handed = asked_uncame n; called = asked_uncalled n; closed = asked_open n; asked = asked_tells n s (next_event s) refl refl; only = asked_known n }
+
+-- those of an input that is a call of the streams
+pub calls_are : (i : Input) (x : TraceStep) (read : Result (Option Chunk) ReadFault) (s : StreamsState) → AreCalls (calls_of i read s) s → x.answer ≡ call_answer i read s → Are (calls_of i read s) [] ((i, x) ∷ []) [] [] s
+unfolding after
+calls_are i x read s are answers =
+    let xs : List Step = calls_of i read s in
+    let all : list_all is_call xs ≡ true = calls_all xs s are in
+    record {
+      may = calls_may xs s are;
+      handed = none_by is_came is_call call_uncame xs all;
+      called = ([], xs, [], sym (append-nil xs), refl, record { read = read; makes = refl; answers = λ e. answers }, refl);
+      closed = none_by is_closing is_call call_open xs all;
+      asked = none_by is_asked is_call call_unasked xs all;
+      only = none_by is_other is_call call_known xs all;
+    }
+
+-- and of one that is none
+pub other_are : (i : Input) (x : TraceStep) (read : Result (Option Chunk) ReadFault) (xs : List Step) (bodies : List (List ℕ)) (ranks : List ℕ) (s : StreamsState) →
+    is_streams_call i ≡ false → [] ≡ calls_of i read (after xs s) → Are xs bodies [] ranks [] s → Are xs bodies ((i, x) ∷ []) ranks [] s
+other_are i x read xs bodies ranks s none makes a = record {
+  may = a.may;
+  handed = a.handed;
+  called = (xs, [], [], sym (append-nil xs), a.called, record { read = read; makes = makes; answers = λ e. cc }, refl);
+  closed = a.closed;
+  asked = a.asked;
+  only = a.only;
+}

@@ -12,7 +12,7 @@ use Rattle.qc_state.specs.declared.keys.SpaceKeys.{SpaceKeys}
 use Rattle.qc_state.specs.declared.paths.Paths.{Paths}
 use Rattle.qc_state.specs.declared.setup.Fixed.{Fixed}
 use Rattle.qc_state.specs.First.{just_made}
-use Rattle.qc_state.specs.Keys.{first_keys, form_in, has_keys, has_keys_for}
+use Rattle.qc_state.specs.Keys.{form_in, has_keys, has_keys_for}
 use Rattle.qc_laws.specs.TimerLaws.{FlightHolds, SpaceHolds, TimerHolds, awaits_ack, elicits_in, has_asked, must_probe}
 use Rattle.qc_state.specs.Types.{Types}
 

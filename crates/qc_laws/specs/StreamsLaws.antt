@@ -1,11 +1,11 @@
 -- The streams of the application as the fold of their own steps: over moves, and over whole runs (RFC 9000, sections 2 to 4).
-use Rattle.std.specs.Prelude.{◌≡◌, ℕ, Bool, true, false, List, [], ◌∷◌, ◌++◌, length, Option, Result}
+use Rattle.std.specs.Prelude.{◌≡◌, ℕ, nat_le, Bool, true, false, ◌||◌, not, if◌then◌else◌, List, [], ◌∷◌, ◌++◌, length, Option, Some, Result}
 use Rattle.std.specs.List.{list_any}
 use Rattle.qc_frame.specs.Frame.{FrameValue}
 use Rattle.qc_frame.specs.FrameSpelling.{spelling}
 use Rattle.qc_recv.specs.declared.recv.Chunk.{Chunk}
 use Rattle.qc_streams.specs.Steps.{AllMay}
-use Rattle.qc_streams.specs.Waits.{Step, Closed, LimitCame, LimitsKnown, ResetCame, StopCame, StreamCame, StreamLimitCame, StreamsLimitCame, after}
+use Rattle.qc_streams.specs.Waits.{Step, Closed, LimitCame, LimitsKnown, Polled, ResetCame, StopCame, StreamCame, StreamLimitCame, StreamsLimitCame, after}
 use Rattle.qc_streams.specs.declared.fault.ReadFault.{ReadFault}
 use Rattle.qc_streams.specs.declared.state.StreamsState.{StreamsState}
 use Rattle.qc_state.specs.declared.deeds.Did.{Did}
@@ -14,11 +14,16 @@ use Rattle.qc_state.specs.declared.deeds.Layer.TheVariants as layer
 use Rattle.qc_state.specs.declared.input.Input.{Input}
 use Rattle.qc_state.specs.declared.input.Input.TheVariants.{Close, Datagram, Ping, Timeout, Transmit}
 use Rattle.qc_state.specs.declared.trace.Step.{Step as TraceStep}
-use Rattle.qc_state.specs.Headline.{deeds_of}
+use Rattle.qc_state.specs.Headline.{deeds_of, lives_in}
 use Rattle.qc_state.specs.Moves.{Move, Call, Hand, Learn, PeerCloses, PeerClosesToo, Raise, ReportStream, ReportStreams, Shut, is_call}
 use Rattle.qc_state.specs.Streams.{asked_for, call_answer, calls_of, events_of, is_given_to_streams, limits_of, steps_of_frame}
 use Rattle.qc_state.specs.Types.{Types}
 use Rattle.qc_state.specs.View.{View}
+use Rattle.qc_streams.specs.Owed.{next_event}
+use Rattle.qc_streams.specs.declared.events.StreamEvent.{StreamEvent}
+use Rattle.qc_state.specs.declared.events.Event.{Event}
+use Rattle.qc_state.specs.declared.events.Event.TheVariants.{Stream}
+use Rattle.qc_laws.specs.EventLaws as events
 
 -- ---- steps of one kind
 
@@ -81,9 +86,47 @@ pub record MakesCall (call : Input × TraceStep) (made : List Step) (s : Streams
   pub makes : made ≡ calls_of call.0 read s
   pub answers : is_streams_call call.0 ≡ true → call.1.answer ≡ call_answer call.0 read s
 
--- ---- which steps a move is
+-- ---- the end of a connection
+
+-- whether a step is that the connection isn't open any more
+abbrev pub is_closing : Step → Bool
+is_closing Closed = true
+is_closing _ = false
+
+-- where the life rises to this rank, that is so from Closed on
+abbrev pub MakesClose : (rank : ℕ) → List Step → StreamsState → Type 0
+MakesClose rank made s = made ≡ (if nat_le 2 rank then Closed ∷ [] else [])
+
+-- ---- events
+
+-- whether a step is that an event is asked for
+abbrev pub is_asked : Step → Bool
+is_asked Polled = true
+is_asked _ = false
+
+-- those events that are of streams, in order
+abbrev pub streams_told : List Event → List StreamEvent
+streams_told [] = []
+streams_told (Stream event ∷ es) = event ∷ streams_told es
+streams_told (_ ∷ es) = streams_told es
+
+-- an event that is told is the next one
+abbrev pub MakesEvent : StreamEvent → List Step → StreamsState → Type 0
+MakesEvent event made s = (made ≡ Polled ∷ []) × (next_event s ≡ Some event)
+
+-- ---- all steps
+
+-- whether a step is that the peer's limits are known
+abbrev pub is_learned : Step → Bool
+is_learned (LimitsKnown limits) = true
+is_learned _ = false
+
+-- whether it is none of these
+abbrev pub is_other : Step → Bool
+is_other x = not (is_came x || (is_call x || (is_closing x || (is_asked x || is_learned x))))
 
 module _ {t : Types} where
+  -- which of the streams' own steps a move is
   unfoldable pub streams_steps : Move t → View t → List Step
   streams_steps (Hand frame) s = steps_of_frame frame s.lower.streams
   streams_steps (Call x) s = x ∷ []
@@ -97,11 +140,16 @@ module _ {t : Types} where
   streams_steps _ s = []
 
   -- From one view to another, over inputs whose trace is this, the streams made steps: each of them may be made as its turn comes, and the
-  -- streams are what they leave. Those of the steps that frames make are the ones of the frames that the deeds gave to the streams, and
-  -- those that calls make are the ones of the inputs, which answer so. So whatever holds over any steps of the streams holds over these.
+  -- streams are what they leave. Those of the steps that frames make are the ones of the frames that the deeds gave to the streams; those
+  -- that calls make are the ones of the inputs, which answer so; they are closed where the life rises to Closed or further; each event of
+  -- theirs that is told is their next one; and any other step is that the peer's limits are known. So whatever holds over any steps of the
+  -- streams holds over these.
   pub record FoldsStreams (is : List Input) (xs : List TraceStep) (s s' : View t) : Type 0 where
     pub steps : List Step
     pub may : AllMay steps s.lower.streams
     pub leads : s'.lower.streams ≡ after steps s.lower.streams
     pub handed : AreMade is_came MakesFrame (given_to_streams (deeds_of xs)) steps s.lower.streams
     pub called : AreMade is_call MakesCall (with_steps is xs) steps s.lower.streams
+    pub closed : AreMade is_closing MakesClose (lives_in (deeds_of xs)) steps s.lower.streams
+    pub told : AreMade is_asked MakesEvent (streams_told (events.events_of xs)) steps s.lower.streams
+    pub only : NoneOf is_other steps

@@ -99,10 +99,10 @@ pub fn recovery_is_folded<U: Suite>()
 {}
 
 /// A law, which runs no code. Over a run the streams of the application are what their own steps leave, one after the other, and each step
-/// may be made as its turn comes: it is a frame that came, a call of the application's, that the peer's limits are known, that the
-/// connection isn't open any more, or that an event is asked for. Those of the steps that frames make are the ones of the frames that were
-/// given to the streams, in order, none left out and none made up; a frame that they refuse makes none. So it is with those that calls make,
-/// which answer as the streams are then. So every law over the steps of the streams holds of a run (RFC 9000, 2 to 4).
+/// may be made as its turn comes. Those of the steps that frames make are the ones of the frames that were given to the streams, in order,
+/// none left out and none made up; a frame that they refuse makes none. So it is with those that calls make, which answer as the streams
+/// are then; the streams are closed where the life rises to Closed or further; each event of theirs that is told is their next one; and any
+/// other step is that the peer's limits are known. So every law over the steps of the streams holds of a run (RFC 9000, 2 to 4).
 pub fn streams_are_folded<U: Suite>()
     ensures { (s last : View ⟦<U as Means>⟧.types) (k : ℕ) (is : List Input) (xs : List Step) → Run ⟦<U as Means>⟧.meaning k s is xs last → FoldsStreams is xs s last }
 {}

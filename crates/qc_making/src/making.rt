@@ -1,6 +1,7 @@
 //! What clients and servers are made of.
 
 ghost use Rattle.std.specs.Prelude.{◌≡◌, ◌<◌, ◌^◌, ◌%◌, ◌&&◌, nat_lt, if◌then◌else◌, [], length, IfOk, false, None};
+ghost use Rattle.qc_datagrams.specs.Datagrams.{new_datagrams};
 ghost use Rattle.qc_path.specs.Acks.{no_marks};
 ghost use Rattle.qc_send_stream.specs.Buffer.{bytes_written, nothing};
 ghost use Rattle.qc_state.specs.Draws.{behind, filter_words, key_phase_of, word};
@@ -14,12 +15,13 @@ use qc_assembler::Assembler;
 use qc_base::{ConnectionId, Duration, Instant, Side, VarInt};
 use qc_core::Core;
 use qc_crypto::Session;
+use qc_datagrams::Datagrams;
 use qc_path::{ControllerFactory, PacketNumberFilter, PendingAcks};
 use qc_recovery::{IdleTimeout, Recovery, TransportConfig};
 use qc_state::setup::limit_of_millis;
 use qc_state::{
-    CryptoQueue, EndpointEvents, Fixed, KeyGroup, Life, Lower, Numbers, Paths, Setup, SoundSession,
-    SpaceKeys, SpaceNumbers, SpaceWaiting, Spaces, State, Suite, Timers, Waiting,
+    CryptoQueue, EndpointEvents, Events, Fixed, KeyGroup, Life, Lower, Numbers, Paths, Setup,
+    SoundSession, SpaceKeys, SpaceNumbers, SpaceWaiting, Spaces, State, Suite, Timers, Waiting,
 };
 use qc_streams::StreamsState;
 use rand_core::Rng;
@@ -145,6 +147,18 @@ fn waiting(alloc: Global, hello: Vec<u8>) -> Result<Waiting, AllocError>
     })
 }
 
+/// The datagrams of a connection that was just made: none came, and none is to be sent.
+fn datagrams(alloc: Global, transport: &TransportConfig) -> Datagrams
+    ensures { result ≡ new_datagrams transport.now.datagram_receive_buffer_size transport.now.datagram_send_buffer_size }
+{
+    let receive_buffer = match transport.get_datagram_receive_buffer_size() {
+        None => None,
+        Some(size) => Some(size as u64),
+    };
+    let send_buffer = transport.get_datagram_send_buffer_size() as u64;
+    Datagrams::new(alloc, receive_buffer, send_buffer)
+}
+
 /// The streams of a connection that was just made: none is open, and the peer may open as many as the configuration says.
 fn first_streams(alloc: Global, side: Side, transport: &TransportConfig) -> StreamsState
     ensures { result ≡ first_streams side transport.now }
@@ -163,13 +177,14 @@ fn first_streams(alloc: Global, side: Side, transport: &TransportConfig) -> Stre
 
 /// The life of a connection that was just made.
 fn life(alloc: Global) -> Life
-    ensures { result ≡ record { state = State.Handshake; reason = None; ready = false; connected = false; lost = None; notices = []; drained = false; close = None } }
+    ensures { result ≡ record { state = State.Handshake; reason = None; ready = false; connected = false; heard = []; lost = None; notices = []; drained = false; close = None } }
 {
     Life {
         state: State::Handshake,
         reason: None,
         ready: false,
         connected: false,
+        heard: Events::new(alloc),
         lost: None,
         notices: EndpointEvents::new(alloc),
         drained: false,
@@ -231,6 +246,7 @@ pub(crate) fn made<U: Suite>(
             },
             recovery: Recovery::new(alloc, transport),
             streams,
+            datagrams: datagrams(alloc, transport),
         },
     })
 }

@@ -26,7 +26,7 @@ use Rattle.qc_state.specs.declared.life.State.{State}
 use Rattle.qc_state.specs.declared.life.State.TheVariants as state
 use Rattle.qc_state.specs.declared.life.Life.{Life}
 use Rattle.qc_state.specs.Life.{rank_of, is_open, is_closed, is_over, life_drained, reason_given}
-use Rattle.qc_state.specs.Lower.{ready_bytes, session_read, stream_of}
+use Rattle.qc_state.specs.Lower.{handed_stop, ready_bytes, session_read, stream_of}
 use Rattle.qc_state.specs.Moves.{Move, Arm, Forget, Enter, Accept, Fix, Give, Hand, Ack, Come, Read, Ready, Shut, Tell, PeerClosesToo, PeerCloses, Owe, move_to, state_move, numbers_move, keys_move, life_move, paths_move, timers_move, waiting_move, setup_move, lower_move, MayMove, accepts, enters, armed_after, armed_with}
 use Rattle.qc_state.specs.Numbers.{is_new_in, next_number}
 use Rattle.qc_state.specs.Progress.{progress_after}
@@ -35,13 +35,12 @@ use Rattle.qc_state.specs.Paths.{is_blocked, path_kept}
 use Rattle.qc_state.specs.Recovering.{loss_time, settled_by}
 use Rattle.qc_state.specs.Sending.{drops_initial, initial_left}
 use Rattle.qc_state.specs.Stopping.{encoding_error_at, given_after, stopped_after}
-use Rattle.qc_state.specs.Streams.{streams_stop}
 use Rattle.qc_state.specs.Types.{Types, Meaning}
 use Rattle.qc_state.specs.Verdicts.{first_row, verdict_of}
 use Rattle.qc_state.specs.View.{View, At}
 use Rattle.qc_state.proofs.Ends.{given_by, stopped_by}
 use Rattle.qc_state.proofs.Progresses.{holds_progress}
-use Rattle.qc_state.proofs.PacketMoves.{Bytes, Empty, EndsWith, Fault, IsAmong, IsFrameOf, IsGivenTo, IsInPacket, IsProgress, IsReasonOf, IsTypedOf, Kind, OpenPacket, Refusal, Stops, Streams, progress_in_packet}
+use Rattle.qc_state.proofs.PacketMoves.{Bytes, Empty, EndsWith, Fault, IsAmong, IsFrameOf, IsGivenTo, IsInPacket, IsProgress, IsReasonOf, IsTypedOf, Kind, OpenPacket, Handed, Refusal, Stops, progress_in_packet}
 use Rattle.qc_state.proofs.ReceivedMoves.{close_for}
 
 -- ---- what a verdict on a packet that opened says of the view
@@ -300,16 +299,16 @@ module _ {t : Types} (m : Meaning t) (o : OpenPacket) (R : At t → At t → Typ
       leaves_next a b (move (Come o.space offset body) a (refl, among) tt tt) (bytes_given m o.coming o.space (ready_bytes (stream_of b.state.lower o.space)) b) (holds_bytes (ready_bytes (stream_of b.state.lower o.space)) b refl)
 
   -- the streams are handed a frame, which they take, or refuse
-  handed_by : (f : FrameValue) (stop : Option TransportError) (a : At t) → IsFrameOf o f → streams_stop f a.state.lower.streams ≡ stop → Leaves a (refused_after o.coming.time stop (move_to (Hand f) a))
+  handed_by : (f : FrameValue) (stop : Option TransportError) (a : At t) → IsFrameOf o f → handed_stop f a.state.lower ≡ stop → Leaves a (refused_after o.coming.time stop (move_to (Hand f) a))
   unfolding MayMove move_to
   handed_by f None a h is = move (Hand f) a h tt tt
   handed_by f (Some error) a h is =
       let b : At t = move_to (Hand f) a in
-      next a b _ (move (Hand f) a h tt tt) (stopped error b (Streams f h a.state refl is))
+      next a b _ (move (Hand f) a h tt tt) (stopped error b (Handed f h a.state refl is))
 
   holds_handed : (f : FrameValue) (a : At t) → IsFrameOf o f → Leaves a (handed_after o.coming.time f a)
   unfolding handed_after
-  holds_handed f a h = handed_by f (streams_stop f a.state.lower.streams) a h refl
+  holds_handed f a h = handed_by f (handed_stop f a.state.lower) a h refl
 
   -- a frame that its kind doesn't stop
   holds_applied : (f : FrameValue) (a : At t) → (among : IsFrameOf o f) → GoesOn a.state among.0 f → Leaves a (applied_after m o.coming o.space f a)
@@ -329,6 +328,7 @@ module _ {t : Types} (m : Meaning t) (o : OpenPacket) (R : At t → At t → Typ
   holds_applied (frames.MaxStreams dir count) a h goes = holds_handed (frames.MaxStreams dir count) a h
   holds_applied (frames.StreamDataBlocked stream limit) a h goes = holds_handed (frames.StreamDataBlocked stream limit) a h
   holds_applied (frames.StreamsBlocked dir limit) a h goes = holds_handed (frames.StreamsBlocked dir limit) a h
+  holds_applied (frames.Datagram body) a h goes = holds_handed (frames.Datagram body) a h
   holds_applied _ a h goes = here a
 
   -- a frame

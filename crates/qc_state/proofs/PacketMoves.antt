@@ -27,7 +27,7 @@ use Rattle.qc_state.specs.declared.life.ConnectionError.{ConnectionError}
 use Rattle.qc_state.specs.declared.life.ConnectionError.TheVariants as lost
 use Rattle.qc_state.specs.Keys.{NewKeys}
 use Rattle.qc_state.specs.Life.{is_handshake}
-use Rattle.qc_state.specs.Lower.{ready_bytes, stream_of}
+use Rattle.qc_state.specs.Lower.{handed_stop, ready_bytes, stream_of}
 use Rattle.qc_state.specs.Moves.{Move, Give, Forget, Enter, Accept, Fix, Ack, Arm, Come, Read, Write, Ready, Token, Learn, Want, Confirm, Establish, Tell, Hand, PeerClosesToo, PeerCloses, Owe, Shut, accepts, state_move}
 use Rattle.qc_state.specs.Numbers.{next_number}
 use Rattle.qc_state.specs.Paths.{is_blocked}
@@ -36,7 +36,6 @@ use Rattle.qc_state.specs.Receiving.{crypto_stop, is_close_item, reason_of, sign
 use Rattle.qc_state.specs.Recovering.{loss_time, settled_by}
 use Rattle.qc_state.specs.Sending.{drops_initial}
 use Rattle.qc_state.specs.Stopping.{encoding_error_at, missing_parameters, parameter_error, violation_at}
-use Rattle.qc_state.specs.Streams.{streams_stop}
 use Rattle.qc_state.specs.Types.{Types, Meaning}
 use Rattle.qc_state.specs.Verdicts.{verdict_of}
 use Rattle.qc_state.specs.View.{View}
@@ -139,15 +138,15 @@ module _ {t : Types} where
     Unfit : (parameters : TransportParameters) → m.parameters s.lower.session ≡ Ok (Some parameters) → ids_fit s parameters ≡ false → error ≡ parameter_error → Breaks m s error
 
   -- this packet makes this end close for this error: it holds no frame, or bytes that are none; one of its frames stops it by its kind,
-  -- or one of CRYPTO by its bytes; the session refused bytes that it was given, and is what it is behind them; the streams refused one of
-  -- its frames, which they were just handed; or the peer's parameters break a rule
+  -- or one of CRYPTO by its bytes; the session refused bytes that it was given, and is what it is behind them; one of its frames
+  -- was refused, with which the streams or the datagrams were just handed it; or the peer's parameters break a rule
   pub data Stops (m : Meaning t) (o : OpenPacket) (s : View t) (error : TransportError) : Type 0 where
     Empty : o.payload ≡ [] → error ≡ violation_at None → Stops m o s error
     Fault : (fault : InvalidFrame) → EndsWith fault (items_of o.payload) → error ≡ encoding_error_at fault.ty → Stops m o s error
     Kind : (read : TypedValue) → IsTypedOf o read → stop_in s.setup.fixed.side o.space (next_number s.numbers o.space) s.numbers.filter.last read.ty read.frame ≡ Some error → Stops m o s error
     Bytes : (offset : ℕ) → (body : List ℕ) → IsFrameOf o (frames.Crypto offset body) → crypto_stop s o.space offset body ≡ Some error → Stops m o s error
     Refusal : (bytes : List ℕ) → (session : t.S) → m.reads session bytes ≡ Err error → s.lower.session ≡ m.after_read session bytes → Stops m o s error
-    Streams : (f : FrameValue) → IsFrameOf o f → (before : View t) → s ≡ state_move (Hand f) before → streams_stop f before.lower.streams ≡ Some error → Stops m o s error
+    Handed : (f : FrameValue) → IsFrameOf o f → (before : View t) → s ≡ state_move (Hand f) before → handed_stop f before.lower ≡ Some error → Stops m o s error
     Parameters : Breaks m s error → Stops m o s error
 
   -- this end closes at this time for an error of which this holds

@@ -16,8 +16,8 @@ use Rattle.qc_state.specs.declared.deeds.Verdict.{Verdict}
 use Rattle.qc_state.specs.Keys.{epoch_in}
 use Rattle.qc_state.specs.Forms.{is_early, number_space}
 use Rattle.qc_state.specs.Headline.{sealed_in, reasons_in, lives_in, entered_number, entered_in, EachNew, came_with, CloseFrom, RisesFrom, Kernel, kernel_of, kernel_after, IsBehind, IsRight, Tells}
-use Rattle.qc_state.specs.Life.{rank_of, is_open, is_closed, is_drained, reason_given, life_raised, life_closed, life_drained, life_established, data_ready, token_learned, identifiers_wanted, ready_reported, connected_reported, lost_reported, notice_reported, notices_reported, drained_reported}
-use Rattle.qc_state.specs.Moves.{Move, ClosesOnly, Clock, Ask, Take, Seal, Forget, Enter, Expect, Fail, Accept, Fix, Hear, Ack, Fire, Arm, Pace, Release, Begin, Skip, Come, Read, Write, Ready, Token, Learn, Want, Confirm, Establish, Tell, Hand, Call, PeerClosesToo, PeerCloses, Owe, IsTold, enters, Shut, Raise, Give, Say, ReportReady, ReportConnected, ReportStream, ReportStreams, ReportLost, ReportNotice, ReportNotices, ReportDrained, state_move, move_to, deeds_move, MayMove, told, arrival_of, numbers_move, life_move, timers_move, Finish}
+use Rattle.qc_state.specs.Life.{rank_of, is_open, is_closed, is_drained, reason_given, life_raised, life_closed, life_drained, life_established, data_ready, token_learned, identifiers_wanted, ready_reported, connected_reported, datagram_heard, heard_reported, all_heard_reported, lost_reported, notice_reported, notices_reported, drained_reported}
+use Rattle.qc_state.specs.Moves.{Move, ClosesOnly, Clock, Ask, Take, Seal, Forget, Enter, Expect, Fail, Accept, Fix, Hear, Ack, Fire, Arm, Pace, Release, Begin, Skip, Come, Read, Write, Ready, Token, Learn, Want, Confirm, Establish, Tell, Hand, Call, Post, PeerClosesToo, PeerCloses, Owe, IsTold, enters, Shut, Raise, Give, Say, ReportReady, ReportConnected, ReportHeard, ReportAllHeard, ReportStream, ReportStreams, ReportLost, ReportNotice, ReportNotices, ReportDrained, state_move, move_to, deeds_move, MayMove, told, arrival_of, numbers_move, life_move, timers_move, Finish}
 use Rattle.qc_state.specs.Numbers.{next_number, came_in, is_new_in, number_used, number_skipped, used_in, number_entered, number_accepted, number_acked}
 use Rattle.qc_state.specs.Numbers as numbers
 use Rattle.qc_state.specs.Recovering.{probe_timeout_now}
@@ -30,6 +30,7 @@ use Rattle.qc_state.specs.Acks.{is_ack}
 use Rattle.qc_state.specs.Draws.{word}
 use Rattle.qc_state.specs.declared.timers.Timers.{Timers}
 use Rattle.qc_frame.specs.FrameSpelling.{elicits, spelling}
+use Rattle.qc_state.specs.Datagrams.{tells_datagram}
 use Rattle.qc_state.specs.Streams.{is_given_to_streams}
 use Rattle.qc_state.specs.Types.{Types}
 use Rattle.qc_state.specs.View.{View, At}
@@ -279,17 +280,19 @@ module _ {t : Types} where
   told_tells id _ s h = absurd h
 
   -- a frame that the streams are handed is told of, or isn't
-  handed_tells : (id : SpaceId) (f : FrameValue) (b : Bool) (s : View t) → Tells id (kernel id s) (if b then did.Gave layer.Streams (spelling f) ∷ [] else []) (kernel id s)
-  unfolding Tells
-  handed_tells id f true s = (tt, behind_here _)
-  handed_tells id f false s = behind_here _
+  handed_tells : (id : SpaceId) (f : FrameValue) (given heard : Bool) (s : View t) → Tells id (kernel id s) (if given then did.Gave layer.Streams (spelling f) ∷ [] else []) (kernel_of id s.numbers (datagram_heard heard s.life))
+  unfolding Tells datagram_heard
+  handed_tells id f true true s = (tt, behind_here _)
+  handed_tells id f true false s = (tt, behind_here _)
+  handed_tells id f false true s = behind_here _
+  handed_tells id f false false s = behind_here _
 
   give_tells : (id : SpaceId) (s : View t) (why : ConnectionError) → s.life.reason ≡ None → Tells id (kernel id s) (did.Lost why ∷ []) (kernel_of id s.numbers (reason_given s.life why))
   unfolding Tells reason_given
   give_tells id s why h = (h, rw h (behind_here _))
 
   pub move_tells : (id : SpaceId) (x : Move t) (s : View t) → MayMove x s → Tells id (kernel id s) (deeds_move x s) (kernel id (state_move x s))
-  unfolding Tells MayMove deeds_move state_move numbers_move life_move life_raised life_closed life_drained lost_reported notice_reported notices_reported drained_reported life_established data_ready token_learned identifiers_wanted ready_reported connected_reported number_entered number_accepted number_acked numbers.entered_in numbers.accepted_in numbers.acked_in
+  unfolding Tells MayMove deeds_move state_move numbers_move life_move life_raised life_closed life_drained lost_reported heard_reported all_heard_reported notice_reported notices_reported drained_reported life_established data_ready token_learned identifiers_wanted ready_reported connected_reported number_entered number_accepted number_acked numbers.entered_in numbers.accepted_in numbers.acked_in
   move_tells id (Clock time) s h = absurd h
   move_tells id (Ask space) s h = behind_here _
   move_tells id (Take space fs) s h = behind_here _
@@ -317,8 +320,11 @@ module _ {t : Types} where
   move_tells id Confirm s h = behind_here _
   move_tells id Establish s h = (h, behind_here _)
   move_tells id (Tell d) s h = told_tells id d s h
-  move_tells id (Hand f) s h = handed_tells id f (is_given_to_streams f) s
+  move_tells id (Hand f) s h = handed_tells id f (is_given_to_streams f) (tells_datagram f s.lower.datagrams) s
   move_tells id (Call x) s h = behind_here _
+  move_tells id (Post x) s h = behind_here _
+  move_tells id ReportHeard s h = behind_here _
+  move_tells id ReportAllHeard s h = behind_here _
   move_tells id PeerClosesToo s h = (closed_rank s.life.state h, behind_here _)
   move_tells id (PeerCloses time) s h = (h, behind_here _)
   move_tells id Owe s h = behind_here _
@@ -370,6 +376,9 @@ module _ {t : Types} where
   clock_kept (Tell d) s h = refl
   clock_kept (Hand f) s h = refl
   clock_kept (Call x) s h = refl
+  clock_kept (Post x) s h = refl
+  clock_kept ReportHeard s h = refl
+  clock_kept ReportAllHeard s h = refl
   clock_kept PeerClosesToo s h = refl
   clock_kept (PeerCloses time) s h = refl
   clock_kept Owe s h = refl

@@ -26,6 +26,7 @@ use Rattle.qc_recovery.specs.TransportValues.{TransportValues}
 use Rattle.qc_recovery.specs.declared.path.PathData.{PathData}
 use Rattle.qc_send_stream.specs.Buffer.{bytes_written, nothing as nothing_written}
 use Rattle.qc_state.specs.View.{View}
+use Rattle.qc_datagrams.specs.Datagrams.{new_datagrams}
 use Rattle.qc_streams.specs.Streams.{new_streams}
 use Rattle.qc_streams.specs.declared.state.StreamsState.{StreamsState}
 use Rattle.std.specs.declared.net.SocketAddr.{SocketAddr}
@@ -68,7 +69,7 @@ module _ {t : Types} where
       filter = first_skips (word (filter_words transport.allow_spin words));
     };
     keys = first_keys keys;
-    life = record { state = Handshake; reason = None; ready = false; connected = false; lost = None; notices = []; drained = false; close = None };
+    life = record { state = Handshake; reason = None; ready = false; connected = false; heard = []; lost = None; notices = []; drained = false; close = None };
     paths = paths;
     timers = no_timers time;
     waiting = record {
@@ -86,6 +87,7 @@ module _ {t : Types} where
       crypto = record { initial = nothing; handshake = nothing; application = nothing };
       recovery = begun_recovery transport;
       streams = first_streams fixed.side transport;
+      datagrams = new_datagrams transport.datagram_receive_buffer_size transport.datagram_send_buffer_size;
     };
   }
 

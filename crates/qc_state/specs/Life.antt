@@ -7,7 +7,7 @@ use Rattle.qc_state.specs.declared.life.ConnectionError.{ConnectionError}
 use Rattle.qc_state.specs.declared.life.Close.{Close}
 use Rattle.qc_state.specs.declared.life.Life.{Life}
 use Rattle.qc_state.specs.declared.events.Event.{Event}
-use Rattle.qc_state.specs.declared.events.Event.TheVariants.{HandshakeDataReady, Connected, ConnectionLost}
+use Rattle.qc_state.specs.declared.events.Event.TheVariants.{HandshakeDataReady, Connected, ConnectionLost, DatagramReceived}
 use Rattle.qc_state.specs.declared.events.EndpointEvent.{EndpointEvent}
 use Rattle.qc_state.specs.declared.events.EndpointEvent.TheVariants as endpoint
 
@@ -94,6 +94,18 @@ connected_event v = event_if v.connected Connected
 -- it was reported
 unfoldable pub connected_reported : Life → Life
 connected_reported v = record v { connected = false }
+
+-- that a datagram came is to be reported, behind what waits of datagrams
+unfoldable pub datagram_heard : Bool → Life → Life
+datagram_heard tells v = if tells then record v { heard = v.heard ++ DatagramReceived ∷ [] } else v
+
+-- the first that waits of datagrams was reported
+unfoldable pub heard_reported : Life → Life
+heard_reported v = record v { heard = drop 1 v.heard }
+
+-- all that waited of datagrams was reported
+unfoldable pub all_heard_reported : Life → Life
+all_heard_reported v = record v { heard = [] }
 
 -- the reason, while its report waits
 unfoldable pub lost_event : Life → Option Event

@@ -1,6 +1,6 @@
 -- The layers below: the session, the bytes of the three CRYPTO streams that came and weren't given to it (RFC 9000, section 19.6;
--- RFC 9001, section 4), and what loss recovery keeps of the packets (RFC 9002; of the path it is Paths'), and the streams of the application. Each changes by its own steps alone.
-use Rattle.std.specs.Prelude.{ℕ, suc, ◌==◌, if◌then◌else◌, List, [], ◌∷◌, length}
+-- RFC 9001, section 4), and what loss recovery keeps of the packets (RFC 9002; of the path it is Paths'), and the streams and datagrams of the application. Each changes by its own steps alone.
+use Rattle.std.specs.Prelude.{ℕ, suc, ◌==◌, if◌then◌else◌, List, [], ◌∷◌, length, Option, None, Some}
 use Rattle.qc_assembler.specs.Assembly.{Assembly, advanced, inserted}
 use Rattle.qc_base.specs.declared.side.SpaceId.{SpaceId}
 use Rattle.qc_state.specs.declared.lower.Lower.{Lower}
@@ -11,7 +11,10 @@ use Rattle.qc_frame.specs.Frame.{FrameValue}
 use Rattle.qc_params.specs.declared.params.TransportParameters.{TransportParameters}
 use Rattle.qc_streams.specs.Waits.{Step, Closed, LimitsKnown, after}
 use Rattle.qc_state.specs.Spaces.{space_of, with_space}
-use Rattle.qc_state.specs.Streams.{events_of, limits_of, steps_of_frame, asked_for}
+use Rattle.qc_base.specs.declared.transport_error.TransportError.{TransportError}
+use Rattle.qc_datagrams.specs.Steps as datagrams
+use Rattle.qc_state.specs.Datagrams.{datagram_steps, datagram_stop}
+use Rattle.qc_state.specs.Streams.{events_of, limits_of, steps_of_frame, streams_stop, asked_for}
 
 -- the bytes at the front of those that came, up to the first that is missing; the first one is wanted at o
 abbrev pub front_run : ℕ → List (ℕ × ℕ) → List ℕ
@@ -21,6 +24,11 @@ front_run o (x ∷ xs) = if x.0 == o then x.1 ∷ front_run (suc o) xs else []
 -- the bytes that can be read in order
 unfoldable pub ready_bytes : Assembly → List ℕ
 ready_bytes a = front_run a.read a.came
+
+-- the first of two errors
+abbrev pub first_of : Option TransportError → Option TransportError → Option TransportError
+first_of None other = other
+first_of (Some error) other = Some error
 
 module _ {S : Type 0} where
   -- what came of the space's CRYPTO stream
@@ -59,9 +67,17 @@ module _ {S : Type 0} where
   unfoldable pub streams_stepped : List Step → Lower S → Lower S
   streams_stepped xs l = record l { streams = after xs l.streams }
 
-  -- they were handed a frame, which they may refuse
+  -- the datagrams of the application made these steps of their own
+  unfoldable pub datagrams_stepped : List datagrams.Step → Lower S → Lower S
+  datagrams_stepped xs l = record l { datagrams = datagrams.after xs l.datagrams }
+
+  -- streams and datagrams were handed a frame, which that layer whose frame it is may refuse
   unfoldable pub frame_handed : FrameValue → Lower S → Lower S
-  frame_handed frame l = streams_stepped (steps_of_frame frame l.streams) l
+  frame_handed frame l = datagrams_stepped (datagram_steps frame) (streams_stepped (steps_of_frame frame l.streams) l)
+
+  -- the error with which it is refused, if it is
+  unfoldable pub handed_stop : FrameValue → Lower S → Option TransportError
+  handed_stop frame l = first_of (streams_stop frame l.streams) (datagram_stop frame l.datagrams)
 
   -- the peer's limits are known
   unfoldable pub limits_learned : TransportParameters → Lower S → Lower S

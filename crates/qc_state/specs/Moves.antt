@@ -37,12 +37,12 @@ use Rattle.qc_state.specs.declared.deeds.Verdict.TheVariants as verdict
 use Rattle.qc_recovery.specs.Steps.{After, FiredAfter, path_dropped}
 use Rattle.qc_state.specs.Acks.{is_ack}
 use Rattle.qc_state.specs.Draws.{word}
-use Rattle.qc_state.specs.Life.{rank_of, is_open, is_closed, is_drained, reason_given, life_raised, life_closed, life_drained, life_established, data_ready, token_learned, identifiers_wanted, ready_reported, connected_reported, lost_reported, notice_reported, notices_reported, drained_reported}
+use Rattle.qc_state.specs.Life.{rank_of, is_open, is_closed, is_drained, reason_given, life_raised, life_closed, life_drained, life_established, data_ready, token_learned, identifiers_wanted, ready_reported, connected_reported, datagram_heard, heard_reported, all_heard_reported, lost_reported, notice_reported, notices_reported, drained_reported}
 use Rattle.qc_state.specs.Numbers.{next_number, received_number, number_used, number_skipped, is_skipped, is_new_in, came_in, number_entered, number_accepted, number_acked}
 use Rattle.qc_state.specs.Forms.{is_early, number_space}
 use Rattle.qc_state.specs.Keys.{NewKeys, NoKeys, HandshakeKeys, DataKeys, epoch_in, has_keys_for, key_used, failure_counted, keys_given, keys_dropped}
 use Rattle.qc_state.specs.Flight.{flown_packet}
-use Rattle.qc_state.specs.Lower.{bytes_came, session_read, session_wrote, flight_dropped, packet_flown, packets_settled, timer_fired, streams_stepped, frame_handed, limits_learned, streams_closed, event_told, events_told}
+use Rattle.qc_state.specs.Lower.{bytes_came, session_read, session_wrote, flight_dropped, packet_flown, packets_settled, timer_fired, streams_stepped, datagrams_stepped, frame_handed, limits_learned, streams_closed, event_told, events_told}
 use Rattle.qc_state.specs.Offers.{packet_begun}
 use Rattle.qc_state.specs.Paths.{is_blocked, path_idle, path_sent, path_received, path_accepted, path_kept, path_spun, peer_fixed}
 use Rattle.qc_state.specs.Recovering.{loss_time, probe_timeout_now}
@@ -51,6 +51,8 @@ use Rattle.qc_state.specs.Spaces.{is_space}
 use Rattle.qc_state.specs.Streams.{is_given_to_streams}
 use Rattle.qc_streams.specs.Steps.{MayStep}
 use Rattle.qc_streams.specs.Waits as streams
+use Rattle.qc_datagrams.specs.Steps as datagrams
+use Rattle.qc_state.specs.Datagrams.{tells_datagram}
 use Rattle.qc_state.specs.Timers.{timers_sealed, timers_acking, timers_stopped, timers_closing, timers_accepted, timers_holding, timers_paced, timers_released, timers_armed, clock_set}
 use Rattle.qc_state.specs.Types.{Types}
 use Rattle.qc_state.specs.View.{View, At, at}
@@ -120,6 +122,12 @@ is_call (streams.ReceiveWindowSet n) = true
 is_call (streams.ConcurrentSet dir n) = true
 is_call _ = false
 
+-- whether a step of the datagrams is a call of the application's
+abbrev pub is_post : datagrams.Step → Bool
+is_post (datagrams.Came d) = false
+is_post datagrams.Taken = true
+is_post (datagrams.Sent most d) = true
+
 -- the deeds, told one after another
 abbrev pub told : List Did → List Did → List Did
 told ds [] = ds
@@ -169,10 +177,13 @@ pub data Move (t : Types) : Type 0 where
   Give : (why : ConnectionError) → Move t  -- a reason for the end is given
   Finish : (bytes : ℕ) → Move t  -- a transmit ends that sealed packets: so many bytes go to the path's address
   Say : (quiet : Quiet) → Move t  -- a transmit sends nothing, for this cause
-  Hand : (frame : FrameValue) → Move t  -- the streams are handed a frame, which they may refuse
+  Hand : (frame : FrameValue) → Move t  -- the streams or the datagrams are handed a frame, which they may refuse
   Call : (step : streams.Step) → Move t  -- the application makes a call of the streams, which is this step of theirs
   ReportReady : Move t  -- that the handshake's data is ready is reported
   ReportConnected : Move t  -- that the handshake is over is reported
+  Post : (step : datagrams.Step) → Move t  -- the application sends a datagram, or takes one that came
+  ReportHeard : Move t  -- the first that waits of datagrams is reported
+  ReportAllHeard : Move t  -- all that waits of datagrams is reported
   ReportStream : Move t  -- the streams are asked for an event, and the first that waits is reported
   ReportStreams : Move t  -- all events of the streams are reported
   ReportLost : Move t  -- the reason of the end is reported
@@ -205,9 +216,12 @@ module _ {t : Types} where
   life_move (Token token) s = token_learned s.life s.paths.current.remote token
   life_move (Want time count) s = identifiers_wanted s.life time count
   life_move (Raise to) s = life_raised s.life to
+  life_move (Hand frame) s = datagram_heard (tells_datagram frame s.lower.datagrams) s.life
   life_move (Give why) s = reason_given s.life why
   life_move ReportReady s = ready_reported s.life
   life_move ReportConnected s = connected_reported s.life
+  life_move ReportHeard s = heard_reported s.life
+  life_move ReportAllHeard s = all_heard_reported s.life
   life_move ReportLost s = lost_reported s.life
   life_move ReportNotice s = notice_reported s.life
   life_move ReportNotices s = notices_reported s.life
@@ -275,6 +289,7 @@ module _ {t : Types} where
   lower_move (Learn parameters) s = limits_learned parameters s.lower
   lower_move (Hand frame) s = frame_handed frame s.lower
   lower_move (Call x) s = streams_stepped (x ∷ []) s.lower
+  lower_move (Post x) s = datagrams_stepped (x ∷ []) s.lower
   lower_move (Shut time close) s = streams_closed s.lower
   lower_move (PeerCloses time) s = streams_closed s.lower
   lower_move PeerClosesToo s = streams_closed s.lower
@@ -328,6 +343,7 @@ module _ {t : Types} where
   MayMove (Write bytes keys session) s = AreNext keys s.keys.highest
   MayMove Establish s = rank_of s.life.state < 1
   MayMove (Tell d) s = IsTold d
+  MayMove (Post x) s = is_post x ≡ true
   MayMove (Call x) s = (is_call x ≡ true) × MayStep x s.lower.streams
   MayMove (Shut time close) s = rank_of s.life.state < 2
   MayMove (PeerCloses time) s = rank_of s.life.state < 3

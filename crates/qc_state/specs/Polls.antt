@@ -4,12 +4,17 @@ use Rattle.qc_state.specs.declared.events.Event.{Event}
 use Rattle.qc_state.specs.declared.events.Event.TheVariants.{Stream}
 use Rattle.qc_state.specs.declared.events.EndpointEvent.{EndpointEvent}
 use Rattle.qc_state.specs.Life.{connected_event, drained_event, lost_event, ready_event}
-use Rattle.qc_state.specs.Moves.{ReportReady, ReportConnected, ReportStream, ReportLost, ReportNotice, ReportDrained, state_move}
+use Rattle.qc_state.specs.Moves.{ReportReady, ReportConnected, ReportHeard, ReportStream, ReportLost, ReportNotice, ReportDrained, state_move}
 use Rattle.qc_state.specs.Streams.{events_of}
 use Rattle.qc_state.specs.Types.{Types}
 use Rattle.qc_state.specs.View.{View}
 use Rattle.qc_streams.specs.Owed.{next_event}
 use Rattle.qc_streams.specs.declared.events.StreamEvent.{StreamEvent}
+
+-- the first event of datagrams, or what comes where none waits
+abbrev pub heard_first : List Event → Option Event → Option Event
+heard_first [] next = next
+heard_first (event ∷ events) next = Some event
 
 -- the first event of the streams, or the reason of the end where none waits
 abbrev pub stream_first : Option StreamEvent → Option Event → Option Event
@@ -17,10 +22,11 @@ stream_first None lost = lost
 stream_first (Some event) lost = Some (Stream event)
 
 module _ {t : Types} where
-  -- the events that wait for the application, in their order: those of the handshake, those of streams, and the reason of the end last
+  -- the events that wait for the application, in their order: those of the handshake, those of datagrams, those of streams, and the reason of the end last
   unfoldable pub waiting_events : View t → List Event
   waiting_events s =
-      option_to_list (ready_event s.life) ++ (option_to_list (connected_event s.life) ++ (map Stream (events_of s.lower.streams) ++ option_to_list (lost_event s.life)))
+      option_to_list (ready_event s.life)
+      ++ (option_to_list (connected_event s.life) ++ (s.life.heard ++ (map Stream (events_of s.lower.streams) ++ option_to_list (lost_event s.life))))
 
   -- the events that wait for the endpoint, in the order of their causes, the end last
   unfoldable pub endpoint_events : View t → List EndpointEvent
@@ -29,19 +35,24 @@ module _ {t : Types} where
   -- the first event that waits for the application, if one does
   unfoldable pub first_event : View t → Option Event
   first_event s =
-      if s.life.ready then ready_event s.life else if s.life.connected then connected_event s.life else stream_first (next_event s.lower.streams) (lost_event s.life)
+      if s.life.ready then ready_event s.life else if s.life.connected then connected_event s.life else heard_first s.life.heard (stream_first (next_event s.lower.streams) (lost_event s.life))
 
   -- the streams were asked for an event, and where they had none, the reason of the end was reported
   abbrev pub stream_polled : Option StreamEvent → View t → View t
   stream_polled None s = state_move ReportLost (state_move ReportStream s)
   stream_polled (Some event) s = state_move ReportStream s
 
+  -- an event of datagrams was reported, or the streams were asked
+  abbrev pub heard_polled : List Event → View t → View t
+  heard_polled [] s = stream_polled (next_event s.lower.streams) s
+  heard_polled (event ∷ events) s = state_move ReportHeard s
+
   -- it was reported
   unfoldable pub polled : View t → View t
   polled s =
       if s.life.ready then state_move ReportReady s
       else if s.life.connected then state_move ReportConnected s
-      else stream_polled (next_event s.lower.streams) s
+      else heard_polled s.life.heard s
 
   -- the first event that waits for the endpoint, if one does
   unfoldable pub first_endpoint_event : View t → Option EndpointEvent

@@ -35,7 +35,7 @@ use Rattle.qc_state.specs.declared.opening.Opening.TheVariants.{Unreadable, Unop
 use Rattle.qc_state.specs.Acks.{acknowledges_any}
 use Rattle.qc_state.specs.Keys.{fails_too_often}
 use Rattle.qc_state.specs.Life.{is_open, is_over, is_handshake, is_established}
-use Rattle.qc_state.specs.Lower.{ready_bytes, stream_of}
+use Rattle.qc_state.specs.Lower.{handed_stop, ready_bytes, stream_of}
 use Rattle.qc_state.specs.Moves.{is_close, Forget, Expect, Enter, Fail, Accept, Fix, Hand, Hear, Ack, Come, Read, Ready, Tell, PeerClosesToo, PeerCloses, Owe, move_to, armed_after}
 use Rattle.qc_state.specs.Numbers.{next_number}
 use Rattle.qc_state.specs.Opening.{opening_of}
@@ -46,7 +46,6 @@ use Rattle.qc_state.specs.Recovering.{settled_by}
 use Rattle.qc_state.specs.Sending.{initial_left}
 use Rattle.qc_state.specs.Setup.{is_first_awaited}
 use Rattle.qc_state.specs.Stopping.{buffer_error, encoding_error_at, given_after, internal_error_at, key_limit_error, killed_after, stopped_after, violation_at}
-use Rattle.qc_state.specs.Streams.{streams_stop}
 use Rattle.qc_state.specs.Types.{Types, Meaning}
 use Rattle.qc_state.specs.Verdicts.{verdict_of}
 use Rattle.qc_state.specs.View.{View, At}
@@ -69,8 +68,8 @@ done_stop Client = None
 done_stop Server = Some (violation_at None)
 
 -- The same in a 1-RTT packet that an end of this side receives, which skipped the number `skipped` last: an ACK of that number
--- stops it too (RFC 9000, section 21.4), and frames of kinds that aren't taken so far stop it with INTERNAL_ERROR. Those about streams
--- don't by their kind.
+-- stops it too (RFC 9000, section 21.4), and frames of kinds that aren't taken so far stop it with INTERNAL_ERROR. Those about streams,
+-- and DATAGRAM, don't by their kind.
 abbrev pub data_stop : Side → (next : ℕ) → (skipped : Option ℕ) → (type : ℕ) → FrameValue → Option TransportError
 data_stop side next skipped type frames.Padding = None
 data_stop side next skipped type frames.Ping = None
@@ -88,6 +87,7 @@ data_stop side next skipped type (frames.MaxStreams dir count) = None
 data_stop side next skipped type (frames.DataBlocked limit) = None
 data_stop side next skipped type (frames.StreamDataBlocked id limit) = None
 data_stop side next skipped type (frames.StreamsBlocked dir limit) = None
+data_stop side next skipped type (frames.Datagram body) = None
 data_stop side next skipped type _ = Some (internal_error_at (Some type))
 
 -- by the space of the packet
@@ -248,9 +248,9 @@ module _ {t : Types} where
   refused_after time None a = Goes a
   refused_after time (Some error) a = Ends (stopped_after time error a)
 
-  -- the streams are handed a frame, refused or not
+  -- the streams or the datagrams are handed a frame, refused or not
   unfoldable pub handed_after : (time : ℕ) → FrameValue → At t → Behind t
-  handed_after time frame a = refused_after time (streams_stop frame a.state.lower.streams) (move_to (Hand frame) a)
+  handed_after time frame a = refused_after time (handed_stop frame a.state.lower) (move_to (Hand frame) a)
 
   -- What a frame does that its kind doesn't stop: a row for each kind that does something. The frames of kinds that do nothing have
   -- the last row: PADDING, PING and DATA_BLOCKED, and in this place those that stop every packet so far.
@@ -270,6 +270,7 @@ module _ {t : Types} where
   applied_after m coming id (frames.MaxStreams dir count) a = handed_after coming.time (frames.MaxStreams dir count) a
   applied_after m coming id (frames.StreamDataBlocked stream limit) a = handed_after coming.time (frames.StreamDataBlocked stream limit) a
   applied_after m coming id (frames.StreamsBlocked dir limit) a = handed_after coming.time (frames.StreamsBlocked dir limit) a
+  applied_after m coming id (frames.Datagram body) a = handed_after coming.time (frames.Datagram body) a
   applied_after m coming id _ a = Goes a
 
   -- a frame, which stops its packet by its kind, or does what its kind does

@@ -1,8 +1,8 @@
 -- The steps of a driven connection, and its runs: lists of steps, each beginning where the one before ended.
-use Rattle.std.specs.Prelude.{◌≡◌, ℕ, ◌+◌, ◌≤◌, List, [], ◌∷◌, ◌++◌, length, take, if◌then◌else◌, Option, Some, None}
+use Rattle.std.specs.Prelude.{◌≡◌, ℕ, ◌+◌, ◌≤◌, true, List, [], ◌∷◌, ◌++◌, length, take, if◌then◌else◌, Option, Some, None}
 use Rattle.qc_state.specs.declared.life.Close.TheVariants.{Application}
 use Rattle.qc_state.specs.declared.input.Input.{Input}
-use Rattle.qc_state.specs.declared.input.Input.TheVariants.{Datagram, Timeout, Transmit, Open, Accept, Write, Finish, ResetSend, StopRecv, Read, MaxStreams, SendWindow, ReceiveWindow, Close, Ping}
+use Rattle.qc_state.specs.declared.input.Input.TheVariants.{Datagram, Timeout, Transmit, Open, Accept, Write, Finish, ResetSend, StopRecv, Read, SendDatagram, RecvDatagram, MaxStreams, SendWindow, ReceiveWindow, Close, Ping}
 use Rattle.qc_state.specs.declared.input.Word.{Word}
 use Rattle.qc_state.specs.declared.input.Word.TheVariants as word
 use Rattle.qc_state.specs.declared.trace.Answer.{Answer}
@@ -10,10 +10,14 @@ use Rattle.qc_state.specs.declared.trace.Answer.TheVariants.{Done, Dropped, Noth
 use Rattle.qc_state.specs.declared.trace.Step.{Step}
 use Rattle.qc_state.specs.declared.transmit.Transmit as transmit
 use Rattle.qc_state.specs.Life.{is_open}
-use Rattle.qc_state.specs.Moves.{Clock, Ask, Call, Shut, ReportReady, ReportConnected, ReportStreams, ReportLost, ReportNotices, ReportDrained, move_to, state_move}
+use Rattle.qc_state.specs.Moves.{Clock, Ask, Call, Post, Shut, ReportReady, ReportConnected, ReportAllHeard, ReportStreams, ReportLost, ReportNotices, ReportDrained, move_to, state_move}
 use Rattle.qc_state.specs.Polls.{waiting_events, endpoint_events}
 use Rattle.qc_state.specs.Receiving.{is_taken, datagram_after}
-use Rattle.qc_state.specs.Sending.{Choice, MayTransmit, transmit_after, transmit_bytes, transmit_of}
+use Rattle.qc_state.specs.Sending.{Choice, MayTransmit, path_size, transmit_after, transmit_bytes, transmit_of}
+use Rattle.qc_datagrams.specs.Datagrams.{send_refusal}
+use Rattle.qc_datagrams.specs.Size.{max_size}
+use Rattle.qc_datagrams.specs.Steps as datagrams
+use Rattle.qc_state.specs.Datagrams.{frame_size_of, sent_answer, taken_answer}
 use Rattle.qc_state.specs.Streams.{MayRead, call_answer, calls_of}
 use Rattle.qc_state.specs.Timeouts.{timeout_after}
 use Rattle.qc_state.specs.Timers.{next_timeout}
@@ -35,6 +39,8 @@ time_of (Finish time id) = time
 time_of (ResetSend time id code) = time
 time_of (StopRecv time id code) = time
 time_of (Read time id max) = time
+time_of (SendDatagram time body) = time
+time_of (RecvDatagram time) = time
 time_of (MaxStreams time dir count) = time
 time_of (SendWindow time size) = time
 time_of (ReceiveWindow time size) = time
@@ -53,6 +59,8 @@ word_of (Finish time id) = word.Finish
 word_of (ResetSend time id code) = word.ResetSend
 word_of (StopRecv time id code) = word.StopRecv
 word_of (Read time id max) = word.Read
+word_of (SendDatagram time body) = word.SendDatagram
+word_of (RecvDatagram time) = word.RecvDatagram
 word_of (MaxStreams time dir count) = word.MaxStreams
 word_of (SendWindow time size) = word.SendWindow
 word_of (ReceiveWindow time size) = word.ReceiveWindow
@@ -63,6 +71,10 @@ out_of None bytes = Nothing
 out_of (Some sent) bytes = Out sent.destination None sent.ecn bytes
 
 module _ {t : Types} where
+  -- how long a datagram of the application may be, where the peer takes any: it goes in a 1-RTT packet alone, in a datagram of the path
+  unfoldable pub datagram_limit : View t → Option ℕ
+  datagram_limit s = max_size (path_size s) (length s.paths.current.remote_cid) (frame_size_of s.setup.peer)
+
   -- the call begins: the connection is told the time
   unfoldable pub began : View t → ℕ → At t
   began s time = at (state_move (Clock time) s) []
@@ -84,6 +96,8 @@ module _ {t : Types} where
   input_after m (Transmit time max) choice a = transmit_after m time choice a
   input_after m (Close time code reason) choice a = close_after time code reason a
   input_after m (Ping time) choice a = move_to (Ask a.state.keys.highest) a
+  input_after m (SendDatagram time body) choice a = move_to (Post (datagrams.Sent (datagram_limit a.state) body)) a
+  input_after m (RecvDatagram time) choice a = move_to (Post datagrams.Taken) a
   input_after m i choice a = called_all (calls_of i choice.read a.state.lower.streams) a
 
   unfoldable pub called : Meaning t → View t → Input → Choice → At t
@@ -91,7 +105,7 @@ module _ {t : Types} where
 
   -- whatever waited to be reported was reported
   unfoldable pub reported : View t → View t
-  reported s = state_move ReportDrained (state_move ReportNotices (state_move ReportLost (state_move ReportStreams (state_move ReportConnected (state_move ReportReady s)))))
+  reported s = state_move ReportDrained (state_move ReportNotices (state_move ReportLost (state_move ReportStreams (state_move ReportAllHeard (state_move ReportConnected (state_move ReportReady s))))))
 
   -- the view after a step
   unfoldable pub step_after : Meaning t → View t → Input → Choice → View t
@@ -106,6 +120,8 @@ module _ {t : Types} where
   unfoldable pub answer_of : Meaning t → Input → Choice → At t → Answer
   answer_of m (Datagram time remote ecn bytes) choice a = if is_taken m a.state remote bytes then Done else Dropped
   answer_of m (Transmit time max) choice a = out_of (transmit_of m time choice a) (transmit_bytes m time choice a)
+  answer_of m (SendDatagram time body) choice a = sent_answer (send_refusal (datagram_limit a.state) true body a.state.lower.datagrams)
+  answer_of m (RecvDatagram time) choice a = taken_answer a.state.lower.datagrams.incoming
   answer_of m i choice a = call_answer i choice.read a.state.lower.streams
 
   -- one step: how each group of the view changes, and what is told. A transmit and a read have their choice, one for all that is said

@@ -50,8 +50,8 @@ stream_frame (frames.StreamDataBlocked id limit) = of_stream id (StreamDataBlock
 stream_frame (frames.StreamsBlocked dir limit) = Some (StreamsBlocked limit)
 stream_frame _ = None
 
--- whether it is told of as it is given to them: one that only says where the peer was blocked changes nothing (RFC 9000, sections 19.13
--- and 19.14)
+-- whether it is told of as it is given to them, or to the datagrams: one that only says where the peer was blocked changes nothing (RFC
+-- 9000, sections 19.13 and 19.14)
 abbrev pub is_given_to_streams : FrameValue → Bool
 is_given_to_streams (frames.ResetStream id code size) = true
 is_given_to_streams (frames.StopSending id code) = true
@@ -59,6 +59,7 @@ is_given_to_streams (frames.Stream id offset fin body) = true
 is_given_to_streams (frames.MaxData limit) = true
 is_given_to_streams (frames.MaxStreamData id limit) = true
 is_given_to_streams (frames.MaxStreams dir count) = true
+is_given_to_streams (frames.Datagram body) = true
 is_given_to_streams _ = false
 
 -- the error with which they refuse it, if they do; it names no type of frame

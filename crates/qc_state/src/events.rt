@@ -21,6 +21,8 @@ pub enum Event {
         /// Why.
         reason: ConnectionError,
     },
+    /// A datagram of the peer's application came, where none was queued before (RFC 9221).
+    DatagramReceived,
     /// Something happened on a stream, or to how many streams there may be.
     Stream(StreamEvent),
 }
@@ -91,6 +93,15 @@ impl Events {
         Ok(())
     }
 
+    /// The report that a datagram came, after the others. Want of memory is the only refusal, and then the list is as before.
+    pub fn push_datagram(&mut self) -> Result<(), AllocError>
+        ensures ok { OnOk result (self.new ≡ self.old ++ Event.DatagramReceived ∷ []) }
+        ensures err { OnErr result (self.new ≡ self.old) }
+    {
+        self.events.push(Event::DatagramReceived)?;
+        Ok(())
+    }
+
     /// The report of what happened on a stream, after the others. Want of memory is the only refusal, and then the list is
     /// as before.
     pub fn push_stream(&mut self, event: StreamEvent) -> Result<(), AllocError>
@@ -99,6 +110,33 @@ impl Events {
     {
         self.events.push(Event::Stream(event))?;
         Ok(())
+    }
+
+    /// Whether there is none.
+    pub fn is_empty(&self) -> bool
+        ensures { result ≡ (length self.now == 0) }
+    {
+        self.events.is_empty()
+    }
+
+    /// The first one, which is taken out, if there is one. It takes no memory.
+    #[tactic(auto, using(crate::proofs::FirstTaken::first_taken, crate::proofs::FirstTaken::others_left, crate::proofs::FirstTaken::none_first, crate::proofs::FirstTaken::none_left))]
+    pub fn take_first(&mut self) -> Option<Event>
+        ensures first { result ≡ slice_get self.old 0 }
+        ensures rest { self.new ≡ drop 1 self.old }
+    {
+        if self.events.is_empty() {
+            return None;
+        }
+        Some(self.events.remove(0))
+    }
+
+    /// All events of another list, which are taken out there, after the others. Want of memory is the only refusal.
+    pub fn append(&mut self, other: &mut Events) -> Result<(), AllocError>
+        ensures all { OnOk result (self.new ≡ self.old ++ other.old) }
+        ensures rest { OnOk result (other.new ≡ []) }
+    {
+        self.events.append(&mut other.events)
     }
 
     /// The events.

@@ -87,6 +87,18 @@ pub enum Input {
         /// At most so many bytes.
         max: usize,
     },
+    /// The application sends a datagram; the oldest that wait are dropped for it where there is no room (RFC 9221, 5).
+    SendDatagram {
+        /// The time.
+        now: Instant,
+        /// Its bytes.
+        body: Body,
+    },
+    /// The application takes the oldest datagram that came.
+    RecvDatagram {
+        /// The time.
+        now: Instant,
+    },
     /// The application closes the connection (RFC 9000, 10.2).
     Close {
         /// The time.
@@ -149,6 +161,10 @@ pub enum Word {
     StopRecv,
     /// An `Input::Read`.
     Read,
+    /// An `Input::SendDatagram`.
+    SendDatagram,
+    /// An `Input::RecvDatagram`.
+    RecvDatagram,
     /// An `Input::Close`.
     Close,
     /// An `Input::Ping`.

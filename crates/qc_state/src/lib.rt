@@ -6,6 +6,7 @@
 pub mod body;
 pub mod coming;
 pub mod crypto_queue;
+mod datagrams;
 pub mod deeds;
 pub mod events;
 pub mod flight;

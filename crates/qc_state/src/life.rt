@@ -1,9 +1,9 @@
 //! The life of a connection, the reason of its end, and what of both waits to be reported.
 
-ghost use Rattle.std.specs.Prelude.{◌≡◌, IfOk, OnOk};
-ghost use Rattle.qc_state.specs.Life.{rank_of, is_open, is_closed, is_handshake, is_established, is_over, is_drained, life_closed, life_drained, life_established, data_ready, reason_given, life_raised, ready_event, ready_reported, connected_event, connected_reported, lost_event, lost_reported, token_learned, identifiers_wanted, first_notice, notice_reported, notices_reported, drained_event, drained_reported};
+ghost use Rattle.std.specs.Prelude.{◌≡◌, ◌++◌, true, slice_get, IfOk, OnOk};
+ghost use Rattle.qc_state.specs.Life.{rank_of, is_open, is_closed, is_handshake, is_established, is_over, is_drained, life_closed, life_drained, life_established, data_ready, reason_given, life_raised, ready_event, ready_reported, connected_event, connected_reported, datagram_heard, heard_reported, all_heard_reported, lost_event, lost_reported, token_learned, identifiers_wanted, first_notice, notice_reported, notices_reported, drained_event, drained_reported};
 
-use crate::events::{EndpointEvent, EndpointEvents, Event};
+use crate::events::{EndpointEvent, EndpointEvents, Event, Events};
 use bytes::Bytes;
 use qc_base::{Instant, ResetToken, TransportError, TransportErrorCode, VarInt};
 use std::alloc::{AllocError, Global};
@@ -78,6 +78,8 @@ pub struct Life {
     pub ready: bool,
     /// Whether `Connected` waits to be given.
     pub connected: bool,
+    /// What waits to be given of datagrams, in the order of the causes.
+    pub heard: Events,
     /// The reason, while its report `ConnectionLost` waits to be given.
     pub lost: Option<ConnectionError>,
     /// What waits to be reported to the endpoint before the end, in the order of the causes.
@@ -148,7 +150,7 @@ pub fn rank(state: State) -> u8
     }
 }
 
-#[tactic(auto, unfolding(crate::specs::Life::life_raised, crate::specs::Life::life_closed, crate::specs::Life::life_drained, crate::specs::Life::life_established, crate::specs::Life::data_ready, crate::specs::Life::ready_event, crate::specs::Life::ready_reported, crate::specs::Life::connected_event, crate::specs::Life::connected_reported, crate::specs::Life::reason_given, crate::specs::Life::lost_event, crate::specs::Life::lost_reported, crate::specs::Life::token_learned, crate::specs::Life::identifiers_wanted, crate::specs::Life::notice_reported, crate::specs::Life::notices_reported, crate::specs::Life::drained_event, crate::specs::Life::drained_reported))]
+#[tactic(auto, unfolding(crate::specs::Life::life_raised, crate::specs::Life::life_closed, crate::specs::Life::life_drained, crate::specs::Life::life_established, crate::specs::Life::data_ready, crate::specs::Life::ready_event, crate::specs::Life::ready_reported, crate::specs::Life::connected_event, crate::specs::Life::connected_reported, crate::specs::Life::datagram_heard, crate::specs::Life::heard_reported, crate::specs::Life::all_heard_reported, crate::specs::Life::reason_given, crate::specs::Life::lost_event, crate::specs::Life::lost_reported, crate::specs::Life::token_learned, crate::specs::Life::identifiers_wanted, crate::specs::Life::notice_reported, crate::specs::Life::notices_reported, crate::specs::Life::drained_event, crate::specs::Life::drained_reported))]
 impl Life {
     /// Whether this end hasn't closed, and nothing has ended the connection.
     pub fn is_open(&self) -> bool
@@ -282,6 +284,29 @@ impl Life {
         let ends = rank(to) == 4;
         self.drained = self.drained || ends;
         self.state = to;
+    }
+
+    /// A datagram came, which waits to be reported. Want of memory is the only refusal.
+    pub fn hear_datagram(&mut self) -> Result<(), AllocError>
+        ensures { OnOk result (self.new ≡ datagram_heard true self.old) }
+    {
+        self.heard.push_datagram()
+    }
+
+    /// The first that waits of datagrams, which is given from now on; none where nothing waits.
+    pub fn take_heard(&mut self) -> Option<Event>
+        ensures event { result ≡ slice_get self.old.heard 0 }
+        ensures rest { self.new ≡ heard_reported self.old }
+    {
+        self.heard.take_first()
+    }
+
+    /// All that waits of datagrams, which is given from now on, behind other events. Want of memory is the only refusal.
+    pub fn take_all_heard(&mut self, events: &mut Events) -> Result<(), AllocError>
+        ensures events { OnOk result (events.new ≡ events.old ++ self.old.heard) }
+        ensures rest { OnOk result (self.new ≡ all_heard_reported self.old) }
+    {
+        events.append(&mut self.heard)
     }
 
     /// The report of the end's reason, once.

@@ -7,19 +7,22 @@ ghost use Rattle.qc_frame.specs.FrameFits.{Fits};
 ghost use Rattle.qc_frame.specs.declared.frames.FrameOf.TheVariants as frames;
 ghost use Rattle.qc_recovery.specs.Frames.{ranges_up_of, values_of};
 ghost use Rattle.qc_recovery.specs.Steps.{ack_after, after_with, fired_with, path_dropped, timeout_after};
-ghost use Rattle.qc_state.specs.Lower.{bytes_came, events_told, flight_dropped, packet_flown, packets_settled, ready_bytes, session_read, stream_of, timer_fired, frame_handed, limits_learned, streams_closed, event_told};
-ghost use Rattle.qc_state.specs.Streams.{asked_for, events_of, streams_stop};
+ghost use Rattle.qc_state.specs.Lower.{bytes_came, events_told, flight_dropped, packet_flown, packets_settled, ready_bytes, session_read, stream_of, timer_fired, frame_handed, handed_stop, limits_learned, streams_closed, event_told};
+ghost use Rattle.qc_state.specs.Datagrams.{tells_datagram};
+ghost use Rattle.qc_state.specs.Streams.{asked_for, events_of};
 ghost use Rattle.qc_streams.specs.Waits.{after};
 ghost use Rattle.qc_streams.specs.Owed.{next_event};
 
+use crate::datagrams::hand_datagram;
 use crate::events::{Event, Events};
 use crate::spaces::Spaces;
 use crate::streams::hand;
 use bytes::Bytes;
 use qc_assembler::{Assembler, InsertError};
 use qc_base::{Instant, SpaceId, TransportError};
+use qc_datagrams::Datagrams;
 use qc_flight::SentPacket;
-use qc_frame::{Ack, Frame};
+use qc_frame::{Ack, Frame, FrameOf};
 use qc_params::TransportParameters;
 use qc_path::Controller;
 use qc_recovery::{Around, Fired, PathData, Recovery, Settled};
@@ -37,9 +40,11 @@ pub struct Lower<S> {
     pub recovery: Recovery,
     /// The streams of the application (RFC 9000, 2 to 4).
     pub streams: StreamsState,
+    /// The datagrams of the application (RFC 9221).
+    pub datagrams: Datagrams,
 }
 
-#[tactic(auto, unfolding(crate::specs::Lower::stream_of, crate::specs::Lower::bytes_came, crate::specs::Lower::session_read, crate::specs::Lower::packet_flown, crate::specs::Lower::packets_settled, crate::specs::Lower::timer_fired, crate::specs::Lower::flight_dropped, crate::specs::Lower::streams_stepped, crate::specs::Lower::frame_handed, crate::specs::Lower::limits_learned, crate::specs::Lower::streams_closed, crate::specs::Lower::event_told, crate::specs::Lower::events_told, qc_streams::specs::Waits::after, qc_streams::specs::Waits::after_step))]
+#[tactic(auto, unfolding(crate::specs::Lower::stream_of, crate::specs::Lower::bytes_came, crate::specs::Lower::session_read, crate::specs::Lower::packet_flown, crate::specs::Lower::packets_settled, crate::specs::Lower::timer_fired, crate::specs::Lower::flight_dropped, crate::specs::Lower::streams_stepped, crate::specs::Lower::frame_handed, crate::specs::Lower::handed_stop, crate::specs::Lower::datagrams_stepped, crate::specs::Streams::streams_stop, crate::specs::Streams::steps_of_frame, qc_datagrams::specs::Steps::after, crate::specs::Lower::limits_learned, crate::specs::Lower::streams_closed, crate::specs::Lower::event_told, crate::specs::Lower::events_told, qc_streams::specs::Waits::after, qc_streams::specs::Waits::after_step))]
 impl<S> Lower<S> {
     /// What came of the space's CRYPTO stream.
     pub fn stream(&self, space: SpaceId) -> &Assembler
@@ -136,18 +141,25 @@ impl<S> Lower<S> {
         let _ = self.recovery.discard(space, path);
     }
 
-    /// The streams are handed a frame, if it is about them. Answers the error with which they refuse it, if they do. Want of memory
-    /// is the only refusal of the call.
+    /// The streams or the datagrams are handed a frame, if it is about them. Answers the error with which it is refused, if it is, and
+    /// whether it is to be told that a datagram came. Want of memory is the only refusal of the call.
     pub fn hand(
         &mut self,
         alloc: Global,
         frame: &Frame<'_>,
-    ) -> Result<Option<TransportError>, AllocError>
+    ) -> Result<(Option<TransportError>, bool), AllocError>
         requires { Fits (borrowed frame.now) }
-        ensures stop { IfOk result (λ stop. stop ≡ streams_stop (borrowed frame.now) self.old.streams) }
+        ensures stop { IfOk result (λ r. r.0 ≡ handed_stop (borrowed frame.now) self.old) }
+        ensures tells { IfOk result (λ r. r.1 ≡ tells_datagram (borrowed frame.now) self.old.datagrams) }
         ensures leads { OnOk result (self.new ≡ frame_handed (borrowed frame.now) self.old) }
     {
-        hand(&mut self.streams, alloc, frame)
+        match frame {
+            FrameOf::Datagram { body } => hand_datagram(&mut self.datagrams, alloc, body),
+            _ => {
+                let stop = hand(&mut self.streams, alloc, frame)?;
+                Ok((stop, false))
+            }
+        }
     }
 
     /// The peer's limits on streams are known, from its parameters (RFC 9000, 18.2).

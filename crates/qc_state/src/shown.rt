@@ -158,6 +158,7 @@ impl fmt::Display for Event {
             Event::HandshakeDataReady => write!(f, "handshake data ready"),
             Event::Connected => write!(f, "connected"),
             Event::ConnectionLost { reason } => write!(f, "connection lost: {reason}"),
+            Event::DatagramReceived => write!(f, "datagram received"),
             Event::Stream(event) => {
                 let told = OnStreams(*event);
                 write!(f, "{told}")

@@ -174,7 +174,7 @@ pub(crate) fn hand(
     Ok(error_of(refusal))
 }
 
-/// Whether it is told of a frame that the streams are handed: not of one that only says where the peer was blocked.
+/// Whether it is told of a frame that the streams or the datagrams are handed: not of one that only says where the peer was blocked.
 fn is_given(frame: &Frame<'_>) -> bool
     ensures { result ≡ is_given_to_streams (borrowed frame.now) }
 {
@@ -184,12 +184,13 @@ fn is_given(frame: &Frame<'_>) -> bool
         | FrameOf::Stream { .. }
         | FrameOf::MaxData(_)
         | FrameOf::MaxStreamData { .. }
-        | FrameOf::MaxStreams { .. } => true,
+        | FrameOf::MaxStreams { .. }
+        | FrameOf::Datagram { .. } => true,
         _ => false,
     }
 }
 
-/// It is told of a frame that the streams are handed, as it is written. Want of memory is the only refusal.
+/// It is told of a frame that the streams or the datagrams are handed, as it is written. Want of memory is the only refusal.
 pub fn tell_handed(alloc: Global, did: &mut Dids, frame: &Frame<'_>) -> Result<(), AllocError>
     ensures { OnOk result (did.new ≡ told did.old (told_to_streams (borrowed frame.now))) }
 {

@@ -11,7 +11,7 @@ use std::alloc::{AllocError, Global};
 use std::marker::Model;
 use std::net::SocketAddr;
 
-/// Why a call on a stream was refused.
+/// Why a call on a stream, or the sending of a datagram, was refused.
 #[derive(Clone, Copy, Debug, PartialEq, Eq)]
 pub enum Refusal {
     /// Nothing can be written now, or read now.
@@ -24,6 +24,12 @@ pub enum Refusal {
     IllegalOrderedRead,
     /// The peer reset the stream, with this code (RFC 9000, 3.2).
     Reset(VarInt),
+    /// No receive buffer for datagrams is configured.
+    Disabled,
+    /// The peer takes no datagrams.
+    UnsupportedByPeer,
+    /// The datagram is longer than a packet or the peer takes.
+    TooLarge,
 }
 
 /// What a call answered.
@@ -33,7 +39,8 @@ pub enum Answer {
     Done,
     /// A datagram that begins with no packet was dropped.
     Dropped,
-    /// The call gave no value: nothing was sent, no stream can be opened, or none is there to accept.
+    /// The call gave no value: nothing was sent, no stream can be opened, none is there to accept, or no
+    /// datagram came.
     Nothing,
     /// A stream was opened.
     Opened(StreamId),
@@ -50,6 +57,8 @@ pub enum Answer {
     },
     /// A stream was read to its end.
     Ended,
+    /// A datagram that came.
+    Datagram(Body),
     /// The call was refused.
     Error(Refusal),
     /// A transmit: datagrams to be sent.

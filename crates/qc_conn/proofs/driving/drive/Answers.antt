@@ -7,6 +7,7 @@ use Rattle.qc_laws.proofs.MarksTold.{none_each_told}
 use Rattle.qc_laws.proofs.Recovers.{run_recovers}
 use Rattle.qc_laws.proofs.Steps.{ran_none}
 use Rattle.qc_laws.proofs.StreamHolds.{run_gives}
+use Rattle.qc_laws.proofs.StreamsFold.{run_folds}
 use Rattle.qc_laws.proofs.Told.{none_rises, none_admits, none_life_rises, none_closes, none_loses_once}
 use Rattle.qc_state.specs.declared.input.Input.{Input}
 use Rattle.qc_state.specs.declared.trace.Step.{Step}
@@ -36,6 +37,9 @@ returns-clause-crypto g c = λ ends. of_trace _ _ _ _ c.drive_all.result _ c.dri
 
 pub returns-clause-streams : goal.returns-clause-streams
 returns-clause-streams g c = λ id. of_trace _ _ _ _ c.drive_all.result _ c.drive_all.ensures.run (λ trace run. run_gives id _ 0 _ _ trace _ run)
+
+pub returns-clause-folded : goal.returns-clause-folded
+returns-clause-folded g c = of_trace _ _ _ _ c.drive_all.result _ c.drive_all.ensures.run (λ trace run. run_folds _ 0 _ _ trace _ run)
 
 pub returns-clause-keys : goal.returns-clause-keys
 returns-clause-keys g c = keys_kept _ _ _ _ c.drive_all.result c.drive_all.ensures.run

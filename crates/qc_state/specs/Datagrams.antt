@@ -1,0 +1,48 @@
+-- The datagrams of the application as a layer with steps of its own (RFC 9221): which frames it is handed, why it refuses one, and what the
+-- application's calls are answered. What a step makes of them stands with the datagrams, and is opened nowhere here.
+use Rattle.std.specs.Prelude.{ℕ, Bool, true, false, ◌&&◌, not, ◌==◌, if◌then◌else◌, List, [], ◌∷◌, ◌++◌, length, Option, None, Some, option_map}
+use Rattle.qc_base.specs.declared.transport_error.TransportError.{TransportError}
+use Rattle.qc_datagrams.specs.declared.datagrams.Datagrams.{Datagrams}
+use Rattle.qc_datagrams.specs.declared.datagrams.SendRefusal.{SendRefusal}
+use Rattle.qc_datagrams.specs.declared.datagrams.SendRefusal.TheVariants as send
+use Rattle.qc_datagrams.specs.Datagrams.{is_refused, send_refusal}
+use Rattle.qc_datagrams.specs.Steps.{Step, Came}
+use Rattle.qc_frame.specs.Frame.{FrameValue}
+use Rattle.qc_frame.specs.declared.frames.FrameOf.TheVariants as frames
+use Rattle.qc_params.specs.declared.params.TransportParameters.{TransportParameters}
+use Rattle.qc_state.specs.declared.trace.Answer.{Answer}
+use Rattle.qc_state.specs.declared.trace.Answer.TheVariants as answer
+use Rattle.qc_state.specs.declared.trace.Refusal.TheVariants as refusal
+
+-- the error with which the datagrams refuse a frame, if they do: none may come, or it is longer than the receive buffer (RFC 9221, section 3)
+abbrev pub datagram_stop : FrameValue → Datagrams → Option TransportError
+datagram_stop (frames.Datagram body) d = if is_refused body d then Some (record { code = 0x0a; frame = None }) else None
+datagram_stop _ d = None
+
+-- the steps that a frame is
+abbrev pub datagram_steps : FrameValue → List Step
+datagram_steps (frames.Datagram body) = Came body ∷ []
+datagram_steps _ = []
+
+-- whether that one came is to be told from then on: none was queued before it
+abbrev pub tells_datagram : FrameValue → Datagrams → Bool
+tells_datagram (frames.Datagram body) d = not (is_refused body d) && (length d.incoming == 0)
+tells_datagram _ d = false
+
+-- how long a frame may be that the peer takes, where it takes any
+abbrev pub frame_size_of : Option TransportParameters → Option ℕ
+frame_size_of None = None
+frame_size_of (Some p) = p.max_datagram_frame_size
+
+-- what is answered where one is to be sent
+abbrev pub sent_answer : Option SendRefusal → Answer
+sent_answer None = answer.Done
+sent_answer (Some send.Disabled) = answer.Error refusal.Disabled
+sent_answer (Some send.UnsupportedByPeer) = answer.Error refusal.UnsupportedByPeer
+sent_answer (Some send.TooLarge) = answer.Error refusal.TooLarge
+sent_answer (Some send.Blocked) = answer.Error refusal.Blocked
+
+-- what is answered where one is taken: the oldest, where there is one
+abbrev pub taken_answer : List (List ℕ) → Answer
+taken_answer [] = answer.Nothing
+taken_answer (d ∷ ds) = answer.Datagram d
