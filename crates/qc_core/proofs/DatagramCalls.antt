@@ -42,12 +42,12 @@ module _ {t : Types} where
   behind_by [] s none = refl
   behind_by (e ∷ es) s none = absurd (omega (arith, empty_of (length (e ∷ es)) none))
 
-  pub streams_are_polled : (s s' : View t) (none : Bool) → none ≡ (length s.life.heard == 0) → none ≡ true → s' ≡ stream_polled (next_event s.lower.streams) s → s' ≡ heard_polled s.life.heard s
-  streams_are_polled s s' none is empty leads = leads ∙ behind_by s.life.heard s (sym is ∙ empty)
+  pub streams_are_polled : (es : List Event) (s s' : View t) (none : Bool) → none ≡ (length es == 0) → none ≡ true → s' ≡ stream_polled (next_event s.lower.streams) s → s' ≡ heard_polled es s
+  streams_are_polled es s s' none is empty leads = leads ∙ behind_by es s (sym is ∙ empty)
 
   front_by : (es : List Event) (s : View t) → (length es == 0) ≡ false → state_move ReportHeard s ≡ heard_polled es s
   front_by [] s some = cc
   front_by (e ∷ es) s some = refl
 
-  pub heard_is_polled : (s s' : View t) (none : Bool) → none ≡ (length s.life.heard == 0) → none ≡ false → s' ≡ state_move ReportHeard s → s' ≡ heard_polled s.life.heard s
-  heard_is_polled s s' none is some leads = leads ∙ front_by s.life.heard s (sym is ∙ some)
+  pub heard_is_polled : (es : List Event) (s s' : View t) (none : Bool) → none ≡ (length es == 0) → none ≡ false → s' ≡ state_move ReportHeard s → s' ≡ heard_polled es s
+  heard_is_polled es s s' none is some leads = leads ∙ front_by es s (sym is ∙ some)

@@ -3,7 +3,7 @@
 ghost use Rattle.std.specs.Prelude.{◌≡◌, ◌++◌, [], ◌∷◌, true, IfOk, OnOk, option_to_list};
 ghost use Rattle.qc_datagrams.specs.Datagrams.{send_refusal};
 ghost use Rattle.qc_datagrams.specs.Steps.{Sent, Taken, after};
-ghost use Rattle.qc_state.specs.Datagrams.{sent_answer, taken_answer};
+ghost use Rattle.qc_state.specs.Datagrams.{frame_size_of, sent_answer, taken_answer};
 ghost use Rattle.qc_state.specs.Moves.{Post, ReportAllHeard, state_move};
 ghost use Rattle.qc_state.specs.Run.{datagram_limit};
 ghost use Rattle.qc_state.specs.View.{ideal};
@@ -11,6 +11,7 @@ ghost use Rattle.qc_state.specs.View.{ideal};
 use crate::state::Core;
 use bytes::Bytes;
 use qc_datagrams::{Datagrams, SendRefusal, max_size};
+use qc_params::TransportParameters;
 use qc_state::{Answer, Body, DATAGRAM_SIZE, Events, Refusal, Suite};
 use std::alloc::{AllocError, Global};
 
@@ -65,23 +66,29 @@ fn taken_answer(alloc: Global, taken: Option<Bytes>) -> Result<Answer, AllocErro
     }
 }
 
+/// How long a DATAGRAM frame may be that the peer takes. None exactly where it takes none, or its parameters aren't known.
+fn frame_size(peer: &Option<TransportParameters>) -> Option<u64>
+    ensures { result ≡ frame_size_of peer.now }
+{
+    match peer {
+        None => None,
+        Some(peer) => match peer.max_datagram_frame_size {
+            None => None,
+            Some(size) => Some(size.into_inner()),
+        },
+    }
+}
+
 impl<U: Suite> Core<U> {
     /// How many bytes a datagram of the application may have. None exactly where the peer takes none, or its parameters aren't known.
-    #[tactic(auto, unfolding(qc_state::specs::Run::datagram_limit, qc_state::specs::Sending::path_size))]
+    #[tactic(auto, unfolding(qc_state::specs::Run::datagram_limit, qc_state::specs::Sending::path_size, qc_state::specs::Setup::ideal_setup))]
     pub fn datagram_limit(&self) -> Option<u64>
         ensures { result ≡ datagram_limit (ideal U.Random.stream self.now) }
     {
-        let frame_size = match &self.setup.peer {
-            None => None,
-            Some(peer) => match peer.max_datagram_frame_size {
-                None => None,
-                Some(size) => Some(size.into_inner()),
-            },
-        };
         max_size(
             DATAGRAM_SIZE as u64,
             self.paths.current.remote_cid.len(),
-            frame_size,
+            frame_size(&self.setup.peer),
         )
     }
 

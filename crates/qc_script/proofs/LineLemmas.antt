@@ -8,7 +8,7 @@ use Rattle.qc_base.specs.Grammar.{IsBytes}
 use Rattle.qc_base.specs.declared.ecn.EcnCodepoint.{EcnCodepoint}
 use Rattle.qc_base.specs.declared.side.Dir.{Dir}
 use Rattle.qc_state.specs.declared.input.Input.{Input}
-use Rattle.qc_state.specs.declared.input.Input.TheVariants.{Datagram, Timeout, Transmit, Open, Accept, Write, Finish, ResetSend, StopRecv, Read, Close, Ping, MaxStreams, SendWindow, ReceiveWindow}
+use Rattle.qc_state.specs.declared.input.Input.TheVariants.{Datagram, Timeout, Transmit, Open, Accept, Write, Finish, ResetSend, StopRecv, Read, SendDatagram, RecvDatagram, Close, Ping, MaxStreams, SendWindow, ReceiveWindow}
 use Rattle.qc_script.specs.Fields.{hex_field, address_text, dir_text, ecn_text, IsAddress, AreFields, Begins}
 use Rattle.qc_script.specs.Script.{input_line, IsWithin, IsNext, IsLineRead, IsOfStreams, IsCallRead}
 use Rattle.qc_script.proofs.NumberLemmas.{Lacks-decimal}
@@ -28,6 +28,8 @@ word_of (Finish now id) = codes "finish"
 word_of (ResetSend now id code) = codes "reset"
 word_of (StopRecv now id code) = codes "stop"
 word_of (Read now id max) = codes "read"
+word_of (SendDatagram now body) = codes "send"
+word_of (RecvDatagram now) = codes "recv"
 word_of (Close now code reason) = codes "close"
 word_of (Ping now) = codes "ping"
 word_of (MaxStreams now dir count) = codes "streams"
@@ -46,6 +48,8 @@ fields_of (Finish now id) = decimal now ++ 32 ∷ decimal id
 fields_of (ResetSend now id code) = decimal now ++ 32 ∷ (decimal id ++ 32 ∷ decimal code)
 fields_of (StopRecv now id code) = decimal now ++ 32 ∷ (decimal id ++ 32 ∷ decimal code)
 fields_of (Read now id max) = decimal now ++ 32 ∷ (decimal id ++ 32 ∷ decimal max)
+fields_of (SendDatagram now body) = decimal now ++ 32 ∷ hex_field body
+fields_of (RecvDatagram now) = decimal now
 fields_of (Close now code reason) = decimal now ++ 32 ∷ (decimal code ++ 32 ∷ hex_field reason)
 fields_of (Ping now) = decimal now
 fields_of (MaxStreams now dir count) = decimal now ++ 32 ∷ (dir_text dir ++ 32 ∷ decimal count)
@@ -65,32 +69,36 @@ line_parts (Finish now id) = simp append_assoc
 line_parts (ResetSend now id code) = simp append_assoc
 line_parts (StopRecv now id code) = simp append_assoc
 line_parts (Read now id max) = simp append_assoc
+line_parts (SendDatagram now body) = simp append_assoc
+line_parts (RecvDatagram now) = simp append_assoc
 line_parts (Close now code reason) = simp append_assoc
 line_parts (Ping now) = simp append_assoc
 line_parts (MaxStreams now dir count) = simp append_assoc
 line_parts (SendWindow now size) = simp append_assoc
 line_parts (ReceiveWindow now size) = simp append_assoc
 
--- the sum of the first and the fifth letter of an input's line, by which its word is told from the other ones
+-- the sum of the first, the third and the fifth letter of an input's line, by which its word is told from the other ones
 abbrev letters_of : List ℕ → ℕ
-letters_of line = get_or line 0 0 + get_or line 4 0
+letters_of line = get_or line 0 0 + get_or line 2 0 + get_or line 4 0
 
 abbrev letters : Input → ℕ
-letters (Datagram now remote ecn bytes) = 203
-letters (Timeout now) = 227
-letters (Transmit now count) = 231
-letters (Open now dir) = 143
-letters (Accept now dir) = 209
-letters (Write now id body) = 220
-letters (Finish now id) = 217
-letters (ResetSend now id code) = 230
-letters (StopRecv now id code) = 147
-letters (Read now id max) = 146
-letters (Close now code reason) = 200
-letters (Ping now) = 144
-letters (MaxStreams now dir count) = 212
-letters (SendWindow now size) = 234
-letters (ReceiveWindow now size) = 233
+letters (Datagram now remote ecn bytes) = 319
+letters (Timeout now) = 336
+letters (Transmit now count) = 328
+letters (Open now dir) = 244
+letters (Accept now dir) = 308
+letters (Write now id body) = 325
+letters (Finish now id) = 327
+letters (ResetSend now id code) = 345
+letters (StopRecv now id code) = 258
+letters (Read now id max) = 243
+letters (SendDatagram now body) = 257
+letters (RecvDatagram now) = 245
+letters (Close now code reason) = 311
+letters (Ping now) = 254
+letters (MaxStreams now dir count) = 326
+letters (SendWindow now size) = 344
+letters (ReceiveWindow now size) = 332
 
 line_letters : (i : Input) → letters_of (input_line i) ≡ letters i
 unfolding input_line
@@ -104,6 +112,8 @@ line_letters (Finish now id) = refl
 line_letters (ResetSend now id code) = refl
 line_letters (StopRecv now id code) = refl
 line_letters (Read now id max) = refl
+line_letters (SendDatagram now body) = refl
+line_letters (RecvDatagram now) = refl
 line_letters (Close now code reason) = refl
 line_letters (Ping now) = refl
 line_letters (MaxStreams now dir count) = refl
@@ -123,6 +133,8 @@ no_space (Finish now id) e = omega (arith, e)
 no_space (ResetSend now id code) e = omega (arith, e)
 no_space (StopRecv now id code) e = omega (arith, e)
 no_space (Read now id max) e = omega (arith, e)
+no_space (SendDatagram now body) e = omega (arith, e)
+no_space (RecvDatagram now) e = omega (arith, e)
 no_space (Close now code reason) e = omega (arith, e)
 no_space (Ping now) e = omega (arith, e)
 no_space (MaxStreams now dir count) e = omega (arith, e)
@@ -152,63 +164,71 @@ is_next fields i e within = record {
 
 pub no_datagram : (fields : List ℕ) → ((now : ℕ) (remote : SocketAddr) (ecn : Option EcnCodepoint) (bytes : List ℕ) → IsWithin (Datagram now remote ecn bytes) → fields ≡ fields_of (Datagram now remote ecn bytes) → ⊥) → (i : Input) → IsNext (codes "datagram " ++ fields) i → ⊥
 no_datagram fields none (Datagram now remote ecn bytes) h = none now remote ecn bytes h.within (next_fields (codes "datagram") fields (Datagram now remote ecn bytes) refl h)
-no_datagram fields none i h = let e : 203 ≡ letters i = text_letters (codes "datagram " ++ fields) i h in omega (arith, e)
+no_datagram fields none i h = let e : 319 ≡ letters i = text_letters (codes "datagram " ++ fields) i h in omega (arith, e)
 
 pub no_timeout : (digits : List ℕ) → ((now : ℕ) → now < 2 ^ 64 → digits ≢ decimal now) → (i : Input) → IsNext (codes "timeout " ++ digits) i → ⊥
 no_timeout digits none (Timeout now) h = none now h.within (next_fields (codes "timeout") digits (Timeout now) refl h)
-no_timeout digits none i h = let e : 227 ≡ letters i = text_letters (codes "timeout " ++ digits) i h in omega (arith, e)
+no_timeout digits none i h = let e : 336 ≡ letters i = text_letters (codes "timeout " ++ digits) i h in omega (arith, e)
 
 pub no_transmit : (fields : List ℕ) → ((now : ℕ) (rest : List ℕ) → Begins (2 ^ 64) fields now rest → (count : ℕ) → count < 2 ^ 64 → rest ≢ decimal count) → (i : Input) → IsNext (codes "transmit " ++ fields) i → ⊥
 no_transmit fields none (Transmit now count) h = none now _ (record { spelled = next_fields (codes "transmit") fields (Transmit now count) refl h; small = h.within.0 }) count h.within.1 refl
-no_transmit fields none i h = let e : 231 ≡ letters i = text_letters (codes "transmit " ++ fields) i h in omega (arith, e)
+no_transmit fields none i h = let e : 328 ≡ letters i = text_letters (codes "transmit " ++ fields) i h in omega (arith, e)
 
 pub no_open : (fields : List ℕ) → ((now : ℕ) (rest : List ℕ) → Begins (2 ^ 64) fields now rest → (dir : Dir) → rest ≢ dir_text dir) → (i : Input) → IsNext (codes "open " ++ fields) i → ⊥
 no_open fields none (Open now dir) h = none now _ (record { spelled = next_fields (codes "open") fields (Open now dir) refl h; small = h.within }) dir refl
-no_open fields none i h = let e : 143 ≡ letters i = text_letters (codes "open " ++ fields) i h in omega (arith, e)
+no_open fields none i h = let e : 244 ≡ letters i = text_letters (codes "open " ++ fields) i h in omega (arith, e)
 
 pub no_accept : (fields : List ℕ) → ((now : ℕ) (rest : List ℕ) → Begins (2 ^ 64) fields now rest → (dir : Dir) → rest ≢ dir_text dir) → (i : Input) → IsNext (codes "accept " ++ fields) i → ⊥
 no_accept fields none (Accept now dir) h = none now _ (record { spelled = next_fields (codes "accept") fields (Accept now dir) refl h; small = h.within }) dir refl
-no_accept fields none i h = let e : 209 ≡ letters i = text_letters (codes "accept " ++ fields) i h in omega (arith, e)
+no_accept fields none i h = let e : 308 ≡ letters i = text_letters (codes "accept " ++ fields) i h in omega (arith, e)
 
 pub no_write : (fields : List ℕ) → ((now : ℕ) (rest : List ℕ) → Begins (2 ^ 64) fields now rest → (id : ℕ) (more : List ℕ) → Begins (2 ^ 62) rest id more → (body : List ℕ) → IsBytes body → more ≢ hex_field body) → (i : Input) → IsNext (codes "write " ++ fields) i → ⊥
 no_write fields none (Write now id body) h = none now _ (record { spelled = next_fields (codes "write") fields (Write now id body) refl h; small = h.within.0 }) id _ (record { spelled = refl; small = h.within.1 }) body h.within.2 refl
-no_write fields none i h = let e : 220 ≡ letters i = text_letters (codes "write " ++ fields) i h in omega (arith, e)
+no_write fields none i h = let e : 325 ≡ letters i = text_letters (codes "write " ++ fields) i h in omega (arith, e)
 
 pub no_finish : (fields : List ℕ) → ((now : ℕ) (rest : List ℕ) → Begins (2 ^ 64) fields now rest → (id : ℕ) → id < 2 ^ 62 → rest ≢ decimal id) → (i : Input) → IsNext (codes "finish " ++ fields) i → ⊥
 no_finish fields none (Finish now id) h = none now _ (record { spelled = next_fields (codes "finish") fields (Finish now id) refl h; small = h.within.0 }) id h.within.1 refl
-no_finish fields none i h = let e : 217 ≡ letters i = text_letters (codes "finish " ++ fields) i h in omega (arith, e)
+no_finish fields none i h = let e : 327 ≡ letters i = text_letters (codes "finish " ++ fields) i h in omega (arith, e)
 
 pub no_reset : (fields : List ℕ) → ((now : ℕ) (rest : List ℕ) → Begins (2 ^ 64) fields now rest → (id : ℕ) (more : List ℕ) → Begins (2 ^ 62) rest id more → (code : ℕ) → code < 2 ^ 62 → more ≢ decimal code) → (i : Input) → IsNext (codes "reset " ++ fields) i → ⊥
 no_reset fields none (ResetSend now id code) h = none now _ (record { spelled = next_fields (codes "reset") fields (ResetSend now id code) refl h; small = h.within.0 }) id _ (record { spelled = refl; small = h.within.1 }) code h.within.2 refl
-no_reset fields none i h = let e : 230 ≡ letters i = text_letters (codes "reset " ++ fields) i h in omega (arith, e)
+no_reset fields none i h = let e : 345 ≡ letters i = text_letters (codes "reset " ++ fields) i h in omega (arith, e)
 
 pub no_stop : (fields : List ℕ) → ((now : ℕ) (rest : List ℕ) → Begins (2 ^ 64) fields now rest → (id : ℕ) (more : List ℕ) → Begins (2 ^ 62) rest id more → (code : ℕ) → code < 2 ^ 62 → more ≢ decimal code) → (i : Input) → IsNext (codes "stop " ++ fields) i → ⊥
 no_stop fields none (StopRecv now id code) h = none now _ (record { spelled = next_fields (codes "stop") fields (StopRecv now id code) refl h; small = h.within.0 }) id _ (record { spelled = refl; small = h.within.1 }) code h.within.2 refl
-no_stop fields none i h = let e : 147 ≡ letters i = text_letters (codes "stop " ++ fields) i h in omega (arith, e)
+no_stop fields none i h = let e : 258 ≡ letters i = text_letters (codes "stop " ++ fields) i h in omega (arith, e)
 
 pub no_read : (fields : List ℕ) → ((now : ℕ) (rest : List ℕ) → Begins (2 ^ 64) fields now rest → (id : ℕ) (more : List ℕ) → Begins (2 ^ 62) rest id more → (max : ℕ) → max < 2 ^ 64 → more ≢ decimal max) → (i : Input) → IsNext (codes "read " ++ fields) i → ⊥
 no_read fields none (Read now id max) h = none now _ (record { spelled = next_fields (codes "read") fields (Read now id max) refl h; small = h.within.0 }) id _ (record { spelled = refl; small = h.within.1 }) max h.within.2 refl
-no_read fields none i h = let e : 146 ≡ letters i = text_letters (codes "read " ++ fields) i h in omega (arith, e)
+no_read fields none i h = let e : 243 ≡ letters i = text_letters (codes "read " ++ fields) i h in omega (arith, e)
+
+pub no_send : (fields : List ℕ) → ((now : ℕ) (rest : List ℕ) → Begins (2 ^ 64) fields now rest → (body : List ℕ) → IsBytes body → rest ≢ hex_field body) → (i : Input) → IsNext (codes "send " ++ fields) i → ⊥
+no_send fields none (SendDatagram now body) h = none now _ (record { spelled = next_fields (codes "send") fields (SendDatagram now body) refl h; small = h.within.0 }) body h.within.1 refl
+no_send fields none i h = let e : 257 ≡ letters i = text_letters (codes "send " ++ fields) i h in omega (arith, e)
+
+pub no_recv : (digits : List ℕ) → ((now : ℕ) → now < 2 ^ 64 → digits ≢ decimal now) → (i : Input) → IsNext (codes "recv " ++ digits) i → ⊥
+no_recv digits none (RecvDatagram now) h = none now h.within (next_fields (codes "recv") digits (RecvDatagram now) refl h)
+no_recv digits none i h = let e : 245 ≡ letters i = text_letters (codes "recv " ++ digits) i h in omega (arith, e)
 
 pub no_close : (fields : List ℕ) → ((now : ℕ) (rest : List ℕ) → Begins (2 ^ 64) fields now rest → (code : ℕ) (more : List ℕ) → Begins (2 ^ 62) rest code more → (reason : List ℕ) → IsBytes reason → more ≢ hex_field reason) → (i : Input) → IsNext (codes "close " ++ fields) i → ⊥
 no_close fields none (Close now code reason) h = none now _ (record { spelled = next_fields (codes "close") fields (Close now code reason) refl h; small = h.within.0 }) code _ (record { spelled = refl; small = h.within.1 }) reason h.within.2 refl
-no_close fields none i h = let e : 200 ≡ letters i = text_letters (codes "close " ++ fields) i h in omega (arith, e)
+no_close fields none i h = let e : 311 ≡ letters i = text_letters (codes "close " ++ fields) i h in omega (arith, e)
 
 pub no_ping : (digits : List ℕ) → ((now : ℕ) → now < 2 ^ 64 → digits ≢ decimal now) → (i : Input) → IsNext (codes "ping " ++ digits) i → ⊥
 no_ping digits none (Ping now) h = none now h.within (next_fields (codes "ping") digits (Ping now) refl h)
-no_ping digits none i h = let e : 144 ≡ letters i = text_letters (codes "ping " ++ digits) i h in omega (arith, e)
+no_ping digits none i h = let e : 254 ≡ letters i = text_letters (codes "ping " ++ digits) i h in omega (arith, e)
 
 pub no_streams : (fields : List ℕ) → ((now : ℕ) (rest : List ℕ) → Begins (2 ^ 64) fields now rest → (dir : Dir) (more : List ℕ) → rest ≡ dir_text dir ++ 32 ∷ more → (count : ℕ) → count < 2 ^ 62 → more ≢ decimal count) → (i : Input) → IsNext (codes "streams " ++ fields) i → ⊥
 no_streams fields none (MaxStreams now dir count) h = none now _ (record { spelled = next_fields (codes "streams") fields (MaxStreams now dir count) refl h; small = h.within.0 }) dir _ refl count h.within.1 refl
-no_streams fields none i h = let e : 212 ≡ letters i = text_letters (codes "streams " ++ fields) i h in omega (arith, e)
+no_streams fields none i h = let e : 326 ≡ letters i = text_letters (codes "streams " ++ fields) i h in omega (arith, e)
 
 pub no_sendwindow : (fields : List ℕ) → ((now : ℕ) (rest : List ℕ) → Begins (2 ^ 64) fields now rest → (size : ℕ) → size < 2 ^ 64 → rest ≢ decimal size) → (i : Input) → IsNext (codes "sendwindow " ++ fields) i → ⊥
 no_sendwindow fields none (SendWindow now size) h = none now _ (record { spelled = next_fields (codes "sendwindow") fields (SendWindow now size) refl h; small = h.within.0 }) size h.within.1 refl
-no_sendwindow fields none i h = let e : 234 ≡ letters i = text_letters (codes "sendwindow " ++ fields) i h in omega (arith, e)
+no_sendwindow fields none i h = let e : 344 ≡ letters i = text_letters (codes "sendwindow " ++ fields) i h in omega (arith, e)
 
 pub no_recvwindow : (fields : List ℕ) → ((now : ℕ) (rest : List ℕ) → Begins (2 ^ 64) fields now rest → (size : ℕ) → size < 2 ^ 62 → rest ≢ decimal size) → (i : Input) → IsNext (codes "recvwindow " ++ fields) i → ⊥
 no_recvwindow fields none (ReceiveWindow now size) h = none now _ (record { spelled = next_fields (codes "recvwindow") fields (ReceiveWindow now size) refl h; small = h.within.0 }) size h.within.1 refl
-no_recvwindow fields none i h = let e : 233 ≡ letters i = text_letters (codes "recvwindow " ++ fields) i h in omega (arith, e)
+no_recvwindow fields none i h = let e : 332 ≡ letters i = text_letters (codes "recvwindow " ++ fields) i h in omega (arith, e)
 
 -- a text with none of the words of calls of the streams is the line of no such call
 pub no_call : (text : List ℕ) → ((rest : List ℕ) → text ≢ codes "open " ++ rest) → ((rest : List ℕ) → text ≢ codes "accept " ++ rest) → ((rest : List ℕ) → text ≢ codes "write " ++ rest) → ((rest : List ℕ) → text ≢ codes "finish " ++ rest) → ((rest : List ℕ) → text ≢ codes "reset " ++ rest) → ((rest : List ℕ) → text ≢ codes "stop " ++ rest) → ((rest : List ℕ) → text ≢ codes "read " ++ rest) → ((rest : List ℕ) → text ≢ codes "streams " ++ rest) → ((rest : List ℕ) → text ≢ codes "sendwindow " ++ rest) → ((rest : List ℕ) → text ≢ codes "recvwindow " ++ rest)
@@ -226,29 +246,31 @@ no_call text opens accepts writes finishes resets stops reads streams sendwindow
 no_call text opens accepts writes finishes resets stops reads streams sendwindows recvwindows _ of h = absurd of
 
 -- and what is no such call, with none of the other words either, is the line of no input
-no_word : (text : List ℕ) → ((rest : List ℕ) → text ≢ codes "datagram " ++ rest) → ((rest : List ℕ) → text ≢ codes "timeout " ++ rest) → ((rest : List ℕ) → text ≢ codes "transmit " ++ rest) → ((rest : List ℕ) → text ≢ codes "close " ++ rest) → ((rest : List ℕ) → text ≢ codes "ping " ++ rest) → ((i : Input) → IsOfStreams i → IsNext text i → ⊥)
+no_word : (text : List ℕ) → ((rest : List ℕ) → text ≢ codes "datagram " ++ rest) → ((rest : List ℕ) → text ≢ codes "timeout " ++ rest) → ((rest : List ℕ) → text ≢ codes "transmit " ++ rest) → ((rest : List ℕ) → text ≢ codes "send " ++ rest) → ((rest : List ℕ) → text ≢ codes "recv " ++ rest) → ((rest : List ℕ) → text ≢ codes "close " ++ rest) → ((rest : List ℕ) → text ≢ codes "ping " ++ rest) → ((i : Input) → IsOfStreams i → IsNext text i → ⊥)
     → (i : Input) → IsNext text i → ⊥
-no_word text datagrams timeouts transmits closes pings calls (Datagram now remote ecn bytes) h = datagrams _ (next_text text (Datagram now remote ecn bytes) h)
-no_word text datagrams timeouts transmits closes pings calls (Timeout now) h = timeouts _ (next_text text (Timeout now) h)
-no_word text datagrams timeouts transmits closes pings calls (Transmit now count) h = transmits _ (next_text text (Transmit now count) h)
-no_word text datagrams timeouts transmits closes pings calls (Close now code reason) h = closes _ (next_text text (Close now code reason) h)
-no_word text datagrams timeouts transmits closes pings calls (Ping now) h = pings _ (next_text text (Ping now) h)
-no_word text datagrams timeouts transmits closes pings calls (Open now dir) h = calls (Open now dir) tt h
-no_word text datagrams timeouts transmits closes pings calls (Accept now dir) h = calls (Accept now dir) tt h
-no_word text datagrams timeouts transmits closes pings calls (Write now id body) h = calls (Write now id body) tt h
-no_word text datagrams timeouts transmits closes pings calls (Finish now id) h = calls (Finish now id) tt h
-no_word text datagrams timeouts transmits closes pings calls (ResetSend now id code) h = calls (ResetSend now id code) tt h
-no_word text datagrams timeouts transmits closes pings calls (StopRecv now id code) h = calls (StopRecv now id code) tt h
-no_word text datagrams timeouts transmits closes pings calls (Read now id max) h = calls (Read now id max) tt h
-no_word text datagrams timeouts transmits closes pings calls (MaxStreams now dir count) h = calls (MaxStreams now dir count) tt h
-no_word text datagrams timeouts transmits closes pings calls (SendWindow now size) h = calls (SendWindow now size) tt h
-no_word text datagrams timeouts transmits closes pings calls (ReceiveWindow now size) h = calls (ReceiveWindow now size) tt h
+no_word text datagrams timeouts transmits sends recvs closes pings calls (Datagram now remote ecn bytes) h = datagrams _ (next_text text (Datagram now remote ecn bytes) h)
+no_word text datagrams timeouts transmits sends recvs closes pings calls (Timeout now) h = timeouts _ (next_text text (Timeout now) h)
+no_word text datagrams timeouts transmits sends recvs closes pings calls (Transmit now count) h = transmits _ (next_text text (Transmit now count) h)
+no_word text datagrams timeouts transmits sends recvs closes pings calls (SendDatagram now body) h = sends _ (next_text text (SendDatagram now body) h)
+no_word text datagrams timeouts transmits sends recvs closes pings calls (RecvDatagram now) h = recvs _ (next_text text (RecvDatagram now) h)
+no_word text datagrams timeouts transmits sends recvs closes pings calls (Close now code reason) h = closes _ (next_text text (Close now code reason) h)
+no_word text datagrams timeouts transmits sends recvs closes pings calls (Ping now) h = pings _ (next_text text (Ping now) h)
+no_word text datagrams timeouts transmits sends recvs closes pings calls (Open now dir) h = calls (Open now dir) tt h
+no_word text datagrams timeouts transmits sends recvs closes pings calls (Accept now dir) h = calls (Accept now dir) tt h
+no_word text datagrams timeouts transmits sends recvs closes pings calls (Write now id body) h = calls (Write now id body) tt h
+no_word text datagrams timeouts transmits sends recvs closes pings calls (Finish now id) h = calls (Finish now id) tt h
+no_word text datagrams timeouts transmits sends recvs closes pings calls (ResetSend now id code) h = calls (ResetSend now id code) tt h
+no_word text datagrams timeouts transmits sends recvs closes pings calls (StopRecv now id code) h = calls (StopRecv now id code) tt h
+no_word text datagrams timeouts transmits sends recvs closes pings calls (Read now id max) h = calls (Read now id max) tt h
+no_word text datagrams timeouts transmits sends recvs closes pings calls (MaxStreams now dir count) h = calls (MaxStreams now dir count) tt h
+no_word text datagrams timeouts transmits sends recvs closes pings calls (SendWindow now size) h = calls (SendWindow now size) tt h
+no_word text datagrams timeouts transmits sends recvs closes pings calls (ReceiveWindow now size) h = calls (ReceiveWindow now size) tt h
 
 -- what a reader of such calls found is what a reader of all inputs finds, where none of the other words stands in front
-pub call_read : {E : Type 0} (text : List ℕ) → ((rest : List ℕ) → text ≢ codes "datagram " ++ rest) → ((rest : List ℕ) → text ≢ codes "timeout " ++ rest) → ((rest : List ℕ) → text ≢ codes "transmit " ++ rest) → ((rest : List ℕ) → text ≢ codes "close " ++ rest) → ((rest : List ℕ) → text ≢ codes "ping " ++ rest) → (r : Result (Option Input) E) → IfOk r (IsCallRead text) → IfOk r (IsLineRead text)
-call_read text datagrams timeouts transmits closes pings (Ok None) h = no_word text datagrams timeouts transmits closes pings h
-call_read text datagrams timeouts transmits closes pings (Ok (Some i)) h = h
-call_read text datagrams timeouts transmits closes pings (Err e) h = tt
+pub call_read : {E : Type 0} (text : List ℕ) → ((rest : List ℕ) → text ≢ codes "datagram " ++ rest) → ((rest : List ℕ) → text ≢ codes "timeout " ++ rest) → ((rest : List ℕ) → text ≢ codes "transmit " ++ rest) → ((rest : List ℕ) → text ≢ codes "send " ++ rest) → ((rest : List ℕ) → text ≢ codes "recv " ++ rest) → ((rest : List ℕ) → text ≢ codes "close " ++ rest) → ((rest : List ℕ) → text ≢ codes "ping " ++ rest) → (r : Result (Option Input) E) → IfOk r (IsCallRead text) → IfOk r (IsLineRead text)
+call_read text datagrams timeouts transmits sends recvs closes pings (Ok None) h = no_word text datagrams timeouts transmits sends recvs closes pings h
+call_read text datagrams timeouts transmits sends recvs closes pings (Ok (Some i)) h = h
+call_read text datagrams timeouts transmits sends recvs closes pings (Err e) h = tt
 
 -- what a reader of all inputs found is what one of such calls finds
 pub read_call : (text : List ℕ) (r : Option Input) → IsLineRead text r → IsCallRead text r
@@ -384,6 +406,13 @@ read_injective now now' id id' max max' h k e =
     let last = decimal_injective max max' h.2 k.2 second.1 in
     cc
 
+send_injective : (now now' : ℕ) (body body' : List ℕ) → IsWithin (SendDatagram now body) → IsWithin (SendDatagram now' body') → fields_of (SendDatagram now body) ≡ fields_of (SendDatagram now' body') → SendDatagram now body ≡ SendDatagram now' body'
+send_injective now now' body body' h k e =
+    let first = number_split now now' _ _ h.0 k.0 e in
+    let times = first.0 in
+    let last = hex_field_injective body body' h.1 k.1 first.1 in
+    cc
+
 close_injective : (now now' : ℕ) (code code' : ℕ) (reason reason' : List ℕ) → IsWithin (Close now code reason) → IsWithin (Close now' code' reason') → fields_of (Close now code reason) ≡ fields_of (Close now' code' reason') → Close now code reason ≡ Close now' code' reason'
 close_injective now now' code code' reason reason' h k e =
     let first = number_split now now' _ _ h.0 k.0 e in
@@ -428,6 +457,8 @@ input_line_injective (Finish now id) (Finish now' id') h k e = finish_injective 
 input_line_injective (ResetSend now id code) (ResetSend now' id' code') h k e = reset_injective now now' id id' code code' h k (one_fields (ResetSend now id code) (ResetSend now' id' code') refl e)
 input_line_injective (StopRecv now id code) (StopRecv now' id' code') h k e = stop_injective now now' id id' code code' h k (one_fields (StopRecv now id code) (StopRecv now' id' code') refl e)
 input_line_injective (Read now id max) (Read now' id' max') h k e = read_injective now now' id id' max max' h k (one_fields (Read now id max) (Read now' id' max') refl e)
+input_line_injective (SendDatagram now body) (SendDatagram now' body') h k e = send_injective now now' body body' h k (one_fields (SendDatagram now body) (SendDatagram now' body') refl e)
+input_line_injective (RecvDatagram now) (RecvDatagram now') h k e = ap RecvDatagram (decimal_injective now now' h k (one_fields (RecvDatagram now) (RecvDatagram now') refl e))
 input_line_injective (Close now code reason) (Close now' code' reason') h k e = close_injective now now' code code' reason reason' h k (one_fields (Close now code reason) (Close now' code' reason') refl e)
 input_line_injective (Ping now) (Ping now') h k e = ap Ping (decimal_injective now now' h k (one_fields (Ping now) (Ping now') refl e))
 input_line_injective (MaxStreams now dir count) (MaxStreams now' dir' count') h k e = streams_injective now now' dir dir' count count' h k (one_fields (MaxStreams now dir count) (MaxStreams now' dir' count') refl e)

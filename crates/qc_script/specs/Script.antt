@@ -27,6 +27,8 @@
 --     reset T I C       it resets the stream I, with the code C
 --     stop T I C        it wants no more of the stream I, with the code C
 --     read T I N        it reads at most N bytes of the stream I in order
+--     send T H          it sends a datagram H
+--     recv T            it takes the oldest datagram that came
 --     close T C H       the application closes at time T, with the code C and the reason H
 --     ping T            a ping at time T
 --     streams T D N     the application sets that the peer may have N streams of direction D open at a time
@@ -42,7 +44,7 @@ use Rattle.qc_base.specs.Grammar.{IsBytes}
 use Rattle.qc_base.specs.declared.side.Side.{Side}
 use Rattle.qc_base.specs.declared.side.Side.TheVariants.{Client, Server}
 use Rattle.qc_state.specs.declared.input.Input.{Input}
-use Rattle.qc_state.specs.declared.input.Input.TheVariants.{Datagram, Timeout, Transmit, Open, Accept, Write, Finish, ResetSend, StopRecv, Read, Close, Ping, MaxStreams, SendWindow, ReceiveWindow}
+use Rattle.qc_state.specs.declared.input.Input.TheVariants.{Datagram, Timeout, Transmit, Open, Accept, Write, Finish, ResetSend, StopRecv, Read, SendDatagram, RecvDatagram, Close, Ping, MaxStreams, SendWindow, ReceiveWindow}
 use Rattle.qc_script.specs.declared.settings.RandomWords.{RandomWords}
 use Rattle.qc_script.specs.declared.settings.RandomWords.TheVariants.{Zeros, Seed}
 use Rattle.qc_script.specs.declared.settings.Settings.{Settings}
@@ -145,8 +147,8 @@ pub record AreSettings (s : Settings) : Type 0 where
   pub idle : IfSome s.idle (λ n. n < 2 ^ 62)
 
 -- the line of an input: its word, its time, for a datagram where it came from, its mark and its bytes, for a transmit how
--- many datagrams it may send, for a close its code and its reason, and for a call of the streams which one it is of, of which
--- direction, or how many
+-- many datagrams it may send, for a close its code and its reason, for a call of the streams which one it is of, of which
+-- direction, or how many, and what is written or sent
 unfoldable pub input_line : Input → List ℕ
 input_line (Datagram now remote ecn bytes) = codes "datagram " ++ (decimal now ++ 32 ∷ (address_text remote ++ 32 ∷ (ecn_text ecn ++ 32 ∷ (hex_field bytes ++ 10 ∷ []))))
 input_line (Timeout now) = codes "timeout " ++ (decimal now ++ 10 ∷ [])
@@ -158,6 +160,8 @@ input_line (Finish now id) = codes "finish " ++ (decimal now ++ 32 ∷ (decimal 
 input_line (ResetSend now id code) = codes "reset " ++ (decimal now ++ 32 ∷ (decimal id ++ 32 ∷ (decimal code ++ 10 ∷ [])))
 input_line (StopRecv now id code) = codes "stop " ++ (decimal now ++ 32 ∷ (decimal id ++ 32 ∷ (decimal code ++ 10 ∷ [])))
 input_line (Read now id max) = codes "read " ++ (decimal now ++ 32 ∷ (decimal id ++ 32 ∷ (decimal max ++ 10 ∷ [])))
+input_line (SendDatagram now body) = codes "send " ++ (decimal now ++ 32 ∷ (hex_field body ++ 10 ∷ []))
+input_line (RecvDatagram now) = codes "recv " ++ (decimal now ++ 10 ∷ [])
 input_line (Close now code reason) = codes "close " ++ (decimal now ++ 32 ∷ (decimal code ++ 32 ∷ (hex_field reason ++ 10 ∷ [])))
 input_line (Ping now) = codes "ping " ++ (decimal now ++ 10 ∷ [])
 input_line (MaxStreams now dir count) = codes "streams " ++ (decimal now ++ 32 ∷ (dir_text dir ++ 32 ∷ (decimal count ++ 10 ∷ [])))
@@ -165,7 +169,7 @@ input_line (SendWindow now size) = codes "sendwindow " ++ (decimal now ++ 32 ∷
 input_line (ReceiveWindow now size) = codes "recvwindow " ++ (decimal now ++ 32 ∷ (decimal size ++ 10 ∷ []))
 
 -- the input's numbers are below 2^64; a code, a stream's id, a count of streams and a receive window are below 2^62; a datagram,
--- what is written and a reason are bytes; and an address has neither a flow label nor a scope
+-- what is written or sent and a reason are bytes; and an address has neither a flow label nor a scope
 abbrev pub IsWithin : Input → Type 0
 IsWithin (Datagram now remote ecn bytes) = (now < 2 ^ 64) × IsAddress remote × IsBytes bytes
 IsWithin (Timeout now) = now < 2 ^ 64
@@ -177,6 +181,8 @@ IsWithin (Finish now id) = (now < 2 ^ 64) × (id < 2 ^ 62)
 IsWithin (ResetSend now id code) = (now < 2 ^ 64) × (id < 2 ^ 62) × (code < 2 ^ 62)
 IsWithin (StopRecv now id code) = (now < 2 ^ 64) × (id < 2 ^ 62) × (code < 2 ^ 62)
 IsWithin (Read now id max) = (now < 2 ^ 64) × (id < 2 ^ 62) × (max < 2 ^ 64)
+IsWithin (SendDatagram now body) = (now < 2 ^ 64) × IsBytes body
+IsWithin (RecvDatagram now) = now < 2 ^ 64
 IsWithin (Close now code reason) = (now < 2 ^ 64) × (code < 2 ^ 62) × IsBytes reason
 IsWithin (Ping now) = now < 2 ^ 64
 IsWithin (MaxStreams now dir count) = (now < 2 ^ 64) × (count < 2 ^ 62)

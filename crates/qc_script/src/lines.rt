@@ -63,6 +63,34 @@ fn transmit_line(fields: &[u8]) -> Option<Input>
     })
 }
 
+/// The datagram of the application that a line with these fields sends.
+fn send_line(alloc: Global, fields: &[u8]) -> Result<Option<Input>, AllocError>
+    ensures { IfOk result (IsLineRead (codes "send " ++ fields.now)) }
+{
+    let Some((now, body)) = first_number(fields) else {
+        return Ok(None);
+    };
+    let Some(body) = read_hex(alloc, body)? else {
+        return Ok(None);
+    };
+    Ok(Some(Input::SendDatagram {
+        now: Instant::from_nanos(now),
+        body,
+    }))
+}
+
+/// The input of a line with this field that takes a datagram that came.
+fn recv_line(digits: &[u8]) -> Option<Input>
+    ensures { IsLineRead (codes "recv " ++ digits.now) result }
+{
+    match read_number(digits) {
+        Some(now) => Some(Input::RecvDatagram {
+            now: Instant::from_nanos(now),
+        }),
+        None => None,
+    }
+}
+
 /// The close of a line with these fields.
 fn close_line(alloc: Global, fields: &[u8]) -> Result<Option<Input>, AllocError>
     ensures { IfOk result (IsLineRead (codes "close " ++ fields.now)) }
@@ -110,6 +138,12 @@ pub fn read_line(alloc: Global, text: &[u8]) -> Result<Option<Input>, AllocError
     }
     if let Some(fields) = after_word(text, b"transmit ") {
         return Ok(transmit_line(fields));
+    }
+    if let Some(fields) = after_word(text, b"send ") {
+        return send_line(alloc, fields);
+    }
+    if let Some(digits) = after_word(text, b"recv ") {
+        return Ok(recv_line(digits));
     }
     if let Some(fields) = after_word(text, b"close ") {
         return close_line(alloc, fields);

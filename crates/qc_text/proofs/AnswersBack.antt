@@ -150,7 +150,7 @@ out_back a b x y u v bs cs r s p q k l e =
     same : a ≡ b → x ≡ y → u ≡ v → bs ≡ cs → answer.Out a x u bs ≡ answer.Out b y v cs
     same i j k l = cc
 
--- ---- calls on streams
+-- ---- calls on streams and of datagrams
 
 -- why a call was refused, up to the line's end; the first letters differ
 refusal_back : (a b : Refusal) (r s : List ℕ) → IsRefusalInRange a → IsRefusalInRange b → refusal_text a ++ 10 ∷ r ≡ refusal_text b ++ 10 ∷ s → (a ≡ b) × (r ≡ s)
@@ -166,6 +166,9 @@ refusal_back (refusal.Reset m) (refusal.Reset n) r s p q e =
     let parts = simp append_assoc at e in
     let code = number_back m n 10 10 r s (omega arith) (omega arith) refl refl (ap (drop 6) parts) in
     (ap refusal.Reset code.0, ap (drop 1) code.1)
+refusal_back refusal.Disabled refusal.Disabled r s p q e = (refl, ap (drop 9) e)
+refusal_back refusal.UnsupportedByPeer refusal.UnsupportedByPeer r s p q e = (refl, ap (drop 18) e)
+refusal_back refusal.TooLarge refusal.TooLarge r s p q e = (refl, ap (drop 9) e)
 refusal_back _ _ r s p q e = absurd (omega (arith, ap (λ (a : List ℕ). get_or a 0 0) e))
 
 read_parts : (offset : ℕ) (body r : List ℕ) → read_text offset body ++ r ≡ codes "answer read " ++ (decimal offset ++ 32 ∷ (bytes_or_dash body ++ 10 ∷ r))
@@ -208,6 +211,7 @@ number (answer.Accepted id) = 293
 number (answer.Wrote count) = 352
 number (answer.Read offset body) = 329
 number answer.Ended = 312
+number (answer.Datagram body) = 297
 number (answer.Error why) = 316
 number (answer.Out destination segment ecn bytes) = 1
 
@@ -229,6 +233,7 @@ marked w (answer.Accepted id) r h = refl
 marked w (answer.Wrote count) r h = refl
 marked w (answer.Read offset body) r h = refl
 marked w answer.Ended r h = refl
+marked w (answer.Datagram body) r h = refl
 marked w (answer.Error why) r h = refl
 marked w (answer.Out destination segment ecn bytes) r h = refl
 
@@ -257,6 +262,10 @@ answer_back w (answer.Wrote m) (answer.Wrote n) r s p q k l g h e =
     (ap answer.Wrote count.0, ap (drop 1) count.1)
 answer_back w (answer.Read m a) (answer.Read n b) r s p q k l g h e = read_back m n a b r s p q e
 answer_back w answer.Ended answer.Ended r s p q k l g h e = (refl, ap (drop 13) e)
+answer_back w (answer.Datagram a) (answer.Datagram b) r s p q k l g h e =
+    let parts = simp append_assoc at e in
+    let body = body_back a b 10 10 r s p q refl refl (ap (drop 16) parts) in
+    (ap answer.Datagram body.0, ap (drop 1) body.1)
 answer_back w (answer.Error a) (answer.Error b) r s p q k l g h e =
     let parts = simp append_assoc at e in
     let why = refusal_back a b r s p q (ap (drop 13) parts) in

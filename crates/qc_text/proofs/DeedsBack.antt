@@ -110,7 +110,7 @@ layer_injective Session Session e = refl
 layer_injective Life Life e = refl
 layer_injective _ _ e = absurd (omega (arith, ap (λ (a : List ℕ). get_or a 2 0) e))
 
-type_by : (a b c d e f g h i j : Bool) → is_token
+type_by : (a b c d e f g h i j k : Bool) → is_token
     (if a then codes "ACK"
     else if b then codes "RESET_STREAM"
     else if c then codes "STOP_SENDING"
@@ -121,23 +121,25 @@ type_by : (a b c d e f g h i j : Bool) → is_token
     else if h then codes "CONNECTION_CLOSE"
     else if i then codes "APPLICATION_CLOSE"
     else if j then codes "HANDSHAKE_DONE"
+    else if k then codes "DATAGRAM"
     else codes "-") ≡ true
-type_by true b c d e f g h i j = refl
-type_by false true c d e f g h i j = refl
-type_by false false true d e f g h i j = refl
-type_by false false false true e f g h i j = refl
-type_by false false false false true f g h i j = refl
-type_by false false false false false true g h i j = refl
-type_by false false false false false false true h i j = refl
-type_by false false false false false false false true i j = refl
-type_by false false false false false false false false true j = refl
-type_by false false false false false false false false false true = refl
-type_by false false false false false false false false false false = refl
+type_by true b c d e f g h i j k = refl
+type_by false true c d e f g h i j k = refl
+type_by false false true d e f g h i j k = refl
+type_by false false false true e f g h i j k = refl
+type_by false false false false true f g h i j k = refl
+type_by false false false false false true g h i j k = refl
+type_by false false false false false false true h i j k = refl
+type_by false false false false false false false true i j k = refl
+type_by false false false false false false false false true j k = refl
+type_by false false false false false false false false false true k = refl
+type_by false false false false false false false false false false true = refl
+type_by false false false false false false false false false false false = refl
 
 given_is_token : (body : List ℕ) → is_token (given_name body) ≡ true
 unfolding given_name type_name
 given_is_token [] = refl
-given_is_token (type ∷ _) = type_by _ _ _ _ _ _ _ _ _ _
+given_is_token (type ∷ _) = type_by _ _ _ _ _ _ _ _ _ _ _
 
 -- ---- sealed packets
 

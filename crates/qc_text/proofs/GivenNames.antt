@@ -53,4 +53,5 @@ given_named (frames.MaxStreams dir count) h = streams_named dir (varint count)
 given_named (frames.ConnectionClose code type reason) h = refl
 given_named (frames.ApplicationClose code reason) h = refl
 given_named frames.HandshakeDone h = refl
+given_named (frames.Datagram body) h = refl
 given_named _ h = absurd h

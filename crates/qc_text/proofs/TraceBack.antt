@@ -11,7 +11,7 @@ use Rattle.qc_state.specs.declared.deeds.Did.TheVariants as deed
 use Rattle.qc_state.specs.declared.events.EndpointEvent.{EndpointEvent}
 use Rattle.qc_state.specs.declared.events.EndpointEvent.TheVariants.{ResetToken, NeedIdentifiers, Drained}
 use Rattle.qc_state.specs.declared.events.Event.{Event}
-use Rattle.qc_state.specs.declared.events.Event.TheVariants.{HandshakeDataReady, Connected, ConnectionLost, Stream}
+use Rattle.qc_state.specs.declared.events.Event.TheVariants.{HandshakeDataReady, Connected, ConnectionLost, DatagramReceived, Stream}
 use Rattle.qc_state.specs.declared.input.Word.{Word}
 use Rattle.qc_state.specs.declared.input.Word.TheVariants as word
 use Rattle.qc_state.specs.declared.trace.Answer.{Answer}
@@ -41,13 +41,15 @@ word_is_token word.Finish = refl
 word_is_token word.ResetSend = refl
 word_is_token word.StopRecv = refl
 word_is_token word.Read = refl
+word_is_token word.SendDatagram = refl
+word_is_token word.RecvDatagram = refl
 word_is_token word.Close = refl
 word_is_token word.Ping = refl
 word_is_token word.MaxStreams = refl
 word_is_token word.SendWindow = refl
 word_is_token word.ReceiveWindow = refl
 
--- the sums of the first and the fifth letter differ
+-- the sums of the first, the third and the fifth letter differ
 word_injective : (v w : Word) → word_name v ≡ word_name w → v ≡ w
 unfolding word_name
 word_injective word.Datagram word.Datagram e = refl
@@ -60,12 +62,14 @@ word_injective word.Finish word.Finish e = refl
 word_injective word.ResetSend word.ResetSend e = refl
 word_injective word.StopRecv word.StopRecv e = refl
 word_injective word.Read word.Read e = refl
+word_injective word.SendDatagram word.SendDatagram e = refl
+word_injective word.RecvDatagram word.RecvDatagram e = refl
 word_injective word.Close word.Close e = refl
 word_injective word.Ping word.Ping e = refl
 word_injective word.MaxStreams word.MaxStreams e = refl
 word_injective word.SendWindow word.SendWindow e = refl
 word_injective word.ReceiveWindow word.ReceiveWindow e = refl
-word_injective _ _ e = absurd (omega (arith, ap (λ (a : List ℕ). get_or a 0 0 + get_or a 4 0) e))
+word_injective _ _ e = absurd (omega (arith, ap (λ (a : List ℕ). get_or a 0 0 + get_or a 2 0 + get_or a 4 0) e))
 
 head_parts : (at : ℕ) (w : Word) (now : ℕ) (r : List ℕ) → step_head at w now ++ r ≡ codes "step " ++ (decimal at ++ 32 ∷ (word_name w ++ 32 ∷ (decimal now ++ 10 ∷ r)))
 unfolding step_head
@@ -139,6 +143,7 @@ event_back (ConnectionLost a) (ConnectionLost b) r s p q e =
     let parts = simp append_assoc at e in
     let reason = reason_back a b r s p q (ap (drop 11) parts) in
     (ap ConnectionLost reason.0, reason.1)
+event_back DatagramReceived DatagramReceived r s p q e = (refl, ap (drop 15) e)
 event_back (Stream a) (Stream b) r s p q e =
     let parts = simp append_assoc at e in
     let event = stream_event_back a b r s p q (ap (drop 13) parts) in
@@ -231,6 +236,7 @@ answer_is_no_deed w (answer.Accepted id) r h = refl
 answer_is_no_deed w (answer.Wrote count) r h = refl
 answer_is_no_deed w (answer.Read offset body) r h = refl
 answer_is_no_deed w answer.Ended r h = refl
+answer_is_no_deed w (answer.Datagram body) r h = refl
 answer_is_no_deed w (answer.Error why) r h = refl
 answer_is_no_deed w (answer.Out destination segment ecn bytes) r h = refl
 
@@ -239,6 +245,7 @@ unfolding is_event event_text
 event_begins HandshakeDataReady r = (refl, refl)
 event_begins Connected r = (refl, refl)
 event_begins (ConnectionLost reason) r = (refl, refl)
+event_begins DatagramReceived r = (refl, refl)
 event_begins (Stream event) r = (refl, refl)
 
 endpoint_begins : (a : EndpointEvent) (r : List ℕ) → (is_event (endpoint_text a ++ r) ≡ false) × (is_endpoint (endpoint_text a ++ r) ≡ true) × (is_after_answer (endpoint_text a ++ r) ≡ true)

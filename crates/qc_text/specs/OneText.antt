@@ -17,7 +17,7 @@ use Rattle.qc_state.specs.declared.deeds.Did.TheVariants as deed
 use Rattle.qc_state.specs.declared.events.EndpointEvent.{EndpointEvent}
 use Rattle.qc_state.specs.declared.events.EndpointEvent.TheVariants.{ResetToken, NeedIdentifiers, Drained}
 use Rattle.qc_state.specs.declared.events.Event.{Event}
-use Rattle.qc_state.specs.declared.events.Event.TheVariants.{HandshakeDataReady, Connected, ConnectionLost, Stream}
+use Rattle.qc_state.specs.declared.events.Event.TheVariants.{HandshakeDataReady, Connected, ConnectionLost, DatagramReceived, Stream}
 use Rattle.qc_state.specs.declared.life.ConnectionError.{ConnectionError}
 use Rattle.qc_state.specs.declared.life.ConnectionError.TheVariants.{TransportError, ConnectionClosed, ApplicationClosed, TimedOut}
 use Rattle.qc_state.specs.declared.life.Life.{Life}
@@ -86,9 +86,13 @@ IsRefusalInRange refusal.ClosedStream = Unit {0}
 IsRefusalInRange (refusal.Stopped code) = code < 2 ^ 62
 IsRefusalInRange refusal.IllegalOrderedRead = Unit {0}
 IsRefusalInRange (refusal.Reset code) = code < 2 ^ 62
+IsRefusalInRange refusal.Disabled = Unit {0}
+IsRefusalInRange refusal.UnsupportedByPeer = Unit {0}
+IsRefusalInRange refusal.TooLarge = Unit {0}
 
 -- datagrams to be sent are bytes, with sizes of 64 bits and an address in range; a stream's id lies below 2^62 (RFC 9000,
--- section 2.1); what was read is bytes, whose offset has 64 bits, as how many were written has; other answers hold nothing
+-- section 2.1); what was read is bytes, whose offset has 64 bits, as how many were written has; a datagram that came is bytes;
+-- other answers hold nothing
 abbrev pub IsAnswerInRange : Answer → Type 0
 IsAnswerInRange answer.Done = Unit {0}
 IsAnswerInRange answer.Dropped = Unit {0}
@@ -98,6 +102,7 @@ IsAnswerInRange (answer.Accepted id) = id < 2 ^ 62
 IsAnswerInRange (answer.Wrote count) = count < 2 ^ 64
 IsAnswerInRange (answer.Read offset body) = (offset < 2 ^ 64) × IsBytes body
 IsAnswerInRange answer.Ended = Unit {0}
+IsAnswerInRange (answer.Datagram body) = IsBytes body
 IsAnswerInRange (answer.Error why) = IsRefusalInRange why
 IsAnswerInRange (answer.Out destination segment ecn bytes) = IsAddressInRange destination × IsOptionInRange segment × (length bytes < 2 ^ 64) × IsBytes bytes
 
@@ -116,6 +121,7 @@ abbrev pub IsEventInRange : Event → Type 0
 IsEventInRange HandshakeDataReady = Unit {0}
 IsEventInRange Connected = Unit {0}
 IsEventInRange (ConnectionLost reason) = IsReasonInRange reason
+IsEventInRange DatagramReceived = Unit {0}
 IsEventInRange (Stream event) = IsStreamEventInRange event
 
 -- a token is bytes, and holds for an address in range; the time at which identifiers are wanted and how many they are have

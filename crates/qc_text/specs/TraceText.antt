@@ -28,7 +28,7 @@ use Rattle.qc_state.specs.declared.deeds.Verdict.TheVariants.{Ignored, Failure, 
 use Rattle.qc_state.specs.declared.events.EndpointEvent.{EndpointEvent}
 use Rattle.qc_state.specs.declared.events.EndpointEvent.TheVariants.{ResetToken, NeedIdentifiers, Drained}
 use Rattle.qc_state.specs.declared.events.Event.{Event}
-use Rattle.qc_state.specs.declared.events.Event.TheVariants.{HandshakeDataReady, Connected, ConnectionLost, Stream}
+use Rattle.qc_state.specs.declared.events.Event.TheVariants.{HandshakeDataReady, Connected, ConnectionLost, DatagramReceived, Stream}
 use Rattle.qc_state.specs.declared.input.Word.{Word}
 use Rattle.qc_state.specs.declared.input.Word.TheVariants as word
 use Rattle.qc_state.specs.declared.life.ConnectionError.{ConnectionError}
@@ -136,7 +136,7 @@ layer_name Session = codes "session"
 layer_name Life = codes "life"
 
 -- the name of the kind of frames with this type, of the kinds that layers are given (RFC 9000, sections 19.3 to 19.5, 19.8 to
--- 19.11, 19.19 and 19.20); `-` for another one. The types of STREAM frames are those from 0x08 to 0x0f.
+-- 19.11, 19.19 and 19.20; RFC 9221, section 4); `-` for another one. The types of STREAM frames are those from 0x08 to 0x0f.
 unfoldable pub type_name : ℕ → List ℕ
 type_name type =
     if (type == 0x02) || (type == 0x03) then codes "ACK"
@@ -149,6 +149,7 @@ type_name type =
     else if type == 0x1c then codes "CONNECTION_CLOSE"
     else if type == 0x1d then codes "APPLICATION_CLOSE"
     else if type == 0x1e then codes "HANDSHAKE_DONE"
+    else if (type == 0x30) || (type == 0x31) then codes "DATAGRAM"
     else codes "-"
 
 -- the name of a frame that is spelled by these bytes, which begin with its type
@@ -168,6 +169,7 @@ IsGiven (frames.MaxStreams dir count) = Unit {0}
 IsGiven (frames.ConnectionClose code type reason) = Unit {0}
 IsGiven (frames.ApplicationClose code reason) = Unit {0}
 IsGiven frames.HandshakeDone = Unit {0}
+IsGiven (frames.Datagram body) = Unit {0}
 IsGiven _ = ⊥
 
 -- a frame that is spelled by these bytes: as in the line of a sealed packet, its name and the hex of its spelling
@@ -253,13 +255,16 @@ unfoldable pub out_text : SocketAddr → Option ℕ → Option EcnCodepoint → 
 out_text destination segment ecn bytes =
     target_text destination (length bytes) ++ marks_text segment ecn ++ encode_lower bytes ++ codes "\n"
 
--- why a call on a stream was refused, with the peer's code where it has one
+-- why a call on a stream or of a datagram was refused, with the peer's code where it has one
 unfoldable pub refusal_text : Refusal → List ℕ
 refusal_text refusal.Blocked = codes "Blocked"
 refusal_text refusal.ClosedStream = codes "ClosedStream"
 refusal_text (refusal.Stopped code) = codes "Stopped " ++ decimal code
 refusal_text refusal.IllegalOrderedRead = codes "IllegalOrderedRead"
 refusal_text (refusal.Reset code) = codes "Reset " ++ decimal code
+refusal_text refusal.Disabled = codes "Disabled"
+refusal_text refusal.UnsupportedByPeer = codes "UnsupportedByPeer"
+refusal_text refusal.TooLarge = codes "TooLarge"
 
 -- the line of bytes that were read: the offset of the first of them in their stream, and the bytes
 unfoldable pub read_text : (offset : ℕ) → (body : List ℕ) → List ℕ
@@ -280,6 +285,7 @@ answer_text w (answer.Accepted id) = codes "answer accepted " ++ decimal id ++ c
 answer_text w (answer.Wrote count) = codes "answer wrote " ++ decimal count ++ codes "\n"
 answer_text w (answer.Read offset body) = read_text offset body
 answer_text w answer.Ended = codes "answer ended\n"
+answer_text w (answer.Datagram body) = codes "answer datagram " ++ bytes_or_dash body ++ codes "\n"
 answer_text w (answer.Error why) = codes "answer error " ++ refusal_text why ++ codes "\n"
 answer_text w (answer.Out destination segment ecn bytes) = out_text destination segment ecn bytes
 
@@ -301,11 +307,12 @@ stream_event_text (streamed.Finished id) = codes "Finished " ++ decimal id
 stream_event_text (streamed.Available dir) = codes "Available " ++ dir_name dir
 
 -- the line of what the application is told: that what the handshake settles is known, that the handshake is over, that the
--- connection was lost, and why, or what happened on a stream
+-- connection was lost, and why, that a datagram came, or what happened on a stream
 unfoldable pub event_text : Event → List ℕ
 event_text HandshakeDataReady = codes "event handshake-data\n"
 event_text Connected = codes "event connected\n"
 event_text (ConnectionLost reason) = codes "event lost " ++ reason_text reason ++ codes "\n"
+event_text DatagramReceived = codes "event datagram\n"
 event_text (Stream event) = codes "event stream " ++ stream_event_text event ++ codes "\n"
 
 -- the line of the peer's token for a stateless reset: the address that it holds for, and the token (RFC 9000, section 10.3)
@@ -339,6 +346,8 @@ word_name word.Finish = codes "finish"
 word_name word.ResetSend = codes "reset"
 word_name word.StopRecv = codes "stop"
 word_name word.Read = codes "read"
+word_name word.SendDatagram = codes "send"
+word_name word.RecvDatagram = codes "recv"
 word_name word.Close = codes "close"
 word_name word.Ping = codes "ping"
 word_name word.MaxStreams = codes "streams"

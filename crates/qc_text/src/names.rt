@@ -22,6 +22,8 @@ pub fn word_of(word: Word) -> &'static [u8]
         Word::ResetSend => b"reset",
         Word::StopRecv => b"stop",
         Word::Read => b"read",
+        Word::SendDatagram => b"send",
+        Word::RecvDatagram => b"recv",
         Word::Close => b"close",
         Word::Ping => b"ping",
         Word::MaxStreams => b"streams",
@@ -139,6 +141,9 @@ fn type_of(first: u8) -> &'static [u8]
     }
     if first == 0x1e {
         return b"HANDSHAKE_DONE";
+    }
+    if first == 0x30 || first == 0x31 {
+        return b"DATAGRAM";
     }
     b"-"
 }

@@ -10,7 +10,7 @@ use crate::deeds::{put_dids, put_reason};
 use crate::digits::put_hex;
 use crate::names::word_of;
 use crate::pieces::{put_address, put_bytes, put_line, put_number, put_optional};
-use crate::streams::{put_read, put_refusal, put_stream_event};
+use crate::streams::{put_datagram, put_read, put_refusal, put_stream_event};
 use qc_base::{EcnCodepoint, Instant, ResetToken};
 use qc_state::{Answer, EndpointEvent, Event, Step, Word};
 use std::alloc::AllocError;
@@ -60,6 +60,7 @@ fn put_answer(out: &mut Vec<u8>, word: Word, answer: &Answer) -> Result<(), Allo
             put_read(out, b"answer read ", *offset, body.as_slice())
         }
         Answer::Ended => out.extend_from_slice(b"answer ended\n"),
+        Answer::Datagram(body) => put_datagram(out, b"answer datagram ", body.as_slice()),
         Answer::Error(why) => put_refusal(out, b"answer error ", *why),
         Answer::Out {
             destination,
@@ -153,6 +154,7 @@ fn put_event(out: &mut Vec<u8>, event: &Event) -> Result<(), AllocError>
         Event::HandshakeDataReady => out.extend_from_slice(b"event handshake-data\n"),
         Event::Connected => out.extend_from_slice(b"event connected\n"),
         Event::ConnectionLost { reason } => put_reason(out, b"event lost ", reason),
+        Event::DatagramReceived => out.extend_from_slice(b"event datagram\n"),
         Event::Stream(event) => put_stream_event(out, b"event stream ", *event),
     }
 }

@@ -1,4 +1,4 @@
-//! The lines of what calls on streams answered, and of what happened on streams.
+//! The lines of what calls on streams and of datagrams answered, and of what happened on streams.
 
 ghost use Rattle.std.specs.Prelude.{◌≡◌, ◌<◌, ◌^◌, ◌++◌, codes, decimal, OnOk};
 ghost use Rattle.qc_base.specs.Grammar.{IsBytes};
@@ -20,6 +20,16 @@ pub fn put_read(out: &mut Vec<u8>, words: &[u8], offset: u64, body: &[u8]) -> Re
     out.extend_from_slice(words)?;
     put_number(out, offset)?;
     out.extend_from_slice(b" ")?;
+    put_bytes(out, body)?;
+    out.extend_from_slice(b"\n")
+}
+
+/// Appends the line of a datagram that came, after these words.
+pub fn put_datagram(out: &mut Vec<u8>, words: &[u8], body: &[u8]) -> Result<(), AllocError>
+    ensures text { OnOk result (out.new.items ≡ out.old.items ++ (words.now ++ bytes_or_dash body.now ++ codes "\n")) }
+    ensures in_range { OnOk result (IsBytes body.now) }
+{
+    out.extend_from_slice(words)?;
     put_bytes(out, body)?;
     out.extend_from_slice(b"\n")
 }
@@ -46,6 +56,9 @@ fn put_why(out: &mut Vec<u8>, refusal: Refusal) -> Result<(), AllocError>
         Refusal::Stopped(code) => put_code(out, b"Stopped ", code),
         Refusal::IllegalOrderedRead => out.extend_from_slice(b"IllegalOrderedRead"),
         Refusal::Reset(code) => put_code(out, b"Reset ", code),
+        Refusal::Disabled => out.extend_from_slice(b"Disabled"),
+        Refusal::UnsupportedByPeer => out.extend_from_slice(b"UnsupportedByPeer"),
+        Refusal::TooLarge => out.extend_from_slice(b"TooLarge"),
     }
 }
 

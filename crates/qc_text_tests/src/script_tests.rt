@@ -38,17 +38,18 @@ fn is_bad(alloc: Global, line: &str) -> Result<bool, Fail> {
     Ok(bad_line(alloc, script.as_str())? == Some(2))
 }
 
-/// The time of a timeout or a ping, and which of the two it is.
-fn time_of(input: &Input) -> Option<(bool, u64)> {
+/// The word and the time of an input that has nothing else.
+fn time_of(input: &Input) -> Option<(&'static str, u64)> {
     match input {
-        Input::Timeout { now } => Some((true, now.nanos())),
-        Input::Ping { now } => Some((false, now.nanos())),
+        Input::Timeout { now } => Some(("timeout", now.nanos())),
+        Input::RecvDatagram { now } => Some(("recv", now.nanos())),
+        Input::Ping { now } => Some(("ping", now.nanos())),
         _ => None,
     }
 }
 
-/// What the input of this line says, where it is a timeout or a ping.
-fn time_in(alloc: Global, line: &str) -> Result<Option<(bool, u64)>, Fail> {
+/// What the input of this line says, where it is one of those.
+fn time_in(alloc: Global, line: &str) -> Result<Option<(&'static str, u64)>, Fail> {
     let input = input_of(alloc, line)?;
     Ok(time_of(&input))
 }
@@ -65,6 +66,20 @@ fn transmit_of(input: &Input) -> Option<(u64, u64)> {
 fn transmit_in(alloc: Global, line: &str) -> Result<Option<(u64, u64)>, Fail> {
     let input = input_of(alloc, line)?;
     Ok(transmit_of(&input))
+}
+
+/// The time of a datagram that is sent, and whether it has these bytes.
+fn sent_of(input: &Input, text: &[u8]) -> Option<(u64, bool)> {
+    match input {
+        Input::SendDatagram { now, body } => Some((now.nanos(), body.as_slice() == text)),
+        _ => None,
+    }
+}
+
+/// What the input of this line says, where it sends a datagram.
+fn sent_in(alloc: Global, line: &str, text: &[u8]) -> Result<Option<(u64, bool)>, Fail> {
+    let input = input_of(alloc, line)?;
+    Ok(sent_of(&input, text))
 }
 
 /// The time and the code of a close, and whether it has this reason.
@@ -87,7 +102,7 @@ fn close_in(alloc: Global, line: &str, text: &[u8]) -> Result<Option<(u64, u64, 
 fn other_inputs_than_datagrams_are_read(rt: HostRuntime) -> Result<(), Fail> {
     assert_eq!(rt;
         time_in(rt.alloc(), "timeout 18446744073709551615")?,
-        Some((true, u64::MAX))
+        Some(("timeout", u64::MAX))
     );
     assert_eq!(rt;
         transmit_in(rt.alloc(), "transmit 18446744073709551615 10")?,
@@ -97,7 +112,10 @@ fn other_inputs_than_datagrams_are_read(rt: HostRuntime) -> Result<(), Fail> {
         close_in(rt.alloc(), "close 3 4611686018427387903 6f6b", b"ok")?,
         Some((3, (1 << 62) - 1, true))
     );
-    assert_eq!(rt; time_in(rt.alloc(), "ping 0")?, Some((false, 0)));
+    assert_eq!(rt; time_in(rt.alloc(), "ping 0")?, Some(("ping", 0)));
+    assert_eq!(rt; time_in(rt.alloc(), "recv 1")?, Some(("recv", 1)));
+    assert_eq!(rt; sent_in(rt.alloc(), "send 2 6f6b", b"ok")?, Some((2, true)));
+    assert_eq!(rt; sent_in(rt.alloc(), "send 3 -", b"")?, Some((3, true)));
     Ok(())
 }
 
@@ -356,6 +374,12 @@ const BAD_LINES: &[&str] = &[
     "timeout 7 1",
     "transmit 7",
     "transmit 7 18446744073709551616",
+    "send 7",
+    "send 7 ",
+    "send 7 0A",
+    "send 7 - -",
+    "recv",
+    "recv 7 -",
     "close 7 4611686018427387904 -",
     "close 7 1",
     "close 7 1 0A",

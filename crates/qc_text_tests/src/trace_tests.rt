@@ -159,7 +159,8 @@ const GIVEN_TO_RECOVERY: &[(&[u8], &str)] = &[
 ];
 
 /// What the streams are given: a reset and a stop of stream 0 with code 7; STREAM frames of stream 0 with neither an offset nor a
-/// length, and of stream 4 with both and the end; and frames that give credit. Frames of the types next to those have no name.
+/// length, and of stream 4 with both and the end; frames that give credit; and datagrams without and with a length. Frames of the types
+/// next to those have no name.
 const GIVEN_TO_STREAMS: &[(&[u8], &str)] = &[
     (&[4, 0, 7, 5], "\ngave streams RESET_STREAM/04000705\n"),
     (&[5, 0, 7], "\ngave streams STOP_SENDING/050007\n"),
@@ -174,6 +175,10 @@ const GIVEN_TO_STREAMS: &[(&[u8], &str)] = &[
     (&[0x12, 5], "\ngave streams MAX_STREAMS/1205\n"),
     (&[0x13, 5], "\ngave streams MAX_STREAMS/1305\n"),
     (&[0x14, 5], "\ngave streams -/1405\n"),
+    (&[0x2f, 5], "\ngave streams -/2f05\n"),
+    (&[0x30, 0x68], "\ngave streams DATAGRAM/3068\n"),
+    (&[0x31, 1, 0x68], "\ngave streams DATAGRAM/310168\n"),
+    (&[0x32, 5], "\ngave streams -/3205\n"),
 ];
 
 #[test]
@@ -495,6 +500,8 @@ const WORDS: &[(Word, &str)] = &[
     (Word::ResetSend, "reset"),
     (Word::StopRecv, "stop"),
     (Word::Read, "read"),
+    (Word::SendDatagram, "send"),
+    (Word::RecvDatagram, "recv"),
     (Word::Close, "close"),
     (Word::Ping, "ping"),
     (Word::MaxStreams, "streams"),
@@ -546,7 +553,7 @@ fn answers() -> [(Answer, &'static str); 6] {
 }
 
 /// Why they may be refused.
-fn refusals() -> [(Answer, &'static str); 5] {
+fn refusals() -> [(Answer, &'static str); 8] {
     [
         (Answer::Error(Refusal::Blocked), "answer error Blocked"),
         (
@@ -565,6 +572,12 @@ fn refusals() -> [(Answer, &'static str); 5] {
             Answer::Error(Refusal::Reset(VarInt::from_u32(0))),
             "answer error Reset 0",
         ),
+        (Answer::Error(Refusal::Disabled), "answer error Disabled"),
+        (
+            Answer::Error(Refusal::UnsupportedByPeer),
+            "answer error UnsupportedByPeer",
+        ),
+        (Answer::Error(Refusal::TooLarge), "answer error TooLarge"),
     ]
 }
 
@@ -597,17 +610,32 @@ fn is_read(alloc: Global, offset: u64, bytes: &[u8], line: &str) -> Result<bool,
     )
 }
 
+/// Whether that this datagram was taken is told by this line.
+fn is_taken(alloc: Global, bytes: &[u8], line: &str) -> Result<bool, Fail> {
+    let body = Body::from_slice(alloc, bytes)?;
+    is_answered(
+        alloc,
+        Word::RecvDatagram,
+        "recv",
+        Answer::Datagram(body),
+        line,
+    )
+}
+
 #[test]
 fn bytes_that_are_read(rt: HostRuntime) -> Result<(), Fail> {
     assert!(rt; is_read(rt.alloc(), 12, &[0, 255], "answer read 12 00ff")?);
     assert!(rt; is_read(rt.alloc(), 0, &[], "answer read 0 -")?);
+    assert!(rt; is_taken(rt.alloc(), &[0, 255], "answer datagram 00ff")?);
+    assert!(rt; is_taken(rt.alloc(), &[], "answer datagram -")?);
     Ok(())
 }
 
-/// What may happen on a stream, or to how many there may be.
+/// That a datagram came, and what may happen on a stream, or to how many there may be.
 fn put_stream_events(events: &mut Events) -> Result<(), AllocError> {
     let id = StreamId::new(Side::Client, Dir::Bi, 0);
     let error_code = VarInt::from_u32(7);
+    events.push_datagram()?;
     events.push_stream(StreamEvent::Opened { dir: Dir::Bi })?;
     events.push_stream(StreamEvent::Readable { id })?;
     events.push_stream(StreamEvent::Writable { id })?;
@@ -629,7 +657,7 @@ fn stream_events_step(alloc: Global) -> Result<Step, AllocError> {
 fn events_of_streams(rt: HostRuntime) -> Result<(), Fail> {
     let step = stream_events_step(rt.alloc())?;
     let told =
-        "qconn 1\nstep 0 datagram 5\nanswer done\nevent stream Opened bi\nevent stream Readable 0\nevent stream Writable 0\nevent stream Finished 0\nevent stream Stopped 0 7\nevent stream Available uni\ntimer -\nend\n";
+        "qconn 1\nstep 0 datagram 5\nanswer done\nevent datagram\nevent stream Opened bi\nevent stream Readable 0\nevent stream Writable 0\nevent stream Finished 0\nevent stream Stopped 0 7\nevent stream Available uni\ntimer -\nend\n";
     assert!(rt; is_text(rt.alloc(), step, told)?);
     Ok(())
 }
