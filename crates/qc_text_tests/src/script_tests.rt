@@ -184,8 +184,8 @@ fn call_in(alloc: Global, line: &str) -> Result<Option<Call>, Fail> {
 /// The greatest number below 2^62.
 const GREATEST: u64 = (1 << 62) - 1;
 
-/// Lines of calls, and what they say.
-fn calls() -> [(&'static str, Call); 13] {
+/// Lines of calls that name a direction, and what they say.
+fn calls_of_dirs() -> [(&'static str, Call); 6] {
     [
         ("open 0 bi", of_dir("open", 0, Dir::Bi, 0)),
         (
@@ -194,6 +194,17 @@ fn calls() -> [(&'static str, Call); 13] {
         ),
         ("accept 1 bi", of_dir("accept", 1, Dir::Bi, 0)),
         ("accept 2 uni", of_dir("accept", 2, Dir::Uni, 0)),
+        (
+            "streams 7 uni 4611686018427387903",
+            of_dir("streams", 7, Dir::Uni, GREATEST),
+        ),
+        ("streams 7 bi 0", of_dir("streams", 7, Dir::Bi, 0)),
+    ]
+}
+
+/// Lines of other calls, and what they say.
+fn calls_of_numbers() -> [(&'static str, Call); 7] {
+    [
         (
             "finish 3 4611686018427387903",
             of_numbers("finish", 3, [GREATEST, 0]),
@@ -214,11 +225,6 @@ fn calls() -> [(&'static str, Call); 13] {
             "read 6 4611686018427387903 0",
             of_numbers("read", 6, [GREATEST, 0]),
         ),
-        (
-            "streams 7 uni 4611686018427387903",
-            of_dir("streams", 7, Dir::Uni, GREATEST),
-        ),
-        ("streams 7 bi 0", of_dir("streams", 7, Dir::Bi, 0)),
         (
             "sendwindow 8 18446744073709551615",
             of_numbers("sendwindow", 8, [u64::MAX, 0]),
@@ -248,7 +254,10 @@ fn write_in(alloc: Global, line: &str, text: &[u8]) -> Result<Option<(u64, u64, 
 
 #[test]
 fn calls_of_streams_are_read(rt: HostRuntime) -> Result<(), Fail> {
-    for (line, call) in calls() {
+    for (line, call) in calls_of_dirs() {
+        assert_eq!(rt; call_in(rt.alloc(), line)?, Some(call), "{line:?}");
+    }
+    for (line, call) in calls_of_numbers() {
         assert_eq!(rt; call_in(rt.alloc(), line)?, Some(call), "{line:?}");
     }
     assert_eq!(rt;
