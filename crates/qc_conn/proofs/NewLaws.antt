@@ -14,6 +14,7 @@ use Rattle.qc_laws.specs.CryptoLaws.{CryptoKept}
 use Rattle.qc_state.specs.First.{first_path, first_view, just_made, server_view}
 use Rattle.qc_state.specs.Keys.{new_keys}
 use Rattle.qc_state.specs.Paths.{new_path, only_path}
+use Rattle.qc_laws.specs.PostLaws.{HasNewDatagrams}
 use Rattle.qc_laws.specs.ReadLaws.{HasNewStreams}
 use Rattle.qc_laws.specs.StreamLaws.{IsUnread}
 use Rattle.qc_laws.specs.TimerLaws.{TimerHolds}
@@ -95,3 +96,14 @@ module _ {t : Types} {R : Type 0} where
       ideal stream v ≡ server_view m session words fixed remote remote_cid validated transport congestion time → HasNewStreams (ideal stream v)
   server_new stream m session words fixed remote remote_cid validated transport congestion time v is =
       subst (λ (s : View t). HasNewStreams s) (sym is) (server_view_holds (λ (s : View t). HasNewStreams s) (λ keys session hello token words fixed paths transport time. (fixed.side, transport, refl)) m session words fixed remote remote_cid validated transport congestion time)
+
+  -- and so are its datagrams
+  pub first_unposted : (stream : R → Stream) (m : Meaning t) (session : t.S) (words : Stream) (fixed : Fixed) (remote : SocketAddr) (first_cid token : List ℕ) (transport : TransportValues) (congestion : t.C) (time : ℕ) (v : Held t R) →
+      ideal stream v ≡ first_view m session words fixed remote first_cid token transport congestion time → HasNewDatagrams (ideal stream v)
+  first_unposted stream m session words fixed remote first_cid token transport congestion time v is =
+      subst (λ (s : View t). HasNewDatagrams s) (sym is) (client_view (λ (s : View t). HasNewDatagrams s) (λ keys session hello token words fixed paths transport time. (transport.datagram_receive_buffer_size, transport.datagram_send_buffer_size, refl)) m session words fixed remote first_cid token transport congestion time)
+
+  pub server_unposted : (stream : R → Stream) (m : Meaning t) (session : t.S) (words : Stream) (fixed : Fixed) (remote : SocketAddr) (remote_cid : List ℕ) (validated : Bool) (transport : TransportValues) (congestion : t.C) (time : ℕ) (v : Held t R) →
+      ideal stream v ≡ server_view m session words fixed remote remote_cid validated transport congestion time → HasNewDatagrams (ideal stream v)
+  server_unposted stream m session words fixed remote remote_cid validated transport congestion time v is =
+      subst (λ (s : View t). HasNewDatagrams s) (sym is) (server_view_holds (λ (s : View t). HasNewDatagrams s) (λ keys session hello token words fixed paths transport time. (transport.datagram_receive_buffer_size, transport.datagram_send_buffer_size, refl)) m session words fixed remote remote_cid validated transport congestion time)

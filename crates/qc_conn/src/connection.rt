@@ -21,6 +21,7 @@ ghost use Rattle.qc_state.specs.Moves.{Ask, Call, state_move};
 ghost use Rattle.qc_state.specs.Polls.{first_endpoint_event, first_event, polled, polled_endpoint};
 ghost use Rattle.qc_state.specs.Run.{began, time_of, close_after, IsStep};
 ghost use Rattle.qc_state.specs.Timeouts.{timeout_after};
+ghost use Rattle.qc_laws.specs.PostLaws.{HasNewDatagrams};
 ghost use Rattle.qc_laws.specs.ReadLaws.{HasNewStreams};
 ghost use Rattle.qc_laws.specs.StreamLaws.{IsUnread};
 ghost use Rattle.qc_laws.specs.TimerLaws.{TimerHolds};
@@ -109,6 +110,7 @@ impl<U: Suite> Connection<U> {
         ensures held { IfOk result (λ c. AckHolds (ideal U.Random.stream c.core)) }
         ensures unread { IfOk result (λ c. IsUnread (ideal U.Random.stream c.core)) }
         ensures streams { IfOk result (λ c. HasNewStreams (ideal U.Random.stream c.core)) }
+        ensures datagrams { IfOk result (λ c. HasNewDatagrams (ideal U.Random.stream c.core)) }
         ensures alive { IfOk result (λ c. c.failed ≡ false) }
         ensures store { OnOk result (store.new ≡ G.after_take store.old (string_bytes setup.server_name)) }
     {
@@ -142,6 +144,7 @@ impl<U: Suite> Connection<U> {
         ensures held { IfOk result (λ c. AckHolds (ideal U.Random.stream c.core)) }
         ensures unread { IfOk result (λ c. IsUnread (ideal U.Random.stream c.core)) }
         ensures streams { IfOk result (λ c. HasNewStreams (ideal U.Random.stream c.core)) }
+        ensures datagrams { IfOk result (λ c. HasNewDatagrams (ideal U.Random.stream c.core)) }
         ensures alive { IfOk result (λ c. c.failed ≡ false) }
     {
         let core = qc_making::new_server(alloc, setup, now)?;

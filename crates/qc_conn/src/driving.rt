@@ -16,6 +16,7 @@ ghost use Rattle.qc_laws.specs.KeyLaws.{KeysHold};
 ghost use Rattle.qc_laws.specs.MarkLaws.{EachTold};
 ghost use Rattle.qc_laws.specs.PathLaws.{IdsHold, PathHolds, all_from};
 ghost use Rattle.qc_state.specs.Headline.{deeds_of, EachRises, EachAdmitted, EachAcksKnown, Harmless, LifeRises, OnlyCloses, LosesOnce};
+ghost use Rattle.qc_laws.specs.PostLaws.{FoldsPosts, HasNewDatagrams, TakesTrace};
 ghost use Rattle.qc_laws.specs.ReadLaws.{HasNewStreams, ReadsTrace};
 ghost use Rattle.qc_laws.specs.RecoveryLaws.{EachSettlesOnce, Recovers};
 ghost use Rattle.qc_state.specs.Run.{time_of, Adds, Run, Ran};
@@ -288,6 +289,11 @@ pub fn drive<U: Suite, G: TokenStore>(
     // Where they were new, what was read of each are the first bytes that came on it, each once, and flow control is kept.
     ensures reads { HasNewStreams (ideal U.Random.stream connection.old.core) → IfOk result (λ trace. ReadsTrace inputs.now trace) }
     ensures credit { OnOk result (KeepsCredit connection.old.core.lower.streams connection.new.core.lower.streams) }
+
+    // So are its datagrams what their own steps leave, those of the frames that came and of the inputs that send or take one, which answer so;
+    // and where they were new, those that are taken are some of those that came, in order, each once.
+    ensures posts { IfOk result (λ trace. FoldsPosts inputs.now trace (ideal U.Random.stream connection.old.core) (ideal U.Random.stream connection.new.core)) }
+    ensures taken { HasNewDatagrams (ideal U.Random.stream connection.old.core) → IfOk result (λ trace. TakesTrace inputs.now trace) }
 
     // An ACK of 1-RTT packets is held back for 25 ms at most, or until an ACK is sealed.
     ensures held { AckHolds (ideal U.Random.stream connection.old.core) → IfOk result (λ trace. EachHoldsAck ⟦<U as Means>⟧.meaning 0 (ideal U.Random.stream connection.old.core) inputs.now trace (ideal U.Random.stream connection.new.core)) }

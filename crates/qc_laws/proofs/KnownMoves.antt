@@ -173,29 +173,52 @@ module _ {t : Types} where
   sending_known m ReportDrained s h = absurd h
   sending_known m _ s h = tt
 
--- a move is no call of the streams; none is that an input makes which is none itself
+-- an input is a call of the application's, of streams or datagrams
+abbrev pub is_called : Input → Bool
+is_called (input.Datagram time remote ecn bytes) = false
+is_called (input.Timeout time) = false
+is_called (input.Transmit time max) = false
+is_called (input.Close time code reason) = false
+is_called (input.Ping time) = false
+is_called _ = true
+
+-- if it is none, it is none of the streams
+pub uncalled_streams : (i : Input) → is_called i ≡ false → is_streams_call i ≡ false
+uncalled_streams (input.Datagram time remote ecn bytes) h = refl
+uncalled_streams (input.Timeout time) h = refl
+uncalled_streams (input.Transmit time max) h = refl
+uncalled_streams (input.Close time code reason) h = refl
+uncalled_streams (input.Ping time) h = refl
+uncalled_streams _ h = cc
+
+-- a move is no such call; none is that an input makes which is none itself
 abbrev pub IsUncalled : {t : Types} → Move t → Type 0
 IsUncalled (Call x) = ⊥
+IsUncalled (Post x) = ⊥
 IsUncalled _ = Unit {0}
 
 packet_uncalled : {t : Types} (m : Meaning t) (o : OpenPacket) (x : Move t) (s : View t) → IsInPacket m o x s → IsUncalled x
 packet_uncalled m o (Call x) s h = absurd h
+packet_uncalled m o (Post x) s h = absurd h
 packet_uncalled m o _ s h = tt
 
 outside_uncalled : {t : Types} (time : ℕ) (x : Move t) (s : View t) → IsOutside time x s → IsUncalled x
 outside_uncalled time (Call x) s h = absurd h
+outside_uncalled time (Post x) s h = absurd h
 outside_uncalled time _ s h = tt
 
 expiry_uncalled : {t : Types} (x : Move t) → IsExpiry x → IsUncalled x
 expiry_uncalled (Call x) h = absurd h
+expiry_uncalled (Post x) h = absurd h
 expiry_uncalled _ h = tt
 
 sending_uncalled : {t : Types} (x : Move t) → IsSending x → IsUncalled x
 sending_uncalled (Call x) h = absurd h
+sending_uncalled (Post x) h = absurd h
 sending_uncalled _ h = tt
 
--- what holds of no move, of two moves one after the other, of each move that is known so and is no call of the streams, where it may be
--- made, and of the two with which a packet is taken and sealed, holds of an input that is no call of the streams
+-- what holds of no move, of two moves one after the other, of each move that is known so and is no such call, where it may be made, and of
+-- the two with which a packet is taken and sealed, holds of an input that is no such call
 module _ {t : Types} (m : Meaning t) (R : At t → At t → Type 0) (here : (a : At t) → R a a) (next : (a b c : At t) → R a b → R b c → R a c)
     (move : (x : Move t) (a : At t) → IsKnownMove m x a.state → IsUncalled x → MayMove x a.state → R a (move_to x a))
     (seal : (time : ℕ) (form : Form) (fs : List FrameValue) (a : At t) → IsSealable time a.state form fs → R a (move_to (Seal time form (next_number a.state.numbers (number_space form)) (packet_size a.state form fs) fs) (move_to (Take (number_space form) fs) a))) where
@@ -213,7 +236,7 @@ module _ {t : Types} (m : Meaning t) (R : At t → At t → Type 0) (here : (a :
   closed_by time close a false h = here a
 
   -- each input
-  pub known_other : (i : Input) (choice : Choice) (a : At t) → is_streams_call i ≡ false → IsAllowed m i choice a → R a (input_after m i choice a)
+  pub known_other : (i : Input) (choice : Choice) (a : At t) → is_called i ≡ false → IsAllowed m i choice a → R a (input_after m i choice a)
   unfolding IsAllowed input_after close_after MayMove
   known_other (input.Datagram time remote ecn bytes) choice a none h = known_datagram (record { time = time; remote = remote; mark = ecn }) bytes a
   known_other (input.Timeout time) choice a none h =
@@ -221,24 +244,22 @@ module _ {t : Types} (m : Meaning t) (R : At t → At t → Type 0) (here : (a :
   known_other (input.Transmit time max) choice a none h = holds_transmit R here next (λ x r b may. move x b (sending_known m x b.state r) (sending_uncalled x r) may) seal m time choice a h
   known_other (input.Close time code reason) choice a none h = closed_by time _ a _ refl
   known_other (input.Ping time) choice a none h = move (Ask a.state.keys.highest) a tt tt tt
-  known_other (input.SendDatagram time body) choice a none h = move (Post (datagrams.Sent (datagram_limit a.state) body)) a tt tt refl
-  known_other (input.RecvDatagram time) choice a none h = move (Post datagrams.Taken) a tt tt refl
   known_other _ choice a none h = cc
 
 -- what holds of each move that is known so, too, holds of an input
 module _ {t : Types} (m : Meaning t) (R : At t → At t → Type 0) (here : (a : At t) → R a a) (next : (a b c : At t) → R a b → R b c → R a c)
     (move : (x : Move t) (a : At t) → IsKnownMove m x a.state → MayMove x a.state → R a (move_to x a))
     (seal : (time : ℕ) (form : Form) (fs : List FrameValue) (a : At t) → IsSealable time a.state form fs → R a (move_to (Seal time form (next_number a.state.numbers (number_space form)) (packet_size a.state form fs) fs) (move_to (Take (number_space form) fs) a))) where
-  other : (i : Input) (choice : Choice) (a : At t) → is_streams_call i ≡ false → IsAllowed m i choice a → R a (input_after m i choice a)
+  other : (i : Input) (choice : Choice) (a : At t) → is_called i ≡ false → IsAllowed m i choice a → R a (input_after m i choice a)
   other i choice a none h = known_other m R here next (λ x b known uncalled may. move x b known may) seal i choice a none h
 
   pub known_input : (i : Input) (choice : Choice) (a : At t) → IsAllowed m i choice a → R a (input_after m i choice a)
-  unfolding IsAllowed input_after
+  unfolding IsAllowed input_after MayMove
   known_input (input.Datagram time remote ecn bytes) choice a h = other (input.Datagram time remote ecn bytes) choice a refl h
   known_input (input.Timeout time) choice a h = other (input.Timeout time) choice a refl h
   known_input (input.Transmit time max) choice a h = other (input.Transmit time max) choice a refl h
   known_input (input.Close time code reason) choice a h = other (input.Close time code reason) choice a refl h
   known_input (input.Ping time) choice a h = other (input.Ping time) choice a refl h
-  known_input (input.SendDatagram time body) choice a h = other (input.SendDatagram time body) choice a refl h
-  known_input (input.RecvDatagram time) choice a h = other (input.RecvDatagram time) choice a refl h
+  known_input (input.SendDatagram time body) choice a h = move (Post (datagrams.Sent (datagram_limit a.state) body)) a tt refl
+  known_input (input.RecvDatagram time) choice a h = move (Post datagrams.Taken) a tt refl
   known_input i choice a h = called_input R here next (λ x b may. move (Call x) b tt may) i choice.read a h

@@ -19,6 +19,8 @@ pub mod OnlyOnce
 pub mod OwnInputs
 pub mod PathsHold
 pub mod PieceLaws
+pub mod PostsFold
+pub mod PostsTaken
 pub mod Receives
 pub mod Steps
 pub mod Told

@@ -27,10 +27,10 @@ use Rattle.qc_state.specs.Forms.{number_space}
 use Rattle.qc_state.specs.Headline.{deeds_of, lives_in}
 use Rattle.qc_state.specs.Life.{connected_event, event_if, lost_event, rank_of, ready_event}
 use Rattle.qc_state.specs.Lower.{bytes_came, events_told, flight_dropped, frame_handed, limits_learned, packet_flown, packets_settled, session_read, session_wrote, streams_closed, streams_stepped, timer_fired, datagrams_stepped}
-use Rattle.qc_state.specs.Moves.{Call, Establish, Hand, Learn, MayMove, Move, PeerCloses, PeerClosesToo, Raise, ReportStream, ReportStreams, Seal, Shut, Take, Tell, deeds_move, lower_move, move_to, state_move}
+use Rattle.qc_state.specs.Moves.{Call, Establish, Hand, Learn, MayMove, Move, PeerCloses, PeerClosesToo, Raise, ReportStream, ReportStreams, Seal, Shut, Take, Tell, deeds_move, lower_move, move_to, state_move, Post}
 use Rattle.qc_state.specs.Numbers.{next_number}
 use Rattle.qc_state.specs.Polls.{waiting_events}
-use Rattle.qc_state.specs.Run.{IsAllowed, IsStep, Run, answer_of, began, called, called_all, input_after, reported, time_of}
+use Rattle.qc_state.specs.Run.{IsAllowed, IsStep, Run, answer_of, began, called, called_all, input_after, reported, time_of, datagram_limit}
 use Rattle.qc_state.specs.Run as run
 use Rattle.qc_state.specs.Sending.{Choice, packet_size}
 use Rattle.qc_state.specs.Streams.{asked_for, calls_of, events_of}
@@ -39,12 +39,13 @@ use Rattle.qc_state.specs.View.{View, At}
 use Rattle.qc_state.proofs.Telling.{told_appends}
 use Rattle.qc_laws.specs.EventLaws as events
 use Rattle.qc_laws.specs.StreamsLaws.{FoldsStreams, given_to_streams, is_streams_call, streams_steps, streams_told, with_steps, AreMade, MakesEvent, is_asked}
-use Rattle.qc_laws.proofs.KnownMoves.{IsKnownMove, IsUncalled, known_other}
+use Rattle.qc_laws.proofs.KnownMoves.{IsKnownMove, IsUncalled, known_other, is_called, uncalled_streams}
 use Rattle.qc_laws.proofs.StreamCalls.{calls_may}
 use Rattle.qc_laws.proofs.StreamsMade.{Are, are_append, asked_are, calls_are, close_are, frame_are, given_append, limits_are, low_are, none_are, other_are, told_are}
 use Rattle.qc_laws.specs.EventLaws.{OnlyDoneWaits}
 use Rattle.qc_laws.proofs.EventsTold.{called_done, step_done}
 use Rattle.std.specs.List.{list_all}
+use Rattle.qc_datagrams.specs.Steps as datagrams
 
 -- an input that is no call of the streams makes none
 none_called : (i : Input) (read : Result (Option Chunk) ReadFault) (s : StreamsState) → is_streams_call i ≡ false → [] ≡ calls_of i read s
@@ -222,14 +223,23 @@ module _ {t : Types} where
   abbrev Does : Meaning t → Input → TraceStep → Choice → View t → Type 0
   Does m i x choice s = let b : At t = input_after m i choice (began s (time_of i)) in Over (given_to_streams b.did) ((i, x) ∷ []) (lives_in b.did) [] s b.state
 
-  other_does : (m : Meaning t) (i : Input) (x : TraceStep) (choice : Choice) (s : View t) → is_streams_call i ≡ false → IsAllowed m i choice (began s (time_of i)) → Does m i x choice s
+  other_does : (m : Meaning t) (i : Input) (x : TraceStep) (choice : Choice) (s : View t) → is_called i ≡ false → IsAllowed m i choice (began s (time_of i)) → Does m i x choice s
   unfolding began state_move lower_move
-  other_does m i x choice s none may =
+  other_does m i x choice s uncalled may =
       let a : At t = began s (time_of i) in
-      let folds : Folds a (input_after m i choice a) = known_other m Folds folds_here folds_next (λ y c known uncalled may_be. folds_by y c (move_folds m y c.state known uncalled may_be)) (λ time form fs c may_be. packet_folds time form fs c) i choice a none may in
+      let none : is_streams_call i ≡ false = uncalled_streams i uncalled in
+      let folds : Folds a (input_after m i choice a) =
+      known_other m Folds folds_here folds_next (λ y c known plain may_be. folds_by y c (move_folds m y c.state known plain may_be)) (λ time form fs c may_be. packet_folds time form fs c) i choice a uncalled may in
       let makes : [] ≡ calls_of i choice.read (after folds.steps s.lower.streams) = none_called i choice.read (after folds.steps s.lower.streams) none in
       subst (λ (ds : List Did). Over (given_to_streams ds) ((i, x) ∷ []) (lives_in ds) [] s (input_after m i choice a).state) (sym folds.appended)
       (record { steps = folds.steps; asked = []; leads = folds.leads; same = λ done. refl; are = other_are i x choice.read folds.steps (given_to_streams folds.since) (lives_in folds.since) s.lower.streams none makes folds.are })
+
+  -- a call of the datagrams makes none of the streams
+  post_does : (step : datagrams.Step) (i : Input) (x : TraceStep) (choice : Choice) (s : View t) → is_streams_call i ≡ false → let b : At t = move_to (Post step) (began s (time_of i)) in Over (given_to_streams b.did) ((i, x) ∷ []) (lives_in b.did) [] s b.state
+  unfolding began move_to state_move lower_move deeds_move datagrams_stepped after
+  post_does step i x choice s none =
+      let makes : [] ≡ calls_of i choice.read s.lower.streams = none_called i choice.read s.lower.streams none in
+      record { steps = []; asked = []; leads = refl; same = λ done. refl; are = other_are i x choice.read [] [] [] s.lower.streams none makes (none_are s.lower.streams) }
 
   input_does : (m : Meaning t) (i : Input) (x : TraceStep) (choice : Choice) (s : View t) → IsAllowed m i choice (began s (time_of i)) → x.answer ≡ answer_of m i choice (began s (time_of i)) → Does m i x choice s
   unfolding began state_move lower_move input_after IsAllowed answer_of
@@ -238,8 +248,8 @@ module _ {t : Types} where
   input_does m (input.Transmit time max) x choice s may answers = other_does m (input.Transmit time max) x choice s refl may
   input_does m (input.Close time code reason) x choice s may answers = other_does m (input.Close time code reason) x choice s refl may
   input_does m (input.Ping time) x choice s may answers = other_does m (input.Ping time) x choice s refl may
-  input_does m (input.SendDatagram time body) x choice s may answers = other_does m (input.SendDatagram time body) x choice s refl may
-  input_does m (input.RecvDatagram time) x choice s may answers = other_does m (input.RecvDatagram time) x choice s refl may
+  input_does m (input.SendDatagram time body) x choice s may answers = post_does (datagrams.Sent (datagram_limit (began s time).state) body) (input.SendDatagram time body) x choice s refl
+  input_does m (input.RecvDatagram time) x choice s may answers = post_does datagrams.Taken (input.RecvDatagram time) x choice s refl
   input_does m i x choice s may answers =
       let a : At t = began s (time_of i) in
       let xs : List Step = calls_of i choice.read s.lower.streams in

@@ -8,6 +8,7 @@ pub mod KeyLaws
 pub mod MarkLaws
 pub mod PathLaws
 pub mod PieceLaws
+pub mod PostLaws
 pub mod ReadLaws
 pub mod RecoveryLaws
 pub mod StreamLaws

@@ -20,6 +20,7 @@ ghost use Rattle.qc_laws.specs.PathLaws.{IdsHold, PathHolds, all_from};
 ghost use Rattle.qc_state.specs.Paths.{same_address};
 ghost use Rattle.qc_laws.specs.PieceLaws.{TellsDatagram, TellsPiece, given_in, piece_deed, piece_gifts, pieces_in};
 ghost use Rattle.qc_state.specs.Receiving.{datagram_after, event_after, first_packet_after, first_token, piece_after};
+ghost use Rattle.qc_laws.specs.PostLaws.{FoldsPosts, HasNewDatagrams, TakesTrace};
 ghost use Rattle.qc_laws.specs.ReadLaws.{HasNewStreams, ReadsTrace};
 ghost use Rattle.qc_laws.specs.RecoveryLaws.{EachSettlesOnce, Recovers};
 ghost use Rattle.qc_base.specs.declared.side.Side.{Side};
@@ -125,6 +126,20 @@ pub fn reads_are_what_came<U: Suite>()
 /// than the other lets (RFC 9000, 4.1 and 4.6).
 pub fn streams_stay_within<U: Suite>()
     ensures { (side : Side) (transport : TransportValues) (s last : View ⟦<U as Means>⟧.types) (k : ℕ) (is : List Input) (xs : List Step) → Run ⟦<U as Means>⟧.meaning k s is xs last → s.lower.streams ≡ first_streams side transport → transport.receive_window < 2 ^ 64 → transport.stream_receive_window < 2 ^ 64 → StaysWithin last.lower.streams }
+{}
+
+/// A law, which runs no code. Over a run the datagrams of the application are what their own steps leave, one after the other: those of the
+/// frames that the deeds gave, and of the inputs that send or take one, which answer as the datagrams are then; none is left out, none made
+/// up, and each in its turn. As many events tell that one came as came while none waited. So every law over their steps holds of a run
+/// (RFC 9221, 5).
+pub fn posts_are_folded<U: Suite>()
+    ensures { (s last : View ⟦<U as Means>⟧.types) (k : ℕ) (is : List Input) (xs : List Step) → Run ⟦<U as Means>⟧.meaning k s is xs last → FoldsPosts is xs s last }
+{}
+
+/// A law, which runs no code. Over a run from new datagrams on, those that the application takes are some of those that came in DATAGRAM
+/// frames, in their order, each once (RFC 9221, 5).
+pub fn taken_datagrams_came<U: Suite>()
+    ensures { (s last : View ⟦<U as Means>⟧.types) (k : ℕ) (is : List Input) (xs : List Step) → Run ⟦<U as Means>⟧.meaning k s is xs last → HasNewDatagrams s → TakesTrace is xs }
 {}
 
 /// A law, which runs no code. Over a run, while the connection is open, each byte that the session wrote in a space with keys waits to be

@@ -4,6 +4,8 @@ use Rattle.qc_laws.proofs.CryptoKept.{run_keeps_bytes}
 use Rattle.qc_laws.proofs.EventsTold.{none_tells_done, none_tells_once}
 use Rattle.qc_laws.proofs.KeysHold.{run_keys_hold}
 use Rattle.qc_laws.proofs.MarksTold.{none_each_told}
+use Rattle.qc_laws.proofs.PostsFold.{run_posts}
+use Rattle.qc_laws.proofs.PostsTaken.{run_takes}
 use Rattle.qc_laws.proofs.ReadsHold.{run_reads, run_within}
 use Rattle.qc_laws.proofs.Recovers.{run_recovers}
 use Rattle.qc_laws.proofs.Steps.{ran_none}
@@ -54,6 +56,12 @@ returns-clause-reads g c = λ new. of_trace _ _ _ _ c.drive_all.result _ c.drive
 
 pub returns-clause-credit : goal.returns-clause-credit
 returns-clause-credit g c = credit_kept _ _ _ _ c.drive_all.result c.drive_all.ensures.run
+
+pub returns-clause-posts : goal.returns-clause-posts
+returns-clause-posts g c = of_trace _ _ _ _ c.drive_all.result _ c.drive_all.ensures.run (λ trace run. run_posts _ 0 _ _ trace _ run)
+
+pub returns-clause-taken : goal.returns-clause-taken
+returns-clause-taken g c = λ new. of_trace _ _ _ _ c.drive_all.result _ c.drive_all.ensures.run (λ trace run. run_takes _ 0 _ _ trace _ run new)
 
 pub returns-clause-keys : goal.returns-clause-keys
 returns-clause-keys g c = keys_kept _ _ _ _ c.drive_all.result c.drive_all.ensures.run

@@ -1,5 +1,5 @@
 use Rattle.qc_conn.proofs.NewEnds.{server_ends}
-use Rattle.qc_conn.proofs.NewLaws.{server_acks, server_kept, server_new, server_streams, server_timer}
+use Rattle.qc_conn.proofs.NewLaws.{server_acks, server_kept, server_new, server_streams, server_timer, server_unposted}
 use Rattle.qc_conn.proofs.RunsPlain.{server_plain, server_told}
 use Rattle.qc_conn.proofs.connection.Connection.new_server.Goals as goal
 
@@ -34,3 +34,7 @@ returns-clause-unread g c = server_streams g.U.Random.Rng.stream _ _ _ _ c.args.
 -- no stream was opened
 pub returns-clause-streams : goal.returns-clause-streams
 returns-clause-streams g c = server_new g.U.Random.Rng.stream _ _ _ _ c.args.setup.remote c.args.setup.remote_cid c.args.setup.validated _ _ c.args.now c.in_ok-core.core c.in_ok-core.ensures
+
+-- no datagram came
+pub returns-clause-datagrams : goal.returns-clause-datagrams
+returns-clause-datagrams g c = server_unposted g.U.Random.Rng.stream _ _ _ _ c.args.setup.remote c.args.setup.remote_cid c.args.setup.validated _ _ c.args.now c.in_ok-core.core c.in_ok-core.ensures

@@ -1,0 +1,323 @@
+-- The datagrams of the application over a run are the fold of their steps.
+use Rattle.std.proofs.Common.{◌≡◌, ℕ, ◌+◌, List, [], ◌∷◌, ◌++◌, refl, ap, sym, ◌∙◌, subst, Bool, true, false, Some, None, if◌then◌else◌, append_assoc, append-nil, arith}
+use Rattle.std.specs.Prelude.{map, is_none, option_to_list, Option}
+use Rattle.std.specs.Option.{option_map}
+use Rattle.qc_base.specs.declared.side.SpaceId.{SpaceId}
+use Rattle.qc_datagrams.specs.declared.datagrams.Datagrams.{Datagrams}
+use Rattle.qc_datagrams.specs.Steps.{Step, Sent, Taken, after, after_step}
+use Rattle.qc_flight.specs.declared.sent.SentPacket.{SentPacket}
+use Rattle.qc_frame.specs.Frame.{FrameValue}
+use Rattle.qc_frame.specs.declared.frames.FrameOf.TheVariants as frames
+use Rattle.qc_streams.specs.declared.events.StreamEvent.{StreamEvent}
+use Rattle.qc_state.specs.declared.deeds.Did.{Did}
+use Rattle.qc_state.specs.declared.deeds.Did.TheVariants as did
+use Rattle.qc_state.specs.declared.deeds.Layer.TheVariants as layer
+use Rattle.qc_state.specs.declared.events.Event.{Event}
+use Rattle.qc_state.specs.declared.events.Event.TheVariants.{HandshakeDataReady, Connected, Stream, ConnectionLost, DatagramReceived}
+use Rattle.qc_state.specs.declared.form.Form.{Form}
+use Rattle.qc_state.specs.declared.input.Input.{Input}
+use Rattle.qc_state.specs.declared.input.Input.TheVariants as input
+use Rattle.qc_state.specs.declared.life.ConnectionError.{ConnectionError}
+use Rattle.qc_state.specs.declared.life.Life.{Life}
+use Rattle.qc_state.specs.declared.lower.Lower.{Lower}
+use Rattle.qc_state.specs.declared.trace.Step.{Step as TraceStep}
+use Rattle.qc_state.specs.Datagrams.{datagram_steps, tells_datagram}
+use Rattle.qc_state.specs.Flight.{flown_packet}
+use Rattle.qc_state.specs.Forms.{number_space}
+use Rattle.qc_state.specs.Life.{connected_event, data_ready, datagram_heard, event_if, identifiers_wanted, life_closed, life_drained, life_established, life_raised, lost_event, ready_event, reason_given, token_learned, ready_reported, connected_reported, all_heard_reported, lost_reported, notices_reported, drained_reported}
+use Rattle.qc_state.specs.Lower.{bytes_came, datagrams_stepped, events_told, flight_dropped, frame_handed, limits_learned, packet_flown, packets_settled, session_read, session_wrote, streams_closed, streams_stepped, timer_fired}
+use Rattle.qc_state.specs.Moves.{Call, Give, Hand, IsTold, MayMove, Move, Post, ReportHeard, ReportAllHeard, ReportStream, ReportStreams, Seal, Take, Tell, deeds_move, life_move, lower_move, move_to, state_move, told_to_streams}
+use Rattle.qc_state.specs.Numbers.{next_number}
+use Rattle.qc_state.specs.Polls.{waiting_events}
+use Rattle.qc_state.specs.Run.{IsAllowed, IsStep, Run, answer_of, began, called, called_all, datagram_limit, input_after, reported, time_of}
+use Rattle.qc_state.specs.Run as run
+use Rattle.qc_state.specs.Sending.{Choice, packet_size}
+use Rattle.qc_state.specs.Streams.{calls_of, events_of}
+use Rattle.qc_streams.specs.Waits as streams
+use Rattle.qc_state.specs.Types.{Types, Meaning}
+use Rattle.qc_state.specs.View.{View, At}
+use Rattle.qc_state.proofs.Telling.{told_appends}
+use Rattle.qc_laws.specs.EventLaws.{once}
+use Rattle.qc_laws.specs.PostLaws.{AreCame, ArePosts, FoldsPosts, MakesPosts, count_told, heard_in}
+use Rattle.qc_laws.specs.StreamsLaws.{given_to_streams, with_steps}
+use Rattle.qc_laws.proofs.KnownMoves.{IsElsewhere, IsKnownMove, IsUncalled, is_called, known_other}
+use Rattle.qc_laws.proofs.StreamCalls.{called_input}
+use Rattle.qc_laws.proofs.StreamsMade.{given_append}
+
+-- ---- steps and events, one list behind another
+
+after_append : (xs ys : List Step) (d : Datagrams) → after (xs ++ ys) d ≡ after ys (after xs d)
+unfolding after
+after_append [] ys d = refl
+after_append (x ∷ xs) ys d = after_append xs ys (after_step x d)
+
+told_append : (xs ys : List Step) (d : Datagrams) → count_told (xs ++ ys) d ≡ count_told xs d + count_told ys (after xs d)
+unfolding after
+told_append [] ys d = omega arith
+told_append (x ∷ xs) ys d = let more : count_told (xs ++ ys) (after_step x d) ≡ count_told xs (after_step x d) + count_told ys (after xs (after_step x d)) = told_append xs ys (after_step x d) in omega (arith, more)
+
+came_append : (bodies more : List (List ℕ)) (xs ys : List Step) → AreCame bodies xs → AreCame more ys → AreCame (bodies ++ more) (xs ++ ys)
+came_append [] more xs ys h g = subst (λ (zs : List Step). AreCame more (zs ++ ys)) (sym h) g
+came_append (body ∷ bodies) more xs ys h g =
+    (h.0, h.1 ++ ys, h.2, ap (λ (zs : List Step). zs ++ ys) h.3 ∙ append_assoc (datagram_steps h.0) h.1 ys, came_append bodies more h.1 ys h.4 g)
+
+heard_append : (es fs : List Event) → heard_in (es ++ fs) ≡ heard_in es + heard_in fs
+heard_append [] fs = omega arith
+heard_append (HandshakeDataReady ∷ es) fs = heard_append es fs
+heard_append (Connected ∷ es) fs = heard_append es fs
+heard_append (DatagramReceived ∷ es) fs = let more : heard_in (es ++ fs) ≡ heard_in es + heard_in fs = heard_append es fs in omega (arith, more)
+heard_append (Stream event ∷ es) fs = heard_append es fs
+heard_append (ConnectionLost why ∷ es) fs = heard_append es fs
+
+-- of the events that wait, those that tell that a datagram came
+none_heard : (es : List StreamEvent) (o : Option ConnectionError) → heard_in (map Stream es ++ option_to_list (option_map ConnectionLost o)) ≡ 0
+none_heard [] None = refl
+none_heard [] (Some why) = refl
+none_heard (e ∷ es) o = none_heard es o
+
+behind_heard : (hs : List Event) (es : List StreamEvent) (o : Option ConnectionError) → heard_in (hs ++ (map Stream es ++ option_to_list (option_map ConnectionLost o))) ≡ heard_in hs
+behind_heard hs es o =
+    let both : heard_in (hs ++ (map Stream es ++ option_to_list (option_map ConnectionLost o))) ≡ heard_in hs + heard_in (map Stream es ++ option_to_list (option_map ConnectionLost o)) = heard_append hs _ in
+    let none : heard_in (map Stream es ++ option_to_list (option_map ConnectionLost o)) ≡ 0 = none_heard es o in
+    omega (arith, both, none)
+
+waiting_heard : (r c : Bool) (hs : List Event) (es : List StreamEvent) (o : Option ConnectionError) →
+    heard_in (option_to_list (event_if r HandshakeDataReady) ++ (option_to_list (event_if c Connected) ++ (hs ++ (map Stream es ++ option_to_list (option_map ConnectionLost o))))) ≡ heard_in hs
+waiting_heard true true hs es o = behind_heard hs es o
+waiting_heard true false hs es o = behind_heard hs es o
+waiting_heard false true hs es o = behind_heard hs es o
+waiting_heard false false hs es o = behind_heard hs es o
+
+-- ---- frames
+
+-- that one came waits to be told, if it is to be
+heard_told : (tells : Bool) (v : Life) → heard_in (datagram_heard tells v).heard ≡ heard_in v.heard + once tells
+unfolding datagram_heard
+heard_told true v = heard_append v.heard (DatagramReceived ∷ [])
+heard_told false v = omega arith
+
+-- a reason leaves what waits of datagrams
+given_heard : (v : Life) (why : ConnectionError) (b : Bool) → (if b then record v { reason = Some why; lost = Some why } else v).heard ≡ v.heard
+given_heard v why true = refl
+given_heard v why false = refl
+
+-- a packet that is sealed leaves them
+flown_datagrams : {S : Type 0} → (owed : Bool) (l : Lower S) (id : SpaceId) (n : ℕ) (packet : SentPacket) → (if owed then l else packet_flown l id n packet).datagrams ≡ l.datagrams
+unfolding packet_flown
+flown_datagrams true l id n packet = refl
+flown_datagrams false l id n packet = refl
+
+-- what is told of a frame is what the steps are that it makes
+frame_came : (frame : FrameValue) → AreCame (given_to_streams (told_to_streams frame)) (datagram_steps frame)
+frame_came (frames.ResetStream id code size) = (frames.ResetStream id code size, [], refl, refl, refl)
+frame_came (frames.StopSending id code) = (frames.StopSending id code, [], refl, refl, refl)
+frame_came (frames.Stream id offset fin body) = (frames.Stream id offset fin body, [], refl, refl, refl)
+frame_came (frames.MaxData limit) = (frames.MaxData limit, [], refl, refl, refl)
+frame_came (frames.MaxStreamData id limit) = (frames.MaxStreamData id limit, [], refl, refl, refl)
+frame_came (frames.MaxStreams dir count) = (frames.MaxStreams dir count, [], refl, refl, refl)
+frame_came (frames.Datagram body) = (frames.Datagram body, [], refl, refl, refl)
+frame_came _ = refl
+
+frame_told : (frame : FrameValue) (d : Datagrams) → count_told (datagram_steps frame) d ≡ once (tells_datagram frame d)
+frame_told (frames.Datagram body) d = omega arith
+frame_told _ d = refl
+
+-- what is told by itself gives them nothing
+told_none : (d : Did) → IsTold d → IsElsewhere d → given_to_streams (d ∷ []) ≡ []
+told_none (did.Piece space number v) h k = refl
+told_none (did.Gave layer.Session body) h k = refl
+told_none (did.Gave layer.Recovery body) h k = refl
+told_none (did.Gave layer.Life body) h k = refl
+told_none (did.Gave layer.Streams body) h k = absurd k
+told_none _ h k = absurd h
+
+module _ {t : Types} where
+  heard_wait : (s : View t) → heard_in (waiting_events s) ≡ heard_in s.life.heard
+  unfolding waiting_events ready_event connected_event lost_event
+  heard_wait s = waiting_heard s.life.ready s.life.connected s.life.heard (events_of s.lower.streams) s.life.lost
+
+  -- ---- from one moment of an input to another, where it is no call of the application's
+
+  record Folds (a b : At t) : Type 0 where
+    pub since : List Did
+    pub appended : b.did ≡ a.did ++ since
+    pub steps : List Step
+    pub leads : b.state.lower.datagrams ≡ after steps a.state.lower.datagrams
+    pub are : AreCame (given_to_streams since) steps
+    pub heard : heard_in b.state.life.heard ≡ heard_in a.state.life.heard + count_told steps a.state.lower.datagrams
+
+  folds_here : (a : At t) → Folds a a
+  unfolding after
+  folds_here a = record { since = []; appended = sym (append-nil a.did); steps = []; leads = refl; are = refl; heard = omega arith }
+
+  folds_next : (a b c : At t) → Folds a b → Folds b c → Folds a c
+  folds_next a b c g h =
+      let d : Datagrams = a.state.lower.datagrams in
+      let told : count_told (g.steps ++ h.steps) d ≡ count_told g.steps d + count_told h.steps (after g.steps d) = told_append g.steps h.steps d in
+      let later : heard_in c.state.life.heard ≡ heard_in b.state.life.heard + count_told h.steps (after g.steps d) =
+      subst (λ (x : Datagrams). heard_in c.state.life.heard ≡ heard_in b.state.life.heard + count_told h.steps x) g.leads h.heard in
+      record {
+        since = g.since ++ h.since;
+        appended = h.appended ∙ ap (λ (x : List Did). x ++ h.since) g.appended ∙ append_assoc a.did g.since h.since;
+        steps = g.steps ++ h.steps;
+        leads = h.leads ∙ ap (λ (x : Datagrams). after h.steps x) g.leads ∙ sym (after_append g.steps h.steps d);
+        are = subst (λ (bodies : List (List ℕ)). AreCame bodies (g.steps ++ h.steps)) (sym (given_append g.since h.since)) (came_append (given_to_streams g.since) (given_to_streams h.since) g.steps h.steps g.are h.are);
+        heard = omega (arith, told, later, g.heard);
+      }
+
+  -- which of their steps a move is
+  abbrev steps_by : Move t → List Step
+  steps_by (Hand frame) = datagram_steps frame
+  steps_by _ = []
+
+  moved_datagrams : (m : Meaning t) (x : Move t) (s : View t) → IsKnownMove m x s → IsUncalled x → (lower_move x s).datagrams ≡ after (steps_by x) s.lower.datagrams
+  unfolding lower_move flight_dropped packets_settled timer_fired bytes_came session_read session_wrote limits_learned frame_handed streams_closed streams_stepped datagrams_stepped after
+  moved_datagrams m (Seal time form n size fs) s k u = absurd k
+  moved_datagrams m (Hand frame) s k u = refl
+  moved_datagrams m (Post x) s k u = absurd u
+  moved_datagrams m (Call x) s k u = absurd u
+  moved_datagrams m ReportStream s k u = absurd k
+  moved_datagrams m ReportStreams s k u = absurd k
+  moved_datagrams m _ s k u = refl
+
+  moved_came : (m : Meaning t) (x : Move t) (s : View t) → IsKnownMove m x s → MayMove x s → AreCame (given_to_streams (deeds_move x s)) (steps_by x)
+  unfolding deeds_move MayMove
+  moved_came m (Hand frame) s k may = frame_came frame
+  moved_came m (Tell d) s k may = subst (λ (bodies : List (List ℕ)). AreCame bodies []) (sym (told_none d may k)) refl
+  moved_came m _ s k may = refl
+
+  moved_heard : (m : Meaning t) (x : Move t) (s : View t) → IsKnownMove m x s → heard_in (life_move x s).heard ≡ heard_in s.life.heard + count_told (steps_by x) s.lower.datagrams
+  unfolding life_move life_closed life_drained data_ready life_established token_learned identifiers_wanted life_raised reason_given
+  moved_heard m (Hand frame) s k =
+      let told : heard_in (datagram_heard (tells_datagram frame s.lower.datagrams) s.life).heard ≡ heard_in s.life.heard + once (tells_datagram frame s.lower.datagrams) = heard_told (tells_datagram frame s.lower.datagrams) s.life in
+      told ∙ ap (λ (n : ℕ). heard_in s.life.heard + n) (sym (frame_told frame s.lower.datagrams))
+  moved_heard m (Give why) s k =
+      let same : heard_in (reason_given s.life why).heard ≡ heard_in s.life.heard = ap heard_in (given_heard s.life why (is_none s.life.reason)) in
+      omega (arith, same)
+  moved_heard m ReportHeard s k = absurd k
+  moved_heard m ReportAllHeard s k = absurd k
+  moved_heard m _ s k = omega arith
+
+  move_folds : (m : Meaning t) (x : Move t) (a : At t) → IsKnownMove m x a.state → IsUncalled x → MayMove x a.state → Folds a (move_to x a)
+  unfolding move_to state_move
+  move_folds m x a k u may = record {
+    since = deeds_move x a.state;
+    appended = told_appends a.did (deeds_move x a.state);
+    steps = steps_by x;
+    leads = moved_datagrams m x a.state k u;
+    are = moved_came m x a.state k may;
+    heard = moved_heard m x a.state k;
+  }
+
+  -- a packet is taken and sealed
+  packet_folds : (time : ℕ) (form : Form) (fs : List FrameValue) (a : At t) →
+      Folds a (move_to (Seal time form (next_number a.state.numbers (number_space form)) (packet_size a.state form fs) fs) (move_to (Take (number_space form) fs) a))
+  unfolding move_to state_move lower_move deeds_move life_move after
+  packet_folds time form fs a =
+      let b : At t = move_to (Take (number_space form) fs) a in
+      let n : ℕ = next_number a.state.numbers (number_space form) in
+      let size : ℕ = packet_size a.state form fs in
+      record {
+        since = deeds_move (Seal time form n size fs) b.state;
+        appended = told_appends a.did (deeds_move (Seal time form n size fs) b.state);
+        steps = [];
+        leads = flown_datagrams b.state.waiting.close_owed b.state.lower (number_space form) n (flown_packet time size fs);
+        are = refl;
+        heard = omega arith;
+      }
+
+  -- a call of the streams leaves them
+  record Leaves (a b : At t) : Type 0 where
+    pub did : b.did ≡ a.did
+    pub datagrams : b.state.lower.datagrams ≡ a.state.lower.datagrams
+    pub heard : b.state.life.heard ≡ a.state.life.heard
+
+  leaves_next : (a b c : At t) → Leaves a b → Leaves b c → Leaves a c
+  leaves_next a b c g h = record { did = h.did ∙ g.did; datagrams = h.datagrams ∙ g.datagrams; heard = h.heard ∙ g.heard }
+
+  call_leaves : (x : streams.Step) (a : At t) → MayMove (Call x) a.state → Leaves a (move_to (Call x) a)
+  unfolding move_to state_move lower_move deeds_move life_move streams_stepped
+  call_leaves x a may = record { did = refl; datagrams = refl; heard = refl }
+
+  -- ---- inputs
+
+  -- what an input does before anything is reported, where these are its deeds
+  record Does (i : Input) (x : TraceStep) (s : View t) (b : At t) : Type 0 where
+    pub made : List Step
+    pub leads : b.state.lower.datagrams ≡ after made s.lower.datagrams
+    pub makes : x.did ≡ b.did → MakesPosts i x made s.lower.datagrams
+    pub heard : heard_in b.state.life.heard ≡ heard_in s.life.heard + count_told made s.lower.datagrams
+
+  other_does : (m : Meaning t) (i : Input) (x : TraceStep) (choice : Choice) (s : View t) → ((made : List Step) → AreCame (given_to_streams x.did) made → MakesPosts i x made s.lower.datagrams) → is_called i ≡ false →
+      IsAllowed m i choice (began s (time_of i)) → Does i x s (input_after m i choice (began s (time_of i)))
+  unfolding began state_move lower_move life_move
+  other_does m i x choice s makes uncalled may =
+      let a : At t = began s (time_of i) in
+      let h : Folds a (input_after m i choice a) = known_other m Folds folds_here folds_next (λ y c known plain may_be. move_folds m y c known plain may_be) (λ time form fs c may_be. packet_folds time form fs c) i choice a uncalled may in
+      record {
+        made = h.steps;
+        leads = h.leads;
+        makes = λ same. makes h.steps (subst (λ (ds : List Did). AreCame (given_to_streams ds) h.steps) (sym (same ∙ h.appended)) h.are);
+        heard = h.heard;
+      }
+
+  input_does : (m : Meaning t) (i : Input) (x : TraceStep) (choice : Choice) (s : View t) → IsAllowed m i choice (began s (time_of i)) → x.answer ≡ answer_of m i choice (began s (time_of i)) →
+      Does i x s (input_after m i choice (began s (time_of i)))
+  unfolding began move_to state_move lower_move life_move deeds_move datagrams_stepped input_after IsAllowed answer_of after
+  input_does m (input.Datagram time remote ecn bytes) x choice s may answers = other_does m (input.Datagram time remote ecn bytes) x choice s (λ made h. h) refl may
+  input_does m (input.Timeout time) x choice s may answers = other_does m (input.Timeout time) x choice s (λ made h. h) refl may
+  input_does m (input.Transmit time max) x choice s may answers = other_does m (input.Transmit time max) x choice s (λ made h. h) refl may
+  input_does m (input.Close time code reason) x choice s may answers = other_does m (input.Close time code reason) x choice s (λ made h. h) refl may
+  input_does m (input.Ping time) x choice s may answers = other_does m (input.Ping time) x choice s (λ made h. h) refl may
+  input_does m (input.SendDatagram time body) x choice s may answers = record {
+    made = Sent (datagram_limit (began s time).state) body ∷ [];
+    leads = refl;
+    makes = λ same. (datagram_limit (began s time).state, refl, answers);
+    heard = omega arith;
+  }
+  input_does m (input.RecvDatagram time) x choice s may answers = record { made = Taken ∷ []; leads = refl; makes = λ same. (refl, answers); heard = omega arith }
+  input_does m i x choice s may answers =
+      let h = called_input Leaves (λ a. record { did = refl; datagrams = refl; heard = refl }) leaves_next call_leaves i choice.read (began s (time_of i)) may in
+      record {
+        made = [];
+        leads = h.datagrams;
+        makes = λ same. subst (λ (ds : List Did). AreCame (given_to_streams ds) []) (sym (same ∙ h.did)) refl;
+        heard = let same : heard_in (called_all (calls_of i choice.read s.lower.streams) (began s (time_of i))).state.life.heard ≡ heard_in s.life.heard = ap heard_in h.heard in omega (arith, same);
+      }
+
+  -- ---- steps and runs
+
+  step_posts : (m : Meaning t) (k : ℕ) (s : View t) (i : Input) (x : TraceStep) (s' : View t) → IsStep m k s i x s' →
+      (made : List Step) × MakesPosts i x made s.lower.datagrams × (heard_in x.events ≡ heard_in s.life.heard + count_told made s.lower.datagrams) × (s'.lower.datagrams ≡ after made s.lower.datagrams) × (heard_in s'.life.heard ≡ 0)
+  unfolding called run.step_after reported state_move lower_move life_move events_told streams_stepped ready_reported connected_reported all_heard_reported lost_reported notices_reported drained_reported
+  step_posts m k s i x s' h =
+      let b : At t = input_after m i h.choice (began s (time_of i)) in
+      let does : Does i x s b = input_does m i x h.choice s h.allowed h.answer in (
+        does.made,
+        does.makes h.deeds,
+        ap heard_in h.events ∙ heard_wait b.state ∙ does.heard,
+        ap (λ (l : Lower t.S). l.datagrams) h.lower ∙ does.leads,
+        ap (λ (v : Life). heard_in v.heard) h.life,
+      )
+
+  pub run_posts : (m : Meaning t) (k : ℕ) (s : View t) (is : List Input) (xs : List TraceStep) (s' : View t) → Run m k s is xs s' → FoldsPosts is xs s s'
+  unfolding Run after
+  run_posts m k s [] [] s' r = record { steps = []; leads = ap (λ (v : View t). v.lower.datagrams) r; are = refl }
+  run_posts m k s (i ∷ is) (x ∷ xs) s' r =
+      let d : Datagrams = s.lower.datagrams in
+      let one = step_posts m k s i x r.0 r.1 in
+      let more : FoldsPosts is xs r.0 s' = run_posts m (k + 1) r.0 is xs s' r.2 in
+      record {
+        steps = one.0 ++ more.steps;
+        leads = more.leads ∙ ap (λ (y : Datagrams). after more.steps y) one.3 ∙ sym (after_append one.0 more.steps d);
+        are = (
+          one.0,
+          more.steps,
+          refl,
+          one.1,
+          one.2,
+          subst (λ (waited : ℕ). ArePosts waited (with_steps is xs) more.steps (after one.0 d)) one.4 (subst (λ (y : Datagrams). ArePosts (heard_in r.0.life.heard) (with_steps is xs) more.steps y) one.3 more.are),
+        );
+      }
+  run_posts m k s [] (x ∷ xs) s' r = absurd r
+  run_posts m k s (i ∷ is) [] s' r = absurd r

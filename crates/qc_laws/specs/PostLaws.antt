@@ -1,0 +1,100 @@
+-- Laws over whole runs, said of the datagrams of the application (RFC 9221, sections 3 and 5), in words of the trace.
+use Rattle.std.specs.Prelude.{◌≡◌, ◌⊎◌, ℕ, ◌+◌, Bool, true, false, List, [], ◌∷◌, ◌++◌, Option}
+use Rattle.qc_datagrams.specs.Datagrams.{new_datagrams, send_refusal}
+use Rattle.qc_datagrams.specs.Given.{AreInOrder}
+use Rattle.qc_datagrams.specs.Steps.{Step, Came, Sent, Taken, after, after_step}
+use Rattle.qc_datagrams.specs.declared.datagrams.Datagrams.{Datagrams}
+use Rattle.qc_frame.specs.Frame.{FrameValue}
+use Rattle.qc_frame.specs.FrameSpelling.{spelling}
+use Rattle.qc_frame.specs.declared.frames.FrameOf.TheVariants as frames
+use Rattle.qc_state.specs.declared.events.Event.{Event}
+use Rattle.qc_state.specs.declared.events.Event.TheVariants.{DatagramReceived}
+use Rattle.qc_state.specs.declared.input.Input.{Input}
+use Rattle.qc_state.specs.declared.input.Input.TheVariants as input
+use Rattle.qc_state.specs.declared.trace.Answer.{Answer}
+use Rattle.qc_state.specs.declared.trace.Answer.TheVariants as answer
+use Rattle.qc_state.specs.declared.trace.Step.{Step as TraceStep}
+use Rattle.qc_state.specs.Datagrams.{datagram_steps, sent_answer, taken_answer, tells_datagram}
+use Rattle.qc_state.specs.Types.{Types}
+use Rattle.qc_state.specs.View.{View}
+use Rattle.qc_laws.specs.EventLaws.{once}
+use Rattle.qc_laws.specs.ReadLaws.{given_in}
+use Rattle.qc_laws.specs.StreamsLaws.{given_to_streams, with_steps}
+
+-- ---- the fold of their steps
+
+-- how many events tell that a datagram came
+abbrev pub heard_in : List Event → ℕ
+heard_in [] = 0
+heard_in (DatagramReceived ∷ es) = heard_in es + 1
+heard_in (_ ∷ es) = heard_in es
+
+-- how many of steps are to be told: those with which one comes while none waits
+abbrev pub is_told : Step → Datagrams → Bool
+is_told (Came body) d = tells_datagram (frames.Datagram body) d
+is_told _ d = false
+
+abbrev pub count_told : List Step → Datagrams → ℕ
+count_told [] d = 0
+count_told (x ∷ xs) d = count_told xs (after_step x d) + once (is_told x d)
+
+-- What is given to streams and datagrams are frames as they are spelled, and these are the steps that the datagrams make of them: of a
+-- DATAGRAM frame that it comes, which they may refuse, and of any other none
+abbrev pub AreCame : List (List ℕ) → List Step → Type 0
+AreCame [] made = made ≡ []
+AreCame (body ∷ more) made = (frame : FrameValue) × (rest : List Step) × (body ≡ spelling frame) × (made ≡ datagram_steps frame ++ rest) × AreCame more rest
+
+-- An input makes these steps of them: one that sends a datagram, or takes one, is that, and answers as they are then; `most` is how long one
+-- may be, where the peer takes any. Any other makes those of the frames that its deeds give.
+abbrev pub MakesPosts : Input → TraceStep → List Step → Datagrams → Type 0
+MakesPosts (input.SendDatagram time body) x made d = (most : Option ℕ) × (made ≡ Sent most body ∷ []) × (x.answer ≡ sent_answer (send_refusal most true body d))
+MakesPosts (input.RecvDatagram time) x made d = (made ≡ Taken ∷ []) × (x.answer ≡ taken_answer d.incoming)
+MakesPosts _ x made d = AreCame (given_to_streams x.did) made
+
+-- Steps are those of the inputs, one after the other, each as its turn comes. As many events tell that a datagram came as there are to be
+-- told, and as waited before.
+abbrev pub ArePosts : (waited : ℕ) → List (Input × TraceStep) → List Step → Datagrams → Type 0
+ArePosts waited [] xs d = xs ≡ []
+ArePosts waited (call ∷ calls) xs d =
+    (made : List Step) × (rest : List Step) × (xs ≡ made ++ rest) × MakesPosts call.0 call.1 made d × (heard_in call.1.events ≡ waited + count_told made d) × ArePosts 0 calls rest (after made d)
+
+module _ {t : Types} where
+  -- From one view to another, over inputs whose trace is this, the datagrams made these steps, and are what they leave: those of the frames
+  -- that the deeds gave, and of the inputs that send or take one, which answer so; none is left out, none made up, and each in its turn. So
+  -- whatever holds over any steps of the datagrams holds over these.
+  pub record FoldsPosts (is : List Input) (xs : List TraceStep) (s s' : View t) : Type 0 where
+    pub steps : List Step
+    pub leads : s'.lower.datagrams ≡ after steps s.lower.datagrams
+    pub are : ArePosts (heard_in s.life.heard) (with_steps is xs) steps s.lower.datagrams
+
+-- ---- what is taken
+
+-- the datagram that the answer of an input gives
+abbrev pub taken_by : Input → Answer → List (List ℕ)
+taken_by (input.RecvDatagram time) (answer.Datagram body) = body ∷ []
+taken_by _ _ = []
+
+-- those that the answers of inputs give, in order
+abbrev pub taken_in : List (Input × TraceStep) → List (List ℕ)
+taken_in [] = []
+taken_in (call ∷ calls) = taken_by call.0 call.1.answer ++ taken_in calls
+
+-- These are the datagrams of DATAGRAM frames among what was given, in order: others may have been refused
+abbrev pub AreDatagrams : List (List ℕ) → List (List ℕ) → Type 0
+AreDatagrams [] ds = ds ≡ []
+AreDatagrams (body ∷ more) ds = ((d : List ℕ) × (rest : List (List ℕ)) × (ds ≡ d ∷ rest) × (body ≡ spelling (frames.Datagram d)) × AreDatagrams more rest) ⊎ AreDatagrams more ds
+
+-- What is taken came: the datagrams that the answers give are some of those that came, in their order, each once
+pub record TakesCame (calls : List (Input × TraceStep)) : Type 0 where
+  pub came : List (List ℕ)
+  pub among : AreDatagrams (given_in calls) came
+  pub takes : AreInOrder (taken_in calls) came
+
+-- so it is with inputs and their trace
+unfoldable pub TakesTrace : List Input → List TraceStep → Type 0
+TakesTrace is xs = TakesCame (with_steps is xs)
+
+module _ {t : Types} where
+  -- the datagrams are those of a connection that was just made
+  abbrev pub HasNewDatagrams : View t → Type 0
+  HasNewDatagrams s = (receive : Option ℕ) × (send : ℕ) × (s.lower.datagrams ≡ new_datagrams receive send)
