@@ -7,6 +7,7 @@ use Rattle.qc_state.specs.declared.deeds.Layer.TheVariants as layer
 
 -- the tokens of a frame that was given to a layer: no layer passes one on so far
 abbrev pub tokens_of : Layer → List ℕ → List (List ℕ)
+tokens_of layer.Streams body = []
 tokens_of layer.Recovery body = []
 tokens_of layer.Session body = []
 tokens_of layer.Life body = []
