@@ -1,4 +1,4 @@
-use Rattle.std.proofs.Common.{◌≡◌, ℕ, ap, subst, ◌∙◌}
+use Rattle.std.proofs.Common.{ℕ, ap, subst}
 use Rattle.std.specs.Option.{option_copied}
 use Rattle.qc_base.specs.PacketNumber.{number_window, number_low, IsNearest}
 use Rattle.qc_state.proofs.Expansions.{expanded_is}
