@@ -12,6 +12,7 @@ use Rattle.qc_state.specs.Headline.{deeds_of}
 
 -- so far nothing that is given has a token
 no_token : (l : Layer) (body : List ℕ) → tokens_of l body ≡ []
+no_token layer.Streams body = refl
 no_token layer.Recovery body = refl
 no_token layer.Session body = refl
 no_token layer.Life body = refl

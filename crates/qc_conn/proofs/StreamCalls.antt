@@ -1,5 +1,5 @@
 -- Calls on the streams, as inputs.
-use Rattle.std.proofs.Common.{◌≡◌, List, [], refl, Bool, true, false}
+use Rattle.std.proofs.Common.{◌≡◌, ℕ, List, [], refl, ap, ◌∙◌, true}
 use Rattle.qc_core.specs.StreamCalls.{CallsStreams}
 use Rattle.qc_state.specs.declared.deeds.Did.{Did}
 use Rattle.qc_state.specs.declared.input.Input.{Input}
@@ -35,5 +35,7 @@ module _ {t : Types} where
   for_streams m (RecvDatagram time) is = cc
 
   -- the time is told, and then the call is made
-  pub stream_called : (m : Meaning t) (s mid b : View t) (i : Input) (ds : List Did) (answer : Answer) → is_streams_call i ≡ true → mid ≡ state_move (Clock (time_of i)) s → ds ≡ [] → CallsStreams i mid b answer → Calls m s i (at b ds) answer
-  stream_called m s mid b i ds answer is is_mid is_ds h = calls_streams m s mid i h.read b ds answer (for_streams m i is) is_mid is_ds h.may h.leads h.answers
+  pub stream_called : (m : Meaning t) (s mid b : View t) (i : Input) (time : ℕ) (ds : List Did) (answer : Answer) → is_streams_call i ≡ true → mid ≡ state_move (Clock time) s → time ≡ time_of i → ds ≡ [] → CallsStreams i mid b answer →
+      Calls m s i (at b ds) answer
+  stream_called m s mid b i time ds answer is is_mid is_time is_ds h =
+      calls_streams m s mid i h.read b ds answer (for_streams m i is) (is_mid ∙ ap (λ (n : ℕ). state_move (Clock n) s) is_time) is_ds h.may h.leads h.answers

@@ -125,6 +125,7 @@ fn bad_direction(allowed: bool, id: StreamId) -> Option<BadWhy>
 }
 
 /// What is wrong with the call that the input asks for of the connection, if anything is.
+#[tactic(auto, unfolding(qc_state::specs::Setup::ideal_setup))]
 fn bad_call<U: Suite>(connection: &Connection<U>, input: &Input) -> Option<BadWhy>
     ensures { result ≡ bad_call (ideal U.Random.stream connection.now.core) input.now }
 {
@@ -136,12 +137,11 @@ fn bad_call<U: Suite>(connection: &Connection<U>, input: &Input) -> Option<BadWh
             }
             None
         }
-        Input::Write { id, .. } | Input::Finish { id, .. } | Input::ResetSend { id, .. } =>
-            bad_direction(sends_on(side, *id), *id),
-        Input::StopRecv { id, .. } | Input::Read { id, .. } => bad_direction(
-            receives_on(side, *id),
-            *id,
-        ),
+        Input::Write { id, .. } => bad_direction(sends_on(side, *id), *id),
+        Input::Finish { id, .. } => bad_direction(sends_on(side, *id), *id),
+        Input::ResetSend { id, .. } => bad_direction(sends_on(side, *id), *id),
+        Input::StopRecv { id, .. } => bad_direction(receives_on(side, *id), *id),
+        Input::Read { id, .. } => bad_direction(receives_on(side, *id), *id),
         Input::Datagram { .. }
         | Input::Timeout { .. }
         | Input::Open { .. }
