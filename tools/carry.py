@@ -1,11 +1,15 @@
 #!/usr/bin/env python3
 """Carries datagrams between a client and a server, each a run of `./qconn`, and writes the scripts of both ends.
 
-    tools/carry.py           writes examples/client.script and examples/server.script
+    tools/carry.py           writes the scripts of two conversations into examples/
     tools/carry.py --check   fails where they aren't what the two ends make of one another
 
-The client says hello; when neither end sends any more, it asks for a PING, and then the server does, whose ACK the client holds back
-until its timer comes; at last the client closes with code 7 and the reason `bye`.
+In client.script and server.script the client says hello; when neither end sends any more, it asks for a PING, and then the server does,
+whose ACK the client holds back until its timer comes; at last the client closes with code 7 and the reason `bye`.
+
+In asking.script and answering.script the client asks on a stream, once the handshake is over, and the server answers there with more than
+a packet holds. The first datagram of the answer is lost; the server's timer brings its bytes again. The client reads all and closes.
+
 A script has no answer of the other end but as datagrams, so each turn runs the whole script of one end again and takes what its
 last transmit sent.
 """
@@ -42,8 +46,9 @@ class End:
         return None
 
 
-def carry(time, one, other):
-    """Carries all that `one` sends to `other`, and gives the time afterwards and whether there was anything."""
+def carry(time, one, other, lost=0):
+    """Carries all that `one` sends to `other`, but for the first `lost` datagrams, and gives the time afterwards and whether there was
+    anything."""
     some = False
     while True:
         time += 1000
@@ -51,6 +56,9 @@ def carry(time, one, other):
         if datagram is None:
             return time, some
         some = True
+        if lost > 0:
+            lost -= 1
+            continue
         time += 1000
         other.step(f"datagram {time} {one.address} - {datagram}")
 
@@ -64,10 +72,16 @@ def talk(time, client, server):
             return time
 
 
-def conversation():
-    """The scripts of both ends."""
+def two_ends():
+    """A client and a server that were just made."""
     client = End(["set side client", "set remote 0303030303030303"], CLIENT)
     server = End(["set side server", "set local 0404040404040404", "set remote 0101010101010101", f"set addr {CLIENT}"], SERVER)
+    return client, server
+
+
+def pings():
+    """The scripts of two ends that ping each other."""
+    client, server = two_ends()
     time = talk(0, client, server)
     client.step(f"ping {time}")
     time = talk(time, client, server)
@@ -80,9 +94,29 @@ def conversation():
     return {"client": client.lines, "server": server.lines}
 
 
+def question():
+    """The scripts of two ends, one of which asks on a stream, and the other answers."""
+    client, server = two_ends()
+    time = talk(0, client, server)
+    for call in ("open {} bi", f"write {{}} 0 {b'why?'.hex()}", "finish {} 0"):
+        client.step(call.format(time))
+    time = talk(time, client, server)
+    for call in ("accept {} bi", "read {} 0 100", "read {} 0 100", f"write {{}} 0 {(b'because ' * 188).hex()}", "finish {} 0"):
+        server.step(call.format(time))
+    time, _ = carry(time, server, client, lost=1)
+    time = max(talk(time, client, server), server.timer)
+    server.step(f"timeout {time}")
+    time = talk(time, client, server)
+    for _ in range(3):
+        client.step(f"read {time} 0 2000")
+    client.step(f"close {time} 7 627965")
+    talk(time, client, server)
+    return {"asking": client.lines, "answering": server.lines}
+
+
 def main():
     bad = False
-    for name, lines in conversation().items():
+    for name, lines in {**pings(), **question()}.items():
         path, text = f"{TOP}/examples/{name}.script", "".join(f"{it}\n" for it in lines)
         if sys.argv[1:] == ["--check"]:
             with open(path, encoding="ascii") as file:

@@ -3,12 +3,13 @@
 
     tools/picture.py TRACE          one end, with its peer as a bare line
     tools/picture.py TRACE TRACE    two ends; a datagram of the one that opened at the other is one arrow
-    tools/picture.py --check        fails where docs/handshake.svg isn't the picture of the two example scripts; its traces are
-                                    those that the program gives
+    tools/picture.py --check        fails where docs/handshake.svg and docs/stream.svg aren't the pictures of the example scripts; their
+                                    traces are those that the program gives
 
 Time goes downwards, a row a step that tells something. An arrow is a datagram, with its packets: the space (I, H or D for
-Initial, Handshake and 1-RTT), the number and the frames. What became of it stands where it arrives. A file that is no trace
-is named with its first wrong line, and nothing is drawn.
+Initial, Handshake and 1-RTT), the number and the frames; a STREAM frame with its stream, and from where to where its bytes go. What
+became of it stands where it arrives, and what a call of a stream answered where it was made. A file that is no trace is named with its
+first wrong line, and nothing is drawn.
 """
 import html
 import os
@@ -17,18 +18,32 @@ import subprocess
 import sys
 
 sys.path.insert(0, os.path.dirname(os.path.realpath(__file__)))
+from qlog import frame_of
 from trace import TraceFault, read_trace
 
 TOP = os.path.dirname(os.path.dirname(os.path.realpath(__file__)))
-PICTURE = f"{TOP}/docs/handshake.svg"
+# Which example scripts each picture is of.
+PICTURES = {"handshake": ("client", "server"), "stream": ("asking", "answering")}
 LINE, LEFT, RIGHT, WIDTH, LETTER = 15, 330, 890, 1220, 6.1
 LIVES = ("handshake", "established", "closed", "draining", "drained")
 SHORT = {"initial": "I", "handshake": "H", "data": "D"}
 
 
+def frame_in_short(frame):
+    """A frame by its name, with its stream where it has one, and where the bytes of a STREAM frame begin and end."""
+    name = re.split(r"[/*]", frame)[0]
+    fields = frame_of(frame) if "STREAM" in name else {}
+    if "stream_id" not in fields:
+        return name
+    if name != "STREAM":
+        return f"{name} {fields['stream_id']}"
+    end = fields["offset"] + fields["length"]
+    return f"STREAM {fields['stream_id']} from {fields['offset']} to {end}{' fin' * fields['fin']}"
+
+
 def frames_in_short(frames):
     """Frames by their names, PADDING left out where something else is there, runs of one name counted."""
-    names = [re.split(r"[/*]", frame)[0] for frame in frames]
+    names = [frame_in_short(frame) for frame in frames]
     names = [name for name in names if name != "PADDING"] or names[:1]
     told = []
     for name in names:
@@ -43,11 +58,21 @@ def packets_in_short(step):
     return " | ".join(f"{SHORT[space]}{number} {frames_in_short(frames)}".strip() for space, number, frames in step.sealed())
 
 
+def call_in_short(step):
+    """The call of a step, and what it answered, if that is more than that it is done."""
+    answer = step.answer[1:]
+    if answer[0] == "done":
+        return step.word
+    if answer[0] == "read":
+        return f"read: {len(answer[2]) // 2} bytes from {answer[1]}"
+    return f"{step.word}: {' '.join(answer)}"
+
+
 def remarks(step):
     """What a step tells beside its datagram, a line each."""
     told = []
     if step.word not in ("datagram", "transmit"):
-        told.append("timer fires" if step.word == "timeout" else step.word)
+        told.append("timer fires" if step.word == "timeout" else call_in_short(step))
     for space, number, verdict in step.pieces():
         told.append(f"{SHORT.get(space, '?')}{'' if number is None else number} {verdict}")
     for deed in step.deeds:
@@ -57,7 +82,7 @@ def remarks(step):
             told.append(" ".join(deed[:3]))
         elif deed[0] == "quiet" and deed[1] not in ("NothingOwed", "Silent"):
             told.append(" ".join(deed))
-    told += [" ".join(event[:2]) for event in step.events]
+    told += [" ".join(event if event[1] == "stream" else event[:2]) for event in step.events]
     return told
 
 
@@ -159,15 +184,20 @@ def picture(texts):
     return draw(names, traces)
 
 
-def check():
+def is_current(name, scripts):
+    """Whether a picture is that of these scripts' traces. Tells it."""
     texts = []
-    for name in ("client", "server"):
-        with open(f"{TOP}/examples/{name}.script", encoding="utf-8") as script:
-            texts.append(subprocess.run([f"{TOP}/qconn", "run"], stdin=script, capture_output=True, text=True, check=True).stdout)
-    with open(PICTURE, encoding="utf-8") as file:
-        is_current = file.read() == picture(texts)
-    print("docs/handshake.svg is current" if is_current else "docs/handshake.svg isn't the picture of the example scripts")
-    return 0 if is_current else 1
+    for script in scripts:
+        with open(f"{TOP}/examples/{script}.script", encoding="utf-8") as file:
+            texts.append(subprocess.run([f"{TOP}/qconn", "run"], stdin=file, capture_output=True, text=True, check=True).stdout)
+    with open(f"{TOP}/docs/{name}.svg", encoding="utf-8") as file:
+        current = file.read() == picture(texts)
+    print(f"docs/{name}.svg is current" if current else f"docs/{name}.svg isn't the picture of the example scripts")
+    return current
+
+
+def check():
+    return 0 if all([is_current(name, scripts) for name, scripts in PICTURES.items()]) else 1
 
 
 def main():

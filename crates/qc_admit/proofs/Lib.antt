@@ -1,3 +1,4 @@
+pub mod Closes
 pub mod Elicits
 pub mod Established
 pub mod Fitting

@@ -12,12 +12,3 @@ pub(crate) enum Behind {
     /// It ends its packet.
     Ends,
 }
-
-/// What the frames of a packet have made so far.
-#[derive(Drop)]
-pub(crate) enum Course {
-    /// The next frame is read; this was the last close, if there was one.
-    Reads(Option<ConnectionError>),
-    /// One of them ended the packet.
-    Ended,
-}

@@ -1,10 +1,11 @@
 //! What one frame does.
 
-ghost use Rattle.std.specs.Prelude.{◌≡◌, OnOk, IfOk};
-ghost use Rattle.qc_admit.specs.Behind.{left_by};
+ghost use Rattle.std.specs.Prelude.{◌≡◌, true, Some, OnOk, IfOk};
+ghost use Rattle.qc_admit.specs.Behind.{close_reason, left_by};
 ghost use Rattle.qc_frame.specs.Frame.{ack_map, borrowed, typed};
 ghost use Rattle.qc_frame.specs.FrameFits.{Fits};
 ghost use Rattle.qc_frame.specs.FrameSpelling.{spelling};
+ghost use Rattle.qc_state.specs.Moves.{is_close};
 ghost use Rattle.qc_state.specs.Receiving.{acked_after, applied_after, close_after, close_given, confirmed_after, frame_after, handed_after, left_after};
 ghost use Rattle.qc_state.specs.View.{held};
 
@@ -55,13 +56,14 @@ fn acked<U: Suite>(
     did: &mut Dids,
     now: Instant,
     space: SpaceId,
+    frame: &Frame<'_>,
     ack: &Ack<'_>,
-    body: Body,
 ) -> Result<(), AllocError>
     requires fits { Fits (FrameOf.Ack (ack_map (λ bytes. bytes.now) ack.now)) }
-    requires body { body ≡ spelling (FrameOf.Ack (ack_map (λ bytes. bytes.now) ack.now)) }
+    requires frame { borrowed frame.now ≡ FrameOf.Ack (ack_map (λ bytes. bytes.now) ack.now) }
     ensures { OnOk result ((held U.Random.stream core.new did.new) ≡ acked_after ⟦<U as Means>⟧.meaning now space (ack_map (λ bytes. bytes.now) ack.now) (held U.Random.stream core.old did.old)) }
 {
+    let body = spelled(alloc, frame)?;
     core.do_tell_gave(did, Layer::Recovery, body)?;
     if core.do_ack(alloc, now, space, ack)? {
         core.arm(did, now);
@@ -73,13 +75,13 @@ fn acked<U: Suite>(
 #[tactic(auto, unfolding(qc_state::specs::Receiving::confirmed_after, qc_state::specs::Moves::move_to, qc_state::specs::Moves::deeds_move))]
 fn confirmed<U: Suite>(
     core: &mut Core<U>,
+    alloc: Global,
     did: &mut Dids,
     now: Instant,
-    body: Body,
 ) -> Result<(), AllocError>
-    requires { body ≡ spelling FrameOf.HandshakeDone }
     ensures { OnOk result ((held U.Random.stream core.new did.new) ≡ confirmed_after now (held U.Random.stream core.old did.old)) }
 {
+    let body = spelled(alloc, &FrameOf::HandshakeDone)?;
     core.do_tell_gave(did, Layer::Life, body)?;
     core.do_forget(SpaceId::Handshake);
     core.arm(did, now);
@@ -123,6 +125,51 @@ fn closed<U: Suite>(
     }
 }
 
+/// The reason that a close gives. Want of memory is the only refusal.
+fn close_reason(alloc: Global, frame: &Frame<'_>) -> Result<ConnectionError, AllocError>
+    requires { is_close (borrowed frame.now) ≡ true }
+    ensures { IfOk result (λ why. close_reason (borrowed frame.now) ≡ Some why) }
+{
+    match frame {
+        FrameOf::ConnectionClose {
+            error_code,
+            frame_type,
+            reason,
+        } => {
+            let reason = Bytes::copy_from_slice(alloc, reason)?;
+            Ok(ConnectionError::ConnectionClosed(ConnectionClose {
+                error_code: *error_code,
+                frame_type: *frame_type,
+                reason,
+            }))
+        }
+        FrameOf::ApplicationClose { error_code, reason } => {
+            let reason = Bytes::copy_from_slice(alloc, reason)?;
+            Ok(ConnectionError::ApplicationClosed(ApplicationClose {
+                error_code: *error_code,
+                reason,
+            }))
+        }
+        _ => unreachable!(),
+    }
+}
+
+/// A close of the peer's, for the reason that it gives.
+fn closed_by<U: Suite>(
+    core: &mut Core<U>,
+    alloc: Global,
+    did: &mut Dids,
+    coming: &Coming,
+    space: SpaceId,
+    frame: &Frame<'_>,
+) -> Result<Behind, AllocError>
+    requires { is_close (borrowed frame.now) ≡ true }
+    ensures { IfOk result (λ behind. left_by behind (held U.Random.stream core.new did.new) ≡ applied_after ⟦<U as Means>⟧.meaning coming.now space (borrowed frame.now) (held U.Random.stream core.old did.old)) }
+{
+    let why = close_reason(alloc, frame)?;
+    closed(core, alloc, did, coming, space, frame, why)
+}
+
 /// The streams or the datagrams are handed a frame: it ends its packet where it is refused, and this end closes for the error.
 #[tactic(auto, unfolding(qc_state::specs::Receiving::handed_after))]
 fn handed<U: Suite>(
@@ -159,36 +206,16 @@ fn applied<U: Suite>(
 {
     match frame {
         FrameOf::Ack(ack) => {
-            let body = spelled(alloc, frame)?;
-            acked(core, alloc, did, coming.time, space, ack, body)?;
+            acked(core, alloc, did, coming.time, space, frame, ack)?;
             Ok(Behind::Goes)
         }
         FrameOf::Crypto { offset, body } => crypto(core, alloc, did, coming, space, *offset, body),
         FrameOf::HandshakeDone => {
-            let body = spelled(alloc, frame)?;
-            confirmed(core, did, coming.time, body)?;
+            confirmed(core, alloc, did, coming.time)?;
             Ok(Behind::Goes)
         }
-        FrameOf::ConnectionClose {
-            error_code,
-            frame_type,
-            reason,
-        } => {
-            let reason = Bytes::copy_from_slice(alloc, reason)?;
-            let why = ConnectionError::ConnectionClosed(ConnectionClose {
-                error_code: *error_code,
-                frame_type: *frame_type,
-                reason,
-            });
-            closed(core, alloc, did, coming, space, frame, why)
-        }
-        FrameOf::ApplicationClose { error_code, reason } => {
-            let reason = Bytes::copy_from_slice(alloc, reason)?;
-            let why = ConnectionError::ApplicationClosed(ApplicationClose {
-                error_code: *error_code,
-                reason,
-            });
-            closed(core, alloc, did, coming, space, frame, why)
+        FrameOf::ConnectionClose { .. } | FrameOf::ApplicationClose { .. } => {
+            closed_by(core, alloc, did, coming, space, frame)
         }
         FrameOf::ResetStream { .. }
         | FrameOf::StopSending { .. }

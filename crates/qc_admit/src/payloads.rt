@@ -1,6 +1,6 @@
 //! What the frames of a packet do, one after the other.
 
-ghost use Rattle.std.specs.Prelude.{◌≡◌, None, Ok, OnOk, IfOk};
+ghost use Rattle.std.specs.Prelude.{◌≡◌, None, Some, Ok, OnOk, IfOk};
 ghost use Rattle.std.specs.List.{All, list_any};
 ghost use Rattle.qc_admit.specs.Behind.{course_of};
 ghost use Rattle.qc_frame.specs.Frame.{borrowed, typed};
@@ -10,7 +10,7 @@ ghost use Rattle.qc_state.specs.Receiving.{Reads, closed_in_data, end_after, is_
 ghost use Rattle.qc_state.specs.View.{held};
 ghost use Rattle.qc_state.specs.Moves.{is_close};
 
-use crate::behind::{Behind, Course};
+use crate::behind::Behind;
 use crate::frames::{left, one_frame};
 use crate::handshake::progress;
 use qc_base::{Instant, SpaceId, TransportErrorCode};
@@ -106,7 +106,14 @@ fn end<U: Suite>(
     }
 }
 
-/// One frame more, where `close` was the last close before it.
+/// A close was read, for this reason.
+fn note(close: &mut Option<ConnectionError>, why: ConnectionError)
+    ensures { close.new ≡ Some why }
+{
+    *close = Some(why);
+}
+
+/// One frame more; `close` is the last close so far. Answers whether the frames behind it are next.
 fn one_more<U: Suite>(
     core: &mut Core<U>,
     alloc: Global,
@@ -114,19 +121,55 @@ fn one_more<U: Suite>(
     coming: &Coming,
     space: SpaceId,
     read: &TypedFrame<'_>,
-    close: Option<ConnectionError>,
-) -> Result<Course, AllocError>
+    close: &mut Option<ConnectionError>,
+) -> Result<bool, AllocError>
     requires { Fits (borrowed read.now.frame) }
-    ensures { IfOk result (λ course. course_of course (held U.Random.stream core.new did.new) ≡ item_after ⟦<U as Means>⟧.meaning coming.now space (Ok (typed read.now)) (Reads close (held U.Random.stream core.old did.old))) }
+    ensures { IfOk result (λ goes. course_of goes close.new (held U.Random.stream core.new did.new) ≡ item_after ⟦<U as Means>⟧.meaning coming.now space (Ok (typed read.now)) (Reads close.old (held U.Random.stream core.old did.old))) }
 {
     match one_frame(core, alloc, did, coming, space, read)? {
-        Behind::Goes => Ok(Course::Reads(close)),
-        Behind::Closes(why) => Ok(Course::Reads(Some(why))),
-        Behind::Ends => Ok(Course::Ended),
+        Behind::Goes => Ok(true),
+        Behind::Closes(why) => {
+            note(close, why);
+            Ok(true)
+        }
+        Behind::Ends => Ok(false),
     }
 }
 
-/// The frames of a packet, in order, up to the first stop, or the first close of an Initial or Handshake packet.
+/// The frames of a packet, in order, up to the first stop, or the first close of an Initial or Handshake packet; `close` is the last close
+/// so far. Answers whether none of them ended the packet.
+fn each<U: Suite>(
+    core: &mut Core<U>,
+    alloc: Global,
+    did: &mut Dids,
+    coming: &Coming,
+    space: SpaceId,
+    frames: Iter<'_>,
+    close: &mut Option<ConnectionError>,
+) -> Result<bool, AllocError>
+    requires { All (λ item. IfOk item (λ read. Fits read.frame)) (items_of frames) }
+    ensures { IfOk result (λ goes. course_of goes close.new (held U.Random.stream core.new did.new) ≡ items_after ⟦<U as Means>⟧.meaning coming.now space (items_of frames.entry) (Reads close.old (held U.Random.stream core.old did.old))) }
+{
+    let mut frames = frames;
+    loop {
+        let _skipped = frames.skip_padding();
+        match frames.next() {
+            None => return Ok(true),
+            Some(Err(fault)) => {
+                let error = error_at(TransportErrorCode::FRAME_ENCODING_ERROR, fault.ty);
+                core.stopped(did, coming.time, error)?;
+                return Ok(false);
+            }
+            Some(Ok(read)) => {
+                if !one_more(core, alloc, did, coming, space, &read, close)? {
+                    return Ok(false);
+                }
+            }
+        }
+    }
+}
+
+/// The frames of a packet, and what is done behind the last one, where none of them ended the packet.
 fn items<U: Suite>(
     core: &mut Core<U>,
     alloc: Global,
@@ -138,25 +181,11 @@ fn items<U: Suite>(
     requires { All (λ item. IfOk item (λ read. Fits read.frame)) (items_of frames) }
     ensures { OnOk result ((held U.Random.stream core.new did.new) ≡ end_after ⟦<U as Means>⟧.meaning coming.now space (items_after ⟦<U as Means>⟧.meaning coming.now space (items_of frames.entry) (Reads None (held U.Random.stream core.old did.old)))) }
 {
-    let mut frames = frames;
-    let mut course = Course::Reads(None);
-    loop {
-        let close = match course {
-            Course::Ended => return Ok(()),
-            Course::Reads(close) => close,
-        };
-        let _skipped = frames.skip_padding();
-        match frames.next() {
-            None => return end(core, alloc, did, coming, space, close),
-            Some(Err(fault)) => {
-                let error = error_at(TransportErrorCode::FRAME_ENCODING_ERROR, fault.ty);
-                return core.stopped(did, coming.time, error);
-            }
-            Some(Ok(read)) => {
-                course = one_more(core, alloc, did, coming, space, &read, close)?;
-            }
-        }
+    let mut close = None;
+    if each(core, alloc, did, coming, space, frames, &mut close)? {
+        return end(core, alloc, did, coming, space, close);
     }
+    Ok(())
 }
 
 /// The frames of a payload; an empty one breaks a rule (RFC 9000, section 12.4). Want of memory is the only refusal; there is

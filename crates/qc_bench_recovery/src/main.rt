@@ -3,7 +3,7 @@
 #![tactic(auto)]
 
 use qc_base::{ArrayRangeSet, Duration, Instant, SpaceId};
-use qc_flight::SentPacket;
+use qc_flight::{SentPacket, StreamMetaVec};
 use qc_frame::{Ack, FrameList, OwnedAck};
 use qc_path::{ControllerFactory, NewReno, NewRenoConfig};
 use qc_recovery::{Around, PathData, Recovery, TransportConfig, first_mtu};
@@ -58,6 +58,7 @@ fn packet(alloc: Global, number: u64) -> SentPacket {
         counted: true,
         ack_eliciting: true,
         frames: FrameList::new(alloc),
+        stream_frames: StreamMetaVec::new(alloc),
         new_token: None,
     }
 }

@@ -8,7 +8,7 @@ use qc_run::{MemorySink, MemorySource};
 use std::alloc::{AllocError, Global};
 
 /// How many bytes a run may write.
-const ROOM: usize = 100_000;
+const ROOM: usize = 1_000_000;
 
 /// A case, as far as its lines were read.
 #[derive(Drop)]

@@ -107,6 +107,12 @@ module _ {t : Types} where
   frame_spelled time s id (frames.Crypto offset body) h b =
       let within : offset + length body ≤ (space_of s.waiting.spaces id).crypto.written = h.within in
       (((omega arith, omega arith), refl), b)
+  frame_spelled time s id (frames.Stream stream offset fin body) h b = ((h.2, refl), b)
+  frame_spelled time s id (frames.ResetStream stream code size) h b = ((h.2, refl), b)
+  frame_spelled time s id (frames.StopSending stream code) h b = ((h.2, refl), b)
+  frame_spelled time s id (frames.MaxData limit) h b = ((h.2, refl), b)
+  frame_spelled time s id (frames.MaxStreamData stream limit) h b = ((h.2, refl), b)
+  frame_spelled time s id (frames.MaxStreams dir limit) h b = ((h.2, refl), b)
   frame_spelled time s id _ h b = absurd h
 
   frames_spelled : (time : ℕ) (s : View t) (id : SpaceId) (fs : List FrameValue) → WaitAll time s id fs → IsSpaceBelowLimit (space_of s.waiting.spaces id) →

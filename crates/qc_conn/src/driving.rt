@@ -18,6 +18,7 @@ ghost use Rattle.qc_laws.specs.PathLaws.{IdsHold, PathHolds, all_from};
 ghost use Rattle.qc_state.specs.Headline.{deeds_of, EachRises, EachAdmitted, EachAcksKnown, Harmless, LifeRises, OnlyCloses, LosesOnce};
 ghost use Rattle.qc_laws.specs.PostLaws.{FoldsPosts, HasNewDatagrams, TakesTrace};
 ghost use Rattle.qc_laws.specs.ReadLaws.{HasNewStreams, ReadsTrace};
+ghost use Rattle.qc_laws.specs.WriteLaws.{SealsWritten};
 ghost use Rattle.qc_laws.specs.RecoveryLaws.{EachSettlesOnce, Recovers};
 ghost use Rattle.qc_state.specs.Run.{time_of, Adds, Run, Ran};
 ghost use Rattle.qc_laws.specs.StreamLaws.{GivesStream};
@@ -222,7 +223,6 @@ fn drive_all<U: Suite>(
 /// name the first input whose time lies before the greatest so far, or which asks for a call that can't be made; the
 /// connection is as the inputs before left it, and their steps are carried. `OutOfMemory` for want of memory; the steps
 /// of the inputs before are carried, and the connection is marked as failed.
-#[tactic(auto, using(qc_laws::proofs::PathsHold::path_run, qc_laws::proofs::IdsHold::run_ids, qc_laws::proofs::EventsTold::run_tells_done, qc_laws::proofs::EventsTold::ran_tells_done, qc_laws::proofs::EventsTold::run_tells_once, qc_laws::proofs::EventsTold::ran_tells_once, qc_laws::proofs::EventsTold::run_stays_done, qc_laws::proofs::KeysHold::run_keys_hold, qc_laws::proofs::EndsHold::run_ends, qc_laws::proofs::InitialLeft::run_leaves, qc_laws::proofs::Recovers::run_settles_once, qc_laws::proofs::TimerHolds::run_keeps_timer, qc_laws::proofs::AckHolds::run_each_holds, qc_laws::proofs::AckHolds::run_acks_hold, qc_laws::proofs::HarmlessBytes::run_harmless, qc_laws::proofs::Told::run_rises, qc_laws::proofs::Told::run_admits, qc_laws::proofs::Told::ran_admits, qc_laws::proofs::AcksAccepted::run_acks_known, qc_laws::proofs::AcksAccepted::ran_acks_known, qc_laws::proofs::MarksTold::run_each_told, qc_laws::proofs::MarksTold::ran_each_told, qc_laws::proofs::Told::run_life_rises, qc_laws::proofs::Told::run_closes, qc_laws::proofs::Told::run_loses_once, qc_laws::proofs::Told::ran_rises, qc_laws::proofs::Told::ran_life_rises, qc_laws::proofs::Told::ran_closes, qc_laws::proofs::Told::ran_loses_once, crate::proofs::RunsPlain::run_plain, crate::proofs::RunsPlain::run_stays, crate::proofs::RunsPlain::ran_plain))]
 pub fn drive<U: Suite, G: TokenStore>(
     alloc: Global,
     connection: &mut Connection<U>,
@@ -283,11 +283,13 @@ pub fn drive<U: Suite, G: TokenStore>(
     ensures streams { (id : SpaceId) → IfOk result (λ trace. GivesStream id (deeds_of trace) (ideal U.Random.stream connection.old.core) (ideal U.Random.stream connection.new.core)) }
 
     // The streams of the application are what their own steps leave: each may be made as its turn comes, those of frames are the ones of the
-    // frames that were given to them, and those of calls the ones of the inputs, which answer so.
+    // frames that were given to them and of those that were sealed, and those of calls the ones of the inputs, which answer so.
     ensures folded { IfOk result (λ trace. FoldsStreams inputs.now trace (ideal U.Random.stream connection.old.core) (ideal U.Random.stream connection.new.core)) }
 
-    // Where they were new, what was read of each are the first bytes that came on it, each once, and flow control is kept.
+    // Where they were new, what was read of each are the first bytes that came on it, each once; what sealed STREAM frames hold was written
+    // there; and flow control is kept.
     ensures reads { HasNewStreams (ideal U.Random.stream connection.old.core) → IfOk result (λ trace. ReadsTrace inputs.now trace) }
+    ensures written { HasNewStreams (ideal U.Random.stream connection.old.core) → IfOk result (λ trace. SealsWritten inputs.now trace) }
     ensures credit { OnOk result (KeepsCredit connection.old.core.lower.streams connection.new.core.lower.streams) }
 
     // So are its datagrams what their own steps leave, those of the frames that came and of the inputs that send or take one, which answer so;

@@ -4,3 +4,5 @@ pub mod Expiring
 pub mod Skips
 pub mod StreamCalls
 pub mod DatagramCalls
+pub mod TakenAcks
+pub mod GivenReasons

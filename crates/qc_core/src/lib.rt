@@ -3,6 +3,7 @@
 
 mod calls;
 mod datagrams;
+mod handing;
 mod moves;
 mod offers;
 mod packets;

@@ -12,15 +12,17 @@ ghost use Rattle.qc_frame.specs.FrameSpelling.{elicits};
 ghost use Rattle.qc_frame.specs.declared.frames.FrameOf.TheVariants as frames;
 ghost use Rattle.std.specs.List.{list_any};
 ghost use Rattle.qc_state.specs.Flight.{flown_packet};
-ghost use Rattle.qc_state.specs.Moves.{Clock, Ask, Take, Forget, Expect, Enter, Fail, Accept, Fix, Hear, Ack, Fire, Arm, Come, Pace, Ready, Release, Skip, Token, Learn, Want, Confirm, Establish, Tell, PeerClosesToo, PeerCloses, Owe, Shut, Raise, Give, Finish, Say, Hand, Post, ReportReady, ReportConnected, ReportHeard, ReportAllHeard, ReportStream, ReportStreams, ReportLost, ReportNotice, ReportNotices, ReportDrained, move_to, state_move, tells_congestion};
+ghost use Rattle.qc_state.specs.Moves.{Clock, Ask, Take, Forget, Expect, Enter, Fail, Accept, Fix, Hear, Ack, Fire, Arm, Come, Pace, Ready, Release, Skip, Token, Learn, Want, Confirm, Establish, Tell, PeerClosesToo, PeerCloses, Owe, Shut, Raise, Finish, Say, Hand, Post, ReportReady, ReportConnected, ReportHeard, ReportAllHeard, ReportStream, ReportStreams, ReportLost, ReportNotice, ReportNotices, ReportDrained, move_to, state_move, tells_congestion};
 ghost use Rattle.qc_base.specs.declared.side.SpaceId.TheVariants.{«Data»};
 ghost use Rattle.qc_state.specs.Numbers.{is_skipped};
 ghost use Rattle.qc_state.specs.Recovering.{fired_by, probe_timeout_now, settled_by};
 ghost use Rattle.qc_state.specs.Setup.{idle_limit_now};
-ghost use Rattle.qc_state.specs.Spaces.{space_of};
+ghost use Rattle.qc_state.specs.Spaces.{is_space, space_of};
+ghost use Rattle.qc_state.specs.StreamFrames.{sealed_steps};
 ghost use Rattle.qc_state.specs.Streams.{events_of};
 ghost use Rattle.qc_state.specs.Timers.{timers_acking, timers_sealed};
 ghost use Rattle.qc_streams.specs.Owed.{next_event};
+ghost use Rattle.qc_streams.specs.Steps.{AllMay};
 ghost use Rattle.qc_datagrams.specs.Datagrams.{send_refusal};
 ghost use Rattle.qc_datagrams.specs.Queue.{first};
 ghost use Rattle.qc_datagrams.specs.Steps.{Sent, Taken};
@@ -28,6 +30,7 @@ ghost use Rattle.qc_state.specs.View.{at, ideal, held};
 ghost use Rattle.qc_state.specs.Taking.{TakenPart};
 
 use crate::datagrams::send_datagram;
+use crate::handing::hand;
 use crate::packets::{accept_on, enter, set_accepted, settle_in, tell_waiting, use_number};
 use crate::recovering::shows_validated;
 use crate::state::Core;
@@ -40,11 +43,11 @@ use qc_params::TransportParameters;
 use qc_path::{Arrival, next_bundled_ack_time};
 use qc_state::flight::flown_packet;
 use qc_state::spaces::is_space;
-use qc_state::streams::tell_handed;
+use qc_state::stream_settling::{fire, settle};
 use qc_state::waiting::holds_ack;
 use qc_state::{
-    Body, Close, ConnectionError, Did, Dids, EndpointEvent, EndpointEvents, Event, Events, Form,
-    Layer, Means, Quiet, Signs, State, Suite, Verdict,
+    Body, Close, Did, Dids, EndpointEvent, EndpointEvents, Event, Events, Form, Layer, Means,
+    Quiet, Signs, State, Suite, Verdict,
 };
 use qc_streams::StreamEvent;
 use std::alloc::{AllocError, Global};
@@ -59,7 +62,7 @@ fn tells_congestion(mark: Option<EcnCodepoint>) -> bool
     }
 }
 
-#[tactic(auto, unfolding(qc_state::specs::Moves::move_to, qc_state::specs::Moves::state_move, qc_state::specs::Moves::numbers_move, qc_state::specs::Moves::keys_move, qc_state::specs::Moves::life_move, qc_state::specs::Moves::paths_move, qc_state::specs::Moves::timers_move, qc_state::specs::Moves::waiting_move, qc_state::specs::Moves::setup_move, qc_state::specs::Moves::lower_move, qc_state::specs::Moves::deeds_move, qc_state::specs::Setup::ideal_setup, qc_state::specs::Setup::idle_limit_now, qc_state::specs::Setup::parameters_known, qc_state::specs::Setup::token_expected, qc_state::specs::Lower::session_wrote, qc_state::specs::Lower::datagrams_stepped, qc_state::specs::Life::datagram_heard, qc_datagrams::specs::Steps::after, qc_datagrams::specs::Steps::after_step, qc_state::specs::Paths::path_kept, crate::specs::Sealing::sealed_drawn))]
+#[tactic(auto, unfolding(qc_state::specs::Moves::move_to, qc_state::specs::Moves::state_move, qc_state::specs::Moves::numbers_move, qc_state::specs::Moves::keys_move, qc_state::specs::Moves::life_move, qc_state::specs::Moves::paths_move, qc_state::specs::Moves::timers_move, qc_state::specs::Moves::waiting_move, qc_state::specs::Moves::setup_move, qc_state::specs::Moves::lower_move, qc_state::specs::Moves::deeds_move, qc_state::specs::Setup::ideal_setup, qc_state::specs::Setup::idle_limit_now, qc_state::specs::Setup::parameters_known, qc_state::specs::Setup::token_expected, qc_state::specs::Lower::session_wrote, qc_state::specs::Lower::datagrams_stepped, qc_state::specs::Lower::streams_stepped, qc_state::specs::Life::datagram_heard, qc_datagrams::specs::Steps::after, qc_datagrams::specs::Steps::after_step, qc_state::specs::Paths::path_kept, crate::specs::Sealing::sealed_drawn))]
 impl<U: Suite> Core<U> {
     /// The connection is told a time.
     pub fn do_clock(&mut self, now: Instant)
@@ -83,10 +86,12 @@ impl<U: Suite> Core<U> {
         space: SpaceId,
         room: usize,
     ) -> Result<FrameList, AllocError>
-        ensures frames { IfOk result (λ frames. TakenPart now self.old.waiting.bundled (space_of self.old.waiting.spaces space) room frames) }
+        ensures frames { IfOk result (λ frames. TakenPart now self.old.waiting.bundled (is_space space «Data») (space_of self.old.waiting.spaces space) room frames) }
+        ensures may { IfOk result (λ frames. AllMay (sealed_steps frames) self.old.lower.streams) }
         ensures leads { IfOk result (λ frames. (ideal U.Random.stream self.new) ≡ state_move (Take space frames) (ideal U.Random.stream self.old)) }
     {
-        self.waiting.take(alloc, now, space, room)
+        let streams = &mut self.lower.streams;
+        self.waiting.take(streams, alloc, now, space, room)
     }
 
     /// The ACK leaves what waits, where there is something to acknowledge and so much room for it.
@@ -295,6 +300,7 @@ impl<U: Suite> Core<U> {
         let settled = self
             .lower
             .settle(alloc, now, space, next, began, ack, &around, path)?;
+        settle(&mut self.lower.streams, &settled)?;
         settle_in(
             &mut self.numbers,
             &mut self.waiting,
@@ -311,6 +317,7 @@ impl<U: Suite> Core<U> {
         let blocked = self.is_blocked();
         let around = self.around(blocked, false);
         let fired = self.lower.fire(now, &around, &mut self.paths.current.kept)?;
+        fire(&mut self.lower.streams, &fired)?;
         self.waiting.fire(fired)
     }
 
@@ -423,12 +430,7 @@ impl<U: Suite> Core<U> {
         ensures stop { IfOk result (λ stop. stop ≡ handed_stop (borrowed frame.now) self.old.lower) }
         ensures leads { OnOk result ((held U.Random.stream self.new did.new) ≡ move_to (Hand (borrowed frame.now)) (held U.Random.stream self.old did.old)) }
     {
-        let (stop, tells) = self.lower.hand(alloc, frame)?;
-        if tells {
-            self.life.hear_datagram()?;
-        }
-        tell_handed(alloc, did, frame)?;
-        Ok(stop)
+        hand(&mut self.lower, &mut self.life, alloc, did, frame)
     }
 
     /// The peer closed as well.
@@ -477,16 +479,6 @@ impl<U: Suite> Core<U> {
         self.timers.stop();
         self.lower.close_streams();
         did.push_rose(qc_state::life::rank(to))
-    }
-
-    /// A reason for the end is given.
-    pub fn do_give(&mut self, did: &mut Dids, why: ConnectionError) -> Result<(), AllocError>
-        ensures { OnOk result ((held U.Random.stream self.new did.new) ≡ move_to (Give why) (held U.Random.stream self.old did.old)) }
-    {
-        let told = why.copy()?;
-        let report = why.copy()?;
-        self.life.give(why, report);
-        did.push_lost(told)
     }
 
     /// A transmit ends that sealed packets: so many bytes go to the path's address.

@@ -1,14 +1,28 @@
 //! What waits to be sealed in a space, over all layers, and what a packet that is begun makes wait.
 
-ghost use Rattle.std.specs.Prelude.{◌≡◌, OnOk};
+ghost use Rattle.std.specs.Prelude.{◌≡◌, ◌&&◌, not, OnOk};
+ghost use Rattle.qc_state.specs.Acks.{is_ack_owed};
 ghost use Rattle.qc_state.specs.Moves.{Begin, state_move};
-ghost use Rattle.qc_state.specs.Offers.{oldest_in, packet_again, packet_begun, probe_sent, waits_in, wants_sending, with_ping};
+ghost use Rattle.qc_state.specs.Offers.{oldest_in, packet_again, probe_begun, probe_sent, streams_filed, streams_want, waits_in, wants_sending, with_ping};
+ghost use Rattle.qc_state.specs.Spaces.{space_of};
 ghost use Rattle.qc_state.specs.View.{ideal};
 
 use crate::state::Core;
 use qc_base::SpaceId;
 use qc_state::Suite;
+use qc_state::stream_settling::{file, packet_lost};
+use qc_streams::StreamsState;
 use std::alloc::AllocError;
+
+/// Whether the streams want to send in the space: their frames go in packets of 1-RTT alone.
+fn streams_want(streams: &StreamsState, space: SpaceId) -> bool
+    ensures { result ≡ streams_want space streams.now }
+{
+    match space {
+        SpaceId::Initial | SpaceId::Handshake => false,
+        SpaceId::Data => streams.has_waiting() || streams.has_control(),
+    }
+}
 
 impl<U: Suite> Core<U> {
     /// Whether a frame waits in the space that elicits an acknowledgement.
@@ -16,7 +30,7 @@ impl<U: Suite> Core<U> {
     fn wants_sending(&self, space: SpaceId) -> bool
         ensures { result ≡ wants_sending (ideal U.Random.stream self.now) space }
     {
-        self.waiting.wants(space)
+        self.waiting.wants(space) || streams_want(&self.lower.streams, space)
     }
 
     /// Whether something waits in the space: such a frame, an ACK that is owed, or a probe that is due.
@@ -28,13 +42,27 @@ impl<U: Suite> Core<U> {
             || (self.waiting.owes_ack(space) || self.waiting.owes_probe(space))
     }
 
+    /// Whether an ACK is all that is owed in the space, a probe aside.
+    pub fn owes_ack_alone(&self, space: SpaceId) -> bool
+        ensures { result ≡ (not (wants_sending (ideal U.Random.stream self.now) space) && is_ack_owed (space_of self.now.waiting.spaces space).acks) }
+    {
+        let wants = self.wants_sending(space);
+        let owes = self.waiting.owes_ack(space);
+        !wants && owes
+    }
+
     /// The frames of the space's oldest packet in flight wait again, where there is one. Want of memory is the only refusal.
+    #[tactic(auto, unfolding(qc_state::specs::Lower::streams_stepped))]
     fn repeat(&mut self, space: SpaceId) -> Result<(), AllocError>
         ensures { OnOk result ((ideal U.Random.stream self.new) ≡ packet_again space (oldest_in (ideal U.Random.stream self.old) space) (ideal U.Random.stream self.old)) }
     {
-        match self.lower.recovery.oldest(space) {
+        let lower = &mut self.lower;
+        match lower.recovery.oldest(space) {
             None => Ok(()),
-            Some(packet) => self.waiting.again(space, &packet.frames),
+            Some(packet) => {
+                packet_lost(&mut lower.streams, packet)?;
+                self.waiting.again(space, &packet.frames)
+            }
         }
     }
 
@@ -61,11 +89,11 @@ impl<U: Suite> Core<U> {
         Ok(())
     }
 
-    /// A packet is begun in the space: where a probe is due, its frames wait from now on, and a datagram that the packet opens
+    /// Where a probe is due in the space of a packet that is begun, its frames wait from now on, and a datagram that the packet opens
     /// spends it. Want of memory is the only refusal.
-    #[tactic(auto, unfolding(qc_state::specs::Offers::packet_begun))]
+    #[tactic(auto, unfolding(qc_state::specs::Offers::probe_begun))]
     fn begin(&mut self, space: SpaceId, opens: bool) -> Result<(), AllocError>
-        ensures { OnOk result ((ideal U.Random.stream self.new) ≡ packet_begun space opens (ideal U.Random.stream self.old)) }
+        ensures { OnOk result ((ideal U.Random.stream self.new) ≡ probe_begun space opens (ideal U.Random.stream self.old)) }
     {
         if !self.waiting.owes_probe(space) {
             return Ok(());
@@ -76,12 +104,21 @@ impl<U: Suite> Core<U> {
         self.probe(space)
     }
 
+    /// Streams that may owe something are looked at, as a packet of 1-RTT is begun. Want of memory is the only refusal.
+    #[tactic(auto, unfolding(qc_state::specs::Offers::streams_filed, qc_state::specs::Lower::streams_stepped))]
+    fn file(&mut self, space: SpaceId) -> Result<(), AllocError>
+        ensures { OnOk result ((ideal U.Random.stream self.new) ≡ streams_filed space (ideal U.Random.stream self.old)) }
+    {
+        file(&mut self.lower.streams, space)
+    }
+
     /// A packet of a space is begun; where it opens a datagram, a probe that is due there is spent. Want of memory is the only
     /// refusal.
-    #[tactic(auto, using(qc_state::proofs::Probed::begun_is))]
+    #[tactic(auto, unfolding(qc_state::specs::Offers::packet_begun), using(qc_state::proofs::Probed::begun_is))]
     pub fn do_begin(&mut self, space: SpaceId, opens: bool) -> Result<(), AllocError>
         ensures { OnOk result ((ideal U.Random.stream self.new) ≡ state_move (Begin space opens) (ideal U.Random.stream self.old)) }
     {
-        self.begin(space, opens)
+        self.begin(space, opens)?;
+        self.file(space)
     }
 }

@@ -1,6 +1,7 @@
 //! How this end closes for an error that it found, ends at once, and leaves the Initial space.
 
-ghost use Rattle.std.specs.Prelude.{◌≡◌, ◌∷◌, [], true, false, Option, None, ◌||◌, ◌&&◌, if◌then◌else◌, OnOk, ◌+◌, ◌-◌, ◌<◌, ◌≤◌, ◌^◌, ◌++◌};
+ghost use Rattle.std.specs.Prelude.{◌≡◌, ◌∷◌, [], true, false, Option, None, ◌||◌, ◌&&◌, if◌then◌else◌, OnOk, ◌+◌, ◌-◌, ◌<◌, ◌≤◌, ◌^◌, ◌++◌, is_none};
+ghost use Rattle.qc_state.specs.Life.{reason_given};
 ghost use Rattle.qc_state.specs.Stopping.{stopped_after, violation_at, given_after, key_limit_error, killed_after};
 ghost use Rattle.qc_state.specs.View.{ideal, held};
 ghost use Rattle.qc_state.specs.Moves.{move_to};
@@ -10,7 +11,7 @@ ghost use Rattle.qc_state.specs.Sending.{leaves_initial, drops_initial, initial_
 use crate::state::Core;
 use bytes::Bytes;
 use qc_base::{Instant, Side, SpaceId, TransportError, TransportErrorCode};
-use qc_state::{Close, ConnectionClose, ConnectionError, Dids, State, Suite};
+use qc_state::{Close, ConnectionClose, ConnectionError, Did, Dids, Life, State, Suite};
 use std::alloc::AllocError;
 
 /// An error with this code at a frame of this type, if it is at one.
@@ -41,6 +42,34 @@ fn leaves_initial(side: Side, end: Side, space: SpaceId) -> bool
         | (Side::Server, Side::Server, SpaceId::Handshake) => true,
         _ => false,
     }
+}
+
+/// The reason for the end is told. Want of memory is the only refusal.
+fn tell_reason(did: &mut Dids, why: &ConnectionError) -> Result<(), AllocError>
+    ensures { OnOk result (did.new ≡ did.old ++ Did.Lost why.now ∷ []) }
+{
+    let told = why.copy()?;
+    did.push_lost(told)
+}
+
+/// A reason for the end is kept, and waits to be reported, unless one was given before. Want of memory is the only refusal.
+fn keep_reason(life: &mut Life, why: ConnectionError) -> Result<(), AllocError>
+    ensures { OnOk result (life.new ≡ reason_given life.old why) }
+{
+    let report = why.copy()?;
+    life.give(why, report);
+    Ok(())
+}
+
+/// A reason for the end is given and told, unless one was given before. Want of memory is the only refusal.
+fn give_first(life: &mut Life, did: &mut Dids, why: ConnectionError) -> Result<(), AllocError>
+    ensures given { OnOk result (life.new ≡ reason_given life.old why) }
+    ensures told { OnOk result (did.new ≡ did.old ++ (if is_none life.old.reason then Did.Lost why ∷ [] else [])) }
+{
+    if life.reason.is_none() {
+        tell_reason(did, &why)?;
+    }
+    keep_reason(life, why)
 }
 
 impl<U: Suite> Core<U> {
@@ -81,14 +110,10 @@ impl<U: Suite> Core<U> {
     }
 
     /// A reason for the end is given, unless one was given before.
-    #[tactic(auto, unfolding(qc_state::specs::Stopping::given_after))]
     pub fn give(&mut self, did: &mut Dids, why: ConnectionError) -> Result<(), AllocError>
         ensures { OnOk result ((held U.Random.stream self.new did.new) ≡ given_after why (held U.Random.stream self.old did.old)) }
     {
-        if self.life.reason.is_none() {
-            return self.do_give(did, why);
-        }
-        Ok(())
+        give_first(&mut self.life, did, why)
     }
 
     /// The connection ends at once, for this reason.

@@ -10,6 +10,7 @@ mod loss_rules;
 mod room;
 mod sent;
 mod sift;
+mod stream_frames;
 
 pub use counts::Counts;
 pub use flight::Flight;
@@ -17,3 +18,4 @@ pub use laws::packets_leave_once;
 pub use list::PacketList;
 pub use room::Room;
 pub use sent::SentPacket;
+pub use stream_frames::{StreamMeta, StreamMetaVec};

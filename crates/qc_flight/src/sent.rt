@@ -1,3 +1,4 @@
+use crate::stream_frames::StreamMetaVec;
 use qc_base::Instant;
 use qc_frame::FrameList;
 use std::net::SocketAddr;
@@ -13,8 +14,10 @@ pub struct SentPacket {
     pub counted: bool,
     /// Whether it asks for an acknowledgement.
     pub ack_eliciting: bool,
-    /// Its frames, which are sent again where it is lost.
+    /// Its frames, which are sent again where it is lost, but for the STREAM frames.
     pub frames: FrameList,
+    /// Its STREAM frames, whose bytes are sent again where it is lost.
+    pub stream_frames: StreamMetaVec,
     /// The address that a NEW_TOKEN in it was made for (RFC 9000, section 8.1.3), if it held one. Where
     /// the packet is lost, a new token for this address is owed; the lost one isn't sent again.
     pub new_token: Option<SocketAddr>,

@@ -335,7 +335,7 @@ module _ {t : Types} where
       let b : At t = move_to (Take space fs) a in
       let said : AcksOnly (IsKept space (waiting_without a.state.waiting space fs)) fs =
       only_more (IsKept space a.state.waiting) (IsKept space (waiting_without a.state.waiting space fs)) (taken_kept space a.state.waiting fs) fs (carries_known may.closing time a.state form may.room fs may.carries) in
-      knows_next id a b _ (knows_move id (Take space fs) a tt tt)
+      knows_next id a b _ (knows_move id (Take space fs) a may.takes tt)
       (knows_move id (Seal time form (next_number a.state.numbers (number_space form)) (packet_size a.state form fs) fs) b (refl, may.closes, may.alive, may.keyed) said)
 
   -- a transmit

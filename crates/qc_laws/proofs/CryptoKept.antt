@@ -48,11 +48,12 @@ use Rattle.qc_laws.specs.RecoveryLaws as laws
 use Rattle.qc_state.specs.Run.{IsStep, Run, began, called, input_after, reported, time_of}
 use Rattle.qc_state.specs.Run as run
 use Rattle.qc_state.specs.Sending.{packet_size}
+use Rattle.qc_state.specs.StreamFrames.{sealed_steps}
 use Rattle.qc_state.specs.Types.{Types, Meaning}
 use Rattle.qc_state.specs.View.{View, At}
 use Rattle.qc_laws.proofs.EndsHold.{began_ends, ends_seal, known_keeps, low_open, step_ends}
 use Rattle.qc_laws.proofs.KnownMoves.{IsFiredBy, IsKnownMove, IsSettledBy, known_input}
-use Rattle.qc_state.proofs.Probed.{begun_holds}
+use Rattle.qc_state.proofs.Probed.{begun_holds, begun_streams}
 use Rattle.qc_laws.proofs.Recovers.{kept_same, move_parts, recovers_next, seal_folds, shut_rank}
 use Rattle.qc_state.proofs.Telling.{told_appends}
 use Rattle.qc_state.proofs.Transmitted.{IsSealable}
@@ -187,8 +188,8 @@ module _ {t : Types} where
       space opens s (more_here (crypto_of id s))
 
   begin_same : (space : SpaceId) (opens : Bool) (s : View t) (id : SpaceId) → Same id s (state_move (Begin space opens) s)
-  unfolding state_move waiting_move lower_move keys_move life_move
-  begin_same space opens s id = record { more = begun_crypto space opens s id; flight = refl; highest = refl; keys = λ k. k; opened = λ o. o }
+  unfolding state_move waiting_move lower_move streams_stepped keys_move life_move
+  begin_same space opens s id = record { more = begun_crypto space opens s id; flight = ap (λ (l : Lower t.S). (recovery.space_of id l.recovery).flight) (begun_streams space opens s); highest = refl; keys = λ k. k; opened = λ o. o }
 
   -- the keys of a space are dropped
   forget_holds : (space : SpaceId) (s : View t) (id : SpaceId) (before : List Entry) → CryptoKept id before s → CryptoKept id (before ++ []) (state_move (Forget space) s)
@@ -207,7 +208,7 @@ module _ {t : Types} where
 
   -- in the space of an ACK
   ack_here : (m : Meaning t) (n : ℕ) (after : After t.C) (s : View t) (id : SpaceId) (before : List Entry) → IsSettledBy m id after s → CryptoKept id before s → CryptoKept id (before ++ after.acked) (state_move (Ack id n after) s)
-  unfolding state_move waiting_move lower_move keys_move life_move packets_lost packets_acked packets_settled settled_by
+  unfolding state_move waiting_move lower_move streams_stepped keys_move life_move packets_lost packets_acked packets_settled settled_by
   ack_here m n after s id before settled h =
       let w : SpaceWaiting = acked_in (space_of s.waiting.spaces id) after.acked in
       let as_was : w.crypto ≡ crypto_of id s = acked_crypto (space_of s.waiting.spaces id) after.acked in
@@ -224,7 +225,7 @@ module _ {t : Types} where
 
   -- in another one
   ack_apart : (m : Meaning t) (space : SpaceId) (n : ℕ) (after : After t.C) (s : View t) (id : SpaceId) (before : List Entry) → IsSettledBy m space after s → is_space id space ≡ false → CryptoKept id before s → CryptoKept id (before ++ []) (state_move (Ack space n after) s)
-  unfolding state_move waiting_move lower_move keys_move life_move packets_lost packets_acked packets_settled settled_by
+  unfolding state_move waiting_move lower_move streams_stepped keys_move life_move packets_lost packets_acked packets_settled settled_by
   ack_apart m space n after s id before settled other h = same_holds id before s (state_move (Ack space n after) s) (record {
     more = more_same (crypto_of id s) _ (settled_other id space s.waiting.spaces after.acked after.lost other);
     flight = ap (λ (a : After t.C). (recovery.space_of id a.recovery).flight) settled.is ∙ ack_other m.control _ id space _ _ _ _ _ s.lower.recovery s.paths.current.kept other;
@@ -243,7 +244,7 @@ module _ {t : Types} where
       (ack_apart m space n after s id before settled other h)
 
   fire_holds : (m : Meaning t) (after : FiredAfter t.C) (s : View t) (id : SpaceId) (before : List Entry) → IsFiredBy m after s → CryptoKept id before s → CryptoKept id (before ++ []) (state_move (Fire after) s)
-  unfolding state_move waiting_move lower_move keys_move life_move timer_fired fired_by
+  unfolding state_move waiting_move lower_move streams_stepped keys_move life_move timer_fired fired_by
   fire_holds m after s id before fires h =
       fire_kept after.fired s.waiting s.lower.recovery after.recovery s.keys.highest (is_open s.life.state) (has_keys s.keys id) id before
       (subst (λ (a : FiredAfter t.C). FiresIn id s.lower.recovery a.recovery a.fired) (sym fires.is) (fired_flight m.control id _ _ s.lower.recovery s.paths.current.kept)) h
@@ -309,19 +310,20 @@ module _ {t : Types} where
 
   seal_kept : (time n size : ℕ) (form : Form) (fs : List FrameValue) (s : View t) (id : SpaceId) (before : List Entry) → (id ≡ number_space form) ⊎ (is_space id (number_space form) ≡ false) → (is_open s.life.state ≡ true → s.waiting.close_owed ≡ false) → CryptoKept id before s →
       CryptoKept id (before ++ []) (state_move (Seal time form n size fs) (state_move (Take (number_space form) fs) s))
-  unfolding state_move waiting_move lower_move keys_move life_move waiting_without packet_told bundle_next flown_packet
+  unfolding state_move waiting_move lower_move streams_stepped keys_move life_move waiting_without packet_told bundle_next flown_packet
   seal_kept time n size form fs s id before (inl is) unowed h =
+      let taken : Lower t.S = streams_stepped (sealed_steps fs) s.lower in
       narrow id (before ++ []) s.keys.highest _ (is_open s.life.state) (has_keys s.keys id) _ _ _ (used_highest s.keys form n) (used_keys s.keys form n id)
-      (subst (λ (b : Buffer). CryptoHolds id (before ++ []) s.keys.highest (is_open s.life.state) (has_keys s.keys id) b (recovery.space_of id (if s.waiting.close_owed then s.lower else packet_flown s.lower (number_space form) n (flown_packet time size fs)).recovery).flight)
+      (subst (λ (b : Buffer). CryptoHolds id (before ++ []) s.keys.highest (is_open s.life.state) (has_keys s.keys id) b (recovery.space_of id (if s.waiting.close_owed then taken else packet_flown taken (number_space form) n (flown_packet time size fs)).recovery).flight)
       (sym (ap (λ (v : Spaces SpaceWaiting). (space_of v id).crypto) (bundled_spaces _ _ (list_any is_ack fs))
       ∙ subst (λ (x : SpaceId). let u : Spaces SpaceWaiting = with_space s.waiting.spaces x (without_all (space_of s.waiting.spaces x) fs) in (space_of (with_space u x (record (space_of u x) { told = true })) id).crypto ≡ (without_all (space_of s.waiting.spaces id) fs).crypto) is (sealed_stream id s.waiting.spaces fs)))
       (here_values id before s.keys.highest (is_open s.life.state) (has_keys s.keys id) s.waiting.close_owed (space_of s.waiting.spaces id) (flight_of id s) _ n (flown_packet time size fs) fs refl unowed
-      (λ no. flown_lower s.waiting.close_owed s.lower (number_space form) n (flown_packet time size fs) id no is) h))
+      (λ no. flown_lower s.waiting.close_owed taken (number_space form) n (flown_packet time size fs) id no is) h))
   seal_kept time n size form fs s id before (inr other) unowed h =
       narrow id (before ++ []) s.keys.highest _ (is_open s.life.state) (has_keys s.keys id) _ _ _ (used_highest s.keys form n) (used_keys s.keys form n id)
       (apart_values id before s.keys.highest (is_open s.life.state) (has_keys s.keys id) (crypto_of id s) _ (flight_of id s) _
       (ap (λ (v : Spaces SpaceWaiting). (space_of v id).crypto) (bundled_spaces _ _ (list_any is_ack fs)) ∙ sealed_apart id (number_space form) s.waiting.spaces fs other)
-      (apart_lower s.waiting.close_owed s.lower (number_space form) n (flown_packet time size fs) id other) h)
+      (apart_lower s.waiting.close_owed (streams_stepped (sealed_steps fs) s.lower) (number_space form) n (flown_packet time size fs) id other) h)
 
 -- ---- inputs, steps and runs
 
@@ -380,7 +382,7 @@ module _ {t : Types} where
 
   keeping_packet : (m : Meaning t) (time : ℕ) (form : Form) (fs : List FrameValue) (a : At t) → IsSealable time a.state form fs → Ends a.state →
       Keeping m a (move_to (Seal time form (next_number a.state.numbers (number_space form)) (packet_size a.state form fs) fs) (move_to (Take (number_space form) fs) a))
-  unfolding steps_of state_move lower_move paths_move keys_move deeds_move move_to waiting_move waiting_without
+  unfolding steps_of state_move lower_move streams_stepped paths_move keys_move deeds_move move_to waiting_move waiting_without
   keeping_packet m time form fs a may ends =
       let space : SpaceId = number_space form in
       let n : ℕ = next_number a.state.numbers space in

@@ -240,7 +240,7 @@ module _ {t : Types} where
   ends_seal time form fs a may =
       let b : At t = move_to (Take (number_space form) fs) a in
       let seal : Move t = Seal time form (next_number a.state.numbers (number_space form)) (packet_size a.state form fs) fs in
-      next a b (move_to seal b) (move_keeps (Take (number_space form) fs) tt a tt) (move_keeps seal tt b (refl, may.closes, may.alive, may.keyed))
+      next a b (move_to seal b) (move_keeps (Take (number_space form) fs) tt a may.takes) (move_keeps seal tt b (refl, may.closes, may.alive, may.keyed))
 
   -- a call that begins
   pub began_ends : (s : View t) (time : ℕ) → Ends s → Ends (began s time).state

@@ -123,7 +123,7 @@ module _ {t : Types} (R : At t → At t → Type 0) (here : (a : At t) → R a a
   sealed time form fs a may =
       let b : At t = move_to (Take (number_space form) fs) a in
       let seal : Move t = Seal time form (next_number a.state.numbers (number_space form)) (packet_size a.state form fs) fs in
-      next a b _ (move (Take (number_space form) fs) tt a tt) (move seal tt b (refl, may.closes, may.alive, may.keyed))
+      next a b _ (move (Take (number_space form) fs) tt a may.takes) (move seal tt b (refl, may.closes, may.alive, may.keyed))
 
   -- the application closes, or has closed before
   closed_by : (time : ℕ) (close : Close) (a : At t) (b : Bool) → is_open a.state.life.state ≡ b → R a (if b then move_to (Shut time close) a else a)

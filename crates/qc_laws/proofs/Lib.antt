@@ -37,11 +37,15 @@ pub mod CryptoBegins
 pub mod TimerFlights
 pub mod StreamSteps
 pub mod StreamCalls
+pub mod ReadSteps
+pub mod StreamsSealed
 pub mod StreamsMade
 pub mod StreamsFold
-pub mod ReadSteps
 pub mod ReadEnds
 pub mod ReadsHold
+pub mod WriteEnds
+pub mod WriteSteps
+pub mod WritesHold
 pub mod StreamHolds
 pub mod StreamBegins
 pub mod AckMarks

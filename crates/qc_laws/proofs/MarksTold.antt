@@ -409,7 +409,7 @@ module _ {t : Types} where
       let b : At t = move_to (Take space fs) a in
       let said : AcksTell (told_counts (MarksOf space (waiting_without a.state.waiting space fs))) fs =
       subst (λ (x : Option EcnCounts). AcksTell (told_counts x) fs) (sym (taken_marks space space a.state.waiting fs)) (carries_tells may.closing time a.state form may.room fs may.carries) in
-      counted_next id None a b _ (counted_move id None (Take space fs) a tt tt)
+      counted_next id None a b _ (counted_move id None (Take space fs) a may.takes tt)
       (counted_move id None (Seal time form (next_number a.state.numbers (number_space form)) (packet_size a.state form fs) fs) b (refl, may.closes, may.alive, may.keyed) said)
 
   -- a transmit

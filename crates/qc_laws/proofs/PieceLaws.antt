@@ -1,5 +1,5 @@
 -- What is told of a packet that came, and that it gives to the layers what the applied frames of its payload give.
-use Rattle.std.proofs.Common.{◌≡◌, ◌⊎◌, inl, inr, ℕ, List, [], ◌∷◌, ◌++◌, length, refl, ap, ◌∙◌, Bool, true, false, Option, Some, None, if◌then◌else◌, append_assoc, append-nil}
+use Rattle.std.proofs.Common.{◌≡◌, ◌⊎◌, inl, inr, ℕ, List, [], ◌∷◌, ◌++◌, length, refl, ap, sym, ◌∙◌, Bool, true, false, Option, Some, None, if◌then◌else◌, append_assoc, append-nil}
 use Rattle.std.specs.Prelude.{not, Ok, Err}
 use Rattle.std.specs.List.{list_any}
 use Rattle.qc_base.specs.declared.side.Side.TheVariants.{Server}
@@ -19,16 +19,13 @@ use Rattle.qc_state.specs.declared.life.ConnectionError.TheVariants as lost
 use Rattle.qc_state.specs.declared.life.State.TheVariants as state
 use Rattle.qc_state.specs.declared.opening.Opening.{Opening}
 use Rattle.qc_state.specs.declared.opening.Opening.TheVariants.{Unreadable, Unopened, Reserved, Opened}
-use Rattle.qc_state.specs.declared.opening.Signs.{Signs}
 use Rattle.qc_state.specs.declared.trace.Step.{Step}
-use Rattle.qc_state.specs.Keys.{fails_too_often, keys_dropped}
+use Rattle.qc_state.specs.Keys.{fails_too_often}
 use Rattle.qc_state.specs.Life.{is_over}
-use Rattle.qc_state.specs.Lower.{flight_dropped, stream_of}
-use Rattle.qc_state.specs.Moves.{Move, Accept, PeerClosesToo, Enter, Expect, Fail, Fix, Forget, Owe, Raise, Tell, armed_with, deeds_move, keys_move, life_move, lower_move, move_to, numbers_move, setup_move, state_move}
-use Rattle.qc_state.specs.Numbers.{number_accepted}
+use Rattle.qc_state.specs.Moves.{Move, Accept, PeerClosesToo, Enter, Expect, Fail, Fix, Forget, Owe, Raise, Tell, armed_with, deeds_move, move_to, state_move}
 use Rattle.qc_state.specs.Opening.{opening_of}
 use Rattle.qc_state.specs.Paths.{is_blocked}
-use Rattle.qc_laws.specs.PieceLaws.{Reading, TellsDatagram, TellsPiece, TellsPieces, gifts_by, opening_deed, opening_gifts, piece_deed, piece_gifts, reading_of}
+use Rattle.qc_laws.specs.PieceLaws.{TellsDatagram, TellsPiece, TellsPieces, gifts_by, opening_deed, opening_gifts, payload_gifts, piece_deed, piece_gifts, view_admitted}
 use Rattle.qc_state.specs.Receiving.{accepted_after, admitted_after, counted_after, cut_of, datagram_after, failed_after, first_after, first_token, fixed_after, fixes_peer, heard_after, is_close_item, is_eliciting_item, opening_after, payload_after, piece_after, pieces_after, piece_told, read_for_close, received_after, signs_of, verdict_after}
 use Rattle.qc_state.specs.Run.{IsStep, began, called, input_after}
 use Rattle.qc_state.specs.Sending.{drops_initial, initial_left}
@@ -40,7 +37,7 @@ use Rattle.qc_state.proofs.Ends.{holds_initial}
 use Rattle.qc_laws.proofs.PathsHold.{counted_did}
 use Rattle.qc_laws.proofs.Receives.{same_cut}
 use Rattle.qc_state.proofs.Telling.{told_appends}
-use Rattle.qc_laws.proofs.Gifts.{Along, Gives, accepted_next, ending_quiet, given_quiet, gives_here, gives_move, payload_gives, quiet_gives, quiet_next, stopped_quiet}
+use Rattle.qc_laws.proofs.Gifts.{Along, Gives, along_same, ending_quiet, given_quiet, gives_here, gives_move, payload_gives, quiet_gives, quiet_next, stopped_quiet}
 
 -- ---- a packet by its verdict
 
@@ -69,46 +66,68 @@ module _ {t : Types} where
     given = h.given;
   }
 
-  -- what decides on its frames stands as they begin
-  left_along : (s : View t) (id : SpaceId) (r : Reading t.S) (blocked : Bool) (time : ℕ) (a : At t) (b : Bool) → Along s id r a.state →
-      let c : At t = if b then armed_with blocked time (move_to (Forget Initial) a) else a in Along s id r c.state
-  unfolding armed_with move_to state_move setup_move keys_move life_move numbers_move lower_move flight_dropped stream_of keys_dropped
-  left_along s id r blocked time a true h = record { fixed = h.fixed; highest = h.highest; life = h.life; next = h.next; skipped = h.skipped; stream = h.stream; session = h.session; streams = h.streams; datagrams = h.datagrams }
-  left_along s id r blocked time a false h = h
+  -- the view in which its frames are read, whatever was told before
+  left_state : (blocked : Bool) (time : ℕ) (a : At t) (b : Bool) → (if b then armed_with blocked time (move_to (Forget Initial) a) else a).state
+      ≡ (if b then (armed_with blocked time (move_to (Forget Initial) (at a.state []))).state else a.state)
+  unfolding armed_with move_to
+  left_state blocked time a true = refl
+  left_state blocked time a false = refl
 
-  fixed_along : (s : View t) (id : SpaceId) (r : Reading t.S) (source : List ℕ) (a : At t) (b : Bool) → Along s id r a.state → let c : At t = if b then move_to (Fix source) a else a in Along s id r c.state
-  unfolding move_to state_move setup_move keys_move life_move numbers_move lower_move
-  fixed_along s id r source a true h = record { fixed = h.fixed; highest = h.highest; life = h.life; next = h.next; skipped = h.skipped; stream = h.stream; session = h.session; streams = h.streams; datagrams = h.datagrams }
-  fixed_along s id r source a false h = h
+  fixed_state : (source : List ℕ) (a : At t) (b : Bool) → (if b then move_to (Fix source) a else a).state ≡ (if b then state_move (Fix source) a.state else a.state)
+  unfolding move_to
+  fixed_state source a true = refl
+  fixed_state source a false = refl
+
+  fixed_alike : (id : SpaceId) (source : List ℕ) (a b : At t) → a.state ≡ b.state → (fixed_after id source a).state ≡ (fixed_after id source b).state
+  unfolding fixed_after
+  fixed_alike id source a b same =
+      fixed_state source a (fixes_peer id a.state) ∙ ap (λ (s : View t). if fixes_peer id s then state_move (Fix source) s else s) same ∙ sym (fixed_state source b (fixes_peer id b.state))
+
+  accepted_alike : (coming : Coming) (id : SpaceId) (number : ℕ) (eliciting spin : Bool) (v : Verdict) (a : At t) →
+      (accepted_after coming id number eliciting spin v a).state ≡ (accepted_after coming id number eliciting spin v (at a.state [])).state
+  unfolding accepted_after initial_left move_to
+  accepted_alike coming id number eliciting spin v a =
+      let accept : Move t = Accept coming.time id number eliciting (signs_of coming spin) v in
+      let b : At t = move_to accept a in
+      let c : At t = move_to accept (at a.state []) in
+      let blocked : Bool = is_blocked b.state.paths in
+      let drops : Bool = drops_initial Server b.state id in
+      left_state blocked coming.time b drops ∙ sym (left_state blocked coming.time c drops)
 
   fixed_quiet : (source : List ℕ) (a : At t) (b : Bool) → Gives [] a (if b then move_to (Fix source) a else a)
   unfolding deeds_move
   fixed_quiet source a true = gives_move [] (Fix source) a refl refl
   fixed_quiet source a false = gives_here a
 
-  accepted_along : (time : ℕ) (id : SpaceId) (number : ℕ) (e : Bool) (signs : Signs) (v : Verdict) (a : At t) → Along a.state id (reading_of a.state id) (move_to (Accept time id number e signs v) a).state
-  unfolding move_to state_move setup_move keys_move life_move numbers_move lower_move number_accepted
-  accepted_along time id number e signs v a = record { fixed = refl; highest = refl; life = refl; next = accepted_next id a.state.numbers number; skipped = refl; stream = refl; session = refl; streams = refl; datagrams = refl }
+  fixed_by : (source : List ℕ) (id : SpaceId) (a : At t) → Gives [] a (fixed_after id source a)
+  unfolding fixed_after
+  fixed_by source id a = fixed_quiet source a (fixes_peer id a.state)
+
+  -- behind the deed that tells of it, its acceptance gives nothing
+  accepted_quiet : (coming : Coming) (id : SpaceId) (number : ℕ) (eliciting spin : Bool) (v : Verdict) (a : At t) →
+      Gives [] (move_to (Accept coming.time id number eliciting (signs_of coming spin) v) a) (accepted_after coming id number eliciting spin v a)
+  unfolding accepted_after
+  accepted_quiet coming id number eliciting spin v a =
+      let b : At t = move_to (Accept coming.time id number eliciting (signs_of coming spin) v) a in
+      holds_initial (Gives []) gives_here quiet_next ending_quiet Server (is_blocked b.state.paths) coming.time id b
 
   -- a packet that is admitted
   admitted_tells : (m : Meaning t) (coming : Coming) (id : SpaceId) (spin : Bool) (source : List ℕ) (number : ℕ) (payload : List ℕ) (a : At t) →
-      TellsPiece (did.Piece (Some id) (Some number) verdict.Admitted) (gifts_by m a.state id payload verdict.Admitted) a (admitted_after m coming id spin source number payload a)
-  unfolding admitted_after accepted_after initial_left fixed_after deeds_move
+      TellsPiece (did.Piece (Some id) (Some number) verdict.Admitted) (gifts_by m coming id spin source number payload verdict.Admitted a.state) a (admitted_after m coming id spin source number payload a)
+  unfolding admitted_after deeds_move
   admitted_tells m coming id spin source number payload a =
-      let r : Reading t.S = reading_of a.state id in
-      let accept : Move t = Accept coming.time id number (list_any is_eliciting_item (items_of payload)) (signs_of coming spin) verdict.Admitted in
+      let eliciting : Bool = list_any is_eliciting_item (items_of payload) in
+      let accept : Move t = Accept coming.time id number eliciting (signs_of coming spin) verdict.Admitted in
       let b : At t = move_to accept a in
-      let blocked : Bool = is_blocked b.state.paths in
-      let c : At t = initial_left Server blocked coming.time id b in
+      let c : At t = accepted_after coming id number eliciting spin verdict.Admitted a in
       let d : At t = fixed_after id source c in
-      let at_b : Along a.state id r b.state = accepted_along coming.time id number (list_any is_eliciting_item (items_of payload)) (signs_of coming spin) verdict.Admitted a in
-      let at_c : Along a.state id r c.state = left_along a.state id r blocked coming.time b (drops_initial Server b.state id) at_b in
-      let at_d : Along a.state id r d.state = fixed_along a.state id r source c (fixes_peer id c.state) at_c in
-      let gifts : List Did = gifts_by m a.state id payload verdict.Admitted in
+      let v : View t = view_admitted coming id spin source number payload a.state in
+      let along : Along v d.state =
+      along_same v d.state (fixed_alike id source c (accepted_after coming id number eliciting spin verdict.Admitted (at a.state [])) (accepted_alike coming id number eliciting spin verdict.Admitted a)) in
+      let gifts : List Did = payload_gifts m coming.time id payload v in
       let e : At t = payload_after m coming id payload d in
       tells_then (did.Piece (Some id) (Some number) verdict.Admitted) gifts accept a e refl
-      (quiet_gives gifts b c e (holds_initial (Gives []) gives_here quiet_next ending_quiet Server blocked coming.time id b)
-      (quiet_gives gifts c d e (fixed_quiet source c (fixes_peer id c.state)) (payload_gives m coming a.state id r payload d at_d)))
+      (quiet_gives gifts b c e (accepted_quiet coming id number eliciting spin verdict.Admitted a) (quiet_gives gifts c d e (fixed_by source id c) (payload_gives m coming id v payload d along)))
 
   closing_quiet : (a : At t) (b : Bool) → Gives [] a (if b then move_to PeerClosesToo a else move_to Owe a)
   unfolding deeds_move
@@ -122,14 +141,12 @@ module _ {t : Types} where
       tells_then (did.Piece (Some id) (Some number) verdict.ReadForClose) [] enter a _ refl (closing_quiet (move_to enter a) (list_any is_close_item (items_of payload)))
 
   ack_only_tells : (coming : Coming) (id : SpaceId) (number : ℕ) (spin : Bool) (a : At t) → TellsPiece (did.Piece (Some id) (Some number) verdict.AckOnly) [] a (accepted_after coming id number false spin verdict.AckOnly a)
-  unfolding accepted_after deeds_move
+  unfolding deeds_move
   ack_only_tells coming id number spin a =
-      let accept : Move t = Accept coming.time id number false (signs_of coming spin) verdict.AckOnly in
-      let b : At t = move_to accept a in
-      tells_then (did.Piece (Some id) (Some number) verdict.AckOnly) [] accept a _ refl (holds_initial (Gives []) gives_here quiet_next ending_quiet Server (is_blocked b.state.paths) coming.time id b)
+      tells_then (did.Piece (Some id) (Some number) verdict.AckOnly) [] (Accept coming.time id number false (signs_of coming spin) verdict.AckOnly) a _ refl (accepted_quiet coming id number false spin verdict.AckOnly a)
 
   verdict_tells : (m : Meaning t) (coming : Coming) (id : SpaceId) (spin : Bool) (source : List ℕ) (number : ℕ) (payload : List ℕ) (v : Verdict) (a : At t) → is_read v ≡ true →
-      TellsPiece (did.Piece (Some id) (Some number) v) (gifts_by m a.state id payload v) a (verdict_after m coming id spin source number payload v a)
+      TellsPiece (did.Piece (Some id) (Some number) v) (gifts_by m coming id spin source number payload v a.state) a (verdict_after m coming id spin source number payload v a)
   unfolding deeds_move
   verdict_tells m coming id spin source number payload verdict.Ignored a h = cc
   verdict_tells m coming id spin source number payload verdict.Failure a h = cc
@@ -150,7 +167,7 @@ module _ {t : Types} where
 
   pub received_tells : (m : Meaning t) (coming : Coming) (id : SpaceId) (spin : Bool) (source token : List ℕ) (number : ℕ) (payload : List ℕ) (a : At t) →
       let v : Verdict = verdict_of a.state id source token number in
-      TellsPiece (did.Piece (Some id) (Some number) v) (gifts_by m a.state id payload v) a (received_after m coming id spin source token number payload a)
+      TellsPiece (did.Piece (Some id) (Some number) v) (gifts_by m coming id spin source number payload v a.state) a (received_after m coming id spin source token number payload a)
   unfolding received_after
   received_tells m coming id spin source token number payload a =
       verdict_tells m coming id spin source number payload (verdict_of a.state id source token number) a (read_row a.state id source token number)
@@ -191,7 +208,7 @@ module _ {t : Types} where
       tells_then d [] (Tell d) a _ refl (stopped_quiet time (violation_at None) (move_to (Tell d) a))
 
   opening_tells : (m : Meaning t) (coming : Coming) (space : Option SpaceId) (o : Opening) (a : At t) →
-      TellsPiece (opening_deed a.state space o) (opening_gifts m a.state space o) a (opening_after m coming space o a)
+      TellsPiece (opening_deed a.state space o) (opening_gifts m coming a.state space o) a (opening_after m coming space o a)
   opening_tells m coming space Unreadable a = told_as (did.Piece space None verdict.Ignored) a
   opening_tells m coming space Unopened a = failed_tells space a
   opening_tells m coming space (Reserved number) a = reserved_tells coming.time space number a
@@ -199,12 +216,12 @@ module _ {t : Types} where
   opening_tells m coming None (Opened source token spin number payload) a = told_as (did.Piece None None verdict.Ignored) a
 
   piece_by : (m : Meaning t) (coming : Coming) (space : Option SpaceId) (o : Opening) (a : At t) (b : Bool) →
-      TellsPiece (if b then did.Piece space None verdict.Ignored else opening_deed a.state space o) (if b then [] else opening_gifts m a.state space o) a
+      TellsPiece (if b then did.Piece space None verdict.Ignored else opening_deed a.state space o) (if b then [] else opening_gifts m coming a.state space o) a
       (if b then piece_told space None verdict.Ignored a else opening_after m coming space o a)
   piece_by m coming space o a true = told_as (did.Piece space None verdict.Ignored) a
   piece_by m coming space o a false = opening_tells m coming space o a
 
-  pub piece_tells : (m : Meaning t) (coming : Coming) (p : Piece) (a : At t) → TellsPiece (piece_deed m a.state p) (piece_gifts m a.state p) a (piece_after m coming p a)
+  pub piece_tells : (m : Meaning t) (coming : Coming) (p : Piece) (a : At t) → TellsPiece (piece_deed m a.state p) (piece_gifts m coming a.state p) a (piece_after m coming p a)
   unfolding piece_after
   piece_tells m coming p a = piece_by m coming (space_of p.header) (opening_of m a.state p) a (is_over a.state.life.state)
 

@@ -26,7 +26,7 @@ use Rattle.qc_state.specs.Flight.{flown_packet}
 use Rattle.qc_state.specs.Forms.{number_space}
 use Rattle.qc_state.specs.Life.{connected_event, data_ready, datagram_heard, event_if, identifiers_wanted, life_closed, life_drained, life_established, life_raised, lost_event, ready_event, reason_given, token_learned, ready_reported, connected_reported, all_heard_reported, lost_reported, notices_reported, drained_reported}
 use Rattle.qc_state.specs.Lower.{bytes_came, datagrams_stepped, events_told, flight_dropped, frame_handed, limits_learned, packet_flown, packets_settled, session_read, session_wrote, streams_closed, streams_stepped, timer_fired}
-use Rattle.qc_state.specs.Moves.{Call, Give, Hand, IsTold, MayMove, Move, Post, ReportHeard, ReportAllHeard, ReportStream, ReportStreams, Seal, Take, Tell, deeds_move, life_move, lower_move, move_to, state_move, told_to_streams}
+use Rattle.qc_state.specs.Moves.{Begin, Call, Give, Hand, IsTold, MayMove, Move, Post, ReportHeard, ReportAllHeard, ReportStream, ReportStreams, Seal, Take, Tell, deeds_move, life_move, lower_move, move_to, state_move, told_to_streams}
 use Rattle.qc_state.specs.Numbers.{next_number}
 use Rattle.qc_state.specs.Polls.{waiting_events}
 use Rattle.qc_state.specs.Run.{IsAllowed, IsStep, Run, answer_of, began, called, called_all, datagram_limit, input_after, reported, time_of}
@@ -36,6 +36,7 @@ use Rattle.qc_state.specs.Streams.{calls_of, events_of}
 use Rattle.qc_streams.specs.Waits as streams
 use Rattle.qc_state.specs.Types.{Types, Meaning}
 use Rattle.qc_state.specs.View.{View, At}
+use Rattle.qc_state.proofs.Probed.{begun_streams}
 use Rattle.qc_state.proofs.Telling.{told_appends}
 use Rattle.qc_laws.specs.EventLaws.{once}
 use Rattle.qc_laws.specs.PostLaws.{AreCame, ArePosts, FoldsPosts, MakesPosts, count_told, heard_in}
@@ -173,6 +174,7 @@ module _ {t : Types} where
   moved_datagrams : (m : Meaning t) (x : Move t) (s : View t) → IsKnownMove m x s → IsUncalled x → (lower_move x s).datagrams ≡ after (steps_by x) s.lower.datagrams
   unfolding lower_move flight_dropped packets_settled timer_fired bytes_came session_read session_wrote limits_learned frame_handed streams_closed streams_stepped datagrams_stepped after
   moved_datagrams m (Seal time form n size fs) s k u = absurd k
+  moved_datagrams m (Begin id opens) s k u = ap (λ (l : Lower t.S). l.datagrams) (begun_streams id opens s)
   moved_datagrams m (Hand frame) s k u = refl
   moved_datagrams m (Post x) s k u = absurd u
   moved_datagrams m (Call x) s k u = absurd u
@@ -212,7 +214,7 @@ module _ {t : Types} where
   -- a packet is taken and sealed
   packet_folds : (time : ℕ) (form : Form) (fs : List FrameValue) (a : At t) →
       Folds a (move_to (Seal time form (next_number a.state.numbers (number_space form)) (packet_size a.state form fs) fs) (move_to (Take (number_space form) fs) a))
-  unfolding move_to state_move lower_move deeds_move life_move after
+  unfolding move_to state_move lower_move streams_stepped deeds_move life_move after
   packet_folds time form fs a =
       let b : At t = move_to (Take (number_space form) fs) a in
       let n : ℕ = next_number a.state.numbers (number_space form) in

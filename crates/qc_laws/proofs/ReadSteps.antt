@@ -48,7 +48,7 @@ pub record Parts (kind : Step → Bool) (front made rest : List Step) : Type 0 w
   pub middle : NoneOf kind made
   pub last : NoneOf kind rest
 
-parts : (kind : Step → Bool) (steps front made rest : List Step) → steps ≡ front ++ (made ++ rest) → NoneOf kind steps → Parts kind front made rest
+pub parts : (kind : Step → Bool) (steps front made rest : List Step) → steps ≡ front ++ (made ++ rest) → NoneOf kind steps → Parts kind front made rest
 parts kind steps front made rest is h =
     let all : NoneOf kind (front ++ (made ++ rest)) = subst (λ (xs : List Step). NoneOf kind xs) is h in
     let behind : NoneOf kind (made ++ rest) = none_back kind front (made ++ rest) all in

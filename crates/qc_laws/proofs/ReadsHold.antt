@@ -133,7 +133,7 @@ all_stay (x ∷ xs) h = both (keeps_streams x) (list_all keeps_streams xs) (stay
 
 -- ---- steps of the streams, over calls with their steps
 
-record Reached (calls : List (Input × TraceStep)) (s s' : StreamsState) : Type 0 where
+pub record Reached (calls : List (Input × TraceStep)) (s s' : StreamsState) : Type 0 where
   pub steps : List Step
   pub may : AllMay steps s
   pub leads : s' ≡ after steps s
@@ -141,11 +141,11 @@ record Reached (calls : List (Input × TraceStep)) (s s' : StreamsState) : Type 
   pub called : AreMade is_call MakesCall calls steps s
   pub only : NoneOf is_other steps
 
-reached_here : (s s' : StreamsState) → s' ≡ s → Reached [] s s'
+pub reached_here : (s s' : StreamsState) → s' ≡ s → Reached [] s s'
 unfolding AllMay after
 reached_here s s' is = record { steps = []; may = tt; leads = is; handed = refl; called = refl; only = refl }
 
-reached_next : (calls more : List (Input × TraceStep)) (u v w : StreamsState) → Reached calls u v → Reached more v w → Reached (calls ++ more) u w
+pub reached_next : (calls more : List (Input × TraceStep)) (u v w : StreamsState) → Reached calls u v → Reached more v w → Reached (calls ++ more) u w
 reached_next calls more u v w g h = record {
   steps = g.steps ++ h.steps;
   may = may_append g.steps h.steps u g.may (subst (λ (x : StreamsState). AllMay h.steps x) g.leads h.may);
@@ -156,9 +156,23 @@ reached_next calls more u v w g h = record {
   only = none_append is_other g.steps h.steps g.only h.only;
 }
 
+module _ {t : Types} where
+  -- those of an input
+  pub step_reached : (m : Meaning t) (k : ℕ) (s : View t) (i : Input) (x : TraceStep) (s' : View t) → IsStep m k s i x s' → Reached ((i, x) ∷ []) s.lower.streams s'.lower.streams
+  step_reached m k s i x s' h =
+      let o = step_over m k s i x s' h in
+      record {
+        steps = o.steps;
+        may = o.are.may;
+        leads = o.leads;
+        handed = subst (λ (bodies : List (List ℕ)). AreMade is_came MakesFrame bodies o.steps s.lower.streams) (sym (append-nil (given_to_streams x.did))) o.are.handed;
+        called = o.are.called;
+        only = o.are.only;
+      }
+
 -- ---- from new streams on
 
-new_sound : (side : Side) (transport : TransportValues) → Holds (first_streams side transport)
+pub new_sound : (side : Side) (transport : TransportValues) → Holds (first_streams side transport)
 unfolding new_streams
 new_sound side transport = nothing _
 
@@ -225,18 +239,6 @@ module _ (side : Side) (transport : TransportValues) where
     end_is before s r (input.Read time id max) x choice may answers _ is = tt
     end_is before s r _ x choice may answers a is = tt
 
-    step_reached : (k : ℕ) (s : View t) (i : Input) (x : TraceStep) (s' : View t) → IsStep m k s i x s' → Reached ((i, x) ∷ []) s.lower.streams s'.lower.streams
-    step_reached k s i x s' h =
-        let o = step_over m k s i x s' h in
-        record {
-          steps = o.steps;
-          may = o.are.may;
-          leads = o.leads;
-          handed = subst (λ (bodies : List (List ℕ)). AreMade is_came MakesFrame bodies o.steps s.lower.streams) (sym (append-nil (given_to_streams x.did))) o.are.handed;
-          called = o.are.called;
-          only = o.are.only;
-        }
-
     reads_from : (k : ℕ) (before : List (Input × TraceStep)) (s : View t) (is : List Input) (xs : List TraceStep) (s' : View t) → Reached before New s.lower.streams → Run m k s is xs s' →
         EachEnd before (with_steps is xs) × EachClosed before (with_steps is xs) × Reached (before ++ with_steps is xs) New s'.lower.streams
     unfolding Run
@@ -245,7 +247,7 @@ module _ (side : Side) (transport : TransportValues) where
     reads_from k before s (i ∷ is) (x ∷ xs) s' r goes =
         let h = goes.1 in
         let mid : View t = goes.0 in
-        let more : Reached (before ++ (i, x) ∷ []) New mid.lower.streams = reached_next before ((i, x) ∷ []) New s.lower.streams mid.lower.streams r (step_reached k s i x mid h) in
+        let more : Reached (before ++ (i, x) ∷ []) New mid.lower.streams = reached_next before ((i, x) ∷ []) New s.lower.streams mid.lower.streams r (step_reached m k s i x mid h) in
         let rest = reads_from (k + 1) (before ++ (i, x) ∷ []) mid is xs s' more goes.2 in (
           (end_is before s r i x h.choice h.allowed h.answer x.answer refl, rest.0),
           (closed_is before s r i x h.choice h.allowed h.answer, rest.1),

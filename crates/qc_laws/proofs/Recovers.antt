@@ -48,6 +48,7 @@ use Rattle.qc_state.specs.View.{View, At}
 use Rattle.qc_state.specs.Waiting.{waiting_without}
 use Rattle.qc_laws.proofs.EndsHold.{began_ends, ends_seal, known_keeps, step_ends}
 use Rattle.qc_laws.proofs.KnownMoves.{IsFiredBy, IsKnownMove, IsSettledBy, known_input}
+use Rattle.qc_state.proofs.Probed.{begun_streams}
 use Rattle.qc_state.proofs.Telling.{told_appends}
 use Rattle.qc_state.proofs.Transmitted.{IsSealable}
 use Rattle.qc_laws.proofs.StreamCalls.{handed_told}
@@ -195,7 +196,7 @@ module _ {t : Types} where
   move_parts m (Arm due) s k may = (tt, refl, (λ id. refl))
   move_parts m Pace s k may = (tt, refl, (λ id. refl))
   move_parts m Release s k may = (tt, refl, (λ id. refl))
-  move_parts m (Begin id opens) s k may = (tt, refl, (λ id. refl))
+  move_parts m (Begin id opens) s k may = (tt, ap (λ (l : Lower t.S). record { recovery = l.recovery; path = s.paths.current.kept }) (begun_streams id opens s), (λ id. refl))
   move_parts m Skip s k may = (tt, refl, (λ id. refl))
   move_parts m (Come id offset bytes) s k may = (tt, refl, (λ id. refl))
   move_parts m (Read id count session) s k may = (tt, refl, (λ id. refl))
@@ -226,7 +227,7 @@ module _ {t : Types} where
   -- a packet is taken and sealed
   packet_folds : (m : Meaning t) (time : ℕ) (form : Form) (fs : List FrameValue) (a : At t) → IsSealable time a.state form fs → Ends a.state →
       Folds m a (move_to (Seal time form (next_number a.state.numbers (number_space form)) (packet_size a.state form fs) fs) (move_to (Take (number_space form) fs) a))
-  unfolding steps_of step_after state_move lower_move paths_move waiting_move waiting_without deeds_move move_to
+  unfolding steps_of step_after state_move lower_move streams_stepped paths_move waiting_move waiting_without deeds_move move_to
   packet_folds m time form fs a may ends =
       let b : At t = move_to (Take (number_space form) fs) a in
       let owed : Bool = b.state.waiting.close_owed in

@@ -19,7 +19,7 @@ use Rattle.qc_state.specs.Forms.{number_space}
 use Rattle.qc_state.specs.Headline.{deeds_of}
 use Rattle.qc_state.specs.Life.{is_open, is_over}
 use Rattle.qc_state.specs.Lower.{bytes_came, flight_dropped, packets_settled, ready_bytes, session_read, session_wrote, stream_of, timer_fired, limits_learned, frame_handed, streams_closed, streams_stepped, events_told, event_told, datagrams_stepped}
-use Rattle.qc_state.specs.Moves.{Accept, Ack, Ask, Come, Enter, Fire, Forget, Move, Read, Seal, Shut, Take, Tell, Write, deeds_move, lower_move, move_to, state_move, Hand, Call, Post}
+use Rattle.qc_state.specs.Moves.{Accept, Ack, Ask, Begin, Come, Enter, Fire, Forget, Move, Read, Seal, Shut, Take, Tell, Write, deeds_move, lower_move, move_to, state_move, Hand, Call, Post}
 use Rattle.qc_state.specs.Numbers.{next_number}
 use Rattle.qc_state.specs.Receiving.{datagram_after}
 use Rattle.qc_state.specs.Run.{IsAllowed, IsStep, Run, began, called, close_after, input_after, reported, step_after, time_of, datagram_limit}
@@ -33,6 +33,7 @@ use Rattle.qc_state.proofs.Expired.{IsTimed, holds_timeout}
 use Rattle.qc_state.proofs.OpenPackets.{IsBeside, given_read, packet_beside, packet_received}
 use Rattle.qc_state.proofs.PacketMoves.{IsInPacket, IsToldOf, OpenPacket}
 use Rattle.qc_laws.proofs.PieceLaws.{received_tells}
+use Rattle.qc_state.proofs.Probed.{begun_streams}
 use Rattle.qc_state.proofs.ReceivedMoves.{IsOutside}
 use Rattle.qc_laws.proofs.Receives.{datagram_holds}
 use Rattle.qc_laws.proofs.StreamSteps.{after_append, bytes_append, came_apart, came_here, flown_stream, front_of, is_same, last_append, last_of, read_apart, read_append, read_here, ready_read, reads_append, same_since}
@@ -127,6 +128,7 @@ module _ {t : Types} (id : SpaceId) where
   unfolding lower_move deeds_move flight_dropped packets_settled session_wrote limits_learned frame_handed streams_closed event_told events_told streams_stepped datagrams_stepped stream_of
   move_within m o (Read space count session) a h beside = absurd beside
   move_within m o (Seal time form n size fs) a h beside = absurd h
+  move_within m o (Begin space opens) a h beside = absurd h
   move_within m o (Fire after) a h beside = absurd h
   move_within m o (Come space offset bytes) a h beside = come_within (is_space id o.space) space offset bytes a (same_or id space)
   move_within m o (Tell d) a h beside = let both = told_stays o d a.state h beside in still_within (is_space id o.space) (Tell d) a refl both.0 both.1
@@ -187,6 +189,7 @@ module _ {t : Types} (id : SpaceId) where
   outside_kept : (time : ℕ) (x : Move t) (a : At t) → IsOutside time x a.state → Kept a (move_to x a)
   unfolding lower_move deeds_move limits_learned streams_closed event_told events_told streams_stepped datagrams_stepped stream_of
   outside_kept time (Seal at form n size fs) a h = absurd h
+  outside_kept time (Begin space opens) a h = absurd h
   outside_kept time (Come space offset bytes) a h = absurd h
   outside_kept time (Read space count session) a h = absurd h
   outside_kept time (Forget space) a h = absurd h
@@ -205,6 +208,7 @@ module _ {t : Types} (id : SpaceId) where
   timed_kept : (x : Move t) → IsTimed x → (a : At t) → Kept a (move_to x a)
   unfolding lower_move deeds_move timer_fired limits_learned streams_closed event_told events_told streams_stepped datagrams_stepped stream_of
   timed_kept (Seal at form n size fs) h a = absurd h
+  timed_kept (Begin space opens) h a = absurd h
   timed_kept (Come space offset bytes) h a = absurd h
   timed_kept (Read space count session) h a = absurd h
   timed_kept (Tell d) h a = absurd h
@@ -226,12 +230,13 @@ module _ {t : Types} (id : SpaceId) where
   sending_kept (Accept time space n e g v) h a = absurd h
   sending_kept (Ack space n after) h a = absurd h
   sending_kept (Fire after) h a = absurd h
+  sending_kept (Begin space opens) h a = still_kept (Begin space opens) a (ap (λ (l : Lower t.S). stream_of l id) (begun_streams space opens a.state)) (λ now. refl)
   sending_kept (Write bytes keys session) h a = absurd h
   sending_kept (Hand frame) h a = absurd h
   sending_kept x h a = still_kept x a refl (λ now. refl)
 
   seal_kept : (time : ℕ) (form : Form) (fs : List FrameValue) (a : At t) → Kept a (move_to (Seal time form (next_number a.state.numbers (number_space form)) (packet_size a.state form fs) fs) (move_to (Take (number_space form) fs) a))
-  unfolding lower_move deeds_move
+  unfolding lower_move deeds_move streams_stepped stream_of
   seal_kept time form fs a =
       let b : At t = move_to (Take (number_space form) fs) a in
       kept_next a b _ (still_kept (Take (number_space form) fs) a refl (λ now. refl))

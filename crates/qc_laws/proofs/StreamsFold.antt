@@ -23,32 +23,38 @@ use Rattle.qc_state.specs.declared.life.State.{State}
 use Rattle.qc_state.specs.declared.lower.Lower.{Lower}
 use Rattle.qc_state.specs.declared.trace.Step.{Step as TraceStep}
 use Rattle.qc_state.specs.Flight.{flown_packet}
-use Rattle.qc_state.specs.Forms.{number_space}
-use Rattle.qc_state.specs.Headline.{deeds_of, lives_in}
+use Rattle.qc_state.specs.Forms.{is_early, number_space}
+use Rattle.qc_state.specs.Headline.{deeds_of}
+use Rattle.qc_state.specs.Keys.{epoch_in}
 use Rattle.qc_state.specs.Life.{connected_event, event_if, lost_event, rank_of, ready_event}
 use Rattle.qc_state.specs.Lower.{bytes_came, events_told, flight_dropped, frame_handed, limits_learned, packet_flown, packets_settled, session_read, session_wrote, streams_closed, streams_stepped, timer_fired, datagrams_stepped}
-use Rattle.qc_state.specs.Moves.{Call, Establish, Hand, Learn, MayMove, Move, PeerCloses, PeerClosesToo, Raise, ReportStream, ReportStreams, Seal, Shut, Take, Tell, deeds_move, lower_move, move_to, state_move, Post}
+use Rattle.qc_state.specs.Moves.{Ack, Begin, Call, Establish, Fire, Hand, Learn, MayMove, Move, PeerCloses, PeerClosesToo, Raise, ReportStream, ReportStreams, Seal, Shut, Take, Tell, deeds_move, keys_move, lower_move, move_to, state_move, Post}
 use Rattle.qc_state.specs.Numbers.{next_number}
+use Rattle.qc_state.specs.Offers.{begun_steps, packet_begun}
 use Rattle.qc_state.specs.Polls.{waiting_events}
 use Rattle.qc_state.specs.Run.{IsAllowed, IsStep, Run, answer_of, began, called, called_all, input_after, reported, time_of, datagram_limit}
 use Rattle.qc_state.specs.Run as run
 use Rattle.qc_state.specs.Sending.{Choice, packet_size}
+use Rattle.qc_state.specs.StreamFrames.{acked_steps, fired_steps, lost_steps, sealed_steps}
 use Rattle.qc_state.specs.Streams.{asked_for, calls_of, events_of}
 use Rattle.qc_state.specs.Types.{Types, Meaning}
 use Rattle.qc_state.specs.View.{View, At}
+use Rattle.qc_state.proofs.Probed.{begun_streams}
 use Rattle.qc_state.proofs.Telling.{told_appends}
+use Rattle.qc_state.proofs.Transmitted.{IsSealable}
 use Rattle.qc_laws.specs.EventLaws as events
-use Rattle.qc_laws.specs.StreamsLaws.{FoldsStreams, given_to_streams, is_streams_call, streams_steps, streams_told, with_steps, AreMade, MakesEvent, is_asked}
+use Rattle.qc_laws.specs.StreamsLaws.{FoldsStreams, is_streams_call, streams_steps, streams_told, with_steps, AreMade, MakesEvent, is_asked}
 use Rattle.qc_laws.proofs.KnownMoves.{IsKnownMove, IsUncalled, known_other, is_called, uncalled_streams}
 use Rattle.qc_laws.proofs.StreamCalls.{calls_may}
-use Rattle.qc_laws.proofs.StreamsMade.{Are, are_append, asked_are, calls_are, close_are, frame_are, given_append, limits_are, low_are, none_are, other_are, told_are}
+use Rattle.qc_laws.proofs.StreamsMade.{Are, apart_are, are_append, asked_are, calls_are, close_are, frame_are, limits_are, low_are, none_are, other_are, sealed_are, settled_are, told_are}
+use Rattle.qc_laws.proofs.StreamsSealed.{begun_all, fired_all, settled_all}
 use Rattle.qc_laws.specs.EventLaws.{OnlyDoneWaits}
 use Rattle.qc_laws.proofs.EventsTold.{called_done, step_done}
 use Rattle.std.specs.List.{list_all}
 use Rattle.qc_datagrams.specs.Steps as datagrams
 
 -- an input that is no call of the streams makes none
-none_called : (i : Input) (read : Result (Option Chunk) ReadFault) (s : StreamsState) → is_streams_call i ≡ false → [] ≡ calls_of i read s
+pub none_called : (i : Input) (read : Result (Option Chunk) ReadFault) (s : StreamsState) → is_streams_call i ≡ false → [] ≡ calls_of i read s
 none_called (input.Datagram time remote ecn bytes) read s h = refl
 none_called (input.Timeout time) read s h = refl
 none_called (input.Transmit time max) read s h = refl
@@ -64,16 +70,7 @@ unfolding packet_flown
 flown_streams true l id n packet = refl
 flown_streams false l id n packet = refl
 
--- ---- ranks and events, one list behind another
-
-lives_append : (ds es : List Did) → lives_in (ds ++ es) ≡ lives_in ds ++ lives_in es
-lives_append [] es = refl
-lives_append (did.Sealed space n epoch early fs ∷ ds) es = lives_append ds es
-lives_append (did.Piece space number v ∷ ds) es = lives_append ds es
-lives_append (did.Gave to body ∷ ds) es = lives_append ds es
-lives_append (did.Rose life ∷ ds) es = ap (λ (ranks : List ℕ). life ∷ ranks) (lives_append ds es)
-lives_append (did.Lost why ∷ ds) es = lives_append ds es
-lives_append (did.Quiet why ∷ ds) es = lives_append ds es
+-- ---- events, one list behind another
 
 events_append : (es fs : List Event) → streams_told (es ++ fs) ≡ streams_told es ++ streams_told fs
 events_append [] fs = refl
@@ -116,13 +113,19 @@ module _ {t : Types} where
 
   -- what is said of a move
   abbrev MoveFolds : Move t → View t → Type 0
-  MoveFolds x s =
-      ((state_move x s).lower.streams ≡ after (streams_steps x s) s.lower.streams) × Are (streams_steps x s) (given_to_streams (deeds_move x s)) [] (lives_in (deeds_move x s)) [] s.lower.streams
+  MoveFolds x s = ((state_move x s).lower.streams ≡ after (streams_steps x s) s.lower.streams) × Are (streams_steps x s) (deeds_move x s) [] [] s.lower.streams
+
+  begun_leads : (id : SpaceId) (opens : Bool) (s : View t) → (packet_begun id opens s).lower.streams ≡ after (begun_steps id opens s) s.lower.streams
+  unfolding streams_stepped
+  begun_leads id opens s = ap (λ (l : Lower t.S). l.streams) (begun_streams id opens s)
 
   move_folds : (m : Meaning t) (x : Move t) (s : View t) → IsKnownMove m x s → IsUncalled x → MayMove x s → MoveFolds x s
   unfolding streams_steps state_move lower_move deeds_move flight_dropped packets_settled timer_fired bytes_came session_read session_wrote limits_learned frame_handed streams_closed streams_stepped datagrams_stepped MayMove after
   move_folds m (Take id fs) s k u may = absurd k
   move_folds m (Seal time form n size fs) s k u may = absurd k
+  move_folds m (Begin id opens) s k u may = (begun_leads id opens s, settled_are (begun_steps id opens s) s.lower.streams (begun_all id opens s))
+  move_folds m (Ack id n r) s k u may = (refl, settled_are (acked_steps r.acked ++ lost_steps r.lost) s.lower.streams (settled_all r.acked r.lost))
+  move_folds m (Fire r) s k u may = (refl, settled_are (fired_steps r.fired) s.lower.streams (fired_all r.fired))
   move_folds m (Hand frame) s k u may = (refl, frame_are frame s.lower.streams)
   move_folds m (Call x) s k u may = absurd u
   move_folds m (Learn parameters) s k u may = (refl, limits_are _ s.lower.streams)
@@ -134,16 +137,16 @@ module _ {t : Types} where
   move_folds m (Tell d) s k u may = (refl, told_are d s.lower.streams may k)
   move_folds m ReportStream s k u may = absurd k
   move_folds m ReportStreams s k u may = absurd k
-  move_folds m _ s k u may = (refl, none_are s.lower.streams)
+  move_folds m x s k u may = (refl, apart_are (deeds_move x s) s.lower.streams refl refl refl)
 
-  -- ---- from one moment of an input to another, where it is no call of the streams
+  -- ---- from one moment to another of an input, where it is no call of the streams
 
   record Folds (a b : At t) : Type 0 where
     pub since : List Did
     pub appended : b.did ≡ a.did ++ since
     pub steps : List Step
     pub leads : b.state.lower.streams ≡ after steps a.state.lower.streams
-    pub are : Are steps (given_to_streams since) [] (lives_in since) [] a.state.lower.streams
+    pub are : Are steps since [] [] a.state.lower.streams
 
   folds_here : (a : At t) → Folds a a
   unfolding after
@@ -152,36 +155,37 @@ module _ {t : Types} where
   folds_next : (a b c : At t) → Folds a b → Folds b c → Folds a c
   folds_next a b c g h =
       let s : StreamsState = a.state.lower.streams in
-      let steps : List Step = g.steps ++ h.steps in
       record {
         since = g.since ++ h.since;
         appended = h.appended ∙ ap (λ (x : List Did). x ++ h.since) g.appended ∙ append_assoc a.did g.since h.since;
-        steps = steps;
+        steps = g.steps ++ h.steps;
         leads = h.leads ∙ ap (λ (x : StreamsState). after h.steps x) g.leads ∙ sym (after_append g.steps h.steps s);
-        are = subst (λ (bodies : List (List ℕ)). Are steps bodies [] (lives_in (g.since ++ h.since)) [] s) (sym (given_append g.since h.since))
-            (subst (λ (ranks : List ℕ). Are steps (given_to_streams g.since ++ given_to_streams h.since) [] ranks [] s) (sym (lives_append g.since h.since))
-            (are_append g.steps h.steps (given_to_streams g.since) (given_to_streams h.since) [] [] (lives_in g.since) (lives_in h.since) [] [] s g.are
-            (subst (λ (x : StreamsState). Are h.steps (given_to_streams h.since) [] (lives_in h.since) [] x) g.leads h.are)));
+        are = are_append g.steps h.steps g.since h.since [] [] [] [] s g.are (subst (λ (x : StreamsState). Are h.steps h.since [] [] x) g.leads h.are);
       }
 
   folds_by : (x : Move t) (a : At t) → MoveFolds x a.state → Folds a (move_to x a)
   unfolding move_to
   folds_by x a h = record { since = deeds_move x a.state; appended = told_appends a.did (deeds_move x a.state); steps = streams_steps x a.state; leads = h.0; are = h.1 }
 
-  -- a packet is taken and sealed
-  packet_folds : (time : ℕ) (form : Form) (fs : List FrameValue) (a : At t) →
+  -- a packet is taken and sealed: the steps of the frames that are taken, with the deed that they were sealed
+  packet_folds : (time : ℕ) (form : Form) (fs : List FrameValue) (a : At t) → IsSealable time a.state form fs →
       Folds a (move_to (Seal time form (next_number a.state.numbers (number_space form)) (packet_size a.state form fs) fs) (move_to (Take (number_space form) fs) a))
-  unfolding streams_steps state_move lower_move deeds_move after
-  packet_folds time form fs a =
+  unfolding move_to state_move keys_move lower_move deeds_move streams_stepped
+  packet_folds time form fs a may =
       let b : At t = move_to (Take (number_space form) fs) a in
       let n : ℕ = next_number a.state.numbers (number_space form) in
       let size : ℕ = packet_size a.state form fs in
-      folds_next a b _ (folds_by (Take (number_space form) fs) a (refl, none_are a.state.lower.streams))
-      (folds_by (Seal time form n size fs) b (flown_streams b.state.waiting.close_owed b.state.lower (number_space form) n (flown_packet time size fs), none_are b.state.lower.streams))
+      record {
+        since = did.Sealed (number_space form) n (epoch_in a.state.keys form) (is_early form) fs ∷ [];
+        appended = refl;
+        steps = sealed_steps fs;
+        leads = flown_streams b.state.waiting.close_owed b.state.lower (number_space form) n (flown_packet time size fs);
+        are = sealed_are (number_space form) n (epoch_in a.state.keys form) (is_early form) fs a.state.lower.streams may.takes;
+      }
 
   -- ---- calls
 
-  called_did : (xs : List Step) (a : At t) → (called_all xs a).did ≡ a.did
+  pub called_did : (xs : List Step) (a : At t) → (called_all xs a).did ≡ a.did
   unfolding move_to deeds_move
   called_did [] a = refl
   called_did (x ∷ xs) a = called_did xs (move_to (Call x) a)
@@ -193,35 +197,29 @@ module _ {t : Types} where
 
   -- ---- inputs
 
-  -- over what was given, calls with their steps, the ranks that the life rose to, and the events that were told, where only what came to
-  -- pass waited
-  pub record Over (bodies : List (List ℕ)) (calls : List (Input × TraceStep)) (ranks : List ℕ) (told : List StreamEvent) (s s' : View t) : Type 0 where
+  -- over deeds, calls with their steps, and the events that were told, where only what came to pass waited
+  pub record Over (ds : List Did) (calls : List (Input × TraceStep)) (told : List StreamEvent) (s s' : View t) : Type 0 where
     pub steps : List Step
     pub asked : List StreamEvent
     pub leads : s'.lower.streams ≡ after steps s.lower.streams
-    pub are : Are steps bodies calls ranks asked s.lower.streams
+    pub are : Are steps ds calls asked s.lower.streams
     pub same : OnlyDoneWaits s.life → asked ≡ told
 
-  over_next : (bodies more : List (List ℕ)) (calls others : List (Input × TraceStep)) (ranks higher : List ℕ) (told later : List StreamEvent) (u v w : View t) → (OnlyDoneWaits u.life → OnlyDoneWaits v.life) →
-      Over bodies calls ranks told u v → Over more others higher later v w → Over (bodies ++ more) (calls ++ others) (ranks ++ higher) (told ++ later) u w
-  over_next bodies more calls others ranks higher told later u v w stays g h =
+  over_next : (ds es : List Did) (calls others : List (Input × TraceStep)) (told later : List StreamEvent) (u v w : View t) → (OnlyDoneWaits u.life → OnlyDoneWaits v.life) →
+      Over ds calls told u v → Over es others later v w → Over (ds ++ es) (calls ++ others) (told ++ later) u w
+  over_next ds es calls others told later u v w stays g h =
       let s : StreamsState = u.lower.streams in
       record {
         steps = g.steps ++ h.steps;
         asked = g.asked ++ h.asked;
         leads = h.leads ∙ ap (λ (x : StreamsState). after h.steps x) g.leads ∙ sym (after_append g.steps h.steps s);
-        are = are_append g.steps h.steps bodies more calls others ranks higher g.asked h.asked s g.are (subst (λ (x : StreamsState). Are h.steps more others higher h.asked x) g.leads h.are);
+        are = are_append g.steps h.steps ds es calls others g.asked h.asked s g.are (subst (λ (x : StreamsState). Are h.steps es others h.asked x) g.leads h.are);
         same = λ done. ap (λ (es : List StreamEvent). es ++ h.asked) (g.same done) ∙ ap (λ (es : List StreamEvent). told ++ es) (h.same (stays done));
       }
 
-  over_same : (bodies same : List (List ℕ)) (calls : List (Input × TraceStep)) (ranks alike : List ℕ) (told equal : List StreamEvent) (u v : View t) →
-      bodies ≡ same → ranks ≡ alike → told ≡ equal → Over bodies calls ranks told u v → Over same calls alike equal u v
-  over_same bodies same calls ranks alike told equal u v is_same is_alike is_equal o =
-      subst (λ (x : List (List ℕ)). Over x calls alike equal u v) is_same (subst (λ (x : List ℕ). Over bodies calls x equal u v) is_alike (subst (λ (x : List StreamEvent). Over bodies calls ranks x u v) is_equal o))
-
   -- what an input does before anything is reported
   abbrev Does : Meaning t → Input → TraceStep → Choice → View t → Type 0
-  Does m i x choice s = let b : At t = input_after m i choice (began s (time_of i)) in Over (given_to_streams b.did) ((i, x) ∷ []) (lives_in b.did) [] s b.state
+  Does m i x choice s = let b : At t = input_after m i choice (began s (time_of i)) in Over b.did ((i, x) ∷ []) [] s b.state
 
   other_does : (m : Meaning t) (i : Input) (x : TraceStep) (choice : Choice) (s : View t) → is_called i ≡ false → IsAllowed m i choice (began s (time_of i)) → Does m i x choice s
   unfolding began state_move lower_move
@@ -229,17 +227,17 @@ module _ {t : Types} where
       let a : At t = began s (time_of i) in
       let none : is_streams_call i ≡ false = uncalled_streams i uncalled in
       let folds : Folds a (input_after m i choice a) =
-      known_other m Folds folds_here folds_next (λ y c known plain may_be. folds_by y c (move_folds m y c.state known plain may_be)) (λ time form fs c may_be. packet_folds time form fs c) i choice a uncalled may in
+      known_other m Folds folds_here folds_next (λ y c known plain may_be. folds_by y c (move_folds m y c.state known plain may_be)) packet_folds i choice a uncalled may in
       let makes : [] ≡ calls_of i choice.read (after folds.steps s.lower.streams) = none_called i choice.read (after folds.steps s.lower.streams) none in
-      subst (λ (ds : List Did). Over (given_to_streams ds) ((i, x) ∷ []) (lives_in ds) [] s (input_after m i choice a).state) (sym folds.appended)
-      (record { steps = folds.steps; asked = []; leads = folds.leads; same = λ done. refl; are = other_are i x choice.read folds.steps (given_to_streams folds.since) (lives_in folds.since) s.lower.streams none makes folds.are })
+      subst (λ (ds : List Did). Over ds ((i, x) ∷ []) [] s (input_after m i choice a).state) (sym folds.appended)
+      (record { steps = folds.steps; asked = []; leads = folds.leads; same = λ done. refl; are = other_are i x choice.read folds.steps folds.since s.lower.streams none makes folds.are })
 
   -- a call of the datagrams makes none of the streams
-  post_does : (step : datagrams.Step) (i : Input) (x : TraceStep) (choice : Choice) (s : View t) → is_streams_call i ≡ false → let b : At t = move_to (Post step) (began s (time_of i)) in Over (given_to_streams b.did) ((i, x) ∷ []) (lives_in b.did) [] s b.state
+  post_does : (step : datagrams.Step) (i : Input) (x : TraceStep) (choice : Choice) (s : View t) → is_streams_call i ≡ false → let b : At t = move_to (Post step) (began s (time_of i)) in Over b.did ((i, x) ∷ []) [] s b.state
   unfolding began move_to state_move lower_move deeds_move datagrams_stepped after
   post_does step i x choice s none =
       let makes : [] ≡ calls_of i choice.read s.lower.streams = none_called i choice.read s.lower.streams none in
-      record { steps = []; asked = []; leads = refl; same = λ done. refl; are = other_are i x choice.read [] [] [] s.lower.streams none makes (none_are s.lower.streams) }
+      record { steps = []; asked = []; leads = refl; same = λ done. refl; are = other_are i x choice.read [] [] s.lower.streams none makes (none_are s.lower.streams) }
 
   input_does : (m : Meaning t) (i : Input) (x : TraceStep) (choice : Choice) (s : View t) → IsAllowed m i choice (began s (time_of i)) → x.answer ≡ answer_of m i choice (began s (time_of i)) → Does m i x choice s
   unfolding began state_move lower_move input_after IsAllowed answer_of
@@ -253,35 +251,33 @@ module _ {t : Types} where
   input_does m i x choice s may answers =
       let a : At t = began s (time_of i) in
       let xs : List Step = calls_of i choice.read s.lower.streams in
-      subst (λ (ds : List Did). Over (given_to_streams ds) ((i, x) ∷ []) (lives_in ds) [] s (called_all xs a).state) (sym (called_did xs a))
+      subst (λ (ds : List Did). Over ds ((i, x) ∷ []) [] s (called_all xs a).state) (sym (called_did xs a))
       (record { steps = xs; asked = []; leads = called_streams xs a; same = λ done. refl; are = calls_are i x choice.read s.lower.streams (calls_may i choice.read s.lower.streams may) answers })
 
   -- ---- steps and runs
 
-  pub step_over : (m : Meaning t) (k : ℕ) (s : View t) (i : Input) (x : TraceStep) (s' : View t) → IsStep m k s i x s' → Over (given_to_streams x.did) ((i, x) ∷ []) (lives_in x.did) (streams_told x.events) s s'
+  pub step_over : (m : Meaning t) (k : ℕ) (s : View t) (i : Input) (x : TraceStep) (s' : View t) → IsStep m k s i x s' → Over x.did ((i, x) ∷ []) (streams_told x.events) s s'
   unfolding called run.step_after reported state_move lower_move events_told streams_stepped datagrams_stepped
   step_over m k s i x s' h =
       let b : At t = input_after m i h.choice (began s (time_of i)) in
       let told : List StreamEvent = events_of b.state.lower.streams in
-      let asks : Over [] [] [] (streams_told x.events) b.state s' = record {
+      let asks : Over [] [] (streams_told x.events) b.state s' = record {
         steps = asked_for (length told);
         asked = told;
         leads = ap (λ (l : Lower t.S). l.streams) h.lower;
         are = asked_are b.state.lower.streams;
         same = λ done. sym (ap streams_told h.events ∙ events_wait b.state done.heard);
       } in
-      over_same (given_to_streams b.did ++ []) (given_to_streams x.did) ((i, x) ∷ []) (lives_in b.did ++ []) (lives_in x.did) (streams_told x.events) (streams_told x.events) s s'
-      (append-nil (given_to_streams b.did) ∙ ap given_to_streams (sym h.deeds)) (append-nil (lives_in b.did) ∙ ap lives_in (sym h.deeds)) refl
-      (over_next (given_to_streams b.did) [] ((i, x) ∷ []) [] (lives_in b.did) [] [] (streams_told x.events) s b.state s' (called_done m s i h.choice h.allowed) (input_does m i x h.choice s h.allowed h.answer) asks)
+      subst (λ (ds : List Did). Over ds ((i, x) ∷ []) (streams_told x.events) s s') (append-nil b.did ∙ sym h.deeds)
+      (over_next b.did [] ((i, x) ∷ []) [] [] (streams_told x.events) s b.state s' (called_done m s i h.choice h.allowed) (input_does m i x h.choice s h.allowed h.answer) asks)
 
   run_over : (m : Meaning t) (k : ℕ) (s : View t) (is : List Input) (xs : List TraceStep) (s' : View t) → Run m k s is xs s' →
-      Over (given_to_streams (deeds_of xs)) (with_steps is xs) (lives_in (deeds_of xs)) (streams_told (events.events_of xs)) s s'
+      Over (deeds_of xs) (with_steps is xs) (streams_told (events.events_of xs)) s s'
   unfolding Run after
   run_over m k s [] [] s' r = record { steps = []; asked = []; leads = ap (λ (v : View t). v.lower.streams) r; are = none_are s.lower.streams; same = λ done. refl }
   run_over m k s (i ∷ is) (x ∷ xs) s' r =
-      over_same (given_to_streams x.did ++ given_to_streams (deeds_of xs)) (given_to_streams (deeds_of (x ∷ xs))) (with_steps (i ∷ is) (x ∷ xs)) (lives_in x.did ++ lives_in (deeds_of xs)) (lives_in (deeds_of (x ∷ xs)))
-      (streams_told x.events ++ streams_told (events.events_of xs)) (streams_told (events.events_of (x ∷ xs))) s s' (sym (given_append x.did (deeds_of xs))) (sym (lives_append x.did (deeds_of xs))) (sym (events_append x.events (events.events_of xs)))
-      (over_next (given_to_streams x.did) (given_to_streams (deeds_of xs)) ((i, x) ∷ []) (with_steps is xs) (lives_in x.did) (lives_in (deeds_of xs)) (streams_told x.events) (streams_told (events.events_of xs)) s r.0 s' (λ done. step_done m k s i x r.0 r.1)
+      subst (λ (es : List StreamEvent). Over (deeds_of (x ∷ xs)) (with_steps (i ∷ is) (x ∷ xs)) es s s') (sym (events_append x.events (events.events_of xs)))
+      (over_next x.did (deeds_of xs) ((i, x) ∷ []) (with_steps is xs) (streams_told x.events) (streams_told (events.events_of xs)) s r.0 s' (λ done. step_done m k s i x r.0 r.1)
       (step_over m k s i x r.0 r.1) (run_over m (k + 1) r.0 is xs s' r.2))
   run_over m k s [] (x ∷ xs) s' r = absurd r
   run_over m k s (i ∷ is) [] s' r = absurd r
@@ -290,4 +286,14 @@ module _ {t : Types} where
   pub run_folds : (m : Meaning t) (k : ℕ) (s : View t) (is : List Input) (xs : List TraceStep) (s' : View t) → Run m k s is xs s' → FoldsStreams is xs s s'
   run_folds m k s is xs s' r =
       let o = run_over m k s is xs s' r in
-      record { steps = o.steps; may = o.are.may; leads = o.leads; handed = o.are.handed; called = o.are.called; closed = o.are.closed; told = λ done. subst (λ (es : List StreamEvent). AreMade is_asked MakesEvent es o.steps s.lower.streams) (o.same done) o.are.asked; only = o.are.only }
+      record {
+        steps = o.steps;
+        may = o.are.may;
+        leads = o.leads;
+        handed = o.are.handed;
+        called = o.are.called;
+        closed = o.are.closed;
+        told = λ done. subst (λ (es : List StreamEvent). AreMade is_asked MakesEvent es o.steps s.lower.streams) (o.same done) o.are.asked;
+        sealed = o.are.sealed;
+        only = o.are.only;
+      }

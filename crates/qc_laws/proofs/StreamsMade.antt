@@ -1,9 +1,11 @@
 -- Steps of the streams one behind the other, of which those of a kind are what some things make; and which steps frames and calls make.
 use Rattle.std.proofs.Common.{◌≡◌, ℕ, zero, suc, ◌<◌, ◌^◌, List, [], ◌∷◌, ◌++◌, refl, ap, sym, ◌∙◌, subst, Bool, true, false, Option, Some, None, if◌then◌else◌, append_assoc, append-nil, arith}
 use Rattle.std.proofs.lemmas.Bool.Decides.{nat_tests}
+use Rattle.std.proofs.lemmas.List.Elements.{filter-append}
 use Rattle.std.proofs.lemmas.List.Folds.{list_any-append}
-use Rattle.std.specs.Prelude.{◌||◌, not, nat_le, nat_lt, length, Result}
+use Rattle.std.specs.Prelude.{◌||◌, not, nat_le, nat_lt, length, filter, Result}
 use Rattle.std.specs.List.{list_all, list_any}
+use Rattle.qc_base.specs.declared.side.SpaceId.{SpaceId}
 use Rattle.qc_frame.specs.Frame.{FrameValue}
 use Rattle.qc_frame.specs.FrameSpelling.{spelling}
 use Rattle.qc_frame.specs.declared.frames.FrameOf.TheVariants as frames
@@ -13,15 +15,16 @@ use Rattle.qc_streams.specs.declared.state.StreamsState.{StreamsState}
 use Rattle.qc_streams.specs.Carried.{IsAnswered}
 use Rattle.qc_streams.specs.Steps.{AllMay, Handed, IsSealedSo, NamesStream, came, refusal_of, steps_of, unless_refused}
 use Rattle.qc_streams.specs.Steps as handed
-use Rattle.qc_streams.specs.Waits.{Step, Closed, IsPossible, LimitCame, LimitsKnown, Polled, ResetCame, StopCame, StreamCame, StreamLimitCame, StreamsLimitCame, after, after_step}
+use Rattle.qc_streams.specs.Waits.{Step, Closed, ControlSealed, IsPossible, LimitCame, LimitsKnown, PartSealed, Polled, ResetCame, StopCame, StreamCame, StreamLimitCame, StreamsLimitCame, after, after_step}
 use Rattle.qc_streams.specs.Within.{IsTaken}
 use Rattle.qc_streams.proofs.StepsLaw.{after_append, handed_may, may_append}
 use Rattle.qc_state.specs.declared.deeds.Did.{Did}
 use Rattle.qc_state.specs.declared.deeds.Did.TheVariants as did
 use Rattle.qc_state.specs.declared.deeds.Layer.TheVariants as layer
 use Rattle.qc_state.specs.Moves.{is_call, told_to_streams, IsTold}
+use Rattle.qc_state.specs.StreamFrames.{sealed_steps}
 use Rattle.qc_state.specs.Streams.{asked_for, is_given_to_streams, steps_of_frame, steps_of_handed, call_answer, calls_of, events_of}
-use Rattle.qc_laws.specs.StreamsLaws.{AreMade, MakesFrame, NoneOf, given_to_streams, is_came, MakesCall, MakesClose, MakesEvent, is_asked, is_closing, is_other, is_streams_call}
+use Rattle.qc_laws.specs.StreamsLaws.{AreMade, MakesFrame, NoneOf, frames_sealed, given_to_streams, is_came, MakesCall, MakesClose, MakesEvent, is_asked, is_closing, is_other, is_sealed, is_settled, is_streams_call}
 use Rattle.qc_laws.proofs.KnownMoves.{IsElsewhere}
 use Rattle.qc_laws.proofs.StreamCalls.{AreCalls, handed_told}
 use Rattle.qc_recv.specs.declared.recv.Chunk.{Chunk}
@@ -32,6 +35,8 @@ use Rattle.qc_state.specs.declared.input.Input.{Input}
 use Rattle.qc_state.specs.declared.trace.Step.{Step as TraceStep}
 use Rattle.qc_state.specs.Headline.{lives_in}
 use Rattle.qc_laws.proofs.HarmlessTests.{both, first_holds, second_holds}
+use Rattle.qc_laws.proofs.StreamsSealed.{all_sealed, frames_append, none_sealed, sealed_all, sealed_apart, settled_apart, settled_may, settled_unsealed}
+use Rattle.qc_state.proofs.SealedSteps.{sealed_append}
 use Rattle.qc_state.proofs.StreamEvents.{next_first, next_none}
 
 -- ---- steps one behind the other
@@ -86,6 +91,15 @@ given_append (did.Sealed space n epoch early fs ∷ ds) es = given_append ds es
 given_append (did.Rose life ∷ ds) es = given_append ds es
 given_append (did.Lost why ∷ ds) es = given_append ds es
 given_append (did.Quiet why ∷ ds) es = given_append ds es
+
+pub lives_append : (ds es : List Did) → lives_in (ds ++ es) ≡ lives_in ds ++ lives_in es
+lives_append [] es = refl
+lives_append (did.Sealed space n epoch early fs ∷ ds) es = lives_append ds es
+lives_append (did.Piece space number v ∷ ds) es = lives_append ds es
+lives_append (did.Gave to body ∷ ds) es = lives_append ds es
+lives_append (did.Rose life ∷ ds) es = ap (λ (ranks : List ℕ). life ∷ ranks) (lives_append ds es)
+lives_append (did.Lost why ∷ ds) es = lives_append ds es
+lives_append (did.Quiet why ∷ ds) es = lives_append ds es
 
 -- ---- frames
 
@@ -191,6 +205,11 @@ first_known : (a b : Bool) → a ≡ true → not (a || b) ≡ false
 first_known true b h = refl
 first_known false b h = cc
 
+came_unsealed : (x : Step) → is_came x ≡ true → is_sealed x ≡ false
+came_unsealed (ControlSealed c) h = cc
+came_unsealed (PartSealed d) h = cc
+came_unsealed _ h = refl
+
 came_known : (x : Step) → is_came x ≡ true → is_other x ≡ false
 came_known x h = first_known (is_came x) _ h
 
@@ -210,6 +229,11 @@ call_open _ h = refl
 call_unasked : (x : Step) → is_call x ≡ true → is_asked x ≡ false
 call_unasked Polled h = cc
 call_unasked _ h = refl
+
+call_unsealed : (x : Step) → is_call x ≡ true → is_sealed x ≡ false
+call_unsealed (ControlSealed c) h = cc
+call_unsealed (PartSealed d) h = cc
+call_unsealed _ h = refl
 
 second_known : (a b c : Bool) → b ≡ true → not (a || (b || c)) ≡ false
 second_known true b c h = refl
@@ -240,6 +264,10 @@ asked_open : (n : ℕ) → NoneOf is_closing (asked_for n)
 asked_open zero = refl
 asked_open (suc n) = asked_open n
 
+asked_unsealed : (n : ℕ) → NoneOf is_sealed (asked_for n)
+asked_unsealed zero = refl
+asked_unsealed (suc n) = asked_unsealed n
+
 asked_known : (n : ℕ) → NoneOf is_other (asked_for n)
 asked_known zero = refl
 asked_known (suc n) = asked_known n
@@ -266,84 +294,141 @@ asked_tells (suc n) s (Some e) is count =
 
 -- ---- what all of them are
 
--- these steps may be made, and are those of what was given, of calls, of the ranks that the life rose to, and of events that were told
-pub record Are (xs : List Step) (bodies : List (List ℕ)) (calls : List (Input × TraceStep)) (ranks : List ℕ) (told : List StreamEvent) (s : StreamsState) : Type 0 where
+-- these steps may be made, and are those of what deeds give to the streams and seal, of the ranks to which they say that the life rose, of
+-- calls, and of events that were told
+pub record Are (xs : List Step) (ds : List Did) (calls : List (Input × TraceStep)) (told : List StreamEvent) (s : StreamsState) : Type 0 where
   pub may : AllMay xs s
-  pub handed : AreMade is_came MakesFrame bodies xs s
+  pub handed : AreMade is_came MakesFrame (given_to_streams ds) xs s
   pub called : AreMade is_call MakesCall calls xs s
-  pub closed : AreMade is_closing MakesClose ranks xs s
+  pub closed : AreMade is_closing MakesClose (lives_in ds) xs s
   pub asked : AreMade is_asked MakesEvent told xs s
+  pub sealed : filter is_sealed xs ≡ sealed_steps (frames_sealed ds)
   pub only : NoneOf is_other xs
 
-pub are_append : (xs ys : List Step) (bodies more : List (List ℕ)) (calls others : List (Input × TraceStep)) (ranks higher : List ℕ) (told later : List StreamEvent) (s : StreamsState) →
-    Are xs bodies calls ranks told s → Are ys more others higher later (after xs s) → Are (xs ++ ys) (bodies ++ more) (calls ++ others) (ranks ++ higher) (told ++ later) s
-are_append xs ys bodies more calls others ranks higher told later s a b = record {
+pub are_append : (xs ys : List Step) (ds es : List Did) (calls others : List (Input × TraceStep)) (told later : List StreamEvent) (s : StreamsState) →
+    Are xs ds calls told s → Are ys es others later (after xs s) → Are (xs ++ ys) (ds ++ es) (calls ++ others) (told ++ later) s
+are_append xs ys ds es calls others told later s a b = record {
   may = may_append xs ys s a.may b.may;
-  handed = made_append is_came MakesFrame bodies more xs ys s a.handed b.handed;
+  handed = subst (λ (bodies : List (List ℕ)). AreMade is_came MakesFrame bodies (xs ++ ys) s) (sym (given_append ds es)) (made_append is_came MakesFrame (given_to_streams ds) (given_to_streams es) xs ys s a.handed b.handed);
   called = made_append is_call MakesCall calls others xs ys s a.called b.called;
-  closed = made_append is_closing MakesClose ranks higher xs ys s a.closed b.closed;
+  closed = subst (λ (ranks : List ℕ). AreMade is_closing MakesClose ranks (xs ++ ys) s) (sym (lives_append ds es)) (made_append is_closing MakesClose (lives_in ds) (lives_in es) xs ys s a.closed b.closed);
   asked = made_append is_asked MakesEvent told later xs ys s a.asked b.asked;
+  sealed = filter-append is_sealed xs ys ∙ ap (λ (l : List Step). l ++ filter is_sealed ys) a.sealed ∙ ap (λ (l : List Step). sealed_steps (frames_sealed ds) ++ l) b.sealed
+      ∙ sym (sealed_append (frames_sealed ds) (frames_sealed es)) ∙ ap sealed_steps (sym (frames_append ds es));
   only = none_append is_other xs ys a.only b.only;
 }
 
--- no steps
-pub none_are : (s : StreamsState) → Are [] [] [] [] [] s
-unfolding AllMay
-none_are s = record { may = tt; handed = refl; called = refl; closed = refl; asked = refl; only = refl }
+-- no steps, with deeds that have nothing to do with the streams
+pub apart_are : (ds : List Did) (s : StreamsState) → given_to_streams ds ≡ [] → lives_in ds ≡ [] → frames_sealed ds ≡ [] → Are [] ds [] [] s
+unfolding AllMay sealed_steps
+apart_are ds s ungiven unrisen unsealed = record {
+  may = tt;
+  handed = subst (λ (bodies : List (List ℕ)). AreMade is_came MakesFrame bodies [] s) (sym ungiven) refl;
+  called = refl;
+  closed = subst (λ (ranks : List ℕ). AreMade is_closing MakesClose ranks [] s) (sym unrisen) refl;
+  asked = refl;
+  sealed = ap sealed_steps (sym unsealed);
+  only = refl;
+}
 
--- those of a frame
-pub frame_are : (frame : FrameValue) (s : StreamsState) → Are (steps_of_frame frame s) (given_to_streams (told_to_streams frame)) [] (lives_in (told_to_streams frame)) [] s
+pub none_are : (s : StreamsState) → Are [] [] [] [] s
+none_are s = apart_are [] s refl refl refl
+
+-- those of a frame that came
+pub frame_are : (frame : FrameValue) (s : StreamsState) → Are (steps_of_frame frame s) (told_to_streams frame) [] [] s
+unfolding sealed_steps
 frame_are frame s =
-    let all : list_all is_came (steps_of_frame frame s) ≡ true = frame_all frame s in
+    let xs : List Step = steps_of_frame frame s in
+    let all : list_all is_came xs ≡ true = frame_all frame s in
+    let open_still : NoneOf is_closing xs = none_by is_closing is_came came_open xs all in
+    let none : filter is_sealed xs ≡ [] = none_sealed xs (none_by is_sealed is_came came_unsealed xs all) in
     record {
       may = frame_may frame s;
       handed = frame_makes frame s;
-      called = none_by is_call is_came came_uncalled (steps_of_frame frame s) all;
-      closed = handed_told (λ ds. AreMade is_closing MakesClose (lives_in ds) (steps_of_frame frame s) s) frame (none_by is_closing is_came came_open (steps_of_frame frame s) all)
-          (λ body. none_by is_closing is_came came_open (steps_of_frame frame s) all);
-      asked = none_by is_asked is_came came_unasked (steps_of_frame frame s) all;
-      only = none_by is_other is_came came_known (steps_of_frame frame s) all;
+      called = none_by is_call is_came came_uncalled xs all;
+      closed = handed_told (λ ds. AreMade is_closing MakesClose (lives_in ds) xs s) frame open_still (λ body. open_still);
+      asked = none_by is_asked is_came came_unasked xs all;
+      sealed = handed_told (λ ds. filter is_sealed xs ≡ sealed_steps (frames_sealed ds)) frame none (λ body. none);
+      only = none_by is_other is_came came_known xs all;
     }
 
--- what is told by itself is no gift to the streams, nor a rise of the life
-pub told_are : (d : Did) (s : StreamsState) → IsTold d → IsElsewhere d → Are [] (given_to_streams (d ∷ [])) [] (lives_in (d ∷ [])) [] s
-told_are (did.Piece space number v) s h k = none_are s
-told_are (did.Gave layer.Session body) s h k = none_are s
-told_are (did.Gave layer.Recovery body) s h k = none_are s
-told_are (did.Gave layer.Life body) s h k = none_are s
+-- what is told by itself is no gift to the streams, nor a rise of the life, nor that a packet was sealed
+pub told_are : (d : Did) (s : StreamsState) → IsTold d → IsElsewhere d → Are [] (d ∷ []) [] [] s
+told_are (did.Piece space number v) s h k = apart_are (did.Piece space number v ∷ []) s refl refl refl
+told_are (did.Gave layer.Session body) s h k = apart_are (did.Gave layer.Session body ∷ []) s refl refl refl
+told_are (did.Gave layer.Recovery body) s h k = apart_are (did.Gave layer.Recovery body ∷ []) s refl refl refl
+told_are (did.Gave layer.Life body) s h k = apart_are (did.Gave layer.Life body ∷ []) s refl refl refl
 told_are (did.Gave layer.Streams body) s h k = absurd k
 told_are _ s h k = absurd h
 
 -- the peer's limits are known
-pub limits_are : (p : PeerLimits) (s : StreamsState) → Are (LimitsKnown p ∷ []) [] [] [] [] s
-unfolding AllMay IsPossible IsTaken IsAnswered IsSealedSo
-limits_are p s = record { may = (record { possible = tt; taken = tt; answered = tt; sealed = tt }, tt); handed = refl; called = refl; closed = refl; asked = refl; only = refl }
+pub limits_are : (p : PeerLimits) (s : StreamsState) → Are (LimitsKnown p ∷ []) [] [] [] s
+unfolding AllMay IsPossible IsTaken IsAnswered IsSealedSo sealed_steps
+limits_are p s = record { may = (record { possible = tt; taken = tt; answered = tt; sealed = tt }, tt); handed = refl; called = refl; closed = refl; asked = refl; sealed = refl; only = refl }
 
 -- the life rises to Closed or further, or to Established
-pub close_are : (rank : ℕ) (s : StreamsState) → nat_le 2 rank ≡ true → Are (Closed ∷ []) [] [] (rank ∷ []) [] s
-unfolding AllMay IsPossible IsTaken IsAnswered IsSealedSo
+pub close_are : (rank : ℕ) (s : StreamsState) → nat_le 2 rank ≡ true → Are (Closed ∷ []) (did.Rose rank ∷ []) [] [] s
+unfolding AllMay IsPossible IsTaken IsAnswered IsSealedSo sealed_steps
 close_are rank s high = record {
   may = (record { possible = tt; taken = tt; answered = tt; sealed = tt }, tt);
   handed = refl;
   called = refl;
   closed = ([], Closed ∷ [], [], refl, refl, sym (ap (λ (b : Bool). if b then Closed ∷ [] else []) high), refl);
   asked = refl;
+  sealed = refl;
   only = refl;
 }
 
-pub low_are : (s : StreamsState) → Are [] [] [] (1 ∷ []) [] s
-unfolding AllMay
-low_are s = record { may = tt; handed = refl; called = refl; closed = ([], [], [], refl, refl, refl, refl); asked = refl; only = refl }
+pub low_are : (s : StreamsState) → Are [] (did.Rose 1 ∷ []) [] [] s
+unfolding AllMay sealed_steps
+low_are s = record { may = tt; handed = refl; called = refl; closed = ([], [], [], refl, refl, refl, refl); asked = refl; sealed = refl; only = refl }
 
 -- they are asked for all events that wait
-pub asked_are : (s : StreamsState) → Are (asked_for (length (events_of s))) [] [] [] (events_of s) s
+pub asked_are : (s : StreamsState) → Are (asked_for (length (events_of s))) [] [] (events_of s) s
+unfolding sealed_steps
 asked_are s =
     let n : ℕ = length (events_of s) in
-    record { may = asked_may n s; handed = asked_uncame n; called = asked_uncalled n; closed = asked_open n; asked = asked_tells n s (next_event s) refl refl; only = asked_known n }
+    record {
+      may = asked_may n s;
+      handed = asked_uncame n;
+      called = asked_uncalled n;
+      closed = asked_open n;
+      asked = asked_tells n s (next_event s) refl refl;
+      sealed = none_sealed (asked_for n) (asked_unsealed n);
+      only = asked_known n;
+    }
+
+-- those with which frames of a packet are sealed
+pub sealed_are : (space : SpaceId) (number epoch : ℕ) (early : Bool) (fs : List FrameValue) (s : StreamsState) → AllMay (sealed_steps fs) s → Are (sealed_steps fs) (did.Sealed space number epoch early fs ∷ []) [] [] s
+sealed_are space number epoch early fs s may =
+    let xs : List Step = sealed_steps fs in
+    let all : list_all is_sealed xs ≡ true = sealed_all fs in
+    record {
+      may = may;
+      handed = none_by is_came is_sealed (λ x h. (sealed_apart x h).came) xs all;
+      called = none_by is_call is_sealed (λ x h. (sealed_apart x h).call) xs all;
+      closed = none_by is_closing is_sealed (λ x h. (sealed_apart x h).closing) xs all;
+      asked = none_by is_asked is_sealed (λ x h. (sealed_apart x h).asked) xs all;
+      sealed = all_sealed xs all ∙ ap sealed_steps (sym (append-nil fs));
+      only = none_by is_other is_sealed (λ x h. (sealed_apart x h).other) xs all;
+    }
+
+-- those with which frames are acknowledged and lost, and the streams looked at
+pub settled_are : (xs : List Step) (s : StreamsState) → list_all is_settled xs ≡ true → Are xs [] [] [] s
+unfolding sealed_steps
+settled_are xs s all = record {
+  may = settled_may xs s all;
+  handed = none_by is_came is_settled (λ x h. (settled_apart x h).came) xs all;
+  called = none_by is_call is_settled (λ x h. (settled_apart x h).call) xs all;
+  closed = none_by is_closing is_settled (λ x h. (settled_apart x h).closing) xs all;
+  asked = none_by is_asked is_settled (λ x h. (settled_apart x h).asked) xs all;
+  sealed = none_sealed xs (none_by is_sealed is_settled settled_unsealed xs all);
+  only = none_by is_other is_settled (λ x h. (settled_apart x h).other) xs all;
+}
 
 -- those of an input that is a call of the streams
-pub calls_are : (i : Input) (x : TraceStep) (read : Result (Option Chunk) ReadFault) (s : StreamsState) → AreCalls (calls_of i read s) s → x.answer ≡ call_answer i read s → Are (calls_of i read s) [] ((i, x) ∷ []) [] [] s
-unfolding after
+pub calls_are : (i : Input) (x : TraceStep) (read : Result (Option Chunk) ReadFault) (s : StreamsState) → AreCalls (calls_of i read s) s → x.answer ≡ call_answer i read s → Are (calls_of i read s) [] ((i, x) ∷ []) [] s
+unfolding after sealed_steps
 calls_are i x read s are answers =
     let xs : List Step = calls_of i read s in
     let all : list_all is_call xs ≡ true = calls_all xs s are in
@@ -353,17 +438,19 @@ calls_are i x read s are answers =
       called = ([], xs, [], sym (append-nil xs), refl, record { read = read; makes = refl; answers = λ e. answers }, refl);
       closed = none_by is_closing is_call call_open xs all;
       asked = none_by is_asked is_call call_unasked xs all;
+      sealed = none_sealed xs (none_by is_sealed is_call call_unsealed xs all);
       only = none_by is_other is_call call_known xs all;
     }
 
 -- and of one that is none
-pub other_are : (i : Input) (x : TraceStep) (read : Result (Option Chunk) ReadFault) (xs : List Step) (bodies : List (List ℕ)) (ranks : List ℕ) (s : StreamsState) →
-    is_streams_call i ≡ false → [] ≡ calls_of i read (after xs s) → Are xs bodies [] ranks [] s → Are xs bodies ((i, x) ∷ []) ranks [] s
-other_are i x read xs bodies ranks s none makes a = record {
+pub other_are : (i : Input) (x : TraceStep) (read : Result (Option Chunk) ReadFault) (xs : List Step) (ds : List Did) (s : StreamsState) →
+    is_streams_call i ≡ false → [] ≡ calls_of i read (after xs s) → Are xs ds [] [] s → Are xs ds ((i, x) ∷ []) [] s
+other_are i x read xs ds s none makes a = record {
   may = a.may;
   handed = a.handed;
   called = (xs, [], [], sym (append-nil xs), a.called, record { read = read; makes = makes; answers = λ e. cc }, refl);
   closed = a.closed;
   asked = a.asked;
+  sealed = a.sealed;
   only = a.only;
 }

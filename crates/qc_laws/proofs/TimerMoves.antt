@@ -32,10 +32,11 @@ use Rattle.qc_state.specs.Flight.{counts_in_flight, flown_packet, is_padding}
 use Rattle.qc_state.specs.Forms.{number_space}
 use Rattle.qc_state.specs.Life.{connected_reported, data_ready, drained_reported, identifiers_wanted, is_established, is_handshake, is_open, life_closed, life_drained, life_established, life_raised, lost_reported, notice_reported, notices_reported, rank_of, ready_reported, reason_given, token_learned, all_heard_reported, heard_reported, datagram_heard}
 use Rattle.qc_state.specs.Lower.{bytes_came, flight_dropped, packet_flown, packets_settled, session_read, session_wrote, timer_fired, limits_learned, frame_handed, streams_closed, streams_stepped, event_told, events_told, datagrams_stepped}
-use Rattle.qc_state.specs.Moves.{Accept, Ack, AreNext, Arm, Establish, Fail, Finish, Fire, Forget, Give, Hear, IsTold, Move, PeerCloses, PeerClosesToo, Raise, Seal, Shut, Take, Tell, Write, armed_with, deeds_move, keys_move, life_move, lower_move, move_to, paths_move, setup_move, state_move, timers_move, waiting_move, Hand, told_to_streams}
+use Rattle.qc_state.specs.Moves.{Accept, Ack, AreNext, Arm, Begin, Establish, Fail, Finish, Fire, Forget, Give, Hear, IsTold, Move, PeerCloses, PeerClosesToo, Raise, Seal, Shut, Take, Tell, Write, armed_with, deeds_move, keys_move, life_move, lower_move, move_to, paths_move, setup_move, state_move, timers_move, waiting_move, Hand, told_to_streams}
 use Rattle.qc_state.specs.Paths.{is_blocked, path_accepted, path_idle, path_kept, path_spun, peer_fixed}
 use Rattle.qc_state.specs.Recovering.{around_of, fired_by, is_validated_by_peer, loss_time, settled_by}
 use Rattle.qc_state.specs.Sending.{flown_after, is_flown, packet_size, sealed_in}
+use Rattle.qc_state.specs.StreamFrames.{sealed_steps}
 use Rattle.qc_laws.specs.TimerLaws.{FlightHolds, SpaceHolds, TimerHolds, awaits_ack, elicits_in, has_asked, has_probe_keys, must_probe, sealed_since}
 use Rattle.qc_state.specs.Timers.{clock_set, timers_accepted, timers_acking, timers_armed, timers_holding, timers_paced, timers_released, timers_sealed}
 use Rattle.qc_state.specs.Types.{Types, Meaning}
@@ -49,6 +50,7 @@ use Rattle.qc_state.specs.Numbers.{next_number}
 use Rattle.qc_state.specs.Receiving.{is_below}
 use Rattle.qc_state.specs.Setup.{packet_drawn, parameters_known, token_expected, word_drawn}
 use Rattle.qc_state.specs.Spaces.{is_space}
+use Rattle.qc_state.proofs.Probed.{begun_streams}
 use Rattle.qc_laws.proofs.CryptoPlaces.{dropped_highest, dropped_keys, used_highest}
 use Rattle.qc_laws.proofs.TimerProbes.{Before, before_probes, dropped_keyed, failed_same, forget_before, form_keyed, given_below, given_confirmed, given_more, given_probe, probe_parts, unknown_confirmed, used_same}
 use Rattle.qc_laws.proofs.CryptoBuffers.{or_either, or_left, or_right}
@@ -173,6 +175,12 @@ flown_keyed Handshake Data n packet r Q here old e = old e
 flown_keyed Data Initial n packet r Q here old e = old e
 flown_keyed Data Handshake n packet r Q here old e = old e
 flown_keyed Data Data n packet r Q here old e = here refl
+
+-- what a packet that is sealed leaves of recovery
+flown_recovery : {S : Type 0} → (owed : Bool) (l : Lower S) (id : SpaceId) (n : ℕ) (packet : SentPacket) → (if owed then l else packet_flown l id n packet).recovery ≡ (if owed then l.recovery else sent_after id n packet l.recovery)
+unfolding packet_flown
+flown_recovery true l id n packet = refl
+flown_recovery false l id n packet = refl
 
 -- keys reach as far up as before once a packet was sealed
 module _ {H P : Type 0} where
@@ -321,6 +329,7 @@ module _ {t : Types} where
       (ack_less m.control _ id space _ _ _ _ _ s.lower.recovery s.paths.current.kept).any (λ (e : Entry). e.1.ack_eliciting) (subst (λ (a : After t.C). has_eliciting (recovery.space_of id a.recovery).flight ≡ true) k.is h)
   plain_elicits m (Fire after) s id k h =
       (fire_less m.control _ id _ s.lower.recovery s.paths.current.kept).any (λ (e : Entry). e.1.ack_eliciting) (subst (λ (a : FiredAfter t.C). has_eliciting (recovery.space_of id a.recovery).flight ≡ true) k.is h)
+  plain_elicits m (Begin space opens) s id k h = ap (λ (l : Lower t.S). has_eliciting (recovery.space_of id l.recovery).flight) (sym (begun_streams space opens s)) ∙ h
   plain_elicits m (Forget space) s id k h = put_elicits id space (space_dropped (recovery.space_of space s.lower.recovery)) s.lower.recovery (λ e. absurd cc) h
   plain_elicits m _ s id k h = h
 
@@ -334,11 +343,11 @@ module _ {t : Types} where
   }
 
   settled_less : (m : Meaning t) (space id : SpaceId) (n : ℕ) (after : After t.C) (s : View t) → IsSettledBy m space after s → Less (recovery.space_of id s.lower.recovery) (recovery.space_of id (state_move (Ack space n after) s).lower.recovery)
-  unfolding state_move lower_move packets_settled settled_by
+  unfolding state_move lower_move streams_stepped packets_settled settled_by
   settled_less m space id n after s k = subst (λ (a : After t.C). Less (recovery.space_of id s.lower.recovery) (recovery.space_of id a.recovery)) (sym k.is) (ack_less m.control _ id space _ _ _ _ _ s.lower.recovery s.paths.current.kept)
 
   fired_less : (m : Meaning t) (id : SpaceId) (after : FiredAfter t.C) (s : View t) → IsFiredBy m after s → Less (recovery.space_of id s.lower.recovery) (recovery.space_of id (state_move (Fire after) s).lower.recovery)
-  unfolding state_move lower_move timer_fired fired_by
+  unfolding state_move lower_move streams_stepped timer_fired fired_by
   fired_less m id after s k = subst (λ (a : FiredAfter t.C). Less (recovery.space_of id s.lower.recovery) (recovery.space_of id a.recovery)) (sym k.is) (fire_less m.control _ id _ s.lower.recovery s.paths.current.kept)
 
   forget_space : (space : SpaceId) (s : View t) → Spaces s → (id : SpaceId) → SpaceHolds (state_move (Forget space) s) id
@@ -357,6 +366,14 @@ module _ {t : Types} where
   unfolding state_move lower_move keys_move failure_counted
   fail_space s id h = record { flight = h.flight; keyed = λ e. failed_same s.keys id ∙ h.keyed e; below = λ e. h.below (sym (failed_same s.keys id) ∙ e) }
 
+  begun_space : (space : SpaceId) (opens : Bool) (s : View t) (id : SpaceId) → SpaceHolds s id → SpaceHolds (state_move (Begin space opens) s) id
+  unfolding state_move lower_move streams_stepped keys_move
+  begun_space space opens s id h = record {
+    flight = subst (λ (l : Lower t.S). FlightHolds (recovery.space_of id l.recovery)) (sym (begun_streams space opens s)) h.flight;
+    keyed = λ e. h.keyed (ap (λ (l : Lower t.S). is_some (recovery.space_of id l.recovery).eliciting_at) (sym (begun_streams space opens s)) ∙ e);
+    below = h.below;
+  }
+
   plain_spaces : (m : Meaning t) (x : Move t) (s : View t) → IsPlain m x s → Spaces s → Spaces (state_move x s)
   unfolding state_move lower_move keys_move bytes_came session_read limits_learned frame_handed streams_closed streams_stepped datagrams_stepped event_told events_told
   plain_spaces m (Seal time form n size fs) s k h = absurd k
@@ -364,6 +381,7 @@ module _ {t : Types} where
   plain_spaces m (Fire after) s k h = λ id. less_space s (state_move (Fire after) s) id refl (fired_less m id after s k) (h id)
   plain_spaces m (Forget space) s k h = forget_space space s h
   plain_spaces m (Write bytes keys session) s k h = λ id. write_space bytes keys session s k id (h id)
+  plain_spaces m (Begin space opens) s k h = λ id. begun_space space opens s id (h id)
   plain_spaces m Fail s k h = λ id. fail_space s id (h id)
   plain_spaces m _ s k h = λ id. record { flight = (h id).flight; keyed = (h id).keyed; below = (h id).below }
 
@@ -413,6 +431,7 @@ module _ {t : Types} where
   plain_probe m (Fire after) s k h e = before_probes s (state_move (Fire after) s) (fired_before m after s k) e
   plain_probe m (Forget space) s k h e = before_probes s (state_move (Forget space) s) (forget_move space s k) e
   plain_probe m (Write bytes keys session) s k h e = before_probes s (state_move (Write bytes keys session) s) (write_before bytes keys session s k h) e
+  plain_probe m (Begin space opens) s k h e = subst (λ (l : Lower t.S). must_probe (record s { lower = l }) ≡ true) (begun_streams space opens s) e
   plain_probe m _ s k h e = e
 
   plain_awaits : (m : Meaning t) (x : Move t) (s : View t) (since : Bool) → IsPlain m x s → awaits_ack (sealed_since since (deeds_move x s)) (state_move x s) ≡ true → awaits_ack since s ≡ true
@@ -448,7 +467,7 @@ module _ {t : Types} where
   -- what is known of the view behind a packet of this form that is sealed
   record IsSealedFrom (s s1 : View t) (owed : Bool) (time size n : ℕ) (f : Form) (fs : List FrameValue) : Type 0 where
     pub life : s1.life ≡ s.life
-    pub lower : s1.lower ≡ (if owed then s.lower else packet_flown s.lower (number_space f) n (flown_packet time size fs))
+    pub recovery : s1.lower.recovery ≡ (if owed then s.lower.recovery else sent_after (number_space f) n (flown_packet time size fs) s.lower.recovery)
     pub timer : s1.timers.loss_detection ≡ s.timers.loss_detection
     pub keys : s1.keys ≡ key_used s.keys f n
     pub side : s1.setup.fixed.side ≡ s.setup.fixed.side
@@ -458,20 +477,20 @@ module _ {t : Types} where
   owed_holds free later time size n f fs s s1 shut is spaces = record {
     stands = λ x o w. let opened : is_open s.life.state ≡ true = ap (λ (l : Life). is_open l.state) (sym is.life) ∙ o in absurd cc;
     spaces = λ id. record {
-      flight = subst (λ (l : Lower t.S). FlightHolds (recovery.space_of id l.recovery)) (sym is.lower) (spaces id).flight;
-      keyed = λ e. ap (λ (k : KeyGroup t.H t.P). has_keys k id) is.keys ∙ used_same s.keys f n id ∙ (spaces id).keyed (ap (λ (l : Lower t.S). is_some (recovery.space_of id l.recovery).eliciting_at) (sym is.lower) ∙ e);
+      flight = subst (λ (r : Recovery). FlightHolds (recovery.space_of id r)) (sym is.recovery) (spaces id).flight;
+      keyed = λ e. ap (λ (k : KeyGroup t.H t.P). has_keys k id) is.keys ∙ used_same s.keys f n id ∙ (spaces id).keyed (ap (λ (r : Recovery). is_some (recovery.space_of id r).eliciting_at) (sym is.recovery) ∙ e);
       below = used_space s.keys s1.keys f n id is.keys (spaces id).below;
     };
   }
 
   flown_spaces : (s s1 : View t) (time size n : ℕ) (f : Form) (fs : List FrameValue) → has_keys_for s.keys f ≡ true → IsSealedFrom s s1 false time size n f fs → Spaces s → Spaces s1
-  unfolding packet_flown flown_packet counts_in_flight
+  unfolding flown_packet counts_in_flight
   flown_spaces s s1 time size n f fs keyed is spaces = λ id. record {
-    flight = subst (λ (l : Lower t.S). FlightHolds (recovery.space_of id l.recovery)) (sym is.lower)
+    flight = subst (λ (r : Recovery). FlightHolds (recovery.space_of id r)) (sym is.recovery)
         (sent_each id (number_space f) n (flown_packet time size fs) s.lower.recovery (counted (list_any elicits fs) (list_any is_padding fs)) (λ x. (spaces x).flight));
     keyed = λ e. ap (λ (k : KeyGroup t.H t.P). has_keys k id) is.keys ∙ used_same s.keys f n id
         ∙ flown_keyed id (number_space f) n (flown_packet time size fs) s.lower.recovery (has_keys s.keys id ≡ true) (λ here. subst (λ (x : SpaceId). has_keys s.keys x ≡ true) (sym here) (form_keyed s.keys f keyed)) (spaces id).keyed
-        (ap (λ (l : Lower t.S). is_some (recovery.space_of id l.recovery).eliciting_at) (sym is.lower) ∙ e);
+        (ap (λ (r : Recovery). is_some (recovery.space_of id r).eliciting_at) (sym is.recovery) ∙ e);
     below = used_space s.keys s1.keys f n id is.keys (spaces id).below;
   }
     where
@@ -481,12 +500,12 @@ module _ {t : Types} where
 
   -- a packet that doesn't count elicits nothing, and leaves where a client has to probe
   flown_elicits : (s s1 : View t) (time size n : ℕ) (f : Form) (fs : List FrameValue) → IsSealedFrom s s1 false time size n f fs → list_any elicits fs ≡ false → (id : SpaceId) → elicits_in s1 id ≡ true → elicits_in s id ≡ true
-  unfolding packet_flown flown_packet elicits_in sent_after space_sent
+  unfolding flown_packet elicits_in sent_after space_sent
   flown_elicits s s1 time size n f fs is none id h =
       let space : SpaceId = number_space f in
       put_elicits id space (space_sent n (flown_packet time size fs) (recovery.space_of space s.lower.recovery)) s.lower.recovery
       (λ e. before (has_eliciting (recovery.space_of space s.lower.recovery).flight) (list_any elicits fs) none (sym (list_any-append (λ (x : Entry). x.1.ack_eliciting) (recovery.space_of space s.lower.recovery).flight ((n, flown_packet time size fs) ∷ [])) ∙ e))
-      (subst (λ (l : Lower t.S). has_eliciting (recovery.space_of id l.recovery).flight ≡ true) is.lower h)
+      (subst (λ (r : Recovery). has_eliciting (recovery.space_of id r).flight ≡ true) is.recovery h)
     where
       before : (a b : Bool) → b ≡ false → (a || (b || false)) ≡ true → a ≡ true
       before true b silent_is e = refl
@@ -494,18 +513,18 @@ module _ {t : Types} where
       before false false silent_is e = cc
 
   flown_before : (s s1 : View t) (time size n : ℕ) (f : Form) (fs : List FrameValue) → IsSealedFrom s s1 false time size n f fs → list_any elicits fs ≡ false → Before s s1
-  unfolding packet_flown flown_packet sent_after space_sent has_asked has_probe_keys
+  unfolding flown_packet sent_after space_sent has_asked has_probe_keys
   flown_before s s1 time size n f fs is none =
       let space : SpaceId = number_space f in
       let r : Recovery = s.lower.recovery in
       let sent : SpaceRecovery = space_sent n (flown_packet time size fs) (recovery.space_of space r) in
       let asked : (id : SpaceId) → (recovery.space_of id s1.lower.recovery).eliciting_at ≡ (recovery.space_of id r).eliciting_at =
-      λ id. ap (λ (l : Lower t.S). (recovery.space_of id l.recovery).eliciting_at) is.lower ∙ kept_asked id space sent r (unasked_at (list_any elicits fs) time (recovery.space_of space r).eliciting_at none) in
+      λ id. ap (λ (r : Recovery). (recovery.space_of id r).eliciting_at) is.recovery ∙ kept_asked id space sent r (unasked_at (list_any elicits fs) time (recovery.space_of space r).eliciting_at none) in
       let same : (id : SpaceId) → has_keys s1.keys id ≡ has_keys s.keys id = λ id. ap (λ (k : KeyGroup t.H t.P). has_keys k id) is.keys ∙ used_same s.keys f n id in
       let highest : s1.keys.highest ≡ s.keys.highest = ap (λ (k : KeyGroup t.H t.P). k.highest) is.keys ∙ used_highest s.keys f n in
       record {
         side = is.side;
-        greatest = λ id g. subst (λ (l : Lower t.S). is_some (recovery.space_of id l.recovery).greatest ≡ true) (sym is.lower) (kept_greatest id space sent r (λ e. e) g);
+        greatest = λ id g. subst (λ (r : Recovery). is_some (recovery.space_of id r).greatest ≡ true) (sym is.recovery) (kept_greatest id space sent r (λ e. e) g);
         asked = λ e. sym (λ i. (is_some (asked Initial i) || is_some (asked Handshake i)) && not (is_some (asked «Data» i))) ∙ e;
         confirmed = λ e. (λ i. same «Data» i && not (same Handshake i)) ∙ e;
         keys = λ e a u. sym (λ i. if recovery.is_handshake (highest i) then same Handshake i else same Initial i) ∙ e;
@@ -534,8 +553,8 @@ module _ {t : Types} where
           (elicits_in s «Data») (elicits_in s1 «Data») (flown_elicits s s1 time size n f fs sealed (silent_fs fs is) «Data»))) w
 
   sealed_from : (time n size : ℕ) (f : Form) (fs : List FrameValue) (s : View t) → IsSealedFrom s (state_move (Seal time f n size fs) (state_move (Take (number_space f) fs) s)) s.waiting.close_owed time size n f fs
-  unfolding state_move life_move lower_move timers_move waiting_move waiting_without keys_move setup_move packet_drawn
-  sealed_from time n size f fs s = record { life = refl; lower = refl; timer = sealed_loss s.timers _ _ time (list_any elicits fs) (list_any is_ack fs); keys = refl; side = refl }
+  unfolding state_move life_move lower_move streams_stepped timers_move waiting_move waiting_without keys_move setup_move packet_drawn
+  sealed_from time n size f fs s = record { life = refl; recovery = flown_recovery s.waiting.close_owed (streams_stepped (sealed_steps fs) s.lower) (number_space f) n (flown_packet time size fs); timer = sealed_loss s.timers _ _ time (list_any elicits fs) (list_any is_ack fs); keys = refl; side = refl }
 
   pub sealed_holds : (free since : Bool) (time : ℕ) (f : Form) (fs : List FrameValue) (a : At t) → (a.state.waiting.close_owed ≡ true → is_open a.state.life.state ≡ false) → has_keys_for a.state.keys f ≡ true → HoldsIf free since a.state →
       HoldsIf free (since || counts_in_flight fs) (sealed_in time f fs a).state

@@ -39,7 +39,7 @@ module _ {t : Types} where
   unfolding MayMove move_to state_move numbers_move keys_move life_move
   told_packet id time form fs a may =
       let b : At t = move_to (Take (number_space form) fs) a in
-      told_next id a b _ (told_move id (Take (number_space form) fs) a tt) (told_move id (Seal time form (next_number a.state.numbers (number_space form)) (packet_size a.state form fs) fs) b (refl, may.closes, may.alive, may.keyed))
+      told_next id a b _ (told_move id (Take (number_space form) fs) a may.takes) (told_move id (Seal time form (next_number a.state.numbers (number_space form)) (packet_size a.state form fs) fs) b (refl, may.closes, may.alive, may.keyed))
 
   -- a transmit
   pub told_transmit : (id : SpaceId) (m : Meaning t) (time : ℕ) (choice : Choice) (a : At t) → MayTransmit m time choice a → Told id a (transmit_after m time choice a)

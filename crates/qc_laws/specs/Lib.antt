@@ -14,3 +14,4 @@ pub mod RecoveryLaws
 pub mod StreamLaws
 pub mod StreamsLaws
 pub mod TimerLaws
+pub mod WriteLaws

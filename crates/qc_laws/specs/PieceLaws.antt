@@ -1,6 +1,7 @@
 -- What is told of a packet that came, and what its frames give to the layers (RFC 9000, sections 12.3, 12.4, 13.1 and 19.6).
 use Rattle.std.specs.Prelude.{◌≡◌, ◌⊎◌, ℕ, Bool, if◌then◌else◌, List, [], ◌∷◌, ◌++◌, length, Option, Some, None, Result, Ok, Err}
-use Rattle.qc_assembler.specs.Assembly.{Assembly, advanced, inserted}
+use Rattle.std.specs.List.{list_any}
+use Rattle.qc_assembler.specs.Assembly.{Assembly, inserted}
 use Rattle.qc_base.specs.declared.side.SpaceId.{SpaceId}
 use Rattle.qc_base.specs.declared.side.SpaceId.TheVariants.{Initial, Handshake, «Data»}
 use Rattle.qc_base.specs.declared.transport_error.TransportError.{TransportError}
@@ -19,20 +20,15 @@ use Rattle.qc_state.specs.declared.deeds.Verdict.TheVariants as verdict
 use Rattle.qc_state.specs.declared.opening.Opening.{Opening}
 use Rattle.qc_state.specs.declared.opening.Opening.TheVariants.{Unreadable, Unopened, Reserved, Opened}
 use Rattle.qc_state.specs.Life.{is_over}
-use Rattle.qc_state.specs.Lower.{ready_bytes, stream_of, first_of}
-use Rattle.qc_state.specs.Moves.{Expect, move_to, told_to_streams}
+use Rattle.qc_state.specs.Lower.{handed_stop, ready_bytes, stream_of}
+use Rattle.qc_state.specs.Moves.{Ack, Come, Expect, Forget, Hand, Read, move_to, state_move, told_to_streams}
 use Rattle.qc_state.specs.Numbers.{next_number}
 use Rattle.qc_state.specs.Opening.{opening_of}
-use Rattle.qc_state.specs.Receiving.{crypto_stop_of, cut_of, expected_space, piece_after, pieces_after, stop_in}
+use Rattle.qc_state.specs.Receiving.{accepted_after, crypto_stop, cut_of, fixed_after, is_eliciting_item, piece_after, pieces_after, stop_in}
+use Rattle.qc_state.specs.Recovering.{settled_by}
 use Rattle.qc_state.specs.Types.{Types, Meaning}
 use Rattle.qc_state.specs.Verdicts.{verdict_of}
-use Rattle.qc_state.specs.View.{View, At}
-use Rattle.qc_state.specs.Streams.{steps_of_frame, streams_stop}
-use Rattle.qc_streams.specs.Waits.{after}
-use Rattle.qc_streams.specs.declared.state.StreamsState.{StreamsState}
-use Rattle.qc_state.specs.Datagrams.{datagram_steps, datagram_stop}
-use Rattle.qc_datagrams.specs.Steps as datagrams
-use Rattle.qc_datagrams.specs.declared.datagrams.Datagrams.{Datagrams}
+use Rattle.qc_state.specs.View.{View, At, at}
 
 -- the deeds that tell of packets which came, in order
 abbrev pub pieces_in : List Did → List Did
@@ -59,14 +55,6 @@ pub data Outcome : Type 0 where
   Refused : Outcome  -- it isn't applied, and stops the packet
   Last : Outcome  -- it is applied, and none behind it
   Goes : Outcome  -- it is applied, and the frames behind it come next
-
--- what the frames of a packet change, as far as it decides what becomes of those behind them: what came of the space's CRYPTO stream,
--- the session, and the streams and datagrams of the application
-pub record Reading (S : Type 0) : Type 0 where
-  pub stream : Assembly
-  pub session : S
-  pub streams : StreamsState
-  pub datagrams : Datagrams
 
 -- an error refuses a frame
 abbrev pub refused_or : Option TransportError → Outcome → Outcome
@@ -111,19 +99,19 @@ gift_of stream (frames.ApplicationClose code reason) = did.Gave layer.Life (spel
 gift_of stream frame = told_to_streams frame
 
 module _ {t : Types} where
-  -- what came of the space's CRYPTO stream, the session, the streams and the datagrams, as they are
-  abbrev pub reading_of : View t → SpaceId → Reading t.S
-  reading_of s id = record { stream = stream_of s.lower id; session = s.lower.session; streams = s.lower.streams; datagrams = s.lower.datagrams }
+  -- the session is given bytes of the space's CRYPTO stream, if there are any
+  abbrev pub read_behind : Meaning t → SpaceId → List ℕ → View t → View t
+  read_behind m id [] s = s
+  read_behind m id (b ∷ bytes) s = state_move (Read id (length (b ∷ bytes)) (m.after_read s.lower.session (b ∷ bytes))) s
 
-  -- the session reads bytes, if there are any
-  abbrev pub read_behind : Meaning t → Reading t.S → List ℕ → Reading t.S
-  read_behind m r [] = r
-  read_behind m r (b ∷ bytes) = record r { stream = advanced (length (b ∷ bytes)) r.stream; session = m.after_read r.session (b ∷ bytes) }
-
-  -- all four behind a frame: of any other frame than CRYPTO streams and datagrams make the steps that it is, if it is any
-  abbrev pub reading_behind : Meaning t → Reading t.S → FrameValue → Reading t.S
-  reading_behind m r (frames.Crypto offset body) = let came : Reading t.S = record r { stream = inserted offset body r.stream } in read_behind m came (ready_bytes came.stream)
-  reading_behind m r frame = record r { streams = after (steps_of_frame frame r.streams) r.streams; datagrams = datagrams.after (datagram_steps frame) r.datagrams }
+  -- the view behind a frame that came at a time, as far as it decides what becomes of those behind it: CRYPTO bytes came, and the session is
+  -- given those that can be read; an ACK settles packets, which the streams are told; a HANDSHAKE_DONE ends the Handshake space; and
+  -- streams and datagrams make of any other what it is to them, if it is theirs
+  abbrev pub view_behind : Meaning t → (time : ℕ) → SpaceId → FrameValue → View t → View t
+  view_behind m time id (frames.Crypto offset body) s = read_behind m id (ready_bytes (inserted offset body (stream_of s.lower id))) (state_move (Come id offset body) s)
+  view_behind m time id (frames.Ack ack) s = state_move (Ack id ack.largest (settled_by m time id ack s)) s
+  view_behind m time id frames.HandshakeDone s = state_move (Forget Handshake) s
+  view_behind m time id frame s = state_move (Hand frame) s
 
   -- whether the session refuses bytes
   abbrev pub read_outcome : Meaning t → t.S → List ℕ → Outcome
@@ -131,34 +119,43 @@ module _ {t : Types} where
   read_outcome m session (b ∷ bytes) = unless_refused (m.reads session (b ∷ bytes))
 
   -- what becomes of a frame that its kind doesn't stop
-  abbrev pub kind_outcome : Meaning t → View t → SpaceId → Reading t.S → FrameValue → Outcome
-  kind_outcome m s id r (frames.Crypto offset body) =
-      refused_or (crypto_stop_of s.setup.fixed.crypto_buffer_size (expected_space s) r.stream id offset body) (read_outcome m r.session (ready_bytes (inserted offset body r.stream)))
-  kind_outcome m s id r (frames.ConnectionClose code type reason) = close_outcome id
-  kind_outcome m s id r (frames.ApplicationClose code reason) = close_outcome id
-  kind_outcome m s id r frame = unless_stopped (first_of (streams_stop frame r.streams) (datagram_stop frame r.datagrams))
+  abbrev pub kind_outcome : Meaning t → SpaceId → FrameValue → View t → Outcome
+  kind_outcome m id (frames.Crypto offset body) s =
+      refused_or (crypto_stop s id offset body) (read_outcome m s.lower.session (ready_bytes (inserted offset body (stream_of s.lower id))))
+  kind_outcome m id (frames.ConnectionClose code type reason) s = close_outcome id
+  kind_outcome m id (frames.ApplicationClose code reason) s = close_outcome id
+  kind_outcome m id frame s = unless_stopped (handed_stop frame s.lower)
 
   -- what becomes of a frame
-  abbrev pub outcome_of : Meaning t → View t → SpaceId → Reading t.S → TypedValue → Outcome
-  outcome_of m s id r read =
-      refused_or (stop_in s.setup.fixed.side id (next_number s.numbers id) s.numbers.filter.last read.ty read.frame) (kind_outcome m s id r read.frame)
+  abbrev pub outcome_of : Meaning t → SpaceId → TypedValue → View t → Outcome
+  outcome_of m id read s =
+      refused_or (stop_in s.setup.fixed.side id (next_number s.numbers id) s.numbers.filter.last read.ty read.frame) (kind_outcome m id read.frame s)
 
   -- the frames of an admitted packet that are applied: those in front of the first that stops it by its kind or can't be read; but where
   -- the session refuses bytes of a frame, or streams or datagrams refuse one, that one is the last, and outside of 1-RTT packets the first close is
-  abbrev pub applied_in : Meaning t → View t → SpaceId → Reading t.S → List Item → List FrameValue
-  applied_in m s id r [] = []
-  applied_in m s id r (Err fault ∷ items) = []
-  applied_in m s id r (Ok read ∷ items) = applied_with (outcome_of m s id r read) read.frame (applied_in m s id (reading_behind m r read.frame) items)
+  abbrev pub applied_in : Meaning t → (time : ℕ) → SpaceId → List Item → View t → List FrameValue
+  applied_in m time id [] s = []
+  applied_in m time id (Err fault ∷ items) s = []
+  applied_in m time id (Ok read ∷ items) s = applied_with (outcome_of m id read s) read.frame (applied_in m time id items (view_behind m time id read.frame s))
 
   -- what frames give to the layers, in order
-  abbrev pub gifts_of : Meaning t → Reading t.S → List FrameValue → List Did
-  gifts_of m r [] = []
-  gifts_of m r (f ∷ fs) = gift_of r.stream f ++ gifts_of m (reading_behind m r f) fs
+  abbrev pub gifts_of : Meaning t → (time : ℕ) → SpaceId → List FrameValue → View t → List Did
+  gifts_of m time id [] s = []
+  gifts_of m time id (f ∷ fs) s = gift_of (stream_of s.lower id) f ++ gifts_of m time id fs (view_behind m time id f s)
+
+  -- the view in which the frames of an admitted packet are read: it was accepted, and may have fixed the peer's id
+  abbrev pub view_admitted : Coming → SpaceId → (spin : Bool) → (source : List ℕ) → (number : ℕ) → (payload : List ℕ) → View t → View t
+  view_admitted coming id spin source number payload s =
+      (fixed_after id source (accepted_after coming id number (list_any is_eliciting_item (items_of payload)) spin verdict.Admitted (at s []))).state
+
+  -- what frames give to the layers from a view on, as far as they are applied
+  abbrev pub payload_gifts : Meaning t → (time : ℕ) → SpaceId → (payload : List ℕ) → View t → List Did
+  payload_gifts m time id payload s = gifts_of m time id (applied_in m time id (items_of payload) s) s
 
   -- what a packet of this space and payload gives to the layers: nothing, unless it is admitted
-  abbrev pub gifts_by : Meaning t → View t → SpaceId → (payload : List ℕ) → Verdict → List Did
-  gifts_by m s id payload verdict.Admitted = gifts_of m (reading_of s id) (applied_in m s id (reading_of s id) (items_of payload))
-  gifts_by m s id payload _ = []
+  abbrev pub gifts_by : Meaning t → Coming → SpaceId → (spin : Bool) → (source : List ℕ) → (number : ℕ) → (payload : List ℕ) → Verdict → View t → List Did
+  gifts_by m coming id spin source number payload verdict.Admitted s = payload_gifts m coming.time id payload (view_admitted coming id spin source number payload s)
+  gifts_by m coming id spin source number payload _ s = []
 
   -- what is told of a packet that came, by what came of taking its protection off, and what it gives to the layers
   abbrev pub opening_deed : View t → Option SpaceId → Opening → Did
@@ -168,19 +165,19 @@ module _ {t : Types} where
   opening_deed s (Some id) (Opened source token spin number payload) = did.Piece (Some id) (Some number) (verdict_of s id source token number)
   opening_deed s None (Opened source token spin number payload) = did.Piece None None verdict.Ignored
 
-  abbrev pub opening_gifts : Meaning t → View t → Option SpaceId → Opening → List Did
-  opening_gifts m s space Unreadable = []
-  opening_gifts m s space Unopened = []
-  opening_gifts m s space (Reserved number) = []
-  opening_gifts m s (Some id) (Opened source token spin number payload) = gifts_by m s id payload (verdict_of s id source token number)
-  opening_gifts m s None (Opened source token spin number payload) = []
+  abbrev pub opening_gifts : Meaning t → Coming → View t → Option SpaceId → Opening → List Did
+  opening_gifts m coming s space Unreadable = []
+  opening_gifts m coming s space Unopened = []
+  opening_gifts m coming s space (Reserved number) = []
+  opening_gifts m coming s (Some id) (Opened source token spin number payload) = gifts_by m coming id spin source number payload (verdict_of s id source token number) s
+  opening_gifts m coming s None (Opened source token spin number payload) = []
 
   -- the same of a packet, which is ignored once the connection is over
   abbrev pub piece_deed : Meaning t → View t → Piece → Did
   piece_deed m s p = if is_over s.life.state then did.Piece (space_of p.header) None verdict.Ignored else opening_deed s (space_of p.header) (opening_of m s p)
 
-  abbrev pub piece_gifts : Meaning t → View t → Piece → List Did
-  piece_gifts m s p = if is_over s.life.state then [] else opening_gifts m s (space_of p.header) (opening_of m s p)
+  abbrev pub piece_gifts : Meaning t → Coming → View t → Piece → List Did
+  piece_gifts m coming s p = if is_over s.life.state then [] else opening_gifts m coming s (space_of p.header) (opening_of m s p)
 
   -- From one moment to another this packet was told of, and what it gives to the layers: the first deed tells of it, no other tells of
   -- one, and what is given is what the applied frames of its payload give, if it is admitted, else nothing.
@@ -196,7 +193,7 @@ module _ {t : Types} where
   TellsPieces m coming (Err fault ∷ items) a = Unit {0}
   TellsPieces m coming (Ok p ∷ items) a =
       let b : At t = piece_after m coming p a in
-      TellsPiece (piece_deed m a.state p) (piece_gifts m a.state p) a b × TellsPieces m coming items b
+      TellsPiece (piece_deed m a.state p) (piece_gifts m coming a.state p) a b × TellsPieces m coming items b
 
   -- From one moment to another a datagram came: its packets, cut as the connection cuts them, or none where it is dropped, are told of
   -- one after the other, once the token of a server's first one is expected, if it is that; and nothing else is told.

@@ -1,11 +1,11 @@
 -- The streams of the application as the fold of their own steps: over moves, and over whole runs (RFC 9000, sections 2 to 4).
-use Rattle.std.specs.Prelude.{◌≡◌, ℕ, nat_le, Bool, true, false, ◌||◌, not, if◌then◌else◌, List, [], ◌∷◌, ◌++◌, length, Option, Some, Result}
+use Rattle.std.specs.Prelude.{◌≡◌, ℕ, nat_le, Bool, true, false, ◌||◌, not, if◌then◌else◌, List, [], ◌∷◌, ◌++◌, length, filter, Option, Some, Result}
 use Rattle.std.specs.List.{list_any}
 use Rattle.qc_frame.specs.Frame.{FrameValue}
 use Rattle.qc_frame.specs.FrameSpelling.{spelling}
 use Rattle.qc_recv.specs.declared.recv.Chunk.{Chunk}
 use Rattle.qc_streams.specs.Steps.{AllMay}
-use Rattle.qc_streams.specs.Waits.{Step, Closed, LimitCame, LimitsKnown, Polled, ResetCame, StopCame, StreamCame, StreamLimitCame, StreamsLimitCame, after}
+use Rattle.qc_streams.specs.Waits.{Step, BytesAcked, BytesLost, Closed, ControlAcked, ControlLost, ControlSealed, LimitCame, LimitsKnown, MarksFiled, PartSealed, Polled, ResetCame, StopCame, StreamCame, StreamLimitCame, StreamsLimitCame, after}
 use Rattle.qc_streams.specs.declared.fault.ReadFault.{ReadFault}
 use Rattle.qc_streams.specs.declared.state.StreamsState.{StreamsState}
 use Rattle.qc_state.specs.declared.deeds.Did.{Did}
@@ -15,7 +15,9 @@ use Rattle.qc_state.specs.declared.input.Input.{Input}
 use Rattle.qc_state.specs.declared.input.Input.TheVariants.{Close, Datagram, Ping, Timeout, Transmit, SendDatagram, RecvDatagram}
 use Rattle.qc_state.specs.declared.trace.Step.{Step as TraceStep}
 use Rattle.qc_state.specs.Headline.{deeds_of, lives_in}
-use Rattle.qc_state.specs.Moves.{Move, Call, Hand, Learn, PeerCloses, PeerClosesToo, Raise, ReportStream, ReportStreams, Shut, is_call}
+use Rattle.qc_state.specs.Moves.{Move, Ack, Begin, Call, Fire, Hand, Learn, PeerCloses, PeerClosesToo, Raise, ReportStream, ReportStreams, Shut, Take, is_call}
+use Rattle.qc_state.specs.Offers.{begun_steps}
+use Rattle.qc_state.specs.StreamFrames.{acked_steps, fired_steps, lost_steps, sealed_steps}
 use Rattle.qc_state.specs.Streams.{asked_for, call_answer, calls_of, events_of, is_given_to_streams, limits_of, steps_of_frame}
 use Rattle.qc_state.specs.Types.{Types}
 use Rattle.qc_state.specs.View.{View}
@@ -118,7 +120,30 @@ streams_told (_ ∷ es) = streams_told es
 abbrev pub MakesEvent : StreamEvent → List Step → StreamsState → Type 0
 MakesEvent event made s = (made ≡ Polled ∷ []) × (next_event s ≡ Some event)
 
+-- ---- frames that are sealed
+
+-- whether a step is that a frame is sealed
+abbrev pub is_sealed : Step → Bool
+is_sealed (ControlSealed c) = true
+is_sealed (PartSealed d) = true
+is_sealed _ = false
+
+-- the frames of the packets that deeds seal, in order
+abbrev pub frames_sealed : List Did → List FrameValue
+frames_sealed [] = []
+frames_sealed (did.Sealed space number epoch early fs ∷ ds) = fs ++ frames_sealed ds
+frames_sealed (_ ∷ ds) = frames_sealed ds
+
 -- ---- all steps
+
+-- whether a step is that frames which were sealed are acknowledged or lost, or that streams are looked at what they owe
+abbrev pub is_settled : Step → Bool
+is_settled MarksFiled = true
+is_settled (ControlLost c) = true
+is_settled (ControlAcked c) = true
+is_settled (BytesLost id start end last) = true
+is_settled (BytesAcked id start end last) = true
+is_settled _ = false
 
 -- whether a step is that the peer's limits are known
 abbrev pub is_learned : Step → Bool
@@ -127,11 +152,15 @@ is_learned _ = false
 
 -- whether it is none of these
 abbrev pub is_other : Step → Bool
-is_other x = not (is_came x || (is_call x || (is_closing x || (is_asked x || is_learned x))))
+is_other x = not (is_came x || (is_call x || (is_closing x || (is_asked x || (is_sealed x || (is_settled x || is_learned x))))))
 
 module _ {t : Types} where
   -- which of the streams' own steps a move is
   unfoldable pub streams_steps : Move t → View t → List Step
+  streams_steps (Take id fs) s = sealed_steps fs
+  streams_steps (Begin id opens) s = begun_steps id opens s
+  streams_steps (Ack id n r) s = acked_steps r.acked ++ lost_steps r.lost
+  streams_steps (Fire r) s = fired_steps r.fired
   streams_steps (Hand frame) s = steps_of_frame frame s.lower.streams
   streams_steps (Call x) s = x ∷ []
   streams_steps (Learn parameters) s = LimitsKnown (limits_of parameters) ∷ []
@@ -146,8 +175,10 @@ module _ {t : Types} where
   -- From one view to another, over inputs whose trace is this, the streams made steps: each of them may be made as its turn comes, and the
   -- streams are what they leave. Those of the steps that frames make are the ones of the frames that the deeds gave to the streams; those
   -- that calls make are the ones of the inputs, which answer so; they are closed where the life rises to Closed or further; each event of
-  -- theirs that is told is their next one, where only what came to pass waits; and any other step is that the peer's limits are known. So whatever holds over any steps of the
-  -- streams holds over these.
+  -- theirs that is told is their next one, where only what came to pass waits; those with which frames are sealed are the ones of the
+  -- frames of the packets that the deeds seal, in order, none left out and none made up; and any other step is that such frames are
+  -- acknowledged or lost, that streams are looked at what they owe, or that the peer's limits are known. So whatever holds over any steps
+  -- of the streams holds over these.
   pub record FoldsStreams (is : List Input) (xs : List TraceStep) (s s' : View t) : Type 0 where
     pub steps : List Step
     pub may : AllMay steps s.lower.streams
@@ -156,4 +187,5 @@ module _ {t : Types} where
     pub called : AreMade is_call MakesCall (with_steps is xs) steps s.lower.streams
     pub closed : AreMade is_closing MakesClose (lives_in (deeds_of xs)) steps s.lower.streams
     pub told : OnlyDoneWaits s.life → AreMade is_asked MakesEvent (streams_told (events.events_of xs)) steps s.lower.streams
+    pub sealed : filter is_sealed steps ≡ sealed_steps (frames_sealed (deeds_of xs))
     pub only : NoneOf is_other steps

@@ -32,6 +32,7 @@ ghost use Rattle.qc_state.specs.Setup.{is_first_awaited};
 ghost use Rattle.qc_laws.specs.StreamLaws.{GivesStream};
 ghost use Rattle.qc_laws.specs.StreamsLaws.{FoldsStreams};
 ghost use Rattle.qc_laws.specs.TimerLaws.{KeepsTimer};
+ghost use Rattle.qc_laws.specs.WriteLaws.{SealsWritten};
 ghost use Rattle.qc_state.specs.View.{View, At, at};
 ghost use Rattle.qc_state.specs.declared.coming.Coming.{Coming};
 ghost use Rattle.qc_state.specs.declared.deeds.Did.{Did};
@@ -107,8 +108,10 @@ pub fn recovery_is_folded<U: Suite>()
 /// A law, which runs no code. Over a run the streams of the application are what their own steps leave, one after the other, and each step
 /// may be made as its turn comes. Those of the steps that frames make are the ones of the frames that were given to the streams, in order,
 /// none left out and none made up; a frame that they refuse makes none. So it is with those that calls make, which answer as the streams
-/// are then; the streams are closed where the life rises to Closed or further; each event of theirs that is told is their next one; and any
-/// other step is that the peer's limits are known. So every law over the steps of the streams holds of a run (RFC 9000, 2 to 4).
+/// are then; the streams are closed where the life rises to Closed or further; each event of theirs that is told is their next one; and the
+/// steps with which frames are sealed are the ones of the frames in the packets that are sealed, in order. Any other step is that such
+/// frames are acknowledged or lost, that streams are looked at what they owe, or that the peer's limits are known. So every law over the
+/// steps of the streams holds of a run (RFC 9000, 2 to 4).
 pub fn streams_are_folded<U: Suite>()
     ensures { (s last : View ⟦<U as Means>⟧.types) (k : ℕ) (is : List Input) (xs : List Step) → Run ⟦<U as Means>⟧.meaning k s is xs last → FoldsStreams is xs s last }
 {}
@@ -119,6 +122,14 @@ pub fn streams_are_folded<U: Suite>()
 /// all bytes up to it were read; from then on reads of the stream answer that it is closed (RFC 9000, 2.2 and 3.2).
 pub fn reads_are_what_came<U: Suite>()
     ensures { (s last : View ⟦<U as Means>⟧.types) (k : ℕ) (is : List Input) (xs : List Step) → Run ⟦<U as Means>⟧.meaning k s is xs last → HasNewStreams s → ReadsTrace is xs }
+{}
+
+/// A law, which runs no code. Over a run from new streams on, each STREAM frame in a packet that is sealed has the bytes that the application
+/// wrote on its stream before, in the place where it wrote them: what the inputs before wrote there, as they answer, one write behind the
+/// other. And the end is with them only where an input before finished the stream, and where all that was written ends (RFC 9000, 2.2 and
+/// 3.1).
+pub fn seals_what_was_written<U: Suite>()
+    ensures { (s last : View ⟦<U as Means>⟧.types) (k : ℕ) (is : List Input) (xs : List Step) → Run ⟦<U as Means>⟧.meaning k s is xs last → HasNewStreams s → SealsWritten is xs }
 {}
 
 /// A law, which runs no code. Over a run from new streams on flow control is kept: what was written on each stream and on all together lies
@@ -213,7 +224,7 @@ pub fn datagrams_keep<U: Suite>()
 /// other layer the frame as it is spelled. The streams are given one that they refuse too, which is the last one;
 /// only of frames that say where the peer is blocked nothing is told.
 pub fn packets_tell<U: Suite>()
-    ensures { (a : At ⟦<U as Means>⟧.types) (coming : Coming) (p : Piece) → TellsPiece (piece_deed ⟦<U as Means>⟧.meaning a.state p) (piece_gifts ⟦<U as Means>⟧.meaning a.state p) a (piece_after ⟦<U as Means>⟧.meaning coming p a) }
+    ensures { (a : At ⟦<U as Means>⟧.types) (coming : Coming) (p : Piece) → TellsPiece (piece_deed ⟦<U as Means>⟧.meaning a.state p) (piece_gifts ⟦<U as Means>⟧.meaning coming a.state p) a (piece_after ⟦<U as Means>⟧.meaning coming p a) }
 {}
 
 /// A law, which runs no code. What a datagram tells is what its packets tell, one after the other, or nothing where

@@ -6,7 +6,7 @@ ghost use Rattle.qc_base.specs.RangeSet.{Normal};
 ghost use Rattle.qc_flight.specs.Packets.{PassesUpTo, is_acked};
 
 use qc_base::{ArrayRangeSet, Duration, Instant, NumberRange};
-use qc_flight::{Flight, PacketList, SentPacket};
+use qc_flight::{Flight, PacketList, SentPacket, StreamMetaVec};
 use qc_frame::FrameList;
 use std::alloc::{AllocError, Global};
 use std::test::Fail;
@@ -24,6 +24,7 @@ fn packet(alloc: Global, number: u64) -> SentPacket {
         counted: number != 3,
         ack_eliciting: number != 4,
         frames: FrameList::new(alloc),
+        stream_frames: StreamMetaVec::new(alloc),
         new_token: None,
     }
 }
@@ -211,6 +212,7 @@ fn last_packet(alloc: Global) -> SentPacket {
         counted: true,
         ack_eliciting: true,
         frames: FrameList::new(alloc),
+        stream_frames: StreamMetaVec::new(alloc),
         new_token: None,
     }
 }

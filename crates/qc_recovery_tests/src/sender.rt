@@ -2,7 +2,7 @@
 //! numbers.
 
 use qc_base::{ArrayRangeSet, Duration, Instant, SpaceId};
-use qc_flight::{PacketList, SentPacket};
+use qc_flight::{PacketList, SentPacket, StreamMetaVec};
 use qc_frame::{Ack, EcnCounts, FrameList, OwnedAck};
 use qc_path::{Controller, ControllerFactory, NewReno, NewRenoConfig};
 use qc_recovery::{Around, Fired, PathData, Recovery, Settled, TransportConfig, first_mtu};
@@ -86,6 +86,7 @@ fn packet(alloc: Global, time: Instant, size: u64) -> SentPacket {
         counted: true,
         ack_eliciting: true,
         frames: FrameList::new(alloc),
+        stream_frames: StreamMetaVec::new(alloc),
         new_token: None,
     }
 }

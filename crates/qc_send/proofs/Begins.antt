@@ -1,4 +1,4 @@
--- Where a packet may begin: a frame waits once it is begun, and its number, its keys and its room are those that sealing asks for.
+-- Where a packet may begin: its number, its keys and its room are those that sealing asks for.
 use Rattle.std.proofs.Common.{◌≡◌, ℕ, ◌+◌, ◌-◌, ◌≤◌, List, [], length, refl, ap, sym, ◌∙◌, subst, Bool, true, false, ◌&&◌, ◌||◌, if◌then◌else◌, nat_le, nat_lt, ◌<◌, ◌^◌, arith}
 use Rattle.std.proofs.lemmas.Bool.Decides.{nat_tests}
 use Rattle.qc_base.specs.declared.side.SpaceId.{SpaceId}
@@ -12,22 +12,15 @@ use Rattle.qc_state.specs.declared.transmit.TheConstants.{DATAGRAM_SIZE}
 use Rattle.qc_state.specs.declared.keys.KeyGroup.{KeyGroup}
 use Rattle.qc_state.specs.Forms.{number_space}
 use Rattle.qc_state.specs.Keys.{has_keys_for, reaches_limit, usage_of}
-use Rattle.qc_state.specs.Moves.{Begin, Skip, Take, state_move, move_to, numbers_move, keys_move, paths_move, waiting_move, setup_move, deeds_move}
+use Rattle.qc_state.specs.Moves.{Begin, Skip, Take, state_move, move_to, numbers_move, keys_move, paths_move, setup_move, deeds_move}
 use Rattle.qc_state.specs.Numbers.{next_number, acked_number, coming_number, is_skipped, number_skipped, used_in}
 use Rattle.qc_state.specs.declared.numbers.Numbers.{Numbers}
-use Rattle.qc_state.specs.Sending.{owes_in, is_past_limit, is_used_up, is_key_used_up, is_token_too_long, header_in, room_of, skipped_after, begun_after, begun_view, MayBegin}
+use Rattle.qc_state.specs.Sending.{is_past_limit, is_used_up, is_key_used_up, is_token_too_long, header_in, room_of, skipped_after, begun_after, begun_view, MayBegin}
 use Rattle.qc_state.specs.Spaces.{is_space}
 use Rattle.qc_state.specs.Types.{Types}
 use Rattle.qc_state.specs.View.{View, At, at}
-use Rattle.qc_state.specs.Offers.{packet_begun, waits_in, wants_sending}
-use Rattle.qc_send.proofs.Waits.{begun_wanted, is_wanted}
 use Rattle.qc_state.proofs.Transmitted.{begins_keyed, unlimited}
 use Rattle.qc_send.proofs.Takes.{number_kept}
-
--- of two tests that hold the second holds
-and_right : (a b : Bool) → (a && b) ≡ true → b ≡ true
-and_right true b h = h
-and_right false b h = cc
 
 -- of two tests of which none holds the first doesn't hold
 neither_left : (a b : Bool) → (a || b) ≡ false → a ≡ false
@@ -51,17 +44,7 @@ number_near number acked h =
     let below : nat_le (2 ^ 31) (number - acked) ≡ false = neither_right (nat_le (2 ^ 62 - 1) number) (nat_le (2 ^ 31) (number - acked)) h in
     grind (arith, nat_tests)
 
--- what is owed where no close is waits
-owed_by : (a b c : Bool) → b ≡ false → (if b then c else a) ≡ true → a ≡ true
-owed_by a true c e h = cc
-owed_by a false c e h = h
-
 module _ {t : Types} where
-  -- what is owed waits, where it is no close
-  owed_waits : (closing : Bool) (s : View t) (id : SpaceId) → closing ≡ false → owes_in closing s id ≡ true → waits_in s id ≡ true
-  unfolding owes_in
-  owed_waits closing s id e h = owed_by (waits_in s id) closing _ e (and_right _ _ h)
-
   -- a number is skipped, or isn't, with no deed
   skip_at : (a : At t) (b : Bool) → (if b then move_to Skip a else a) ≡ at (if b then move_to Skip (at a.state []) else at a.state []).state a.did
   unfolding move_to deeds_move
@@ -78,23 +61,6 @@ module _ {t : Types} where
   unfolding move_to state_move keys_move
   skip_keys a true = refl
   skip_keys a false = refl
-
-  -- a number that is skipped leaves what waits
-  skip_wanted : (id : SpaceId) (a : At t) (b : Bool) → is_wanted (if b then move_to Skip a else a).state id ≡ is_wanted a.state id
-  unfolding wants_sending move_to state_move waiting_move
-  skip_wanted id a true = refl
-  skip_wanted id a false = refl
-
-  first_wanted : (id : SpaceId) (opens : Bool) (s : View t) → is_wanted (move_to (Begin id opens) (at s [])).state id ≡ is_wanted (packet_begun id opens s) id
-  unfolding wants_sending move_to state_move waiting_move
-  first_wanted id opens s = refl
-
-  -- a frame waits once a packet is begun, where something is owed that is no close
-  pub begun_waits : (opens closing : Bool) (s : View t) (id : SpaceId) → closing ≡ false → owes_in closing s id ≡ true → is_wanted (begun_view s id opens) id ≡ true
-  unfolding begun_view begun_after skipped_after
-  begun_waits opens closing s id e h =
-      let b : At t = move_to (Begin id opens) (at s []) in
-      skip_wanted id b (is_skipped b.state.numbers id) ∙ first_wanted id opens s ∙ begun_wanted id opens s (owed_waits closing s id e h)
 
   -- the view once a datagram is begun, of the answer of the call that begins it
   pub begun_state : (opens : Bool) (a : At t) (e : View t) (space : SpaceId) → at e a.did ≡ begun_after space opens a → e ≡ (begun_after space opens (at a.state [])).state

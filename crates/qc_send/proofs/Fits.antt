@@ -24,7 +24,7 @@ use Rattle.qc_packet.specs.Building.{min_size_of, padded_size}
 use Rattle.qc_packet.specs.PacketSpelling.{padding_len}
 use Rattle.qc_state.specs.declared.transmit.TheConstants.{DATAGRAM_SIZE}
 use Rattle.qc_state.specs.Sending.{close_frame, told_code, told_type, told_application_code, application_close, told_close, closing_frame, IsKeptReason, Closes, header_in, room_of, fills, packet_size, least_size, padding_of, padded}
-use Rattle.qc_state.specs.Spaces.{space_of}
+use Rattle.qc_state.specs.Spaces.{is_space, space_of}
 use Rattle.qc_state.specs.Types.{Types}
 use Rattle.qc_state.specs.View.{View}
 use Rattle.qc_send.proofs.Waits.{taken_fits, ack_fits, bytes_append}
@@ -99,7 +99,7 @@ close_fits time s space room fs (Closes.closing acks part kept reason is) wide =
 -- the frames that are taken fit into the room
 pub now_fits : {t : Types} (closing : Bool) (time : ℕ) (s : View t) (space : SpaceId) (room : ℕ) (fs : List FrameValue) → TakenNow closing time s space room fs → 25 ≤ room → length (frames_spelling fs) ≤ room
 now_fits closing time s space room fs (TakenNow.a_close e closes) wide = close_fits time s space room fs closes wide
-now_fits closing time s space room fs (TakenNow.what_waits e taken) wide = taken_fits time s.waiting.bundled (space_of s.waiting.spaces space) room fs taken (omega arith)
+now_fits closing time s space room fs (TakenNow.what_waits e taken may some) wide = taken_fits time s.waiting.bundled (is_space space «Data») (space_of s.waiting.spaces space) room fs taken (omega arith)
 
 -- and behind the header
 pub room_holds : {t : Types} (capacity : ℕ) (s : View t) (form : Form) (bytes : ℕ) → 25 ≤ room_of capacity s form → bytes ≤ room_of capacity s form →

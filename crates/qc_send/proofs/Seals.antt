@@ -12,38 +12,38 @@ use Rattle.qc_state.specs.Forms.{number_space}
 use Rattle.qc_state.specs.Moves.{Take, Seal, state_move, move_to}
 use Rattle.qc_state.specs.Numbers.{next_number}
 use Rattle.qc_state.specs.declared.numbers.Numbers.{Numbers}
-use Rattle.qc_state.specs.Sending.{Carries, LacksAckRoom, owes_in, is_key_nearly_used_up, header_in, room_of, packet_bytes, begun_after, begun_view, is_flown, flown_after, sealed_in, packet_after, packet_size, padded, MayBegin, Going, going, SendsOne, batch_grown, begun_batch, room_in}
+use Rattle.qc_state.specs.Sending.{Carries, LacksAckRoom, is_key_nearly_used_up, header_in, room_of, packet_bytes, begun_after, begun_view, is_flown, flown_after, sealed_in, packet_after, packet_size, padded, MayBegin, Going, going, SendsOne, batch_grown, begun_batch, room_in}
 use Rattle.qc_state.specs.Spaces.{is_space, space_of}
 use Rattle.qc_state.specs.Types.{Types, Meaning}
 use Rattle.qc_state.specs.View.{View, At, at}
-use Rattle.qc_state.specs.Offers.{wants_sending}
 use Rattle.qc_send.proofs.Waits.{Lacks, taken_wait, taken_any}
 use Rattle.qc_state.specs.declared.transmit.Batch.{Batch}
 use Rattle.qc_state.proofs.Batches.{opened_filled}
-use Rattle.qc_send.proofs.Begins.{begun_at, begun_state, begun_waits, room_wide}
+use Rattle.qc_send.proofs.Begins.{begun_at, begun_state, room_wide}
 use Rattle.qc_send.proofs.Fits.{now_fits, padded_fits, room_holds}
 use Rattle.qc_send.proofs.Takes.{bytes_kept, header_taken, number_kept, padded_kept, sealed_now, size_kept, take_padded}
-use Rattle.qc_send.specs.Taking.{TakenNow}
+use Rattle.qc_send.specs.Taking.{OwesAckAlone, TakenNow}
 
 -- all of a datagram is left that has nothing in it
 whole_left : (left capacity filled : ℕ) → left ≡ capacity → filled ≡ 0 → left ≡ capacity - filled
 whole_left left capacity filled c f = omega (arith, c, f)
 
 module _ {t : Types} where
-  -- an ACK that is all that is wanted has no room in the packet
-  no_room : (time : ℕ) (s : View t) (id : SpaceId) (room : ℕ) (fs : List FrameValue) → (0 < length fs) ⊎ Lacks time (space_of s.waiting.spaces id) room → (0 < length fs) ⊎ LacksAckRoom time s id room
-  unfolding wants_sending
-  no_room time s id room fs (inl some) = inl some
-  no_room time s id room fs (inr lacks) = inr (record { owed = lacks.owed; alone = lacks.alone; ack = lacks.ack; says = lacks.says; long = lacks.long })
+  -- an ACK that is all that is owed has no room in the packet, where no frame is taken
+  no_room : (time : ℕ) (s : View t) (id : SpaceId) (room : ℕ) (fs : List FrameValue) → (0 < length fs) ⊎ OwesAckAlone s id → (0 < length fs) ⊎ Lacks time (space_of s.waiting.spaces id) room →
+      (0 < length fs) ⊎ LacksAckRoom time s id room
+  no_room time s id room fs (inl some) x = inl some
+  no_room time s id room fs (inr ack) (inl some) = inl some
+  no_room time s id room fs (inr ack) (inr lacks) = inr (record { owed = ack.owed; alone = ack.alone; ack = lacks.ack; says = lacks.says; long = lacks.long })
 
   -- the frames that are taken once a datagram is begun, with the PADDING that they need behind them, are what a packet may carry
-  carries : (opens closing : Bool) (time : ℕ) (s : View t) (form : Form) (room : ℕ) (fs gs : List FrameValue) → owes_in closing s (number_space form) ≡ true → 25 ≤ room →
+  carries : (opens closing : Bool) (time : ℕ) (s : View t) (form : Form) (room : ℕ) (fs gs : List FrameValue) → 25 ≤ room →
       TakenNow closing time (begun_view s (number_space form) opens) (number_space form) room fs → gs ≡ padded (begun_view s (number_space form) opens) form fs → Carries closing time (begun_view s (number_space form) opens) form room gs
-  carries opens closing time s form room fs gs owed wide (TakenNow.a_close e closes) is_gs = Carries.a_close e fs closes is_gs
-  carries opens closing time s form room fs gs owed wide (TakenNow.what_waits e taken) is_gs =
+  carries opens closing time s form room fs gs wide (TakenNow.a_close e closes) is_gs = Carries.a_close e fs closes is_gs
+  carries opens closing time s form room fs gs wide (TakenNow.what_waits e taken may some) is_gs =
       let id : SpaceId = number_space form in
       let v : View t = begun_view s id opens in
-      Carries.what_waits e fs (taken_wait time v id room fs taken) (no_room time v id room fs (taken_any time v id room fs taken (begun_waits opens closing s id e owed) wide)) is_gs
+      Carries.what_waits e fs (taken_wait time v id room fs taken may) (no_room time v id room fs some (taken_any time v id room fs taken some wide)) is_gs
 
   -- a first datagram has nothing in it
   first_filled : (opens : Bool) (s : View t) (id : SpaceId) (b : Batch) → opens ≡ true → (begun_batch s id opens b).filled ≡ 0
@@ -82,7 +82,7 @@ module _ {t : Types} where
           begins = may;
           sized = omega (arith, is_capacity, most);
           carries = subst (λ (x : ℕ). Carries g.batch.closing time (begun_view a.state (number_space form) opens) form x gs) room
-              (carries opens g.batch.closing time a.state form (room_of capacity e form) fs gs may.turn.owed wide
+              (carries opens g.batch.closing time a.state form (room_of capacity e form) fs gs wide
               (subst (λ (v : View t). TakenNow g.batch.closing time v (number_space form) (room_of capacity e form) fs) begun taken) (is_gs ∙ ap (λ (v : View t). padded v form fs) begun));
           fits = omega (arith, is_capacity, filled, subst (λ (v : View t). packet_size v form gs ≤ capacity) begun fits);
         };

@@ -1,5 +1,5 @@
 -- What taking frames leaves: the header of the next packet, its size and its bytes; a close and PADDING are taken without a change.
-use Rattle.std.proofs.Common.{◌≡◌, ℕ, ◌+◌, ◌-◌, List, [], ◌∷◌, ◌++◌, length, replicate, refl, ap, sym, ◌∙◌, Bool, true, false, ◌&&◌, if◌then◌else◌, Option, Some, None}
+use Rattle.std.proofs.Common.{◌≡◌, ℕ, ◌+◌, ◌-◌, ◌<◌, ◌==◌, ◌⊎◌, not, inl, inr, append-nil, arith, List, [], ◌∷◌, ◌++◌, length, replicate, refl, ap, sym, ◌∙◌, Bool, true, false, ◌&&◌, if◌then◌else◌, Option, Some, None}
 use Rattle.std.specs.List.{list_any}
 use Rattle.qc_base.specs.declared.side.SpaceId.{SpaceId}
 use Rattle.qc_base.specs.declared.side.SpaceId.TheVariants.{Initial, Handshake, «Data»}
@@ -26,13 +26,20 @@ use Rattle.qc_state.specs.Moves.{Take, Seal, state_move, move_to, numbers_move, 
 use Rattle.qc_state.specs.Numbers.{next_number}
 use Rattle.qc_state.specs.Setup.{behind_spin, takes_grease}
 use Rattle.qc_state.specs.Sending.{close_frame, application_close, told_close, closing_frame, IsKeptReason, Closes, header_in, spin_now, flips_now, sealed_with, packet_bytes, is_flown, flown_after, sealed_in, fills, packet_size, least_size, padding_of, padded}
-use Rattle.qc_state.specs.Spaces.{space_of, with_space}
+use Rattle.qc_state.specs.Spaces.{is_space, space_of, with_space}
 use Rattle.qc_state.specs.Types.{Types, Meaning}
 use Rattle.qc_state.specs.View.{View, At, at}
 use Rattle.qc_state.specs.Taking.{TakenPart}
 use Rattle.qc_state.specs.Waiting.{waiting_without, without, without_all}
+use Rattle.qc_state.specs.Acks.{is_ack_owed}
+use Rattle.qc_state.specs.Lower.{streams_stepped}
+use Rattle.qc_state.specs.Offers.{wants_sending}
+use Rattle.qc_state.specs.StreamFrames.{sealed_steps}
+use Rattle.qc_state.proofs.SealedSteps.{sealed_append, sealed_closing, sealed_padded}
+use Rattle.qc_streams.specs.Steps.{AllMay}
+use Rattle.qc_streams.specs.Waits.{Step}
 use Rattle.qc_send.proofs.Waits.{without_all_append, without_padded}
-use Rattle.qc_send.specs.Taking.{TakenNow}
+use Rattle.qc_send.specs.Taking.{OwesAckAlone, TakenNow}
 
 -- a close is sealed without leaving what waits
 application_stays : (w : SpaceWaiting) (id : SpaceId) (code : ℕ) (kept : List ℕ) → without w (application_close id code kept) ≡ w
@@ -53,16 +60,19 @@ module _ {t : Types} where
   pub take_padded : (form : Form) (fs : List FrameValue) (s : View t) → state_move (Take (number_space form) (padded s form fs)) s ≡ state_move (Take (number_space form) fs) s
   unfolding state_move numbers_move keys_move life_move paths_move timers_move waiting_move setup_move lower_move waiting_without padded
   take_padded form fs s =
-      ap (λ (w : SpaceWaiting). record s { waiting = record s.waiting { spaces = with_space s.waiting.spaces (number_space form) w } })
+      ap (λ (w : SpaceWaiting). record s { waiting = record s.waiting { spaces = with_space s.waiting.spaces (number_space form) w }; lower = streams_stepped (sealed_steps (padded s form fs)) s.lower })
       (without_padded (space_of s.waiting.spaces (number_space form)) fs (padding_of s form fs))
+      ∙ ap (λ (xs : List Step). record s { waiting = waiting_without s.waiting (number_space form) fs; lower = streams_stepped xs s.lower }) (sealed_padded fs (padding_of s form fs))
 
   -- a close behind an ACK changes nothing more of what waits
   close_behind : (s : View t) (id : SpaceId) (kept : List ℕ) (acks : List FrameValue) → state_move (Take id acks) s ≡ state_move (Take id (acks ++ closing_frame id kept s.life ∷ [])) s
-  unfolding state_move numbers_move keys_move life_move paths_move timers_move waiting_move setup_move lower_move waiting_without without_all
+  unfolding state_move numbers_move keys_move life_move paths_move timers_move waiting_move setup_move lower_move waiting_without without_all sealed_steps
   close_behind s id kept acks =
       let w : SpaceWaiting = space_of s.waiting.spaces id in
-      ap (λ (x : SpaceWaiting). record s { waiting = record s.waiting { spaces = with_space s.waiting.spaces id x } })
+      ap (λ (x : SpaceWaiting). record s { waiting = record s.waiting { spaces = with_space s.waiting.spaces id x }; lower = streams_stepped (sealed_steps acks) s.lower })
       (sym (without_all_append w acks (closing_frame id kept s.life ∷ []) ∙ close_stays (without_all w acks) id kept (is_closed s.life.state) s.life.close))
+      ∙ ap (λ (xs : List Step). record s { waiting = waiting_without s.waiting id (acks ++ closing_frame id kept s.life ∷ []); lower = streams_stepped xs s.lower })
+      (sym (sealed_append acks (closing_frame id kept s.life ∷ []) ∙ ap (λ (xs : List Step). sealed_steps acks ++ (xs ++ [])) (sealed_closing id kept (is_closed s.life.state) s.life.close) ∙ append-nil (sealed_steps acks)))
 
   -- where the ACK was taken, the close behind it was taken too
   pub close_taken : (s mid : View t) (id : SpaceId) (kept : List ℕ) (acks fs : List FrameValue) → mid ≡ state_move (Take id acks) s → fs ≡ acks ++ closing_frame id kept s.life ∷ [] → mid ≡ state_move (Take id fs) s
@@ -75,8 +85,23 @@ module _ {t : Types} where
   takes_close closing time s id room kept acks fs owed part reason is = TakenNow.a_close owed (Closes.closing acks part kept reason is)
 
   -- and else it takes frames that wait
-  pub takes_waiting : (closing : Bool) (time : ℕ) (s : View t) (id : SpaceId) (room : ℕ) (fs : List FrameValue) → closing ≡ false → TakenPart time s.waiting.bundled (space_of s.waiting.spaces id) room fs → TakenNow closing time s id room fs
-  takes_waiting closing time s id room fs free part = TakenNow.what_waits free part
+  pub takes_waiting : (closing : Bool) (time : ℕ) (s : View t) (id : SpaceId) (room : ℕ) (fs : List FrameValue) → closing ≡ false →
+      TakenPart time s.waiting.bundled (is_space id «Data») (space_of s.waiting.spaces id) room fs → AllMay (sealed_steps fs) s.lower.streams → (0 < length fs) ⊎ OwesAckAlone s id → TakenNow closing time s id room fs
+  takes_waiting closing time s id room fs free part may some = TakenNow.what_waits free part may some
+
+  -- there is one, or an ACK is all that is owed
+  pub some_or_ack : (s : View t) (id : SpaceId) (fs : List FrameValue) (empty alone : Bool) → empty ≡ (length fs == 0) → alone ≡ (not (wants_sending s id) && is_ack_owed (space_of s.waiting.spaces id).acks) →
+      (empty && not alone) ≡ false → (0 < length fs) ⊎ OwesAckAlone s id
+  some_or_ack s id [] empty alone is_empty is_alone h = by_alone (wants_sending s id) (is_ack_owed (space_of s.waiting.spaces id).acks) empty alone refl refl is_empty is_alone h
+    where
+      by_alone : (a b empty alone : Bool) → wants_sending s id ≡ a → is_ack_owed (space_of s.waiting.spaces id).acks ≡ b → empty ≡ true → alone ≡ (not a && b) → (empty && not alone) ≡ false → (0 < 0) ⊎ OwesAckAlone s id
+      by_alone false true empty alone wants owes is_empty is_alone h = inr (record { owed = owes; alone = wants })
+      by_alone false false true false wants owes is_empty is_alone h = cc
+      by_alone false false true true wants owes is_empty is_alone h = cc
+      by_alone true b true false wants owes is_empty is_alone h = cc
+      by_alone true b true true wants owes is_empty is_alone h = cc
+      by_alone a b false alone wants owes is_empty is_alone h = cc
+  some_or_ack s id (f ∷ fs) empty alone is_empty is_alone h = inl (omega arith)
 
   -- taking frames leaves whether a packet with these counts as in flight
   flown_taken : (s mid : View t) (id : SpaceId) (fs : List FrameValue) → mid ≡ state_move (Take id fs) s → is_flown mid fs ≡ is_flown s fs

@@ -1,22 +1,31 @@
 -- The frames that this end takes wait, there is one where one waits, and they fit.
-use Rattle.std.proofs.Common.{◌≡◌, ℕ, zero, suc, ◌+◌, ◌-◌, ◌%◌, ◌<◌, ◌≤◌, List, [], ◌∷◌, ◌++◌, length, replicate, refl, ap, sym, ◌∙◌, subst, Bool, true, false, ◌||◌, not, ◌==◌, ◌⊎◌, if◌then◌else◌, Option, arith, length-append, inl, inr}
+use Rattle.std.proofs.Common.{◌≡◌, ℕ, zero, suc, ◌+◌, ◌-◌, ◌%◌, ◌<◌, ◌≤◌, List, [], ◌∷◌, ◌++◌, length, replicate, refl, ap, sym, ◌∙◌, subst, Bool, true, false, ◌||◌, not, ◌==◌, ◌⊎◌, if◌then◌else◌, Option, arith, length-append, append_assoc, append-nil, inl, inr}
 use Rattle.std.proofs.lemmas.Grind.{flat_map-append}
 use Rattle.qc_base.specs.Varint.{varint, spelled, limit, one, two, four, eight}
 use Rattle.qc_frame.specs.Frame.{FrameValue, AckValue}
+use Rattle.qc_frame.specs.FrameFits.{Fits}
 use Rattle.qc_frame.specs.FrameSpelling.{spelling, frames_spelling}
-use Rattle.qc_frame.specs.declared.frames.FrameOf.TheVariants.{Padding, HandshakeDone, Ping, Ack, Crypto}
+use Rattle.qc_frame.specs.declared.frames.FrameOf.TheVariants.{Padding, HandshakeDone, Ping, Ack, Crypto, Stream, ResetStream, StopSending, MaxData, MaxStreamData, MaxStreams}
 use Rattle.qc_state.specs.Acks.{AckPart, SaysAck, is_ack_first, is_ack_given, is_ack_last, is_ack_owed}
 use Rattle.qc_state.specs.declared.waiting.SpaceWaiting.{SpaceWaiting}
 use Rattle.qc_state.proofs.AckLemmas.{first_gives, last_gives, owed_first, part_same}
-use Rattle.qc_state.proofs.Taken.{last_counts, last_same}
+use Rattle.qc_state.proofs.SealedSteps.{sealed_append}
+use Rattle.qc_state.proofs.Taken.{front_steps, last_counts, last_same, part_steps, streams_stay}
 use Rattle.qc_state.specs.Allowed.{Waits, WaitAll}
-use Rattle.qc_state.specs.Moves.{Take, state_move, waiting_move}
-use Rattle.qc_state.specs.Offers.{oldest_in, packet_again, packet_begun, probe_sent, waits_in, wants_sending, with_ping}
-use Rattle.qc_state.specs.Spaces.{space_of}
-use Rattle.qc_state.specs.Taking.{room_behind, marks_part, done_part, ping_part, CryptoPart, TakenPart}
+use Rattle.qc_state.specs.Lower.{streams_stepped}
+use Rattle.qc_state.specs.Moves.{Take, state_move, numbers_move, keys_move, life_move, paths_move, timers_move, waiting_move, setup_move, lower_move}
+use Rattle.qc_state.specs.Spaces.{is_space, space_of, with_space}
+use Rattle.qc_state.specs.StreamFrames.{sealed_step, sealed_steps}
+use Rattle.qc_state.specs.Taking.{AreOfStreams, room_behind, marks_part, done_part, ping_part, is_streams_frame, CryptoPart, TakenPart}
 use Rattle.qc_state.specs.Types.{Types}
 use Rattle.qc_state.specs.View.{View}
-use Rattle.qc_state.specs.Waiting.{StartsWith, without, without_all, crypto_waits, ping_asked, probe_spent, waiting_without, wants_here}
+use Rattle.qc_state.specs.Waiting.{StartsWith, without, without_all, crypto_waits, waiting_without, wants_here}
+use Rattle.qc_state.specs.declared.waiting.Waiting.{Waiting}
+use Rattle.qc_send.specs.Taking.{OwesAckAlone}
+use Rattle.qc_streams.proofs.StepsLaw.{after_append}
+use Rattle.qc_streams.specs.Steps.{AllMay, IsSealedSo}
+use Rattle.qc_streams.specs.Waits.{Step, after}
+use Rattle.qc_streams.specs.declared.state.StreamsState.{StreamsState}
 use Rattle.qc_state.proofs.Probed.{taken_space}
 use Rattle.qc_base.specs.declared.side.SpaceId.{SpaceId}
 use Rattle.qc_base.specs.declared.side.SpaceId.TheVariants.{Initial, Handshake, «Data»}
@@ -88,31 +97,37 @@ marks_of done ping = (if done then HandshakeDone ∷ [] else []) ++ (if ping the
 -- the HANDSHAKE_DONE and the PING wait where they were asked for, and the others behind them
 front_waits : (time room rest left : ℕ) (bundled : Option ℕ) (w : SpaceWaiting) (acks crypto last : List FrameValue) (a b : Bool) → w.done ≡ a → w.ping ≡ b → AckPart time w room acks (is_ack_first w.acks) →
     CryptoPart (without_all w (marks_of a b ++ acks)) rest crypto → AckPart time w left last (is_ack_last time bundled w.acks) →
-    HereAll time bundled w (marks_of a b ++ (acks ++ (crypto ++ last)))
+    HereAll time bundled w (marks_of a b ++ (acks ++ crypto)) × HereAll time bundled (without_all w (marks_of a b ++ (acks ++ crypto))) last
 unfolding HereAll Here without without_all
 front_waits time room rest left bundled w acks crypto last a b g h part bytes bundle = by_marks a b g h bytes
   where
-    behind : (v : SpaceWaiting) → w.acks ≡ v.acks → w.marks ≡ v.marks → CryptoPart (without_all v acks) rest crypto → HereAll time bundled v (acks ++ (crypto ++ last))
-    behind v same marks bytes =
-        wait_all_append time bundled v acks (crypto ++ last)
-        (ack_waits time room bundled v acks (is_ack_first w.acks) (part_same time room w v acks (is_ack_first w.acks) same marks part) (λ e. ap (is_ack_given time bundled) (sym same) ∙ first_gives time bundled w.acks e))
-        (wait_all_append time bundled (without_all v acks) crypto last (crypto_wait time bundled (without_all v acks) rest crypto bytes)
-        (last_waits time room rest left bundled (is_ack_last time bundled w.acks) w v acks crypto last same marks part bytes refl bundle))
+    behind : (v : SpaceWaiting) → w.acks ≡ v.acks → w.marks ≡ v.marks → CryptoPart (without_all v acks) rest crypto → HereAll time bundled v (acks ++ crypto) × HereAll time bundled (without_all v (acks ++ crypto)) last
+    behind v same marks bytes = (
+      wait_all_append time bundled v acks crypto
+          (ack_waits time room bundled v acks (is_ack_first w.acks) (part_same time room w v acks (is_ack_first w.acks) same marks part) (λ e. ap (is_ack_given time bundled) (sym same) ∙ first_gives time bundled w.acks e))
+          (crypto_wait time bundled (without_all v acks) rest crypto bytes),
+      subst (λ (x : SpaceWaiting). HereAll time bundled x last) (sym (without_all_append v acks crypto))
+          (last_waits time room rest left bundled (is_ack_last time bundled w.acks) w v acks crypto last same marks part bytes refl bundle),
+    )
 
     by_marks : (a b : Bool) → w.done ≡ a → w.ping ≡ b → CryptoPart (without_all w (marks_of a b ++ acks)) rest crypto →
-        HereAll time bundled w (marks_of a b ++ (acks ++ (crypto ++ last)))
-    by_marks true true g h bytes = (g, (h, behind (record w { done = false; ping = false }) refl refl bytes))
-    by_marks true false g h bytes = (g, behind (record w { done = false }) refl refl bytes)
-    by_marks false true g h bytes = (h, behind (record w { ping = false }) refl refl bytes)
+        HereAll time bundled w (marks_of a b ++ (acks ++ crypto)) × HereAll time bundled (without_all w (marks_of a b ++ (acks ++ crypto))) last
+    by_marks true true g h bytes = let rest = behind (record w { done = false; ping = false }) refl refl bytes in ((g, (h, rest.0)), rest.1)
+    by_marks true false g h bytes = let rest = behind (record w { done = false }) refl refl bytes in ((g, rest.0), rest.1)
+    by_marks false true g h bytes = let rest = behind (record w { ping = false }) refl refl bytes in ((h, rest.0), rest.1)
     by_marks false false g h bytes = behind w refl refl bytes
 
--- the frames that this end takes wait
-taken_waits : (time : ℕ) (bundled : Option ℕ) (w : SpaceWaiting) (room : ℕ) (fs : List FrameValue) → TakenPart time bundled w room fs → HereAll time bundled w fs
+-- the frames in front of those of the streams
+abbrev front_of : SpaceWaiting → (acks crypto : List FrameValue) → List FrameValue
+front_of w acks crypto = marks_part w ++ (acks ++ crypto)
+
+-- the frames that this end takes of the waiting group wait: those in front of the frames of the streams, and the ACK behind them
+taken_waits : (time : ℕ) (bundled : Option ℕ) (in_data : Bool) (w : SpaceWaiting) (room : ℕ) (fs : List FrameValue) → (taken : TakenPart time bundled in_data w room fs) →
+    HereAll time bundled w (front_of w taken.acks taken.crypto) × HereAll time bundled (without_all w (front_of w taken.acks taken.crypto)) taken.last
 unfolding marks_part done_part ping_part
-taken_waits time bundled w room fs taken =
-    subst (λ (x : List FrameValue). HereAll time bundled w x) (sym taken.all)
-    (front_waits time (room - length (marks_part w)) (room - length (marks_part w) - length (frames_spelling taken.acks)) (room_behind (room - length (marks_part w) - length (frames_spelling taken.acks)) taken.crypto) bundled w
-    taken.acks taken.crypto taken.last w.done w.ping refl refl taken.ack taken.part taken.bundle)
+taken_waits time bundled in_data w room fs taken =
+    front_waits time (room - length (marks_part w)) (room - length (marks_part w) - length (frames_spelling taken.acks)) taken.left bundled w
+    taken.acks taken.crypto taken.last w.done w.ping refl refl taken.ack taken.part taken.bundle
 
 -- there is a CRYPTO frame, where bytes wait and there is room for more than its head
 crypto_some : (w : SpaceWaiting) (room : ℕ) (fs : List FrameValue) → CryptoPart w room fs → crypto_waits w ≡ true → 17 < room → 0 < length fs
@@ -127,8 +142,6 @@ is_wanted_here w = wants_here w || is_ack_owed w.acks
 
 -- an ACK is all that is wanted, and has no room
 pub record Lacks (time : ℕ) (w : SpaceWaiting) (room : ℕ) : Type 0 where
-  pub owed : is_ack_owed w.acks ≡ true
-  pub alone : wants_here w ≡ false
   pub ack : AckValue
   pub says : SaysAck time w ack
   pub long : room < length (frames_spelling (Ack ack ∷ []))
@@ -155,13 +168,7 @@ left_out_some : (time room : ℕ) (w : SpaceWaiting) (crypto last : List FrameVa
 left_out_some time room w crypto last ack true g i says long part h e r =
     let some : 0 < length crypto = crypto_some w (room - 0 - 0) crypto part e (omega arith) in
     inl (omega (arith, length-append crypto last, some))
-left_out_some time room w crypto last ack false g i says long part h e r = inr (record {
-  owed = or_left (is_ack_owed w.acks) false h refl;
-  alone = ap (λ (b : Bool). b || w.ping || crypto_waits w) g ∙ ap (λ (b : Bool). b || crypto_waits w) i ∙ e;
-  ack = ack;
-  says = says;
-  long = omega (arith, long);
-})
+left_out_some time room w crypto last ack false g i says long part h e r = inr (record { ack = ack; says = says; long = omega (arith, long) })
 
 -- without marks
 behind_some : (time room : ℕ) (w : SpaceWaiting) (acks crypto last : List FrameValue) (b : Bool) → w.done ≡ false → w.ping ≡ false → AckPart time w (room - 0) acks b → is_ack_first w.acks ≡ b →
@@ -190,10 +197,12 @@ front_some time room w acks crypto last false false g i ack part h r =
 
 -- this end takes some frame, where one waits and there is room for more than the head of a CRYPTO frame; unless all that waits is an
 -- ACK that has no room
-taken_some : (time : ℕ) (bundled : Option ℕ) (w : SpaceWaiting) (room : ℕ) (fs : List FrameValue) → TakenPart time bundled w room fs → is_wanted_here w ≡ true → 25 ≤ room → (0 < length fs) ⊎ Lacks time w room
+taken_some : (time : ℕ) (bundled : Option ℕ) (in_data : Bool) (w : SpaceWaiting) (room : ℕ) (fs : List FrameValue) → TakenPart time bundled in_data w room fs → is_wanted_here w ≡ true → 25 ≤ room →
+    (0 < length fs) ⊎ Lacks time w room
 unfolding marks_part done_part ping_part
-taken_some time bundled w room fs taken h r =
-    subst (λ (x : List FrameValue). (0 < length x) ⊎ Lacks time w room) (sym taken.all) (front_some time room w taken.acks taken.crypto taken.last w.done w.ping refl refl taken.ack taken.part h r)
+taken_some time bundled in_data w room fs taken h r =
+    subst (λ (x : List FrameValue). (0 < length x) ⊎ Lacks time w room) (sym taken.all)
+    (front_some time room w taken.acks taken.crypto (taken.own ++ taken.last) w.done w.ping refl refl taken.ack taken.part h r)
 
 -- the ACK, where there is one, has no more bytes than there is room for
 pub ack_fits : (time room : ℕ) (w : SpaceWaiting) (acks : List FrameValue) (b : Bool) → AckPart time w room acks b → length (frames_spelling acks) ≤ room
@@ -258,32 +267,34 @@ unfolding marks_part done_part ping_part
 marks_few w = marks_few_by w.done w.ping
 
 -- the frames that this end takes fit into the room
-pub taken_fits : (time : ℕ) (bundled : Option ℕ) (w : SpaceWaiting) (room : ℕ) (fs : List FrameValue) → TakenPart time bundled w room fs → 2 ≤ room → length (frames_spelling fs) ≤ room
-taken_fits time bundled w room fs taken r =
+pub taken_fits : (time : ℕ) (bundled : Option ℕ) (in_data : Bool) (w : SpaceWaiting) (room : ℕ) (fs : List FrameValue) → TakenPart time bundled in_data w room fs → 2 ≤ room → length (frames_spelling fs) ≤ room
+taken_fits time bundled in_data w room fs taken r =
     let behind : ℕ = room - length (marks_part w) - length (frames_spelling taken.acks) in
-    let same : length (frames_spelling fs) ≡ length (frames_spelling (marks_part w ++ (taken.acks ++ (taken.crypto ++ taken.last)))) = ap (λ (x : List FrameValue). length (frames_spelling x)) taken.all in
+    let same : length (frames_spelling fs) ≡ length (frames_spelling (marks_part w ++ (taken.acks ++ (taken.crypto ++ (taken.own ++ taken.last))))) = ap (λ (x : List FrameValue). length (frames_spelling x)) taken.all in
     omega (
       arith,
       same,
-      bytes_append (marks_part w) (taken.acks ++ (taken.crypto ++ taken.last)),
-      bytes_append taken.acks (taken.crypto ++ taken.last),
-      bytes_append taken.crypto taken.last,
+      bytes_append (marks_part w) (taken.acks ++ (taken.crypto ++ (taken.own ++ taken.last))),
+      bytes_append taken.acks (taken.crypto ++ (taken.own ++ taken.last)),
+      bytes_append taken.crypto (taken.own ++ taken.last),
+      bytes_append taken.own taken.last,
+      taken.fits,
       marks_fit w,
       marks_few w,
       ack_fits time (room - length (marks_part w)) w taken.acks (is_ack_first w.acks) taken.ack,
       crypto_fits (without_all w (marks_part w ++ taken.acks)) behind taken.crypto taken.part,
-      ack_fits time (room_behind behind taken.crypto) w taken.last (is_ack_last time bundled w.acks) taken.bundle,
+      ack_fits time taken.left w taken.last (is_ack_last time bundled w.acks) taken.bundle,
     )
 
--- of two tests one holds, where the first doesn't fail
-none_due : (a b : Bool) → (a || b || false) ≡ true → (a || b) ≡ true
-none_due true b h = refl
-none_due false true h = refl
-none_due false false h = h
+-- the steps of joined lists
+taken_twice_streams : (fs gs : List FrameValue) (s : StreamsState) → after (sealed_steps gs) (after (sealed_steps fs) s) ≡ after (sealed_steps (fs ++ gs)) s
+taken_twice_streams fs gs s = sym (ap (λ (xs : List Step). after xs s) (sealed_append fs gs) ∙ after_append (sealed_steps fs) (sealed_steps gs) s)
 
-any_second : (a c : Bool) → (a || true || c) ≡ true
-any_second true c = refl
-any_second false c = refl
+-- a space that is that of 1-RTT packets
+is_data : (id : SpaceId) → is_space id «Data» ≡ true → id ≡ «Data»
+is_data Initial h = cc
+is_data Handshake h = cc
+is_data Data h = refl
 
 module _ {t : Types} where
   -- a frame that waits in the waiting group waits
@@ -310,46 +321,111 @@ module _ {t : Types} where
             (subst (λ (b : Option ℕ). HereAll time b (without (space_of s.waiting.spaces id) f) fs) (sym (bundled_stays id f s)) h.1)),
       )
 
+  -- ---- joined lists
+
+  taken_twice_waiting : (id : SpaceId) (fs gs : List FrameValue) (s : View t) → waiting_without (waiting_without s.waiting id fs) id gs ≡ waiting_without s.waiting id (fs ++ gs)
+  unfolding waiting_without
+  taken_twice_waiting Initial fs gs s = ap (λ (w : SpaceWaiting). record s.waiting { spaces = with_space s.waiting.spaces Initial w }) (sym (without_all_append s.waiting.spaces.initial fs gs))
+  taken_twice_waiting Handshake fs gs s = ap (λ (w : SpaceWaiting). record s.waiting { spaces = with_space s.waiting.spaces Handshake w }) (sym (without_all_append s.waiting.spaces.handshake fs gs))
+  taken_twice_waiting Data fs gs s = ap (λ (w : SpaceWaiting). record s.waiting { spaces = with_space s.waiting.spaces «Data» w }) (sym (without_all_append s.waiting.spaces.application fs gs))
+
+  -- what lists leave that are taken one behind the other
+  taken_twice : (id : SpaceId) (fs gs : List FrameValue) (s : View t) → state_move (Take id gs) (state_move (Take id fs) s) ≡ state_move (Take id (fs ++ gs)) s
+  unfolding state_move numbers_move keys_move life_move paths_move timers_move waiting_move setup_move lower_move streams_stepped
+  taken_twice id fs gs s =
+      ap (λ (w : Waiting). record s { waiting = w; lower = record s.lower { streams = after (sealed_steps gs) (after (sealed_steps fs) s.lower.streams) } }) (taken_twice_waiting id fs gs s)
+      ∙ ap (λ (x : StreamsState). record s { waiting = waiting_without s.waiting id (fs ++ gs); lower = record s.lower { streams = x } }) (taken_twice_streams fs gs s.lower.streams)
+
+  nothing_taken : (id : SpaceId) (s : View t) → state_move (Take id []) s ≡ s
+  unfolding state_move numbers_move keys_move life_move paths_move timers_move waiting_move setup_move lower_move streams_stepped waiting_without without_all sealed_steps after
+  nothing_taken Initial s = refl
+  nothing_taken Handshake s = refl
+  nothing_taken Data s = refl
+
+  -- joined lists wait, where the second one waits behind the first
+  wait_append : (time : ℕ) (s : View t) (id : SpaceId) (fs gs : List FrameValue) → WaitAll time s id fs → WaitAll time (state_move (Take id fs) s) id gs → WaitAll time s id (fs ++ gs)
+  unfolding WaitAll
+  wait_append time s id [] gs a b = subst (λ (v : View t). WaitAll time v id gs) (nothing_taken id s) b
+  wait_append time s id (f ∷ fs) gs a b =
+      let v : View t = state_move (Take id (f ∷ [])) s in
+      (a.0, wait_append time v id fs gs a.1 (subst (λ (x : View t). WaitAll time x id gs) (sym (taken_twice id (f ∷ []) fs s)) b))
+
+  -- ---- frames of the streams
+
+  -- what one leaves of the streams
+  one_taken : (id : SpaceId) (f : FrameValue) (s : View t) → (state_move (Take id (f ∷ [])) s).lower.streams ≡ after (sealed_step f) s.lower.streams
+  unfolding state_move lower_move streams_stepped sealed_steps
+  one_taken id f s = ap (λ (xs : List Step). after xs s.lower.streams) (append-nil (sealed_step f))
+
+  -- one of them waits, where the step that it is may be made
+  own_waits : (time : ℕ) (s : View t) (id : SpaceId) (f : FrameValue) (xs : List Step) → is_space id «Data» ≡ true → is_streams_frame f ≡ true → Fits f → AllMay (sealed_step f ++ xs) s.lower.streams →
+      Waits time s id f × AllMay xs (after (sealed_step f) s.lower.streams)
+  unfolding Waits AllMay IsSealedSo after
+  own_waits time s id (Stream stream offset fin body) xs is own fits may = ((is_data id is, may.0.sealed, fits), may.1)
+  own_waits time s id (ResetStream stream code size) xs is own fits may = ((is_data id is, may.0.sealed, fits), may.1)
+  own_waits time s id (StopSending stream code) xs is own fits may = ((is_data id is, may.0.sealed, fits), may.1)
+  own_waits time s id (MaxData limit) xs is own fits may = ((is_data id is, may.0.sealed, fits), may.1)
+  own_waits time s id (MaxStreamData stream limit) xs is own fits may = ((is_data id is, may.0.sealed, fits), may.1)
+  own_waits time s id (MaxStreams dir limit) xs is own fits may = ((is_data id is, may.0.sealed, fits), may.1)
+  own_waits time s id _ xs is own fits may = cc
+
+  own_wait : (time : ℕ) (s : View t) (id : SpaceId) (fs : List FrameValue) → AreOfStreams (is_space id «Data») fs → AllMay (sealed_steps fs) s.lower.streams → WaitAll time s id fs
+  unfolding WaitAll sealed_steps
+  own_wait time s id [] are may = tt
+  own_wait time s id (f ∷ fs) are may =
+      let first : Waits time s id f × AllMay (sealed_steps fs) (after (sealed_step f) s.lower.streams) = own_waits time s id f (sealed_steps fs) are.0 are.1 are.2 may in
+      (first.0, own_wait time (state_move (Take id (f ∷ [])) s) id fs are.3 (subst (λ (x : StreamsState). AllMay (sealed_steps fs) x) (sym (one_taken id f s)) first.1))
+
+  -- ---- all frames
+
+  -- those in front of the frames of the streams are no steps of theirs
+  front_streams : (time : ℕ) (bundled : Option ℕ) (in_data : Bool) (w : SpaceWaiting) (id : SpaceId) (room : ℕ) (fs : List FrameValue) (s : View t) → (taken : TakenPart time bundled in_data w room fs) →
+      (state_move (Take id (front_of w taken.acks taken.crypto)) s).lower.streams ≡ s.lower.streams
+  unfolding state_move lower_move streams_stepped after
+  front_streams time bundled in_data w id room fs s taken = ap (λ (xs : List Step). after xs s.lower.streams) (front_steps time bundled in_data w room fs taken)
+
+  -- what waits of a space behind frames of the streams
+  own_space : (id : SpaceId) (fs own : List FrameValue) (s : View t) (w : SpaceWaiting) → AreOfStreams (is_space id «Data») own → w ≡ space_of s.waiting.spaces id →
+      space_of (state_move (Take id (fs ++ own)) s).waiting.spaces id ≡ without_all w fs
+  unfolding state_move waiting_move waiting_without
+  own_space id fs own s w are is =
+      space_again id (fs ++ own) s ∙ without_all_append (space_of s.waiting.spaces id) fs own ∙ streams_stay (is_space id «Data») (without_all (space_of s.waiting.spaces id) fs) own are
+      ∙ ap (λ (x : SpaceWaiting). without_all x fs) (sym is)
+    where
+      space_again : (id : SpaceId) (gs : List FrameValue) (s : View t) → space_of (with_space s.waiting.spaces id (without_all (space_of s.waiting.spaces id) gs)) id ≡ without_all (space_of s.waiting.spaces id) gs
+      space_again Initial gs s = refl
+      space_again Handshake gs s = refl
+      space_again Data gs s = refl
+
+  bundled_all : (id : SpaceId) (fs : List FrameValue) (s : View t) → (state_move (Take id fs) s).waiting.bundled ≡ s.waiting.bundled
+  unfolding state_move waiting_move waiting_without
+  bundled_all id fs s = refl
+
   -- the frames that this end takes in a space wait there
-  pub taken_wait : (time : ℕ) (s : View t) (id : SpaceId) (room : ℕ) (fs : List FrameValue) → TakenPart time s.waiting.bundled (space_of s.waiting.spaces id) room fs → WaitAll time s id fs
-  taken_wait time s id room fs taken = here_all time s id fs (taken_waits time s.waiting.bundled (space_of s.waiting.spaces id) room fs taken)
+  pub taken_wait : (time : ℕ) (s : View t) (id : SpaceId) (room : ℕ) (fs : List FrameValue) → TakenPart time s.waiting.bundled (is_space id «Data») (space_of s.waiting.spaces id) room fs →
+      AllMay (sealed_steps fs) s.lower.streams → WaitAll time s id fs
+  taken_wait time s id room fs taken may =
+      let w : SpaceWaiting = space_of s.waiting.spaces id in
+      let front : List FrameValue = front_of w taken.acks taken.crypto in
+      let here = taken_waits time s.waiting.bundled (is_space id «Data») w room fs taken in
+      let v : View t = state_move (Take id front) s in
+      let u : View t = state_move (Take id (front ++ taken.own)) s in
+      let own_may : AllMay (sealed_steps taken.own) v.lower.streams =
+      subst (λ (x : StreamsState). AllMay (sealed_steps taken.own) x) (sym (front_streams time s.waiting.bundled (is_space id «Data») w id room fs s taken))
+      (subst (λ (xs : List Step). AllMay xs s.lower.streams) (part_steps time s.waiting.bundled (is_space id «Data») w room fs taken) may) in
+      let own_all : WaitAll time s id (front ++ taken.own) = wait_append time s id front taken.own (here_all time s id front here.0) (own_wait time v id taken.own taken.streams own_may) in
+      let last : HereAll time u.waiting.bundled (space_of u.waiting.spaces id) taken.last =
+      subst (λ (b : Option ℕ). HereAll time b (space_of u.waiting.spaces id) taken.last) (sym (bundled_all id (front ++ taken.own) s))
+      (subst (λ (x : SpaceWaiting). HereAll time s.waiting.bundled x taken.last) (sym (own_space id front taken.own s w taken.streams refl)) here.1) in
+      subst (λ (x : List FrameValue). WaitAll time s id x) (sym (taken.all ∙ simp append_assoc))
+      (wait_append time s id (front ++ taken.own) taken.last own_all (here_all time u id taken.last last))
 
-  -- a frame waits in a space
-  abbrev pub is_wanted : View t → SpaceId → Bool
-  is_wanted s id = wants_sending s id || is_ack_owed (space_of s.waiting.spaces id).acks
-
-  -- this end takes some frame, where one waits and there is room for more than the head of a CRYPTO frame; unless all that waits is an
-  -- ACK that has no room
-  pub taken_any : (time : ℕ) (s : View t) (id : SpaceId) (room : ℕ) (fs : List FrameValue) → TakenPart time s.waiting.bundled (space_of s.waiting.spaces id) room fs → is_wanted s id ≡ true → 25 ≤ room →
-      (0 < length fs) ⊎ Lacks time (space_of s.waiting.spaces id) room
-  unfolding wants_sending
-  taken_any time s id room fs taken h r = taken_some time s.waiting.bundled (space_of s.waiting.spaces id) room fs taken h r
-
-  -- where no frame waits that elicits an acknowledgement, a PING does from then on
-  asked_wants : (id : SpaceId) (s : View t) → wants_sending (record s { waiting = ping_asked s.waiting id }) id ≡ true
-  unfolding wants_sending ping_asked
-  asked_wants Initial s = any_second s.waiting.spaces.initial.done (crypto_waits s.waiting.spaces.initial)
-  asked_wants Handshake s = any_second s.waiting.spaces.handshake.done (crypto_waits s.waiting.spaces.handshake)
-  asked_wants Data s = any_second s.waiting.spaces.application.done (crypto_waits s.waiting.spaces.application)
-
-  wanted_by : (id : SpaceId) (s : View t) → wants_sending s id ≡ true → is_wanted s id ≡ true
-  wanted_by id s h = ap (λ (b : Bool). b || is_ack_owed (space_of s.waiting.spaces id).acks) h
-
-  pinged : (id : SpaceId) (s : View t) (b : Bool) → wants_sending s id ≡ b → is_wanted (if b then s else record s { waiting = ping_asked s.waiting id }) id ≡ true
-  pinged id s true h = wanted_by id s h
-  pinged id s false h = wanted_by id (record s { waiting = ping_asked s.waiting id }) (asked_wants id s)
-
-  probe_wanted : (id : SpaceId) (s : View t) → is_wanted (probe_sent id s) id ≡ true
-  unfolding probe_sent with_ping
-  probe_wanted id s =
-      let v : View t = if wants_sending s id then s else packet_again id (oldest_in s id) s in
-      pinged id v (wants_sending v id) refl
-
-  -- once a packet is begun in a space where something waits, a frame does: no probe alone
-  begun_by : (id : SpaceId) (s v : View t) (b : Bool) → (wants_sending s id || is_ack_owed (space_of s.waiting.spaces id).acks || not b) ≡ true → is_wanted (if b then s else probe_sent id v) id ≡ true
-  begun_by id s v true h = none_due (wants_sending s id) (is_ack_owed (space_of s.waiting.spaces id).acks) h
-  begun_by id s v false h = probe_wanted id v
-
-  pub begun_wanted : (id : SpaceId) (opens : Bool) (s : View t) → waits_in s id ≡ true → is_wanted (packet_begun id opens s) id ≡ true
-  unfolding waits_in packet_begun
-  begun_wanted id opens s h = begun_by id s (if opens then record s { waiting = probe_spent s.waiting id } else s) ((space_of s.waiting.spaces id).probes == 0) h
+  -- this end takes some frame, where there is room for more than the head of a CRYPTO frame; unless all that waits is an ACK that has no room
+  pub taken_any : (time : ℕ) (s : View t) (id : SpaceId) (room : ℕ) (fs : List FrameValue) → TakenPart time s.waiting.bundled (is_space id «Data») (space_of s.waiting.spaces id) room fs →
+      (0 < length fs) ⊎ OwesAckAlone s id → 25 ≤ room → (0 < length fs) ⊎ Lacks time (space_of s.waiting.spaces id) room
+  taken_any time s id room fs taken (inl some) r = inl some
+  taken_any time s id room fs taken (inr ack) r = taken_some time s.waiting.bundled (is_space id «Data») (space_of s.waiting.spaces id) room fs taken (wanted_here (wants_here (space_of s.waiting.spaces id)) ack.owed) r
+    where
+      wanted_here : (b : Bool) → is_ack_owed (space_of s.waiting.spaces id).acks ≡ true → (b || is_ack_owed (space_of s.waiting.spaces id).acks) ≡ true
+      wanted_here true h = refl
+      wanted_here false h = h

@@ -1,9 +1,9 @@
 //! One packet: the frames that it takes, its header, and its bytes.
 
-ghost use Rattle.std.specs.Prelude.{◌≡◌, ◌+◌, ◌-◌, ◌<◌, ◌≤◌, ◌^◌, ◌++◌, ◌||◌, [], ◌∷◌, true, false, Some, None, IsSome, IfSome, if◌then◌else◌, length, option_map, replicate, OnOk, IfOk};
+ghost use Rattle.std.specs.Prelude.{◌≡◌, ◌+◌, ◌-◌, ◌<◌, ◌≤◌, ◌^◌, ◌++◌, ◌||◌, ◌⊎◌, [], ◌∷◌, true, false, Some, None, IsSome, IfSome, if◌then◌else◌, length, option_map, replicate, OnOk, IfOk};
 ghost use Rattle.qc_send.specs.Drawing.{drawn_for, header_with, slot_drawn, token_bytes, token_in};
-ghost use Rattle.qc_send.specs.Taking.{TakenNow};
-ghost use Rattle.qc_base.specs.declared.side.SpaceId.TheVariants.{Initial};
+ghost use Rattle.qc_send.specs.Taking.{OwesAckAlone, TakenNow};
+ghost use Rattle.qc_base.specs.declared.side.SpaceId.TheVariants.{Initial, «Data»};
 ghost use Rattle.qc_frame.specs.FrameSpelling.{frames_spelling};
 ghost use Rattle.qc_frame.specs.declared.frames.FrameOf.TheVariants.{Padding};
 ghost use Rattle.qc_packet.specs.Building.{kill_of, min_size_of, padded_size};
@@ -14,8 +14,11 @@ ghost use Rattle.qc_state.specs.Keys.{has_keys_for, header_key, packet_key, reac
 ghost use Rattle.qc_state.specs.Moves.{Take, Seal, move_to, state_move};
 ghost use Rattle.qc_state.specs.Numbers.{next_number, acked_number};
 ghost use Rattle.qc_state.specs.Sending.{is_key_nearly_used_up, flips_now, header_in, room_of, finished_after, spared_after, begun_after, skipped_after, fills, packet_size, least_size, padded, packet_bytes, is_flown, sealed_with, transmit_with};
-ghost use Rattle.qc_state.specs.Spaces.{is_space};
+ghost use Rattle.qc_state.specs.Spaces.{is_space, space_of};
+ghost use Rattle.qc_state.specs.StreamFrames.{sealed_steps};
+ghost use Rattle.qc_state.specs.Taking.{TakenPart};
 ghost use Rattle.qc_state.specs.View.{ideal, held};
+ghost use Rattle.qc_streams.specs.Steps.{AllMay};
 
 use crate::closing::{closing_frame, kept_reason};
 use crate::owing::next_number;
@@ -168,6 +171,29 @@ fn take_close<U: Suite>(
     Ok(frames)
 }
 
+/// Takes frames that wait at a time for a packet of this space with so much room. There is one, unless an ACK is all that is owed. Want
+/// of memory is the only refusal.
+fn take_waiting<U: Suite>(
+    core: &mut Core<U>,
+    alloc: Global,
+    now: Instant,
+    space: SpaceId,
+    room: usize,
+) -> Result<FrameList, AllocError>
+    ensures part { IfOk result (λ frames. TakenPart now core.old.waiting.bundled (is_space space «Data») (space_of core.old.waiting.spaces space) room frames) }
+    ensures may { IfOk result (λ frames. AllMay (sealed_steps frames) core.old.lower.streams) }
+    ensures some { IfOk result (λ frames. (0 < length frames) ⊎ OwesAckAlone (ideal U.Random.stream core.old) space) }
+    ensures leads { IfOk result (λ frames. (ideal U.Random.stream core.new) ≡ state_move (Take space frames) (ideal U.Random.stream core.old)) }
+{
+    let ack_alone = core.owes_ack_alone(space);
+    let frames = core.do_take(alloc, now, space, room)?;
+    // A frame that waits is taken where there is room for 25 bytes, and more there is in each packet: this refusal doesn't come.
+    if frames.is_empty() && !ack_alone {
+        return Err(AllocError);
+    }
+    Ok(frames)
+}
+
 /// Takes frames at a time for a packet of this form, with what room for them there is beside its header: in a transmit that began
 /// with a close owed, the close, with an ACK in front; else frames that wait.
 #[tactic(auto, using(crate::proofs::Takes::takes_waiting))]
@@ -189,7 +215,7 @@ pub(crate) fn take<U: Suite>(
     if closing {
         return take_close(core, alloc, now, closing, form.space(), room);
     }
-    core.do_take(alloc, now, form.space(), room)
+    take_waiting(core, alloc, now, form.space(), room)
 }
 
 /// How many bytes a packet of this form with these frames is to have at least: a datagram's size where it fills one.

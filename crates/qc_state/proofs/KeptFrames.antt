@@ -2,10 +2,11 @@
 use Rattle.std.proofs.Common.{◌≡◌, ℕ, zero, suc, List, [], ◌∷◌, ◌++◌, Bool, true, false, ◌||◌, nat_lt, replicate, append_assoc, refl, ap, arith}
 use Rattle.std.proofs.lemmas.Bool.Decides.{nat_tests}
 use Rattle.std.specs.List.{list_any}
+use Rattle.qc_flight.specs.declared.stream_frames.StreamMeta.{StreamMeta}
 use Rattle.qc_frame.specs.Frame.{FrameValue}
 use Rattle.qc_frame.specs.declared.frames.FrameOf.TheVariants.{Padding}
 use Rattle.qc_state.specs.Acks.{is_ack}
-use Rattle.qc_state.specs.Flight.{is_padding, kept_frames, kept_of}
+use Rattle.qc_state.specs.Flight.{is_padding, kept_frames, kept_of, meta_of, metas_of}
 use Rattle.qc_state.specs.Waiting.{again, all_again, all_confirmed, confirmed}
 use Rattle.qc_state.specs.declared.waiting.SpaceWaiting.{SpaceWaiting}
 
@@ -20,6 +21,18 @@ kept_padded (f ∷ fs) n = ap (λ ks. kept_of f ++ ks) (kept_padded fs n)
 -- one frame more was kept
 pub kept_more : (kept : List FrameValue) (f : FrameValue) (fs : List FrameValue) → (kept ++ kept_of f) ++ kept_frames fs ≡ kept ++ kept_frames (f ∷ fs)
 kept_more kept f fs = append_assoc kept (kept_of f) (kept_frames fs)
+
+-- the same of the STREAM frames among them
+metas_padding : (n : ℕ) → metas_of (replicate n Padding) ≡ []
+metas_padding zero = refl
+metas_padding (suc n) = metas_padding n
+
+pub metas_padded : (fs : List FrameValue) (n : ℕ) → metas_of (fs ++ replicate n Padding) ≡ metas_of fs
+metas_padded [] n = metas_padding n
+metas_padded (f ∷ fs) n = ap (λ ms. meta_of f ++ ms) (metas_padded fs n)
+
+pub metas_more : (metas : List StreamMeta) (f : FrameValue) (fs : List FrameValue) → (metas ++ meta_of f) ++ metas_of fs ≡ metas ++ metas_of (f ∷ fs)
+metas_more metas f fs = append_assoc metas (meta_of f) (metas_of fs)
 
 padding_any : (n : ℕ) → list_any is_padding (replicate n Padding) ≡ nat_lt 0 n
 padding_any zero = refl

@@ -13,9 +13,12 @@ pub mod PacketMoves
 pub mod Probed
 pub mod Progresses
 pub mod ReceivedMoves
+pub mod SealedSteps
 pub mod Telling
 pub mod Skipping
 pub mod StreamEvents
+pub mod StreamsSettled
+pub mod StreamsTaken
 pub mod Taken
 pub mod Transmitted
 pub mod Ready

@@ -9,10 +9,14 @@ use Rattle.qc_frame.specs.declared.frames.FrameOf.TheVariants.{HandshakeDone, Pi
 use Rattle.qc_path.specs.Acks.{PendingValues}
 use Rattle.qc_send_stream.specs.Buffer.{Buffer, range_sealed}
 use Rattle.qc_state.specs.Acks.{AckPart, SaysAck, ack_sent, is_ack_first, is_ack_last}
-use Rattle.qc_state.specs.Taking.{CryptoPart, TakenPart, TakesAck, TakesCrypto, marks_part, done_part, ping_part, room_behind}
+use Rattle.qc_state.specs.StreamFrames.{sealed_steps}
+use Rattle.qc_state.specs.Taking.{AreOfStreams, CryptoPart, TakenPart, TakesAck, TakesCrypto, TakesStreams, marks_part, done_part, ping_part, room_behind}
 use Rattle.qc_state.specs.Waiting.{StartsWith, crypto_waits, without, without_all}
 use Rattle.qc_state.specs.declared.waiting.SpaceWaiting.{SpaceWaiting}
 use Rattle.qc_state.proofs.AckLemmas.{none_due, not_both, part_same}
+use Rattle.qc_state.proofs.SealedSteps.{sealed_ack, sealed_append}
+use Rattle.qc_streams.specs.Waits.{Step}
+use Rattle.qc_streams.specs.declared.state.StreamsState.{StreamsState}
 
 -- what waits once joined lists are sealed
 append_left : (w : SpaceWaiting) (fs gs : List FrameValue) → without_all w (fs ++ gs) ≡ without_all (without_all w fs) gs
@@ -96,21 +100,78 @@ same_numbers time room rest len left due last w w1 w2 w3 fs1 fs2 fs3 is takes cr
     subst ArePackets (sym same) (packets h)
 
 -- the frames, part by part
-parts_list : (w : SpaceWaiting) (fs0 fs1 fs2 fs3 fs4 acks crypto last : List FrameValue) → fs0 ≡ [] → fs1 ≡ fs0 ++ marks_part w → fs2 ≡ fs1 ++ acks → fs3 ≡ fs2 ++ crypto → fs4 ≡ fs3 ++ last →
-    fs4 ≡ marks_part w ++ (acks ++ (crypto ++ last))
-parts_list w fs0 fs1 fs2 fs3 fs4 acks crypto last is_fs0 is_fs1 is_fs2 is_fs3 is_fs4 =
-    is_fs4 ∙ ap (λ (x : List FrameValue). x ++ last) is_fs3 ∙ ap (λ (x : List FrameValue). (x ++ crypto) ++ last) is_fs2
-    ∙ ap (λ (x : List FrameValue). ((x ++ acks) ++ crypto) ++ last) (is_fs1 ∙ ap (λ (x : List FrameValue). x ++ marks_part w) is_fs0) ∙ simp append_assoc
+parts_list : (w : SpaceWaiting) (fs0 fs1 fs2 fs3 fs4 fs5 acks crypto own last : List FrameValue) → fs0 ≡ [] → fs1 ≡ fs0 ++ marks_part w → fs2 ≡ fs1 ++ acks → fs3 ≡ fs2 ++ crypto → fs4 ≡ fs3 ++ own →
+    fs5 ≡ fs4 ++ last → fs5 ≡ marks_part w ++ (acks ++ (crypto ++ (own ++ last)))
+parts_list w fs0 fs1 fs2 fs3 fs4 fs5 acks crypto own last is_fs0 is_fs1 is_fs2 is_fs3 is_fs4 is_fs5 =
+    is_fs5 ∙ ap (λ (x : List FrameValue). x ++ last) is_fs4 ∙ ap (λ (x : List FrameValue). (x ++ own) ++ last) is_fs3 ∙ ap (λ (x : List FrameValue). ((x ++ crypto) ++ own) ++ last) is_fs2
+    ∙ ap (λ (x : List FrameValue). (((x ++ acks) ++ crypto) ++ own) ++ last) (is_fs1 ∙ ap (λ (x : List FrameValue). x ++ marks_part w) is_fs0) ∙ simp append_assoc
+
+-- frames of the streams leave what waits in a space
+pub streams_stay : (b : Bool) (w : SpaceWaiting) (fs : List FrameValue) → AreOfStreams b fs → without_all w fs ≡ w
+unfolding without_all without
+streams_stay b w [] h = refl
+streams_stay b w (frames.Stream id offset fin body ∷ fs) h = streams_stay b w fs h.3
+streams_stay b w (frames.ResetStream id code size ∷ fs) h = streams_stay b w fs h.3
+streams_stay b w (frames.StopSending id code ∷ fs) h = streams_stay b w fs h.3
+streams_stay b w (frames.MaxData limit ∷ fs) h = streams_stay b w fs h.3
+streams_stay b w (frames.MaxStreamData id limit ∷ fs) h = streams_stay b w fs h.3
+streams_stay b w (frames.MaxStreams dir limit ∷ fs) h = streams_stay b w fs h.3
+streams_stay b w (_ ∷ fs) h = cc
 
 -- what is left once all parts were taken
-pub without_parts : (time room rest left len len' : ℕ) (due due' : Bool) (w w1 w2 w3 w4 : SpaceWaiting) (fs0 fs1 fs2 fs3 fs4 : List FrameValue) →
+pub without_parts : (time room rest more left len len' : ℕ) (due due' in_data : Bool) (w w1 w2 w3 w4 : SpaceWaiting) (fs0 fs1 fs2 fs3 fs4 fs5 : List FrameValue) (s s' : StreamsState) →
     fs0 ≡ [] → fs1 ≡ fs0 ++ marks_part w → w1 ≡ without_all w (marks_part w) → TakesAck time due room w1 w2 fs1 fs2 len →
-    TakesCrypto rest w2 w3 fs2 fs3 left → TakesAck time due' left w3 w4 fs3 fs4 len' → w4 ≡ without_all w fs4
-without_parts time room rest left len len' due due' w w1 w2 w3 w4 fs0 fs1 fs2 fs3 fs4 is_fs0 is_fs1 is_w1 takes crypto bundle =
-    let all : fs4 ≡ marks_part w ++ (takes.acks ++ (crypto.frames ++ bundle.acks)) = parts_list w fs0 fs1 fs2 fs3 fs4 takes.acks crypto.frames bundle.acks is_fs0 is_fs1 takes.list crypto.list bundle.list in
-    bundle.rest ∙ ap (λ (x : SpaceWaiting). without_all x bundle.acks) (crypto.rest ∙ ap (λ (x : SpaceWaiting). without_all x crypto.frames) (takes.rest ∙ ap (λ (x : SpaceWaiting). without_all x takes.acks) is_w1))
-    ∙ sym (ap (λ (fs : List FrameValue). without_all w fs) all ∙ append_left w (marks_part w) (takes.acks ++ (crypto.frames ++ bundle.acks)) ∙ append_left (without_all w (marks_part w)) takes.acks (crypto.frames ++ bundle.acks)
-    ∙ append_left (without_all (without_all w (marks_part w)) takes.acks) crypto.frames bundle.acks)
+    TakesCrypto rest w2 w3 fs2 fs3 more → TakesStreams in_data more s s' fs3 fs4 left → TakesAck time due' left w3 w4 fs4 fs5 len' → w4 ≡ without_all w fs5
+without_parts time room rest more left len len' due due' in_data w w1 w2 w3 w4 fs0 fs1 fs2 fs3 fs4 fs5 s s' is_fs0 is_fs1 is_w1 takes crypto streams bundle =
+    let all : fs5 ≡ marks_part w ++ (takes.acks ++ (crypto.frames ++ (streams.own ++ bundle.acks))) =
+    parts_list w fs0 fs1 fs2 fs3 fs4 fs5 takes.acks crypto.frames streams.own bundle.acks is_fs0 is_fs1 takes.list crypto.list streams.list bundle.list in
+    let w_acks : SpaceWaiting = without_all (without_all w (marks_part w)) takes.acks in
+    let w_crypto : SpaceWaiting = without_all w_acks crypto.frames in
+    let behind : w4 ≡ without_all w_crypto bundle.acks =
+    bundle.rest ∙ ap (λ (x : SpaceWaiting). without_all x bundle.acks) (crypto.rest ∙ ap (λ (x : SpaceWaiting). without_all x crypto.frames) (takes.rest ∙ ap (λ (x : SpaceWaiting). without_all x takes.acks) is_w1)) in
+    let together : without_all w fs5 ≡ without_all w_crypto bundle.acks =
+    ap (λ (fs : List FrameValue). without_all w fs) all ∙ append_left w (marks_part w) (takes.acks ++ (crypto.frames ++ (streams.own ++ bundle.acks)))
+    ∙ append_left (without_all w (marks_part w)) takes.acks (crypto.frames ++ (streams.own ++ bundle.acks)) ∙ append_left w_acks crypto.frames (streams.own ++ bundle.acks)
+    ∙ append_left w_crypto streams.own bundle.acks ∙ ap (λ (x : SpaceWaiting). without_all x bundle.acks) (streams_stay in_data w_crypto streams.own streams.are) in
+    behind ∙ sym together
+
+-- ---- the steps of the streams
+
+-- a HANDSHAKE_DONE and a PING are none
+marks_steps_by : (a b : Bool) → sealed_steps ((if a then HandshakeDone ∷ [] else []) ++ (if b then Ping ∷ [] else [])) ≡ []
+unfolding sealed_steps
+marks_steps_by true true = refl
+marks_steps_by true false = refl
+marks_steps_by false true = refl
+marks_steps_by false false = refl
+
+marks_steps : (w : SpaceWaiting) → sealed_steps (marks_part w) ≡ []
+unfolding marks_part done_part ping_part
+marks_steps w = marks_steps_by w.done w.ping
+
+-- nor is a CRYPTO frame
+crypto_steps : (w : SpaceWaiting) (room : ℕ) (fs : List FrameValue) → CryptoPart w room fs → sealed_steps fs ≡ []
+unfolding sealed_steps CryptoPart
+crypto_steps w room [] h = refl
+crypto_steps w room (frames.Crypto offset body ∷ fs) h = crypto_steps (without w (frames.Crypto offset body)) _ fs h.2
+crypto_steps w room (_ ∷ fs) h = absurd h
+
+-- so the frames of a packet are those of the frames of the streams among them
+steps_by : (marks acks crypto own last : List FrameValue) → sealed_steps marks ≡ [] → sealed_steps acks ≡ [] → sealed_steps crypto ≡ [] → sealed_steps last ≡ [] →
+    sealed_steps (marks ++ (acks ++ (crypto ++ (own ++ last)))) ≡ sealed_steps own
+steps_by marks acks crypto own last no_marks no_acks no_crypto no_last =
+    sealed_append marks (acks ++ (crypto ++ (own ++ last))) ∙ ap (λ (xs : List Step). xs ++ sealed_steps (acks ++ (crypto ++ (own ++ last)))) no_marks
+    ∙ sealed_append acks (crypto ++ (own ++ last)) ∙ ap (λ (xs : List Step). xs ++ sealed_steps (crypto ++ (own ++ last))) no_acks
+    ∙ sealed_append crypto (own ++ last) ∙ ap (λ (xs : List Step). xs ++ sealed_steps (own ++ last)) no_crypto
+    ∙ sealed_append own last ∙ ap (λ (xs : List Step). sealed_steps own ++ xs) no_last ∙ append-nil (sealed_steps own)
+
+pub parts_steps : (time room rest more left len len' : ℕ) (due due' in_data : Bool) (w w1 w2 w3 w4 : SpaceWaiting) (fs0 fs1 fs2 fs3 fs4 fs5 : List FrameValue) (s s' : StreamsState) →
+    fs0 ≡ [] → fs1 ≡ fs0 ++ marks_part w → TakesAck time due room w1 w2 fs1 fs2 len → TakesCrypto rest w2 w3 fs2 fs3 more → (streams : TakesStreams in_data more s s' fs3 fs4 left) →
+    TakesAck time due' left w3 w4 fs4 fs5 len' → sealed_steps fs5 ≡ sealed_steps streams.own
+parts_steps time room rest more left len len' due due' in_data w w1 w2 w3 w4 fs0 fs1 fs2 fs3 fs4 fs5 s s' is_fs0 is_fs1 takes crypto streams bundle =
+    ap sealed_steps (parts_list w fs0 fs1 fs2 fs3 fs4 fs5 takes.acks crypto.frames streams.own bundle.acks is_fs0 is_fs1 takes.list crypto.list streams.list bundle.list)
+    ∙ steps_by (marks_part w) takes.acks crypto.frames streams.own bundle.acks (marks_steps w) (sealed_ack time room w1 takes.acks due takes.part) (crypto_steps w2 rest crypto.frames crypto.part)
+    (sealed_ack time left w3 bundle.acks due' bundle.part)
 
 -- the ACK behind other frames is one of what waited before them
 last_part : (time room rest left : ℕ) (bundled : Option ℕ) (b : Bool) (w v u : SpaceWaiting) (acks crypto last : List FrameValue) → w.acks ≡ v.acks → w.marks ≡ v.marks → AckPart time w room acks (is_ack_first w.acks) →
@@ -121,10 +182,11 @@ last_part time room rest left bundled true w v u acks crypto last same counts pa
 last_part time room rest left bundled false w v u acks crypto last same counts part bytes is e (AckPart.none none) = AckPart.none none
 
 -- the parts are the frames that may be taken
-pub taken_part : (time room count less rest left len len' : ℕ) (bundled : Option ℕ) (first last : Bool) (w w1 w2 w3 w4 : SpaceWaiting) (fs0 fs1 fs2 fs3 fs4 : List FrameValue) →
+pub taken_part : (time room count less rest more left len len' : ℕ) (bundled : Option ℕ) (first last : Bool) (w w1 w2 w3 w4 : SpaceWaiting) (in_data : Bool) (fs0 fs1 fs2 fs3 fs4 fs5 : List FrameValue) (s s' : StreamsState) →
     first ≡ is_ack_first w.acks → last ≡ is_ack_last time bundled w.acks → fs0 ≡ [] → fs1 ≡ fs0 ++ marks_part w → w1 ≡ without_all w (marks_part w) → count ≡ length (marks_part w) → less ≡ room - count →
-    TakesAck time first less w1 w2 fs1 fs2 len → rest ≡ less - len → TakesCrypto rest w2 w3 fs2 fs3 left → TakesAck time last left w3 w4 fs3 fs4 len' → TakenPart time bundled w room fs4
-taken_part time room count less rest left len len' bundled first last w w1 w2 w3 w4 fs0 fs1 fs2 fs3 fs4 is_first is_last is_fs0 is_fs1 is_w1 is_count is_less takes is_rest crypto bundle =
+    TakesAck time first less w1 w2 fs1 fs2 len → rest ≡ less - len → TakesCrypto rest w2 w3 fs2 fs3 more → TakesStreams in_data more s s' fs3 fs4 left → TakesAck time last left w3 w4 fs4 fs5 len' →
+    TakenPart time bundled in_data w room fs5
+taken_part time room count less rest more left len len' bundled first last w w1 w2 w3 w4 in_data fs0 fs1 fs2 fs3 fs4 fs5 s s' is_first is_last is_fs0 is_fs1 is_w1 is_count is_less takes is_rest crypto streams bundle =
     let same : w1.acks ≡ w.acks = ap (λ (x : SpaceWaiting). x.acks) is_w1 ∙ marks_acks w in
     let counts : w1.marks ≡ w.marks = ap (λ (x : SpaceWaiting). x.marks) is_w1 ∙ marks_counts w in
     let behind : less ≡ room - length (marks_part w) = is_less ∙ ap (λ (n : ℕ). room - n) is_count in
@@ -140,10 +202,28 @@ taken_part time room count less rest left len len' bundled first last w w1 w2 w3
       ack = subst (λ (n : ℕ). AckPart time w n takes.acks (is_ack_first w.acks)) behind front;
       crypto = crypto.frames;
       part = subst (λ (n : ℕ). CryptoPart (without_all w (marks_part w ++ takes.acks)) n crypto.frames) size (subst (λ (x : SpaceWaiting). CryptoPart x rest crypto.frames) here bytes);
+      own = streams.own;
+      streams = streams.are;
+      left = left;
+      fits = subst (λ (n : ℕ). length (frames_spelling streams.own) + left ≤ n) (crypto.behind ∙ ap (λ (n : ℕ). room_behind n crypto.frames) size) streams.fits;
       last = bundle.acks;
-      bundle = subst (λ (n : ℕ). AckPart time w n bundle.acks (is_ack_last time bundled w.acks)) (crypto.behind ∙ ap (λ (n : ℕ). room_behind n crypto.frames) size) behind_all;
-      all = parts_list w fs0 fs1 fs2 fs3 fs4 takes.acks crypto.frames bundle.acks is_fs0 is_fs1 takes.list crypto.list bundle.list;
+      bundle = behind_all;
+      all = parts_list w fs0 fs1 fs2 fs3 fs4 fs5 takes.acks crypto.frames streams.own bundle.acks is_fs0 is_fs1 takes.list crypto.list streams.list bundle.list;
     }
+
+-- the steps of the streams that the frames are, and those in front of the frames of theirs, of which none is
+pub part_steps : (time : ℕ) (bundled : Option ℕ) (in_data : Bool) (w : SpaceWaiting) (room : ℕ) (fs : List FrameValue) → (taken : TakenPart time bundled in_data w room fs) → sealed_steps fs ≡ sealed_steps taken.own
+part_steps time bundled in_data w room fs taken =
+    ap sealed_steps taken.all
+    ∙ steps_by (marks_part w) taken.acks taken.crypto taken.own taken.last (marks_steps w) (sealed_ack time (room - length (marks_part w)) w taken.acks (is_ack_first w.acks) taken.ack)
+    (crypto_steps (without_all w (marks_part w ++ taken.acks)) _ taken.crypto taken.part) (sealed_ack time taken.left w taken.last (is_ack_last time bundled w.acks) taken.bundle)
+
+pub front_steps : (time : ℕ) (bundled : Option ℕ) (in_data : Bool) (w : SpaceWaiting) (room : ℕ) (fs : List FrameValue) → (taken : TakenPart time bundled in_data w room fs) →
+    sealed_steps (marks_part w ++ (taken.acks ++ taken.crypto)) ≡ []
+front_steps time bundled in_data w room fs taken =
+    sealed_append (marks_part w) (taken.acks ++ taken.crypto) ∙ ap (λ (xs : List Step). xs ++ sealed_steps (taken.acks ++ taken.crypto)) (marks_steps w) ∙ sealed_append taken.acks taken.crypto
+    ∙ ap (λ (xs : List Step). xs ++ sealed_steps taken.crypto) (sealed_ack time (room - length (marks_part w)) w taken.acks (is_ack_first w.acks) taken.ack)
+    ∙ crypto_steps (without_all w (marks_part w ++ taken.acks)) _ taken.crypto taken.part
 
 -- no CRYPTO bytes wait, or there is no room for them
 pub crypto_none : (room : ℕ) (w : SpaceWaiting) (fs : List FrameValue) → (crypto_waits w ≡ false) ⊎ (room ≤ 17) → TakesCrypto room w w fs fs room

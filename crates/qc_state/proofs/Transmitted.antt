@@ -28,6 +28,9 @@ use Rattle.qc_state.specs.Sending.{Carries, Choice, Closes, MayBegin, MayTransmi
 use Rattle.qc_state.specs.Stopping.{given_after, key_limit_error, killed_after, stopped_after}
 use Rattle.qc_state.specs.Types.{Types, Meaning}
 use Rattle.qc_state.specs.View.{View, At, at}
+use Rattle.qc_state.proofs.SealedSteps.{carried_may}
+use Rattle.qc_state.specs.StreamFrames.{sealed_steps}
+use Rattle.qc_streams.specs.Steps.{AllMay}
 use Rattle.qc_state.proofs.Begun.{begun_keys, begun_life, begun_same, holds_begun}
 use Rattle.qc_state.proofs.Telling.{is_none_none, low_rank, open_rank}
 use Rattle.qc_state.specs.declared.transmit.Batch.{Batch}
@@ -108,6 +111,7 @@ module _ {t : Types} where
     pub room : ℕ
     pub small : room ≤ 65527
     pub carries : Carries closing time s form room fs
+    pub takes : AllMay (sealed_steps fs) s.lower.streams
     pub closes : ClosesOnly (rank_of s.life.state) fs
     pub fresh : reaches_limit 0 (usage_of s.keys form) ≡ false
     pub alive : is_drained s.life.state ≡ false
@@ -151,11 +155,15 @@ module _ {t : Types} where
   sealable : (time : ℕ) (p : Sent) (a : At t) (b : Batch) → MayFollow time a.state b p → IsSealable time (begun_after (number_space p.form) p.opens a).state p.form p.frames
   unfolding is_key_used_up
   sealable time p a b may =
+      let room : ℕ = room_in (begun_batch a.state (number_space p.form) p.opens b) (begun_view a.state (number_space p.form) p.opens) p.form in
+      let carries : Carries b.closing time (begun_after (number_space p.form) p.opens a).state p.form room p.frames =
+      subst (λ (s : View t). Carries b.closing time s p.form room p.frames) (sym (begun_same (number_space p.form) p.opens a)) may.carries in
       record {
         closing = b.closing;
-        room = room_in (begun_batch a.state (number_space p.form) p.opens b) (begun_view a.state (number_space p.form) p.opens) p.form;
+        room = room;
         small = room_small (begun_batch a.state (number_space p.form) p.opens b) (begun_view a.state (number_space p.form) p.opens) p.form may.sized;
-        carries = subst (λ (s : View t). Carries b.closing time s p.form (room_in (begun_batch a.state (number_space p.form) p.opens b) (begun_view a.state (number_space p.form) p.opens) p.form) p.frames) (sym (begun_same (number_space p.form) p.opens a)) may.carries;
+        carries = carries;
+        takes = carried_may b.closing time (begun_after (number_space p.form) p.opens a).state p.form _ p.frames carries;
         closes = subst (λ (l : Life). ClosesOnly (rank_of l.state) p.frames) (sym (begun_life (number_space p.form) p.opens a)) (closes_only time a.state b p may);
         fresh = subst (λ (k : KeyGroup t.H t.P). reaches_limit 0 (usage_of k p.form) ≡ false) (sym (begun_keys (number_space p.form) p.opens a)) (unlimited a.state p.form may.begins.fresh).0;
         alive = subst (λ (l : Life). is_drained l.state ≡ false) (sym (begun_life (number_space p.form) p.opens a)) may.begins.turn.alive;

@@ -1,31 +1,39 @@
 -- Which frames may go: those that wait in a space, over all layers.
 use Rattle.std.specs.Prelude.{◌≡◌, ℕ, true, List, [], ◌∷◌}
 use Rattle.qc_base.specs.declared.side.SpaceId.{SpaceId}
+use Rattle.qc_base.specs.declared.side.SpaceId.TheVariants.{«Data»}
 use Rattle.qc_frame.specs.Frame.{FrameValue}
+use Rattle.qc_frame.specs.FrameFits.{Fits}
 use Rattle.qc_frame.specs.declared.frames.FrameOf.TheVariants as frames
 use Rattle.qc_state.specs.Acks.{SaysAck, is_ack_given}
 use Rattle.qc_state.specs.Moves.{Take, state_move}
 use Rattle.qc_state.specs.Spaces.{space_of}
+use Rattle.qc_state.specs.StreamFrames.{part_of}
+use Rattle.qc_streams.specs.Steps.{IsOffered, IsOwed}
+use Rattle.qc_streams.specs.declared.control.Control.TheVariants as control
 use Rattle.qc_state.specs.Types.{Types}
 use Rattle.qc_state.specs.View.{View}
 use Rattle.qc_state.specs.Waiting.{StartsWith}
 
 module _ {t : Types} where
   -- a frame waits in a space at a time: the HANDSHAKE_DONE or the PING that was asked for, an ACK that may be given, or the first CRYPTO
-  -- bytes; a frame of another kind doesn't, until a layer offers it
+  -- bytes; in 1-RTT packets also bytes of a stream that the streams offer, and a frame without bytes that they owe, as far as its numbers have
+  -- room in their fields. A frame of another kind
+  -- doesn't, until a layer offers it.
   unfoldable pub Waits : (time : ℕ) → View t → SpaceId → FrameValue → Type 0
   Waits time s id frames.HandshakeDone = (space_of s.waiting.spaces id).done ≡ true
   Waits time s id frames.Ping = (space_of s.waiting.spaces id).ping ≡ true
   Waits time s id (frames.Ack ack) = (is_ack_given time s.waiting.bundled (space_of s.waiting.spaces id).acks ≡ true) × SaysAck time (space_of s.waiting.spaces id) ack
   Waits time s id (frames.Crypto offset body) = StartsWith (space_of s.waiting.spaces id).crypto offset body
   Waits time s id frames.Padding = ⊥
-  Waits time s id (frames.ResetStream stream code size) = ⊥
-  Waits time s id (frames.StopSending stream code) = ⊥
+  Waits time s id (frames.ResetStream stream code size) = (id ≡ «Data») × IsOwed (control.Reset stream code size) s.lower.streams × Fits (frames.ResetStream stream code size)
+  Waits time s id (frames.StopSending stream code) = (id ≡ «Data») × IsOwed (control.Stop stream code) s.lower.streams × Fits (frames.StopSending stream code)
   Waits time s id (frames.NewToken token) = ⊥
-  Waits time s id (frames.Stream stream offset fin body) = ⊥
-  Waits time s id (frames.MaxData limit) = ⊥
-  Waits time s id (frames.MaxStreamData stream limit) = ⊥
-  Waits time s id (frames.MaxStreams dir limit) = ⊥
+  Waits time s id (frames.Stream stream offset fin body) =
+      (id ≡ «Data») × IsOffered (part_of stream offset fin body) s.lower.streams × Fits (frames.Stream stream offset fin body)
+  Waits time s id (frames.MaxData limit) = (id ≡ «Data») × IsOwed (control.MaxData limit) s.lower.streams × Fits (frames.MaxData limit)
+  Waits time s id (frames.MaxStreamData stream limit) = (id ≡ «Data») × IsOwed (control.MaxStreamData stream limit) s.lower.streams × Fits (frames.MaxStreamData stream limit)
+  Waits time s id (frames.MaxStreams dir limit) = (id ≡ «Data») × IsOwed (control.MaxStreams dir limit) s.lower.streams × Fits (frames.MaxStreams dir limit)
   Waits time s id (frames.DataBlocked limit) = ⊥
   Waits time s id (frames.StreamDataBlocked stream limit) = ⊥
   Waits time s id (frames.StreamsBlocked dir limit) = ⊥

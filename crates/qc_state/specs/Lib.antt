@@ -25,6 +25,7 @@ pub mod Setup
 pub mod Shown
 pub mod Spaces
 pub mod Stopping
+pub mod StreamFrames
 pub mod Streams
 pub mod Taking
 pub mod Timeouts

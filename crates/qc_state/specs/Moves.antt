@@ -49,7 +49,8 @@ use Rattle.qc_state.specs.Recovering.{loss_time, probe_timeout_now}
 use Rattle.qc_state.specs.Setup.{idle_limit_now, packet_drawn, parameters_known, peer_delay, token_expected, word_drawn}
 use Rattle.qc_state.specs.Spaces.{is_space}
 use Rattle.qc_state.specs.Streams.{is_given_to_streams}
-use Rattle.qc_streams.specs.Steps.{MayStep}
+use Rattle.qc_state.specs.StreamFrames.{acked_steps, fired_steps, lost_steps, sealed_steps}
+use Rattle.qc_streams.specs.Steps.{AllMay, MayStep}
 use Rattle.qc_streams.specs.Waits as streams
 use Rattle.qc_datagrams.specs.Steps as datagrams
 use Rattle.qc_state.specs.Datagrams.{tells_datagram}
@@ -157,7 +158,7 @@ pub data Move (t : Types) : Type 0 where
   Arm : (at : Option ℕ) → Move t  -- the loss timer is set, or stopped
   Pace : Move t  -- a datagram that the pacer held back may go
   Release : Move t  -- an ACK that was held back is owed
-  Begin : (id : SpaceId) → (opens : Bool) → Move t  -- a packet is begun; where it opens a datagram, this spends a probe that is due in its space
+  Begin : (id : SpaceId) → (opens : Bool) → Move t  -- a packet is begun; where it opens a datagram, this spends a probe that is due in its space; streams that may owe something are looked at
   Skip : Move t  -- the next number of 1-RTT packets is skipped
   Come : (id : SpaceId) → (offset : ℕ) → (bytes : List ℕ) → Move t  -- bytes of a CRYPTO stream came
   Read : (id : SpaceId) → (count : ℕ) → (session : t.S) → Move t  -- the session was given so many of them
@@ -280,9 +281,11 @@ module _ {t : Types} where
 
   unfoldable pub lower_move : Move t → View t → Lower t.S
   lower_move (Seal time form n size fs) s = if s.waiting.close_owed then s.lower else packet_flown s.lower (number_space form) n (flown_packet time size fs)
+  lower_move (Take id fs) s = streams_stepped (sealed_steps fs) s.lower
+  lower_move (Begin id opens) s = (packet_begun id opens s).lower
   lower_move (Forget id) s = flight_dropped s.lower id
-  lower_move (Ack id n r) s = packets_settled s.lower r
-  lower_move (Fire r) s = timer_fired s.lower r
+  lower_move (Ack id n r) s = streams_stepped (acked_steps r.acked ++ lost_steps r.lost) (packets_settled s.lower r)
+  lower_move (Fire r) s = streams_stepped (fired_steps r.fired) (timer_fired s.lower r)
   lower_move (Come id offset bytes) s = bytes_came s.lower id offset bytes
   lower_move (Read id count session) s = session_read s.lower id count session
   lower_move (Write bytes keys session) s = session_wrote s.lower session
@@ -335,6 +338,7 @@ module _ {t : Types} where
   unfoldable pub MayMove : Move t → View t → Type 0
   MayMove (Clock time) s = ⊥
   MayMove (Seal time form n size fs) s = (n ≡ next_number s.numbers (number_space form)) × ClosesOnly (rank_of s.life.state) fs × (is_drained s.life.state ≡ false) × (has_keys_for s.keys form ≡ true)
+  MayMove (Take id fs) s = AllMay (sealed_steps fs) s.lower.streams
   MayMove Skip s = is_skipped s.numbers «Data» ≡ true
   MayMove (Accept time id n e g v) s = (is_new_in s.numbers id n ≡ true) × (enters v ≡ true) × (is_open s.life.state ≡ true)
   MayMove (Enter id n v) s = (is_new_in s.numbers id n ≡ true) × (enters v ≡ true)

@@ -1,20 +1,36 @@
--- What waits in a space, over all layers: frames that the waiting group keeps, and those that a layer below offers in its own words;
--- so far none below does.
-use Rattle.std.specs.Prelude.{Bool, ◌||◌, not, ◌==◌, if◌then◌else◌, Option, None, Some}
+-- What waits in a space, over all layers: frames that the waiting group keeps, and those that a layer below offers in its own words. So far
+-- the streams do.
+use Rattle.std.specs.Prelude.{Bool, false, ◌||◌, not, ◌==◌, if◌then◌else◌, List, [], ◌++◌, Option, None, Some}
 use Rattle.qc_base.specs.declared.side.SpaceId.{SpaceId}
 use Rattle.qc_flight.specs.Packets.{first_of}
 use Rattle.qc_flight.specs.declared.sent.SentPacket.{SentPacket}
 use Rattle.qc_recovery.specs.Steps as recovery
+use Rattle.qc_base.specs.declared.side.SpaceId.TheVariants.{«Data»}
 use Rattle.qc_state.specs.Acks.{is_ack_owed}
+use Rattle.qc_state.specs.Lower.{streams_stepped}
+use Rattle.qc_state.specs.StreamFrames.{filed_steps, packet_lost}
+use Rattle.qc_streams.specs.Pending.{has_control, has_waiting}
+use Rattle.qc_streams.specs.Waits.{Step}
+use Rattle.qc_streams.specs.declared.state.StreamsState.{StreamsState}
 use Rattle.qc_state.specs.Spaces.{space_of}
 use Rattle.qc_state.specs.Types.{Types}
 use Rattle.qc_state.specs.View.{View}
 use Rattle.qc_state.specs.Waiting.{frames_again, ping_asked, probe_spent, wants_here}
 
+-- the steps with which a packet's frames of streams wait again, where there is one
+abbrev pub again_steps : Option SentPacket → List Step
+again_steps None = []
+again_steps (Some packet) = packet_lost packet
+
+-- the streams want to send in a space: a STREAM frame waits, or one of theirs without bytes
+abbrev pub streams_want : SpaceId → StreamsState → Bool
+streams_want «Data» s = has_waiting s || has_control s
+streams_want _ s = false
+
 module _ {t : Types} where
-  -- a frame waits in the space that elicits an acknowledgement
+  -- a frame waits in the space that elicits an acknowledgement: one of its own, or one of the streams, whose frames go in 1-RTT packets
   unfoldable pub wants_sending : View t → SpaceId → Bool
-  wants_sending s id = wants_here (space_of s.waiting.spaces id)
+  wants_sending s id = wants_here (space_of s.waiting.spaces id) || streams_want id s.lower.streams
 
   -- something waits there: such a frame, an ACK that is owed, or a probe that is due
   unfoldable pub waits_in : View t → SpaceId → Bool
@@ -27,7 +43,7 @@ module _ {t : Types} where
   -- the frames of a packet wait again in its space, where there is one
   abbrev pub packet_again : SpaceId → Option SentPacket → View t → View t
   packet_again id None s = s
-  packet_again id (Some packet) s = record s { waiting = frames_again s.waiting id packet.frames }
+  packet_again id (Some packet) s = record s { waiting = frames_again s.waiting id packet.frames; lower = streams_stepped (packet_lost packet) s.lower }
 
   -- a PING waits where no frame does that elicits an acknowledgement
   unfoldable pub with_ping : SpaceId → View t → View t
@@ -38,8 +54,26 @@ module _ {t : Types} where
   unfoldable pub probe_sent : SpaceId → View t → View t
   probe_sent id s = with_ping id (if wants_sending s id then s else packet_again id (oldest_in s id) s)
 
-  -- a packet is begun in the space: where a probe is due, its frames wait from now on; a datagram that the packet opens spends it
-  unfoldable pub packet_begun : SpaceId → (opens : Bool) → View t → View t
-  packet_begun id opens s =
+  -- where a probe is due in the space of a packet that is begun, its frames wait from now on; a datagram that the packet opens spends it
+  unfoldable pub probe_begun : SpaceId → (opens : Bool) → View t → View t
+  probe_begun id opens s =
       if (space_of s.waiting.spaces id).probes == 0 then s
       else probe_sent id (if opens then record s { waiting = probe_spent s.waiting id } else s)
+
+  -- the steps of the streams as frames wait again for a probe: those with which the oldest packet in flight is lost, where no frame waits
+  -- that elicits an acknowledgement
+  unfoldable pub probe_steps : SpaceId → View t → List Step
+  probe_steps id s = if wants_sending s id then [] else again_steps (oldest_in s id)
+
+  -- those with which a packet is begun
+  unfoldable pub begun_steps : SpaceId → (opens : Bool) → View t → List Step
+  begun_steps id opens s =
+      (if (space_of s.waiting.spaces id).probes == 0 then [] else probe_steps id (if opens then record s { waiting = probe_spent s.waiting id } else s)) ++ filed_steps id
+
+  -- streams that may owe something are looked at, as a packet of 1-RTT is begun
+  unfoldable pub streams_filed : SpaceId → View t → View t
+  streams_filed id s = record s { lower = streams_stepped (filed_steps id) s.lower }
+
+  -- a packet is begun in the space
+  unfoldable pub packet_begun : SpaceId → (opens : Bool) → View t → View t
+  packet_begun id opens s = streams_filed id (probe_begun id opens s)

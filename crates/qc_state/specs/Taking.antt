@@ -1,13 +1,18 @@
 -- In which order this end takes frames that wait for a packet, and how many: these are the words of the calls that take, and the
 -- contract of a transmit has none of them.
-use Rattle.std.specs.Prelude.{◌≡◌, ℕ, ◌+◌, ◌-◌, ◌≤◌, Bool, false, ◌⊎◌, if◌then◌else◌, List, [], ◌∷◌, ◌++◌, length, Option}
+use Rattle.std.specs.Prelude.{◌≡◌, ℕ, ◌+◌, ◌-◌, ◌≤◌, Bool, true, false, ◌⊎◌, if◌then◌else◌, List, [], ◌∷◌, ◌++◌, length, Option, is_some}
 use Rattle.qc_frame.specs.Frame.{FrameValue}
+use Rattle.qc_frame.specs.FrameFits.{Fits}
 use Rattle.qc_frame.specs.FrameSpelling.{frames_spelling}
 use Rattle.qc_frame.specs.declared.frames.FrameOf.TheVariants as frames
 use Rattle.qc_state.specs.declared.waiting.TheConstants.{CRYPTO_HEAD}
 use Rattle.qc_state.specs.declared.waiting.SpaceWaiting.{SpaceWaiting}
 use Rattle.qc_state.specs.Acks.{AckPart, is_ack_first, is_ack_last}
+use Rattle.qc_state.specs.StreamFrames.{control_of, sealed_steps}
 use Rattle.qc_state.specs.Waiting.{StartsWith, crypto_waits, without, without_all}
+use Rattle.qc_streams.specs.Steps.{AllMay}
+use Rattle.qc_streams.specs.Waits.{after}
+use Rattle.qc_streams.specs.declared.state.StreamsState.{StreamsState}
 
 -- the HANDSHAKE_DONE that waits
 unfoldable pub done_part : SpaceWaiting → List FrameValue
@@ -35,16 +40,40 @@ room_behind room [] = room
 room_behind room (frames.Crypto offset body ∷ fs) = room_behind (room - (length body + CRYPTO_HEAD)) fs
 room_behind room (_ ∷ fs) = room_behind room fs
 
+-- whether a frame is one of the streams
+abbrev pub is_streams_frame : FrameValue → Bool
+is_streams_frame (frames.Stream id offset fin body) = true
+is_streams_frame f = is_some (control_of f)
+
+-- frames of the streams, which go in 1-RTT packets alone, and whose numbers have room in their fields
+abbrev pub AreOfStreams : (in_data : Bool) → List FrameValue → Type 0
+AreOfStreams in_data [] = Unit {0}
+AreOfStreams in_data (f ∷ fs) = (in_data ≡ true) × (is_streams_frame f ≡ true) × Fits f × AreOfStreams in_data fs
+
 -- The frames that this end takes at a time for a packet with so much room: the HANDSHAKE_DONE, the PING, the ACK that is owed or
--- joins, the CRYPTO bytes that fit behind them, and an ACK that is only bundled.
-pub record TakenPart (time : ℕ) (bundled : Option ℕ) (w : SpaceWaiting) (room : ℕ) (fs : List FrameValue) : Type 0 where
+-- joins, the CRYPTO bytes that fit behind them, frames of the streams, and an ACK that is only bundled.
+pub record TakenPart (time : ℕ) (bundled : Option ℕ) (in_data : Bool) (w : SpaceWaiting) (room : ℕ) (fs : List FrameValue) : Type 0 where
   pub acks : List FrameValue
   pub ack : AckPart time w (room - length (marks_part w)) acks (is_ack_first w.acks)
   pub crypto : List FrameValue
   pub part : CryptoPart (without_all w (marks_part w ++ acks)) (room - length (marks_part w) - length (frames_spelling acks)) crypto
+  pub own : List FrameValue
+  pub streams : AreOfStreams in_data own
+  pub left : ℕ
+  pub fits : length (frames_spelling own) + left ≤ room_behind (room - length (marks_part w) - length (frames_spelling acks)) crypto
   pub last : List FrameValue
-  pub bundle : AckPart time w (room_behind (room - length (marks_part w) - length (frames_spelling acks)) crypto) last (is_ack_last time bundled w.acks)
-  pub all : fs ≡ marks_part w ++ (acks ++ (crypto ++ last))
+  pub bundle : AckPart time w left last (is_ack_last time bundled w.acks)
+  pub all : fs ≡ marks_part w ++ (acks ++ (crypto ++ (own ++ last)))
+
+-- frames of the streams were taken, and put behind other frames, each as one of their steps that may be; of so much room they leave this
+-- much at least
+pub record TakesStreams (in_data : Bool) (room : ℕ) (s s' : StreamsState) (fs gs : List FrameValue) (left : ℕ) : Type 0 where
+  pub own : List FrameValue
+  pub are : AreOfStreams in_data own
+  pub may : AllMay (sealed_steps own) s
+  pub leads : s' ≡ after (sealed_steps own) s
+  pub list : gs ≡ fs ++ own
+  pub fits : length (frames_spelling own) + left ≤ room
 
 -- the ACK was taken where it was due and had room, and put behind other frames; it has so many bytes
 pub record TakesAck (time : ℕ) (due : Bool) (room : ℕ) (w w' : SpaceWaiting) (fs gs : List FrameValue) (len : ℕ) : Type 0 where

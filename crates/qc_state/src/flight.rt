@@ -3,10 +3,10 @@
 ghost use Rattle.std.specs.Prelude.{◌≡◌, ◌++◌, map, IfOk, OnOk};
 ghost use Rattle.std.specs.List.{list_any};
 ghost use Rattle.qc_frame.specs.Frame.{owned};
-ghost use Rattle.qc_state.specs.Flight.{counts_in_flight, flown_packet, is_padding, kept_frames, kept_of};
+ghost use Rattle.qc_state.specs.Flight.{counts_in_flight, flown_packet, is_padding, kept_frames, kept_of, meta_of, metas_of};
 
 use qc_base::Instant;
-use qc_flight::SentPacket;
+use qc_flight::{SentPacket, StreamMeta, StreamMetaVec};
 use qc_frame::{FrameList, FrameOf, OwnedAck, OwnedFrame};
 use std::alloc::{AllocError, Global};
 
@@ -29,15 +29,32 @@ fn keep(kept: &mut FrameList, alloc: Global, frame: &OwnedFrame) -> Result<(), A
             additional: Vec::new(alloc),
             ecn: None,
         })),
+        FrameOf::ResetStream {
+            id,
+            error_code,
+            final_size,
+        } => kept.push(FrameOf::ResetStream {
+            id: *id,
+            error_code: *error_code,
+            final_size: *final_size,
+        }),
+        FrameOf::StopSending { id, error_code } => kept.push(FrameOf::StopSending {
+            id: *id,
+            error_code: *error_code,
+        }),
+        FrameOf::MaxData(limit) => kept.push(FrameOf::MaxData(*limit)),
+        FrameOf::MaxStreamData { id, offset } => kept.push(FrameOf::MaxStreamData {
+            id: *id,
+            offset: *offset,
+        }),
+        FrameOf::MaxStreams { dir, count } => kept.push(FrameOf::MaxStreams {
+            dir: *dir,
+            count: *count,
+        }),
         FrameOf::Padding
         | FrameOf::Ping
-        | FrameOf::ResetStream { .. }
-        | FrameOf::StopSending { .. }
         | FrameOf::NewToken { .. }
         | FrameOf::Stream { .. }
-        | FrameOf::MaxData(_)
-        | FrameOf::MaxStreamData { .. }
-        | FrameOf::MaxStreams { .. }
         | FrameOf::DataBlocked { .. }
         | FrameOf::StreamDataBlocked { .. }
         | FrameOf::StreamsBlocked { .. }
@@ -70,6 +87,47 @@ fn kept(alloc: Global, frames: &FrameList) -> Result<FrameList, AllocError>
 {
     let (listed, _padding) = frames.parts();
     kept_listed(alloc, listed)
+}
+
+/// Keeps of a STREAM frame which bytes it holds; of another frame nothing. Want of memory is the only refusal.
+fn note(metas: &mut StreamMetaVec, frame: &OwnedFrame) -> Result<(), AllocError>
+    ensures { OnOk result (metas.new ≡ metas.old ++ meta_of (owned frame.now)) }
+{
+    match frame {
+        FrameOf::Stream {
+            id,
+            offset,
+            fin,
+            body,
+        } => metas.push(StreamMeta {
+            id: *id,
+            start: *offset,
+            end: offset.saturating_add(body.len() as u64),
+            fin: *fin,
+        }),
+        _ => Ok(()),
+    }
+}
+
+/// What is kept of the STREAM frames among these. Want of memory is the only refusal.
+#[tactic(auto, using(crate::proofs::KeptFrames::metas_more))]
+fn metas_listed(alloc: Global, frames: &[OwnedFrame]) -> Result<StreamMetaVec, AllocError>
+    ensures { IfOk result (λ metas. metas ≡ metas_of (map owned frames.now)) }
+{
+    let mut metas = StreamMetaVec::new(alloc);
+    for frame in frames {
+        note(&mut metas, frame)?;
+    }
+    Ok(metas)
+}
+
+/// What is kept of the STREAM frames among frames while their packet is in flight. Want of memory is the only refusal.
+#[tactic(auto, using(crate::proofs::KeptFrames::metas_padded))]
+fn metas(alloc: Global, frames: &FrameList) -> Result<StreamMetaVec, AllocError>
+    ensures { IfOk result (λ metas. metas ≡ metas_of frames.now) }
+{
+    let (listed, _padding) = frames.parts();
+    metas_listed(alloc, listed)
 }
 
 /// Whether a frame is PADDING.
@@ -124,6 +182,7 @@ pub fn flown_packet(
         counted: counts_in_flight(frames),
         ack_eliciting: frames.elicits(),
         frames: kept(alloc, frames)?,
+        stream_frames: metas(alloc, frames)?,
         new_token: None,
     })
 }

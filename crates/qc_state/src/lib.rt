@@ -23,6 +23,8 @@ mod settling;
 pub mod setup;
 mod shown;
 pub mod spaces;
+mod stream_frames;
+pub mod stream_settling;
 pub mod streams;
 pub mod suite;
 mod taking;

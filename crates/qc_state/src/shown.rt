@@ -1,13 +1,13 @@
 //! How the reasons for a connection's end, and what it reports, are printed.
 
-ghost use Rattle.std.specs.Prelude.{Some};
+ghost use Rattle.std.specs.Prelude.{Some, ◌++◌, codes, decimal};
 ghost use Rattle.qc_state.specs.Shown.{shown_byte, shown_bytes, shown_reason, connection_close_text, application_close_text, error_text, dir_text, stream_event_text, event_text, endpoint_text};
 
 use crate::events::{EndpointEvent, Event};
 use crate::life::{ApplicationClose, ConnectionClose, ConnectionError};
-use qc_base::Dir;
+use qc_base::{Dir, StreamId};
 use qc_streams::StreamEvent;
-use std::fmt;
+use std::fmt::{self, Display};
 
 /// A byte of a reason: printable ASCII as it is, and a question mark for any other byte.
 #[derive(Drop)]
@@ -24,6 +24,14 @@ struct Reason<'a>(&'a [u8]);
 /// A kind of streams.
 #[derive(Drop)]
 struct Kind(Dir);
+
+/// Streams of a kind, and what is told of them.
+#[derive(Drop)]
+struct OfKind(Dir, &'static str);
+
+/// A stream, and what is told of it.
+#[derive(Drop)]
+struct OfStream(StreamId, &'static str);
 
 /// What happened on a stream, or to how many there may be.
 #[derive(Drop)]
@@ -115,36 +123,38 @@ impl fmt::Display for Kind {
     }
 }
 
+impl fmt::Display for OfKind {
+    ghost output = { λ it. Some (dir_text it.0 ++ (codes " streams " ++ it.1.now)) };
+
+    fn fmt<W: fmt::Write>(&self, f: &mut fmt::Formatter<W>) -> fmt::Result {
+        let kind = Kind(self.0);
+        let what = self.1;
+        write!(f, "{kind} streams {what}")
+    }
+}
+
+impl fmt::Display for OfStream {
+    ghost output = { λ it. Some (codes "stream " ++ (decimal it.0 ++ (codes " " ++ it.1.now))) };
+
+    fn fmt<W: fmt::Write>(&self, f: &mut fmt::Formatter<W>) -> fmt::Result {
+        let id = self.0.value();
+        let what = self.1;
+        write!(f, "stream {id} {what}")
+    }
+}
+
 impl fmt::Display for OnStreams {
     ghost output = { λ event. Some (stream_event_text event.0) };
 
     #[tactic(auto, unfolding(crate::specs::Shown::stream_event_text))]
     fn fmt<W: fmt::Write>(&self, f: &mut fmt::Formatter<W>) -> fmt::Result {
         match self.0 {
-            StreamEvent::Opened { dir } => {
-                let kind = Kind(dir);
-                write!(f, "{kind} streams opened")
-            }
-            StreamEvent::Readable { id } => {
-                let id = id.value();
-                write!(f, "stream {id} readable")
-            }
-            StreamEvent::Writable { id } => {
-                let id = id.value();
-                write!(f, "stream {id} writable")
-            }
-            StreamEvent::Finished { id } => {
-                let id = id.value();
-                write!(f, "stream {id} finished")
-            }
-            StreamEvent::Stopped { id, .. } => {
-                let id = id.value();
-                write!(f, "stream {id} stopped")
-            }
-            StreamEvent::Available { dir } => {
-                let kind = Kind(dir);
-                write!(f, "{kind} streams available")
-            }
+            StreamEvent::Opened { dir } => OfKind(dir, "opened").fmt(f),
+            StreamEvent::Readable { id } => OfStream(id, "readable").fmt(f),
+            StreamEvent::Writable { id } => OfStream(id, "writable").fmt(f),
+            StreamEvent::Finished { id } => OfStream(id, "finished").fmt(f),
+            StreamEvent::Stopped { id, .. } => OfStream(id, "stopped").fmt(f),
+            StreamEvent::Available { dir } => OfKind(dir, "available").fmt(f),
         }
     }
 }

@@ -7,12 +7,17 @@ ghost use Rattle.qc_frame.specs.FrameSpelling.{frames_spelling};
 ghost use Rattle.qc_state.specs.Acks.{AckPart, SaysAck, is_ack_first, is_ack_last, is_ack_owed, may_acknowledge, told_count, told_counts};
 ghost use Rattle.qc_frame.specs.declared.frames.FrameOf.TheVariants as frames;
 ghost use Rattle.qc_state.specs.Taking.{TakenPart, TakesAck, TakesCrypto, marks_part};
+ghost use Rattle.qc_state.specs.StreamFrames.{sealed_steps};
 ghost use Rattle.qc_state.specs.Waiting.{without_all};
+ghost use Rattle.qc_streams.specs.Steps.{AllMay};
+ghost use Rattle.qc_streams.specs.Waits.{after};
 
+use crate::stream_frames::take_streams;
 use crate::waiting::{CRYPTO_HEAD, SpaceWaiting};
 use qc_base::Instant;
 use qc_frame::{Ack, EcnCounts, FrameList, FrameOf, OwnedAck, put_frame};
 use qc_path::PendingAcks;
+use qc_streams::StreamsState;
 use std::alloc::{AllocError, Global};
 
 /// Whether there is something to acknowledge, and each number is one of a packet.
@@ -181,17 +186,21 @@ fn take_crypto(
     Ok(left)
 }
 
-/// Takes frames that wait at a time for a packet with so much room; an ACK may be bundled with them from `bundled` on. Want of
-/// memory is the only refusal.
+/// Takes frames that wait at a time for a packet with so much room, in a packet of 1-RTT also those of the streams; an ACK may be
+/// bundled with them from `bundled` on. Want of memory is the only refusal.
 pub(crate) fn take(
     space: &mut SpaceWaiting,
+    streams: &mut StreamsState,
     alloc: Global,
     now: Instant,
     bundled: Option<Instant>,
+    in_data: bool,
     room: usize,
 ) -> Result<FrameList, AllocError>
-    ensures frames { IfOk result (λ frames. TakenPart now bundled space.old room frames) }
+    ensures frames { IfOk result (λ frames. TakenPart now bundled in_data space.old room frames) }
     ensures rest { IfOk result (λ frames. space.new ≡ without_all space.old frames) }
+    ensures may { IfOk result (λ frames. AllMay (sealed_steps frames) streams.old) }
+    ensures leads { IfOk result (λ frames. streams.new ≡ after (sealed_steps frames) streams.old) }
 {
     let mut frames = FrameList::new(alloc);
     let first = is_ack_first(&space.acks);
@@ -199,7 +208,8 @@ pub(crate) fn take(
     let count = take_marks(space, &mut frames)?;
     let room = room.saturating_sub(count);
     let len = take_ack(space, alloc, now, first, room, &mut frames)?;
-    let left = take_crypto(space, alloc, room.saturating_sub(len), &mut frames)?;
+    let rest = take_crypto(space, alloc, room.saturating_sub(len), &mut frames)?;
+    let left = take_streams(streams, alloc, in_data, rest, &mut frames)?;
     take_ack(space, alloc, now, last, left, &mut frames)?;
     Ok(frames)
 }

@@ -1,6 +1,7 @@
 //! One end: a connection that is driven input by input, and the text of all its steps.
 
 use crate::setups::{Toy, client_address, client_to, server, server_address};
+use crate::tally::Tally;
 use qc_base::{ConnectionId, EcnCodepoint, Instant, VarInt};
 use qc_config::NoneTokenStore;
 use qc_conn::text::trace_text;
@@ -20,6 +21,10 @@ pub(crate) struct End {
     pub(crate) address: SocketAddr,
     /// The text of its steps: the lines of a trace each.
     pub(crate) text: String,
+    /// Whether its steps aren't told in the text.
+    quiet: bool,
+    /// What its steps told of streams.
+    pub(crate) tally: Tally,
 }
 
 /// The lines of a text that begin with these words, each with its end.
@@ -68,26 +73,41 @@ impl End {
             connection,
             address: client_address(),
             text: String::new(alloc),
+            quiet: false,
+            tally: Tally::none(),
         })
     }
 
-    /// The server.
-    pub(crate) fn server(alloc: Global) -> Result<End, AllocError> {
-        let connection = server(alloc)?;
+    /// The server that takes so many bytes of a stream, and of all streams together; as many as usual where no number is said.
+    pub(crate) fn server(alloc: Global, window: Option<u32>) -> Result<End, AllocError> {
+        let connection = server(alloc, window)?;
         Ok(End {
             connection,
             address: server_address(),
             text: String::new(alloc),
+            quiet: false,
+            tally: Tally::none(),
         })
     }
 
-    /// One input, whose text is put behind that of the others: gives the datagram that it sent, if it sent one.
+    /// Puts the text of a step behind that of the others, unless this end is quiet, and counts what it told of streams.
+    fn note(&mut self, alloc: Global, input: &Input, trace: &Trace) -> Result<(), Fail> {
+        if let Some(step) = trace.as_slice().last() {
+            self.tally.count(input, step);
+        }
+        if !self.quiet {
+            let text = String::from_utf8(trace_text(alloc, trace)?)?;
+            self.text.push_str(text.as_str())?;
+        }
+        Ok(())
+    }
+
+    /// One input: gives the datagram that it sent, if it sent one.
     fn step(&mut self, alloc: Global, input: &Input) -> Result<Option<Vec<u8>>, Fail> {
         let inputs = slice::from_ref(input);
         match drive(alloc, &mut self.connection, inputs, &mut NoneTokenStore) {
             Ok(trace) => {
-                let text = String::from_utf8(trace_text(alloc, &trace)?)?;
-                self.text.push_str(text.as_str())?;
+                self.note(alloc, input, &trace)?;
                 Ok(last_datagram(alloc, &trace)?)
             }
             Err(_) => Err(Fail::from("an input was refused")),
@@ -119,6 +139,12 @@ impl End {
             bytes: Body::from_slice(alloc, datagram)?,
         };
         let _none = self.step(alloc, &input)?;
+        Ok(())
+    }
+
+    /// The application makes a call.
+    pub(crate) fn calls(&mut self, alloc: Global, input: &Input) -> Result<(), Fail> {
+        let _none = self.step(alloc, input)?;
         Ok(())
     }
 
@@ -174,6 +200,11 @@ impl End {
     /// Its steps so far aren't told any more.
     pub(crate) fn forget(&mut self) {
         self.text.clear();
+    }
+
+    /// Its steps from now on aren't told in the text.
+    pub(crate) fn hush(&mut self) {
+        self.quiet = true;
     }
 
     /// The lines of its steps that begin with these words.

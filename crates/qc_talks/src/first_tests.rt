@@ -133,7 +133,7 @@ fn waits(rt: &impl Abort, alloc: Global, server: &mut End) -> Result<(), Fail> {
 #[test]
 fn a_server_waits_for_its_first_datagram(rt: HostRuntime) -> Result<(), Fail> {
     let alloc = rt.alloc();
-    let mut server = End::server(alloc)?;
+    let mut server = End::server(alloc, None)?;
     waits(&rt, alloc, &mut server)
 }
 
@@ -141,6 +141,6 @@ fn a_server_waits_for_its_first_datagram(rt: HostRuntime) -> Result<(), Fail> {
 #[test]
 fn a_hello_of_1200_bytes_is_taken(rt: HostRuntime) -> Result<(), Fail> {
     let alloc = rt.alloc();
-    let mut server = End::server(alloc)?;
+    let mut server = End::server(alloc, None)?;
     takes_whole(&rt, alloc, &mut server)
 }

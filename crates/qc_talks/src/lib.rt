@@ -7,6 +7,8 @@ mod changing_tests;
 #[cfg(test)]
 mod closing_tests;
 #[cfg(test)]
+mod credit_tests;
+#[cfg(test)]
 mod ends;
 #[cfg(test)]
 mod first_tests;
@@ -22,3 +24,7 @@ mod pair;
 mod setups;
 #[cfg(test)]
 mod sign_tests;
+#[cfg(test)]
+mod stream_tests;
+#[cfg(test)]
+mod tally;

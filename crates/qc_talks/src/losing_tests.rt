@@ -11,11 +11,38 @@ use std::test::Fail;
 /// packet that came.
 const LONG: u64 = 20_000_000_000;
 
-/// What lies between the ends: how many datagrams were sent so far, and which one is lost, counted from 0.
+/// More rounds than any of these conversations takes.
+const ROUNDS: u32 = 500;
+
+/// Which datagrams are lost, counted from 0.
+#[derive(Clone, Copy)]
+pub(crate) enum Lost {
+    /// This one.
+    One(u32),
+    /// Each fifth.
+    EachFifth,
+}
+
+/// What lies between the ends: how many datagrams were sent so far, and which ones are lost.
 #[derive(Drop)]
-struct Road {
+pub(crate) struct Road {
     sent: u32,
-    lost: u32,
+    lost: Lost,
+}
+
+impl Road {
+    /// No datagram was sent.
+    pub(crate) fn new(lost: Lost) -> Road {
+        Road { sent: 0, lost }
+    }
+
+    /// Whether the next datagram is lost.
+    fn loses(&self) -> bool {
+        match self.lost {
+            Lost::One(at) => self.sent == at,
+            Lost::EachFifth => self.sent % 5 == 4,
+        }
+    }
 }
 
 /// Carries a flight of an end to the other, but for the datagram that is lost. Says how many datagrams were sent.
@@ -28,7 +55,7 @@ fn carry_flight(
 ) -> Result<usize, Fail> {
     let flight = from.flight(alloc, nanos)?;
     for datagram in flight.as_slice() {
-        if road.sent != road.lost {
+        if !road.loses() {
             to.takes(alloc, nanos, from.address, None, datagram.as_slice())?;
         }
         road.sent = road.sent.saturating_add(1);
@@ -38,7 +65,7 @@ fn carry_flight(
 
 /// Carries flights both ways until neither end sends, the client's first.
 fn carry_flights(alloc: Global, pair: &mut Pair, road: &mut Road) -> Result<(), Fail> {
-    for _ in 0..20 {
+    for _ in 0..ROUNDS {
         pair.wait();
         let sent = carry_flight(alloc, &mut pair.client, &mut pair.server, pair.nanos, road)?;
         pair.wait();
@@ -89,8 +116,8 @@ fn wait_for_timer(alloc: Global, pair: &mut Pair) -> Result<bool, Fail> {
 }
 
 /// Carries all that is sent, and waits for timers, until no loss timer is left.
-fn talk(alloc: Global, pair: &mut Pair, road: &mut Road) -> Result<(), Fail> {
-    for _ in 0..20 {
+pub(crate) fn talk(alloc: Global, pair: &mut Pair, road: &mut Road) -> Result<(), Fail> {
+    for _ in 0..ROUNDS {
         carry_flights(alloc, pair, road)?;
         if !wait_for_timer(alloc, pair)? {
             return Ok(());
@@ -101,7 +128,7 @@ fn talk(alloc: Global, pair: &mut Pair, road: &mut Road) -> Result<(), Fail> {
 
 /// Checks that two ends that were just made are established, though this datagram is lost, and says how many were sent.
 fn establishes(rt: &impl Abort, alloc: Global, pair: &mut Pair, lost: u32) -> Result<u32, Fail> {
-    let mut road = Road { sent: 0, lost };
+    let mut road = Road::new(Lost::One(lost));
     talk(alloc, pair, &mut road)?;
     is_established(rt, alloc, &pair.client)?;
     is_established(rt, alloc, &pair.server)?;

@@ -51,8 +51,13 @@ pub(crate) fn deliver(
 impl Pair {
     /// Two ends that were just made.
     pub(crate) fn new(alloc: Global) -> Result<Pair, AllocError> {
+        Pair::with_window(alloc, None)
+    }
+
+    /// The same, of which the server takes so many bytes of a stream, and of all streams together.
+    pub(crate) fn with_window(alloc: Global, window: Option<u32>) -> Result<Pair, AllocError> {
         let client = End::client(alloc, 3)?;
-        let server = End::server(alloc)?;
+        let server = End::server(alloc, window)?;
         Ok(Pair {
             client,
             server,

@@ -3,7 +3,7 @@
 
 ghost use Rattle.std.specs.Prelude.{◌≡◌, IfOk};
 
-use qc_base::{ConnectionId, Instant, Side};
+use qc_base::{ConnectionId, Instant, Side, VarInt};
 use qc_config::{NoneTokenStore, announced};
 use qc_conn::{ClientSetup, Connection, ServerSetup};
 use qc_crypto::{ClientConfig, ServerConfig, Session};
@@ -108,11 +108,22 @@ fn server_parameters(transport: &TransportConfig, local_cid: ConnectionId) -> Tr
     params
 }
 
-/// What the server is made of.
-fn server_setup(alloc: Global) -> Result<ServerSetup<Toy>, AllocError>
+/// A transport that takes so many bytes of a stream, and of all streams together; as many as usual where no number is said.
+fn transport(window: Option<u32>) -> TransportConfig {
+    let mut transport = TransportConfig::default();
+    if let Some(window) = window {
+        let window = VarInt::from_u32(window);
+        transport.stream_receive_window(window);
+        transport.receive_window(window);
+    }
+    transport
+}
+
+/// What the server is made of that takes so many bytes.
+fn server_setup(alloc: Global, window: Option<u32>) -> Result<ServerSetup<Toy>, AllocError>
     ensures fresh { IfOk result (λ setup. ⟦<ToySession as Session>⟧.is_fresh setup.session) }
 {
-    let transport = TransportConfig::default();
+    let transport = transport(window);
     let local_cid = ConnectionId::new(&[1; 8]);
     let params = server_parameters(&transport, local_cid);
     let session = server_session(alloc, &params)?;
@@ -148,9 +159,12 @@ pub(crate) fn client_to(
     Ok(Box::new(alloc, client)?)
 }
 
-/// The server, made at time 0, on the heap too.
-pub(crate) fn server(alloc: Global) -> Result<Box<Connection<Toy>>, AllocError> {
-    let setup = server_setup(alloc)?;
+/// The server that takes so many bytes, made at time 0, on the heap too.
+pub(crate) fn server(
+    alloc: Global,
+    window: Option<u32>,
+) -> Result<Box<Connection<Toy>>, AllocError> {
+    let setup = server_setup(alloc, window)?;
     let server = Connection::new_server(alloc, setup, Instant::from_nanos(0))?;
     Ok(Box::new(alloc, server)?)
 }
