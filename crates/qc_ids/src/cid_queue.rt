@@ -1,6 +1,6 @@
 //! The connection ids of the other end.
 
-ghost use Rattle.std.specs.Prelude.{◌≡◌, ◌+◌, ◌-◌, ◌<◌, ◌≤◌, ◌^◌, ◌↔◌, ◌++◌, ◌&&◌, Err, IsNone, IsSome, IfOk, OnOk, OnErr, length, nat_lt, nat_le};
+ghost use Rattle.std.specs.Prelude.{◌≡◌, ◌+◌, ◌-◌, ◌<◌, ◌≤◌, ◌^◌, ◌↔◌, ◌++◌, ◌&&◌, Err, IsNone, IsSome, IfOk, IfSome, OnOk, OnErr, length, nat_lt, nat_le};
 ghost use Rattle.arrayvec.specs.ArrayVec.{array_vec_len};
 ghost use Rattle.qc_ids.specs.CidQueue.{ExceedsLimit, IsQueue, IsTaken, active_of, active_seq_of, after_next, first_cid, insert_answer, inserted, is_above, is_between, kept_above, kept_between, next_answer, renamed, renewal_of};
 
@@ -207,10 +207,11 @@ impl CidQueue {
     }
 
     /// Makes the next id active, and answers its token with the range of numbers that the other end is to be
-    /// told of as retired. None exactly where no other id is kept; nothing changes then.
+    /// told of as retired, at most 4 of them. None exactly where no other id is kept; nothing changes then.
     pub fn next(&mut self) -> Option<(ResetToken, Range<u64>)>
         ensures answer { result ≡ next_answer self.old }
         ensures none { IsNone result ↔ (length self.old ≡ 1) }
+        ensures few { IfSome result (λ answer. answer.1.end ≤ answer.1.start + 4) }
         ensures after { self.new ≡ after_next self.old }
     {
         let [first, second, ..] = self.ids.as_slice() else {

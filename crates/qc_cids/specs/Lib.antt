@@ -1,0 +1,3 @@
+pub mod Cids
+pub mod Laws
+pub mod Steps
