@@ -1,0 +1,306 @@
+//! The program `qc_bench_conn`: a client and a server in one program, with no script and no text. They make their handshake over the
+//! toy session; then in each turn the client writes so many bytes on each of its streams, the server reads them at once, and answers
+//! with its ACKs. It is there to be counted by an instruction counter: the difference of two runs is the cost of what the one did
+//! more. Arguments are words in fours, `bytes STREAMS TURNS SIZE`; each four write a line.
+//!
+//! What the stored run writes is worked out by hand. A handshake takes 4 datagrams of the client's and 3 of the server's. A packet of
+//! 1,200 bytes has a header of 10 and a tag of 16, and room for 1,174 bytes of frames, of which a STREAM frame takes 19 and those of its
+//! stream. So 1,000 bytes on one stream go in one packet a turn, 20 in all; the server acknowledges the first at once, since it misses
+//! number 0, and then each second one: 10 times. Of 100 bytes on each of 10 streams 9 frames go in one packet, and with them 84 bytes of
+//! the tenth, whose 16 last ones go in another: 10 packets in 5 turns, which are acknowledged by twos. Of 10,000 bytes on each of 3
+//! streams 24 packets have 1,155 each; 760 of each stream are left, of which two packets take 760 and 376 each, and a third the last 8:
+//! 27 a turn, 108 in all.
+#![tactic(auto)]
+
+mod ends;
+
+use ends::{End, carry};
+use qc_base::{Dir, Instant, Side, StreamId};
+use qc_state::{Body, Input};
+use std::alloc::{AllocError, Global};
+use std::{env, io};
+
+/// How long a datagram is underway, in nanoseconds: 1 ms.
+const WAY: u64 = 1_000_000;
+
+/// More rounds than a turn takes: in each the client sends, and then the server.
+const ROUNDS: u32 = 1_000;
+
+/// What was done.
+#[derive(Clone, Copy)]
+struct Sums {
+    /// How many bytes the client's application wrote.
+    written: u64,
+    /// How many bytes the server's application read.
+    read: u64,
+    /// How many datagrams the client sent, those of the handshake as well.
+    sent: u64,
+    /// How many datagrams the server sent.
+    answered: u64,
+    /// Of how many calls less was done than was asked for.
+    refused: u64,
+}
+
+/// What is to be done, and what both ends are driven with.
+#[derive(Drop)]
+struct Bench {
+    alloc: Global,
+    client: End,
+    server: End,
+    /// The time in nanoseconds.
+    nanos: u64,
+    /// How many streams the client opens.
+    streams: u32,
+    /// How many of them the server has accepted.
+    accepted: u32,
+    /// What is written on each of them in each turn.
+    body: Vec<u8>,
+    sums: Sums,
+}
+
+impl Sums {
+    fn none() -> Sums {
+        Sums {
+            written: 0,
+            read: 0,
+            sent: 0,
+            answered: 0,
+            refused: 0,
+        }
+    }
+
+    /// A call did so much of what was asked for.
+    fn check(&mut self, done: u64, asked: u64) {
+        if done < asked {
+            self.refused = self.refused.saturating_add(1);
+        }
+    }
+
+    /// What the sums say: that a call was refused, or did less than was asked for; that not all that was written was read, so that
+    /// some is underway; or that all is done.
+    fn status(&self) -> &'static str {
+        if self.refused > 0 {
+            "refused"
+        } else if self.read < self.written {
+            "underway"
+        } else {
+            "done"
+        }
+    }
+}
+
+/// The id of a client's bidirectional stream.
+fn stream(index: u32) -> StreamId {
+    StreamId::new(Side::Client, Dir::Bi, u64::from(index))
+}
+
+/// The time.
+fn now(bench: &Bench) -> Instant {
+    Instant::from_nanos(bench.nanos)
+}
+
+/// A datagram's way takes its time.
+fn wait(bench: &mut Bench) {
+    bench.nanos = bench.nanos.saturating_add(WAY);
+}
+
+/// The client opens a stream.
+fn open(bench: &mut Bench) -> Result<(), AllocError> {
+    let input = Input::Open {
+        now: now(bench),
+        dir: Dir::Bi,
+    };
+    let done = bench.client.calls(bench.alloc, &input)?;
+    bench.sums.check(done, 1);
+    Ok(())
+}
+
+/// The client writes on a stream.
+fn write(bench: &mut Bench, index: u32) -> Result<(), AllocError> {
+    let input = Input::Write {
+        now: now(bench),
+        id: stream(index),
+        body: Body::from_slice(bench.alloc, bench.body.as_slice())?,
+    };
+    let done = bench.client.calls(bench.alloc, &input)?;
+    bench.sums.written = bench.sums.written.saturating_add(done);
+    bench.sums.check(done, bench.body.len() as u64);
+    Ok(())
+}
+
+/// The server accepts all streams that it hasn't and that are there.
+fn accept(bench: &mut Bench) -> Result<(), AllocError> {
+    for _ in bench.accepted..bench.streams {
+        let input = Input::Accept {
+            now: now(bench),
+            dir: Dir::Bi,
+        };
+        if bench.server.calls(bench.alloc, &input)? == 0 {
+            break;
+        }
+        bench.accepted = bench.accepted.saturating_add(1);
+    }
+    Ok(())
+}
+
+/// The server reads a stream until nothing more is there.
+fn read(bench: &mut Bench, index: u32) -> Result<(), AllocError> {
+    let input = Input::Read {
+        now: now(bench),
+        id: stream(index),
+        max: usize::MAX,
+    };
+    for _ in 0..u32::MAX {
+        let done = bench.server.calls(bench.alloc, &input)?;
+        if done == 0 {
+            break;
+        }
+        bench.sums.read = bench.sums.read.saturating_add(done);
+    }
+    Ok(())
+}
+
+/// The server reads all that came.
+fn read_all(bench: &mut Bench) -> Result<(), AllocError> {
+    accept(bench)?;
+    for index in 0..bench.accepted {
+        read(bench, index)?;
+    }
+    Ok(())
+}
+
+/// What the client sends comes to the server, which reads it at once. How many datagrams there were.
+fn there(bench: &mut Bench) -> Result<u64, AllocError> {
+    wait(bench);
+    let time = now(bench);
+    let count = carry(bench.alloc, time, &mut bench.client, &mut bench.server)?;
+    bench.sums.sent = bench.sums.sent.saturating_add(count);
+    if count > 0 {
+        read_all(bench)?;
+    }
+    Ok(count)
+}
+
+/// What the server sends comes to the client. How many datagrams there were.
+fn back(bench: &mut Bench) -> Result<u64, AllocError> {
+    wait(bench);
+    let time = now(bench);
+    let count = carry(bench.alloc, time, &mut bench.server, &mut bench.client)?;
+    bench.sums.answered = bench.sums.answered.saturating_add(count);
+    Ok(count)
+}
+
+/// Datagrams go to and fro until neither end sends.
+fn talk(bench: &mut Bench) -> Result<(), AllocError> {
+    for _ in 0..ROUNDS {
+        let sent = there(bench)?;
+        let answered = back(bench)?;
+        if sent == 0 && answered == 0 {
+            break;
+        }
+    }
+    Ok(())
+}
+
+/// The handshake, and the client's streams are opened.
+fn prepare(bench: &mut Bench) -> Result<(), AllocError> {
+    talk(bench)?;
+    for _ in 0..bench.streams {
+        open(bench)?;
+    }
+    Ok(())
+}
+
+/// The client writes on each stream, and all that is owed is carried.
+fn turn(bench: &mut Bench) -> Result<(), AllocError> {
+    for index in 0..bench.streams {
+        write(bench, index)?;
+    }
+    talk(bench)
+}
+
+/// So many bytes 07.
+fn body_of(alloc: Global, size: u32) -> Result<Vec<u8>, AllocError> {
+    let mut body = Vec::new(alloc);
+    for _ in 0..size {
+        body.push(7)?;
+    }
+    Ok(body)
+}
+
+fn bench_of(alloc: Global, streams: u32, size: u32) -> Result<Bench, AllocError> {
+    let client = End::client(alloc)?;
+    let server = End::server(alloc, streams)?;
+    let body = body_of(alloc, size)?;
+    Ok(Bench {
+        alloc,
+        client,
+        server,
+        nanos: 0,
+        streams,
+        accepted: 0,
+        body,
+        sums: Sums::none(),
+    })
+}
+
+/// The handshake, and then so many turns.
+fn work(bench: &mut Bench, turns: u32) -> Result<(), AllocError> {
+    prepare(bench)?;
+    for _ in 0..turns {
+        turn(bench)?;
+    }
+    Ok(())
+}
+
+fn run(alloc: Global, streams: u32, turns: u32, size: u32) -> Result<Sums, AllocError> {
+    let mut bench = bench_of(alloc, streams, size)?;
+    work(&mut bench, turns)?;
+    Ok(bench.sums)
+}
+
+fn number(word: Option<&String>) -> u32 {
+    match word {
+        None => 0,
+        Some(word) => word.parse::<u32>().unwrap_or(0),
+    }
+}
+
+/// Whether a word asks for bytes on streams.
+fn is_bytes(word: Option<&String>) -> bool {
+    match word {
+        None => false,
+        Some(word) => word.as_str() == "bytes",
+    }
+}
+
+/// Runs what four words ask for, and prints what was done.
+fn report(rt: &HostRuntime, words: &[String]) -> io::Result<()> {
+    if !is_bytes(words.first()) {
+        return println!(rt; "usage: qc_bench_conn bytes STREAMS TURNS SIZE ..");
+    }
+    let streams = number(words.get(1));
+    let turns = number(words.get(2));
+    let size = number(words.get(3));
+    match run(rt.alloc(), streams, turns, size) {
+        Ok(sums) => println!(rt;
+            "written {} read {} sent {} answered {} status {}",
+            sums.written,
+            sums.read,
+            sums.sent,
+            sums.answered,
+            sums.status()
+        ),
+        Err(_) => println!(rt; "no memory"),
+    }
+}
+
+fn main(rt: HostRuntime) -> io::Result<()> {
+    let mut args = env::args(&rt)?;
+    let _ = args.next();
+    let words: Vec<String> = args.collect(rt.alloc())?;
+    for four in words.chunks(4) {
+        report(&rt, four)?;
+    }
+    Ok(())
+}
