@@ -122,6 +122,14 @@ pub(crate) fn client_with_limit(alloc: Global, millis: u32) -> Option<Box<Connec
     fresh(alloc, setup).ok()
 }
 
+/// A client made at time 0 that takes so many bytes of all streams together.
+pub(crate) fn client_with_window(alloc: Global, window: u32) -> Option<Box<Connection<Toy>>> {
+    let mut transport = TransportConfig::default();
+    transport.receive_window(VarInt::from_u32(window));
+    let setup = setup(alloc, ToySettings::default(), transport)?;
+    fresh(alloc, setup).ok()
+}
+
 /// The core of a client made at time 0.
 fn core(alloc: Global) -> Option<Core<Toy>> {
     let setup = setup(alloc, ToySettings::default(), TransportConfig::default())?;

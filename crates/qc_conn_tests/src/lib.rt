@@ -3,6 +3,8 @@
 #![tactic(auto)]
 
 #[cfg(test)]
+mod call_tests;
+#[cfg(test)]
 mod clients;
 #[cfg(test)]
 mod event_tests;

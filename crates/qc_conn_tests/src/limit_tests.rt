@@ -19,7 +19,7 @@ const DATA_PING: [u8; 29] =
     *b"\x42\x01\x01\x01\x01\x01\x01\x01\x01\x05\x01\x00\x00\x82\x04\x86\x08\x8a\x0e\x8f\x10\x92\x14\x96\x18\x9a\x1c\x9e\x20";
 
 /// A transmit at this time.
-fn transmit(nanos: u64) -> Input {
+pub(crate) fn transmit(nanos: u64) -> Input {
     Input::Transmit {
         now: Instant::from_nanos(nanos),
         max_datagrams: 1,
@@ -34,7 +34,7 @@ fn ping(nanos: u64) -> Input {
 }
 
 /// A datagram of the server's comes at this time.
-fn datagram(nanos: u64, bytes: Vec<u8>) -> Input {
+pub(crate) fn datagram(nanos: u64, bytes: Vec<u8>) -> Input {
     Input::Datagram {
         now: Instant::from_nanos(nanos),
         remote: address(),
